@@ -14,4 +14,3 @@ pub mod Accepting
 pub mod Reading
 pub mod Times
 pub mod Lengths
-pub mod Given

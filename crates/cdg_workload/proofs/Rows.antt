@@ -1,19 +1,14 @@
 -- Blocks that stand one behind another, and that the stage goes over where they stand.
-use Rattle.std.proofs.Common.{◌≡◌, ℕ, zero, suc, min, ◌+◌, ◌-◌, ◌*◌, ◌≤◌, inl, inr, List, [], ◌++◌, length, take, drop, Some, refl, sym, ap, ap₂, ◌∙◌, append-nil, length-drop, length-take-le, take_all, arith}
+use Rattle.std.proofs.Common.{◌≡◌, ℕ, min, ◌+◌, ◌-◌, ◌*◌, ◌≤◌, inl, inr, List, [], ◌++◌, length, take, drop, Some, refl, sym, ap, ap₂, ◌∙◌, append-nil, length-drop, length-take-le, take_all, arith}
 use Rattle.std.proofs.lemmas.Bool.{cases_lt}
 use Rattle.std.proofs.lemmas.List.{drop_all, take_rest, take-append-drop}
-use Rattle.std.proofs.lemmas.List.Concat.{flat_map-cons}
-use Rattle.std.proofs.lemmas.List.Elements.{All-from_recursion}
 use Rattle.std.proofs.lemmas.Slice.{take-put_mid, drop-put_mid}
-use Rattle.std.proofs.Math.Seq.{take-add}
 use Rattle.std.specs.List.{concat}
 use borrow.Rule.Slice.PartMut.{put_mid}
 use Rattle.cdg_io.specs.Change.{from_to}
-use Rattle.cdg_io.specs.Passing.{PassesUnits, stepping}
-use Rattle.cdg_io.specs.Pump.{units_of}
+use Rattle.cdg_io.specs.Pump.{Works, units_of}
 use Rattle.cdg_io.specs.Run.{run_state, run_gives}
-use Rattle.cdg_io.proofs.Frames.{moving}
-use Rattle.cdg_io.proofs.Units.{joined}
+use Rattle.cdg_io.proofs.Frames.{machine_of, moving}
 use Rattle.cdg_workload.specs.Steps.{block_next, block_gives}
 use Rattle.cdg_workload.specs.declared.needle.Needle.{Needle}
 use Rattle.cdg_workload.specs.declared.scratching.Scratches.{Scratches}
@@ -82,43 +77,20 @@ row_scratched s t bytes part new n m k size few place is now gave =
           ∙ ap (λ l. take k bytes ++ l) (append-nil (run s.needle (drop k bytes))) ∙ given,
     )
 
--- the bytes of units are those that they were cut from
-units_taken : (n k : ℕ) (bytes : List ℕ) → k ≡ n * 96 → joined (units_of 96 n bytes) ≡ take k bytes
-units_taken zero k bytes at = let none : 0 ≡ k = omega arith in ap (λ m. take m bytes) none
-units_taken (suc n) k bytes at =
-    let more : 96 + n * 96 ≡ k = omega arith in
-    flat_map-cons (λ (u : List ℕ). u) (take 96 bytes) (units_of 96 n (drop 96 bytes))
-    ∙ ap (λ t. take 96 bytes ++ t) (units_taken n (n * 96) (drop 96 bytes) refl)
-    ∙ sym (take-add 96 (n * 96) bytes) ∙ ap (λ m. take m bytes) more
-
 -- The blocks that a row begins with were copied to a buffer from a place on, and the stage went over them there: what
 -- follows them is left, the stage ran, and what it gave stands behind what the buffer held.
 pub row_passes : (s s' : Scratches) (row row' copied buffer new : List ℕ) (start n size end : ℕ)
     → size ≡ 96 * n → size ≤ length row → copied ≡ take size row → row' ≡ drop size row
     → s' ≡ run_state block_next s (units_of 96 n copied)
     → take end new ≡ take start buffer ++ concat (run_gives block_next block_gives s (units_of 96 n copied))
-    → (units : List (List ℕ)) × (length units ≡ n)
-    × PassesUnits (stepping (λ (all : List ℕ). all) 96 block_next block_gives)
-    (moving (from_to (Some row) (Some row')) (from_to s s')
-    (from_to (Some (take start buffer)) (Some (take end new)))) units
-row_passes s s' row row' copied buffer new start n size end count fits copy left after put =
-    let units = units_of 96 n copied in
-    let long : length copied ≡ size = ap length copy ∙ length-take-le size row fits in
-    let taken : joined units ≡ take size row =
-    units_taken n size copied (omega (arith, count)) ∙ take_all size copied (omega (arith, long)) ∙ copy in (
-      units,
-      units_counted n copied,
-      record {
-        sizes =
-            All-from_recursion (λ (u : List ℕ). length u ≡ 96) units
-            (units_sized n copied (omega (arith, long, count)));
-        taken_from =
-            sym (take-append-drop size row)
-            ∙ ap₂ (λ (a b : List ℕ). a ++ b) (sym taken) (sym left);
-        state = after;
-        put = put;
-      },
-    )
+    → Works 96 (machine_of block_next block_gives) (moving (from_to (Some row) (Some row')) (from_to s s')
+    (from_to (Some (take start buffer)) (Some (take end new)))) n copied
+row_passes s s' row row' copied buffer new start n size end count fits copy left after put = record {
+  taken_from = sym (take-append-drop size row) ∙ ap₂ (λ (a b : List ℕ). a ++ b) (sym copy) (sym left);
+  units = ap length copy ∙ length-take-le size row fits ∙ omega (arith, count);
+  state = after;
+  put = put;
+}
 
 -- what a part of a buffer became stands behind what was before it
 pub put_behind : (buffer struck : List ℕ) (start size end : ℕ) → start ≤ length buffer → end ≡ start + size

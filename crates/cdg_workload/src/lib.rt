@@ -1,7 +1,6 @@
 //! A large script from a number, and scratches of a stream from a number: input for trials of an author and a player.
 #![tactic(auto)]
 
-mod in_rows;
 mod needle;
 mod scratching;
 mod script;

@@ -13,10 +13,9 @@ ghost use Rattle.rw_interleave.specs.Stream.{DiffersInBursts, IsDamaged};
 ghost use Rattle.cdg_workload.specs.Scratches.{scratched, scratching};
 ghost use Rattle.cdg_workload.specs.Steps.{fresh_scratches, scratches_after, block_next, block_gives};
 
-use crate::in_rows::{InRows, RowStage};
 use crate::needle::Needle;
 use crate::words::generator;
-use cdg_io::{PassedUnits, Piece, PumpStop, Pumped, Sink, Source, Stage, pump};
+use cdg_io::{PassedUnits, Piece, PumpStop, Pumped, Sink, Source, UnitStage, pump_units};
 use raw_subcode::{BLOCK_BYTES, Form, MOST_UNITS};
 use rw_interleave::bursts_are_damage;
 
@@ -73,33 +72,22 @@ impl Scratches {
     }
 }
 
-impl Stage for Scratches {
-    type Item = [u8; BLOCK_BYTES];
-
-    type Out = Piece;
+impl UnitStage for Scratches {
+    ghost SIZE = { block_bytes };
 
     ghost next = { block_next };
 
     ghost gives = { block_gives };
 
-    fn feed(&mut self, block: &[u8; BLOCK_BYTES]) -> Option<Piece> {
-        let mut scratched = *block;
+    const SIZE: usize = BLOCK_BYTES;
+
+    fn take_unit(&mut self, block: &[u8], given: &mut Option<Piece>) {
+        let mut scratched = [0; BLOCK_BYTES];
+        scratched.copy_from_slice(block);
         self.scratch(&mut scratched);
         let mut piece = Piece::new();
         piece.set(&scratched);
-        Some(piece)
-    }
-}
-
-impl RowStage for Scratches {
-    type Unit = [u8; BLOCK_BYTES];
-
-    ghost next = { block_next };
-
-    ghost gives = { block_gives };
-
-    fn take(&mut self, block: &[u8; BLOCK_BYTES]) -> Option<Piece> {
-        self.feed(block)
+        *given = Some(piece);
     }
 
     /// Most bytes stay as they are, so all whole blocks are copied at once, and the bursts fall on them there.
@@ -107,6 +95,7 @@ impl RowStage for Scratches {
     fn take_row(
         &mut self,
         row: &mut &[u8],
+        given: &mut Option<Piece>,
         buffer: &mut [u8],
         start: usize,
         most: u32,
@@ -153,10 +142,8 @@ pub fn scratch<S: Source, K: Sink>(
     ensures rooms { FillsUnits most_units result (S.fills source.old) (S.fills source.new) }
     ensures write_fault { TellsFault PumpStop.WriteFault (K.faults out.old) (K.faults out.new) result }
 {
-    let mut rows = InRows {
-        stage: Scratches::start(lead_in, seed),
-    };
-    pump(source, MOST_UNITS, &mut rows, out)
+    let mut scratches = Scratches::start(lead_in, seed);
+    pump_units(source, MOST_UNITS, &mut scratches, out)
 }
 
 /// A law: what scratches change of a stream are bursts of symbols of the program: up to sixteen, and at least 192

@@ -2,7 +2,7 @@
 ghost use Rattle.std.specs.Prelude.{◌≡◌, None};
 
 use crate::input::InputReader;
-use cdg_io::{BufferedSink, Chunk, Failed, Piece, Sink, Source, Stage};
+use cdg_io::{BufferedSink, Failed, Piece, Sink, Source, UnitStage};
 use std::cell::RefCell;
 use std::io;
 use std::io::{Read, Stdout};
@@ -68,7 +68,7 @@ impl Sink for LiveOutput<'_> {
     }
 
     #[inline]
-    fn pass_at_hand<C: Chunk, S: Source, G: Stage<Item = C, Out = Piece>>(
+    fn pass_at_hand<S: Source, G: UnitStage>(
         &mut self,
         source: &mut S,
         stage: &mut G,

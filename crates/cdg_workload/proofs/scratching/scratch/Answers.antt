@@ -3,5 +3,5 @@ use Rattle.cdg_workload.proofs.scratching.scratch.Goals as goal
 
 pub returns-clause-scratches : goal.returns-clause-scratches
 returns-clause-scratches g c =
-    let (taken, pumps) = c.pump.ensures.pumps in
-    (taken, streams c.args.lead_in c.args.seed _ c.pump.result taken c.start.ensures pumps)
+    let (taken, pumps) = c.pump_units.ensures.pumps in
+    (taken, streams c.args.lead_in c.args.seed _ c.pump_units.result taken c.start-scratches.ensures pumps)

@@ -15,7 +15,8 @@ returns-clause-fed g c = λ told.
     let unit = take c.SIZE-2.result row in
     let front : take c.SIZE-2.result c.buffer-row.result.now ≡ unit = ap (take c.SIZE-2.result) shown in
     let three : c.SIZE-3.result ≡ c.SIZE-2.result = c.SIZE-3.ensures ∙ sym size in
-    let taken = front_consumed _ _ _ _ _ (subst (λ (n : ℕ). n ≤ length row) (sym three) fits) c.consume.ensures.bytes in (
+    let taken =
+    front_consumed _ _ _ _ _ (subst (λ (n : ℕ). n ≤ length row) (sym three) fits) c.consume.ensures.bytes in (
       unit,
       length-take-le c.SIZE-2.result row fits ∙ size,
       subst (λ (r : _). Consumes (reader_remaining g.R.Read.remaining r)

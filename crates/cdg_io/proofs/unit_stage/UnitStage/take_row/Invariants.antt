@@ -6,7 +6,8 @@ use Rattle.cdg_io.proofs.unit_stage.UnitStage.take_row.Given as goal
 abbrev pub invariant-loop-units : goal.invariant-loop-units
 invariant-loop-units g l = record {
   works : (taken : List ℕ)
-      × Works g.Self.UnitStage.SIZE (record { next = g.Self.UnitStage.next; gives = g.Self.UnitStage.gives }) (record {
+      × Works g.Self.UnitStage.SIZE (record { next = g.Self.UnitStage.next; gives = g.Self.UnitStage.gives })
+      (record {
         left = from_to (Some l.initial.row.now) (Some l.row.now);
         state = from_to l.initial.self l.self;
         held = from_to (Some (take l.start l.initial.buffer)) (Some (take l.end l.buffer));

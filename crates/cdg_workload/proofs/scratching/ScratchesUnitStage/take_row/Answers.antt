@@ -1,10 +1,10 @@
 use Rattle.std.proofs.Common.{◌≡◌, ◌≤◌, ◌+◌, ◌-◌, ◌*◌, ◌++◌, take, drop, length, refl, rules, arith, ◌∙◌, ap}
 use Rattle.std.proofs.lemmas.List.{take_rest}
 use Rattle.cdg_workload.proofs.Rows.{row_passes, put_behind, stays_behind}
-use Rattle.cdg_workload.proofs.scratching.ScratchesRowStage.take_row.Goals as goal
+use Rattle.cdg_workload.proofs.scratching.ScratchesUnitStage.take_row.Goals as goal
 
-pub returns-clause-passes : goal.returns-clause-passes
-returns-clause-passes c =
+pub returns-clause-works : goal.returns-clause-works
+returns-clause-works c =
     let row = c.args.row.now.now in
     let buffer = c.args.buffer.now in
     let start = c.args.start in
@@ -15,10 +15,12 @@ returns-clause-passes c =
     let fits : size ≤ length row = omega arith in
     let copy : copied ≡ take size row = search rules in
     let long : length struck ≡ size = search rules in
-    let behind = put_behind buffer struck start size (start + size) c.requires.start refl long in
-    row_passes c.args.self.now c.scratch_row.new.self row (take (length row - size) (drop size row)) copied
-    buffer _ start n size (start + size) refl fits copy (take_rest row size) c.scratch_row.ensures.next
-    (behind ∙ ap (λ l. take start buffer ++ l) c.scratch_row.ensures.gives)
+    let behind = put_behind buffer struck start size (start + size) c.requires.start refl long in (
+      copied,
+      row_passes c.args.self.now c.scratch_row.new.self row (take (length row - size) (drop size row)) copied
+          buffer _ start n size (start + size) refl fits copy (take_rest row size) c.scratch_row.ensures.next
+          (behind ∙ ap (λ l. take start buffer ++ l) c.scratch_row.ensures.gives),
+    )
 
 pub returns-clause-behind : goal.returns-clause-behind
 returns-clause-behind c =
