@@ -30,7 +30,7 @@ impl<'a> Model for Weaver<'a> {
 }
 
 impl<'a> Weaver<'a> {
-    ghost use Rattle.std.specs.Prelude.{◌≡◌, ◌↔◌, ◌+◌, IfOk, IsNone, min, unwrap_or};
+    ghost use Rattle.std.specs.Prelude.{◌≡◌, ◌↔◌, ◌<◌, ◌+◌, ℕ, true, false, IfOk, IsNone, min, unwrap_or};
     ghost use Rattle.rw_code.specs.Packs.{idle_pack};
     ghost use Rattle.pack_schedule.specs.Survey.{IsSurvey};
     ghost use Rattle.pack_schedule.specs.Woven.{IsPackAt};
@@ -77,5 +77,23 @@ impl<'a> Weaver<'a> {
         let pack = self.at_hand.pack(self.script, self.given);
         self.given = self.given.saturating_add(1);
         pack
+    }
+
+    /// Passes over so many packs where all of them come before the next change, so that they are idle, and answers
+    /// whether they do. Else nothing is done.
+    #[inline]
+    pub fn pass_idle(&mut self, packs: u32) -> bool
+        ensures idle { result ≡ true → (n : ℕ) → n < packs
+            → IsPackAt self.old.script (self.old.given + n) idle_pack }
+        ensures given { result ≡ true → self.new.given ≡ self.old.given + packs }
+        ensures script { self.new.script ≡ self.old.script }
+        ensures stays { result ≡ false → self.new ≡ self.old }
+    {
+        self.script.times_rise_and_colours_are_in_range();
+        if self.at_hand.start.saturating_sub(self.given) < packs {
+            return false;
+        }
+        self.given += packs;
+        true
     }
 }

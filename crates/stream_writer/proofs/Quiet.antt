@@ -1,11 +1,13 @@
 -- Idle packs in a row.
-use Rattle.std.proofs.Common.{◌≡◌, ℕ, zero, suc, ◌+◌, ◌-◌, ◌<◌, ◌≤◌, List, [], ◌∷◌, ◌++◌, length, drop, replicate, Some, refl, sym, ap, ◌∙◌, append_assoc, arith}
-use Rattle.std.proofs.lemmas.List.{length-append, length-drop, length-replicate, append-nil, drop-append-le}
+use Rattle.std.proofs.Common.{◌≡◌, ℕ, zero, suc, ◌+◌, ◌-◌, ◌<◌, ◌≤◌, List, [], ◌∷◌, ◌++◌, length, drop, replicate, Some, refl, sym, ap, subst, ◌∙◌, append_assoc, arith}
+use Rattle.std.proofs.lemmas.List.{get_or-replicate, length-append, length-drop, length-replicate, append-nil, drop-append-le}
 use Rattle.rw_code.specs.Codeword.{IsCodeword}
 use Rattle.rw_interleave.specs.Interleave.{swapped}
 use Rattle.rw_interleave.specs.Spreading.{spread_next, spread_gives, spread_over, spread_symbol}
 use Rattle.rw_code.specs.Packs.{idle_pack}
-use Rattle.stream_writer.specs.Given.{AreQuiet, TakesPack}
+use Rattle.cdg_io.specs.Change.{from_to}
+use Rattle.cdg_io.specs.Run.{run_state}
+use Rattle.stream_writer.specs.Given.{symbols_from, AreQuiet, TakesPack, TakesPacks}
 
 one_more : (n : ℕ) → replicate n idle_pack ++ idle_pack ∷ [] ≡ replicate (n + 1) idle_pack
 one_more zero = refl
@@ -91,4 +93,33 @@ still_quiet Comes packs quiet are most comes codeword =
       codeword = codeword;
       after_is = all ∙ sym idle_next ∙ ap (λ (xs : List (List ℕ)). spread_next xs idle_pack) (sym all);
       slot_is = sym idle_gives ∙ ap (λ (xs : List (List ℕ)). spread_gives xs idle_pack) (sym all);
+    }
+
+four_next : run_state spread_next (replicate 7 idle_pack) (replicate 4 idle_pack) ≡ replicate 7 idle_pack
+unfolding spread_next
+four_next = refl
+
+four_give : symbols_from (replicate 7 idle_pack) (replicate 4 idle_pack) ≡ replicate 96 0
+unfolding spread_next spread_gives spread_over spread_symbol swapped
+four_give = refl
+
+-- after seven idle packs the four of a block bring zeros and leave them
+pub quiet_block : (Comes : ℕ → List ℕ → Type 0) (packs : List (List ℕ)) (quiet : ℕ) → AreQuiet packs quiet
+    → 7 ≤ quiet → ((k : ℕ) → k < 4 → Comes k idle_pack) → IsCodeword idle_pack
+    → TakesPacks Comes 4 (from_to packs packs) (replicate 96 0) (replicate 4 idle_pack)
+quiet_block Comes packs quiet are most come codeword =
+    let all = all_quiet packs quiet are most in
+    let idles : List (List ℕ) = replicate 4 idle_pack in
+    record {
+      given_are = record {
+        count = refl;
+        each = λ k lt.
+            let there : k ≡ 0 + k = omega arith in
+            subst (λ (pack : List ℕ). Comes (0 + k) pack) (sym (get_or-replicate 4 k idle_pack [] lt))
+            (subst (λ n. Comes n idle_pack) there (come k lt));
+        codewords = λ k d lt. subst IsCodeword (sym (get_or-replicate 4 k idle_pack d lt)) codeword;
+      };
+      symbols_are = sym four_give ∙ ap (λ (xs : List (List ℕ)). symbols_from xs idles) (sym all);
+      after_is =
+          all ∙ sym four_next ∙ ap (λ (xs : List (List ℕ)). run_state spread_next xs idles) (sym all);
     }

@@ -31,6 +31,9 @@ pub(crate) fn next_symbols<P: PackSource>(
     ensures later { ComesLater (P.comes source.old) slots_a_block (P.comes source.new) }
     ensures quiet { AreQuiet spread.new quiet.new }
 {
+    if *quiet == ALL_QUIET && source.pass_idle() {
+        return;
+    }
     for k in 0..SLOTS_A_BLOCK {
         let start = SYMBOLS_A_SLOT * k;
         let slot = &mut symbols[start..start + SYMBOLS_A_SLOT];

@@ -1,5 +1,6 @@
 // Where the packs of a stream come from.
-ghost use Rattle.std.specs.Prelude.{◌≡◌, ◌↔◌, ℕ, List, Option, IsNone, unwrap_or};
+ghost use Rattle.std.specs.Prelude.{◌≡◌, ◌↔◌, ◌<◌, ℕ, List, Option, IsNone, unwrap_or, true, false};
+ghost use Rattle.raw_subcode.specs.Sizes.{slots_a_block};
 ghost use Rattle.rw_code.specs.Packs.{idle_pack};
 ghost use Rattle.stream_writer.specs.Given.{ComesLater};
 
@@ -14,6 +15,17 @@ pub trait PackSource {
     fn next_pack(&mut self) -> Option<Pack>
         ensures pack { comes self.old 0 (unwrap_or result idle_pack) }
         ensures later { ComesLater (comes self.old) 1 (comes self.new) };
+
+    /// Passes over the packs of a block where the source quickly sees that all of them are idle, and answers whether it
+    /// did. Else nothing is done: a source that sees no such thing leaves this as it is.
+    #[inline]
+    fn pass_idle(&mut self) -> bool
+        ensures idle { result ≡ true → (k : ℕ) → k < slots_a_block → comes self.old k idle_pack }
+        ensures later { result ≡ true → ComesLater (comes self.old) slots_a_block (comes self.new) }
+        ensures stays { result ≡ false → self.new ≡ self.old }
+    {
+        false
+    }
 }
 
 /// The pack, or none where it is idle.

@@ -1,5 +1,6 @@
 // The packs of a script as a source.
 use pack_schedule::Weaver;
+use raw_subcode::SLOTS_A_BLOCK;
 use rw_code::Pack;
 use stream_writer::PackSource;
 
@@ -19,5 +20,10 @@ impl<'a> PackSource for Scheduled<'a> {
 
     fn next_pack(&mut self) -> Option<Pack> {
         self.weaver.next_unless_idle()
+    }
+
+    #[inline]
+    fn pass_idle(&mut self) -> bool {
+        self.weaver.pass_idle(SLOTS_A_BLOCK as u32)
     }
 }

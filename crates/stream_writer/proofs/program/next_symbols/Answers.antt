@@ -1,15 +1,30 @@
-use Rattle.std.proofs.Common.{◌≡◌, ℕ, ◌+◌, List, refl, arith, subst}
-use Rattle.stream_writer.specs.Given.{ComesLater}
+use Rattle.std.proofs.Common.{◌≡◌, ℕ, ◌+◌, ◌<◌, ◌∙◌, All, List, refl, replicate, sym, arith, subst}
+use Rattle.std.proofs.lemmas.List.{get_or-replicate}
+use Rattle.cdg_io.specs.Change.{from_to}
+use Rattle.rw_code.proofs.CodewordLemmas.{idle_is_codeword}
+use Rattle.rw_code.specs.Packs.{idle_pack}
+use Rattle.stream_writer.specs.Given.{ComesLater, TakesPacks}
+use Rattle.stream_writer.proofs.Quiet.{quiet_block}
 use Rattle.stream_writer.proofs.Slots.{none_written, none_later, slot_more, slot_zeros, all_taken, all_small, later_more}
 use Rattle.stream_writer.proofs.program.next_symbols.Goals as goal
+use Rattle.stream_writer.proofs.program.next_symbols.Goals.{else-quiet-eq-ALL_QUIET-via-then-quiet-eq-ALL_QUIET+else-pass_idle, else-quiet-eq-ALL_QUIET-via-else-quiet-eq-ALL_QUIET}
 
 pub loop-k-init : goal.loop-k-init
-loop-k-init g c = record {
+loop-k-init g c =
+    let same : c.else-quiet-eq-ALL_QUIET.source ≡ c.args.source.now =
+    elim c.else-quiet-eq-ALL_QUIET.branch [
+      | else-quiet-eq-ALL_QUIET-via-then-quiet-eq-ALL_QUIET+else-pass_idle w ↦
+          w.source-is ∙ w.pass_idle.ensures.stays w.if-pass_idle.false
+      | else-quiet-eq-ALL_QUIET-via-else-quiet-eq-ALL_QUIET w ↦ w.source-is
+    ] in
+    record {
   written =
       none_written (g.P.PackSource.comes c.args.source.now) c.args.spread.now c.args.symbols.now
       c.requires.zeros;
   quiet = c.requires.quiet;
-  later = none_later _;
+  later =
+      subst (λ (s : g.row.P.Denot). ComesLater (g.P.PackSource.comes c.args.source.now) 0
+      (g.P.PackSource.comes s)) (sym same) (none_later _);
 }
 
 pub loop-k-preserved : goal.loop-k-preserved
@@ -46,3 +61,20 @@ returns-clause-later g c =
     let all : c.loop-k.k ≡ 4 = omega arith in
     subst (λ n. ComesLater (g.P.PackSource.comes c.args.source.now) n (g.P.PackSource.comes c.loop-k.source))
     all c.loop-k.invariant.later
+
+pub returns-then-pass_idle-clause-symbols : goal.returns-then-pass_idle-clause-symbols
+returns-then-pass_idle-clause-symbols g c =
+    let Comes : ℕ → List ℕ → Type 0 = g.P.PackSource.comes c.args.source.now in
+    let spread = c.args.spread.now in
+    let idles : List (List ℕ) = replicate 4 idle_pack in (
+      idles,
+      subst (λ symbols. TakesPacks Comes 4 (from_to spread spread) symbols idles) (sym c.requires.zeros)
+          (quiet_block Comes spread c.args.quiet.now c.requires.quiet
+          (omega (arith, c.if-quiet-eq-ALL_QUIET.true)) (c.pass_idle.ensures.idle c.if-pass_idle.true)
+          idle_is_codeword),
+    )
+
+pub returns-then-pass_idle-clause-bound : goal.returns-then-pass_idle-clause-bound
+returns-then-pass_idle-clause-bound g c =
+    subst (All (λ s. s < 64)) (sym c.requires.zeros)
+    (λ k d lt. subst (λ s. s < 64) (sym (get_or-replicate 96 k 0 d lt)) (omega arith))
