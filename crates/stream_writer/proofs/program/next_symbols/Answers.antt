@@ -18,14 +18,14 @@ loop-k-init g c =
       | else-quiet-eq-ALL_QUIET-via-else-quiet-eq-ALL_QUIET w ↦ w.source-is
     ] in
     record {
-  written =
-      none_written (g.P.PackSource.comes c.args.source.now) c.args.spread.now c.args.symbols.now
-      c.requires.zeros;
-  quiet = c.requires.quiet;
-  later =
-      subst (λ (s : g.row.P.Denot). ComesLater (g.P.PackSource.comes c.args.source.now) 0
-      (g.P.PackSource.comes s)) (sym same) (none_later _);
-}
+      written =
+          none_written (g.P.PackSource.comes c.args.source.now) c.args.spread.now c.args.symbols.now
+          c.requires.zeros;
+      quiet = c.requires.quiet;
+      later =
+          subst (λ (s : g.row.P.Denot). ComesLater (g.P.PackSource.comes c.args.source.now) 0
+          (g.P.PackSource.comes s)) (sym same) (none_later _);
+    }
 
 pub loop-k-preserved : goal.loop-k-preserved
 loop-k-preserved g c =
