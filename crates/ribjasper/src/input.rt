@@ -3,6 +3,12 @@ use std::fs::File;
 use std::io;
 use std::io::{ErrorKind, Read, Stdin};
 
+// As much as a pipe holds, so that a read empties it.
+const PIPE_READ: usize = 65_536;
+
+// Whole pages and whole blocks.
+const FILE_READ: usize = 61_440;
+
 /// Where an input comes from.
 #[derive(Drop)]
 pub enum InputReader<'a> {
@@ -16,6 +22,14 @@ pub enum InputReader<'a> {
 }
 
 impl InputReader<'_> {
+    /// The most that a read of it is to bring.
+    pub fn most_a_read(&self) -> usize {
+        match self {
+            InputReader::Standard(_) => PIPE_READ,
+            _ => FILE_READ,
+        }
+    }
+
     // Opens a file that is not open yet.
     fn open(&mut self) {
         if let InputReader::Unopened(rt, name) = self {

@@ -40,14 +40,23 @@ impl Read for LiveInput<'_> {
 pub struct LiveOutput<'a> {
     waiting: &'a Waiting,
     faults: u64,
+    // How much was put since it wrote last.
+    put: usize,
 }
+
+// So much is put before it is written: as much as a pipe holds.
+const WRITE: usize = 65_536;
 
 impl<'a> LiveOutput<'a> {
     // No write has failed yet.
     pub(crate) fn new(waiting: &'a Waiting) -> LiveOutput<'a>
         ensures { result.faults ≡ 0 }
     {
-        LiveOutput { waiting, faults: 0 }
+        LiveOutput {
+            waiting,
+            faults: 0,
+            put: 0,
+        }
     }
 }
 
@@ -59,7 +68,13 @@ impl Sink for LiveOutput<'_> {
     #[inline]
     fn put(&mut self, piece: &[u8]) -> Result<usize, Failed> {
         if let Ok(mut sink) = self.waiting.try_borrow_mut() {
+            if piece.len() > WRITE.saturating_sub(self.put) {
+                // What cannot be written stays, and the next write says so.
+                let _later = sink.flush();
+                self.put = 0;
+            }
             if let Ok(count) = sink.put(piece) {
+                self.put = self.put.saturating_add(count);
                 return Ok(count);
             }
         }

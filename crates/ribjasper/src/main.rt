@@ -14,11 +14,8 @@ use std::io::{BufReader, ErrorKind};
 use std::process::ExitCode;
 use std::{env, io};
 
-// The most that waits to be written.
-const BUFFER: usize = 65_536;
-
-// The most that a read brings: whole pages and whole blocks, whose packs come out in one write.
-const READ: usize = 61_440;
+// The most that waits to be written: what one read of an input gives, and more.
+const BUFFER: usize = 131_072;
 
 // All words after the program's own name. Where they are no text, there are none.
 fn words(rt: &HostRuntime) -> io::Result<Vec<String>> {
@@ -53,7 +50,8 @@ fn source<'a>(
     input: InputReader<'a>,
     waiting: &'a Waiting,
 ) -> io::Result<BufferedSource<LiveInput<'a>>> {
-    let reader = BufReader::with_capacity(alloc, READ, LiveInput { input, waiting })?;
+    let most = input.most_a_read();
+    let reader = BufReader::with_capacity(alloc, most, LiveInput { input, waiting })?;
     Ok(BufferedSource::new(reader))
 }
 
