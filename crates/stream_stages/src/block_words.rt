@@ -1,5 +1,5 @@
 // From blocks to words.
-ghost use Rattle.std.specs.Prelude.{◌≡◌, ◌<◌, true, List, ℕ, MatchOption, replicate};
+ghost use Rattle.std.specs.Prelude.{◌≡◌, ◌<◌, true, List, ℕ, MatchOption, Some, replicate};
 ghost use Rattle.arrayvec.specs.ArrayVec.{ArrayVec};
 ghost use Rattle.raw_subcode.specs.Sizes.{slots_a_block};
 ghost use Rattle.rw_code.specs.Packs.{idle_pack};
@@ -116,6 +116,8 @@ impl Stage for BlockWords {
 
     ghost gives = { words_give };
 
+    ghost idle = { Some (record { items = replicate slots_a_block idle_pack }) };
+
     #[inline]
     #[tactic(auto, unfolding(crate::specs::Steps::words_next, crate::specs::Steps::words_give))]
     fn feed(&mut self, block: &[u8; BLOCK_BYTES]) -> Option<BlockOfWords> {
@@ -133,12 +135,14 @@ impl Stage for BlockWords {
     }
 
     #[inline]
-    fn feed_idle(&mut self, block: &[u8; BLOCK_BYTES], out: &mut Option<BlockOfWords>) -> bool {
-        if !self.stays_idle(block) {
-            return false;
-        }
-        *out = Some(BlockOfWords::idle());
-        true
+    #[tactic(auto, unfolding(crate::specs::Steps::words_next, crate::specs::Steps::words_give))]
+    fn sees_idle(&self, block: &[u8; BLOCK_BYTES]) -> bool {
+        self.stays_idle(block)
+    }
+
+    #[inline]
+    fn idle_gives() -> Option<BlockOfWords> {
+        Some(BlockOfWords::idle())
     }
 }
 
