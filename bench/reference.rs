@@ -5,8 +5,9 @@
 //! `author LENGTH -- SHEET SCRIPT`, `press LENGTH -- SHEET FILE`, `merge -- FIRST SECOND`, `resume TIME -- SAVE REST` and
 //! `trial SEED PICTURES`. Of Q frames it knows those of a program, of sheets tracks and index lines, and it refuses with few
 //! words.
-use std::fs;
-use std::io::{self, BufReader, BufWriter, Read, Stdin, Stdout, Write};
+use std::fs::{self, File};
+use std::io::{self, BufReader, BufWriter, Read, Stdin, Write};
+use std::os::fd::AsFd;
 
 const BLOCK: usize = 96;
 const WORD: usize = 24;
@@ -17,7 +18,8 @@ const PLACES: [usize; WORD] = [
 
 type Word = [u8; WORD];
 type Input = BufReader<Stdin>;
-type Output = BufWriter<Stdout>;
+/// Standard output as a file, since `Stdout` looks for line feeds in all that is written and cuts writes there.
+type Output = BufWriter<File>;
 
 /// The field of 64 elements, by logarithms.
 struct Field {
@@ -1322,7 +1324,8 @@ fn trial(seed: u64, pictures: u32, out: &mut Output) -> io::Result<()> {
 fn main() -> io::Result<()> {
     let words: Vec<String> = std::env::args().skip(1).collect();
     let input = &mut BufReader::with_capacity(65_536, io::stdin());
-    let out = &mut BufWriter::with_capacity(65_536, io::stdout());
+    let stdout = File::from(io::stdout().as_fd().try_clone_to_owned()?);
+    let out = &mut BufWriter::with_capacity(65_536, stdout);
     let time = || blocks_of(words[1].as_bytes()).unwrap();
     match words[0].as_str() {
         "convert" => convert(input, out)?,

@@ -1,5 +1,6 @@
 // The output of the program, which is never held back while an input is waited for.
-ghost use Rattle.std.specs.Prelude.{◌≡◌, None};
+ghost use Rattle.std.specs.Prelude.{◌≡◌, ◌<◌, None, length};
+ghost use Rattle.cdg_io.specs.Moves.{TakesSome};
 
 use crate::input::InputReader;
 use cdg_io::{BufferedSink, Failed, Piece, Sink, Source, UnitStage};
@@ -68,13 +69,7 @@ impl Sink for LiveOutput<'_> {
     #[inline]
     fn put(&mut self, piece: &[u8]) -> Result<usize, Failed> {
         if let Ok(mut sink) = self.waiting.try_borrow_mut() {
-            if piece.len() > WRITE.saturating_sub(self.put) {
-                // What cannot be written stays, and the next write says so.
-                let _later = sink.flush();
-                self.put = 0;
-            }
-            if let Ok(count) = sink.put(piece) {
-                self.put = self.put.saturating_add(count);
+            if let Ok(count) = put_in_turn(&mut sink, piece, &mut self.put) {
                 return Ok(count);
             }
         }
@@ -95,4 +90,23 @@ impl Sink for LiveOutput<'_> {
             Err(_) => 0,
         }
     }
+}
+
+// Puts a piece, after what waits is written where enough was put since the last time.
+#[inline]
+fn put_in_turn(
+    sink: &mut BufferedSink<Stdout>,
+    piece: &[u8],
+    put: &mut usize,
+) -> Result<usize, Failed>
+    requires { 0 < length piece.now }
+    ensures { TakesSome result piece.now }
+{
+    if piece.len() > WRITE.saturating_sub(*put) {
+        sink.flush()?;
+        *put = 0;
+    }
+    let count = sink.put(piece)?;
+    *put = put.saturating_add(count);
+    Ok(count)
 }
