@@ -2,8 +2,9 @@
 """Prints the table of bench/README.md: for each command on inputs of 40 MB the processor time that it takes, in
 milliseconds, beside that of `cat` and of a plain program, how many times ours goes into the plain program's, and the most
 memory that was held. Each time is user and system time of the process alone, the least of RUNS runs (nine, or what the
-environment says), through the same pipes. The plain program is bench/reference.rs, unverified Rust that does the work of
-some commands; it is built where rustc is there, and what it writes is compared with what we write.
+environment says), in turn with the others of its row, through the same pipes. The plain program is bench/reference.rs,
+unverified Rust that does the work of some commands; it is built where rustc is there, and what it writes is compared with
+what we write.
 
 What a time is bound by: `convert`, `check`, `screen`, `state`, `save` and `resume` by the words, four a block, each a
 gathering of 24 symbols and a look at its sums (on an authored stream nearly all blocks are idle); with a wrong symbol in each
@@ -86,8 +87,10 @@ def peak(words: list[str], files: Sequence[str]) -> int:
     return most
 
 
-def best(words: list[str], files: Sequence[str]) -> float:
-    return min(through_pipes(words, files).seconds for _ in range(RUNS))
+def best(runs: Sequence[tuple[list[str], Sequence[str]]]) -> list[float]:
+    """The least time of each of these runs, which are made in turn, so that a busy moment meets all of them."""
+    times = [[through_pipes(words, files).seconds for words, files in runs] for _ in range(RUNS)]
+    return [min(column) for column in zip(*times)]
 
 
 def reference(work: Path) -> str | None:
@@ -206,17 +209,15 @@ ROWS = [
 
 
 def milliseconds(seconds: float | None) -> str:
-    return "-" if seconds is None else f"{1e3 * seconds:.0f}"
+    return "-" if seconds is None else f"{1e3 * seconds:.1f}"
 
 
-def plain_time(program: str | None, words: str, given: Sequence[str]) -> float | None:
-    """The time of the plain program, where it does the work; it has to write the same."""
+def plain_run(program: str | None, words: str, given: Sequence[str]) -> list[str] | None:
+    """The plain program's words, where it does the work; it has to write the same."""
     other = plain_words(program, words)
-    if other is None:
-        return None
-    if written(other, given) != written(ribjasper(words), given):
+    if other is not None and written(other, given) != written(ribjasper(words), given):
         raise ValueError("the plain program writes something else")
-    return best(other, given)
+    return other
 
 
 def row(program: str | None, what: str, words: str, given: Sequence[str], size: int | None) -> str:
@@ -224,8 +225,11 @@ def row(program: str | None, what: str, words: str, given: Sequence[str], size: 
     ran = through_pipes(ribjasper(words), given)
     if ran.status > 1 or ran.count == 0 or (size is not None and ran.count != size):
         raise ValueError(f"wrote {ran.count} bytes with status {ran.status}")
-    took, plain = best(ribjasper(words), given), plain_time(program, words, given)
-    copied = sum(best(["cat"], [it]) for it in given) if given else None
+    other = plain_run(program, words, given)
+    runs = [(ribjasper(words), given), *([(other, given)] if other else []), *((["cat"], [it]) for it in given)]
+    took, *rest = best(runs)
+    plain = rest.pop(0) if other else None
+    copied = sum(rest) if given else None
     ratio = "-" if plain is None else f"{plain / took:.2f}"
     held = f"{peak(ribjasper(words), given) / 1024:.1f}"
     cells = [f"`{words.split()[0]}`", what, milliseconds(copied), milliseconds(took), milliseconds(plain), ratio, held]
