@@ -18,7 +18,7 @@ import time
 
 ROOT = pathlib.Path(__file__).resolve().parent.parent
 # How many lines of code and proofs a processor works off in a second, and the seconds that any crate takes.
-LINES_A_SECOND, LEAST_SECONDS = 30, 10
+LINES_A_SECOND, LEAST_SECONDS = 45, 10
 # What a check takes of memory.
 BYTES = 2_500_000_000
 
