@@ -1,4 +1,8 @@
 // The inputs of the program, as one reader.
+ghost use Rattle.std.specs.Prelude.{◌≡◌, ◌≢◌, ◌<◌};
+ghost use Rattle.std.specs.declared.io.Stdin.{Stdin};
+ghost use Rattle.ribjasper.specs.declared.input.InputReader.TheVariants.{Standard};
+
 use std::fs::File;
 use std::io;
 use std::io::{ErrorKind, Read, Stdin};
@@ -23,7 +27,11 @@ pub enum InputReader<'a> {
 
 impl InputReader<'_> {
     /// The most that a read of it is to bring.
-    pub fn most_a_read(&self) -> usize {
+    pub(crate) fn most_a_read(&self) -> usize
+        ensures some { 0 < result }
+        ensures pipe { (stdin : Stdin) → self.now ≡ Standard stdin → result ≡ 65536 }
+        ensures file { ((stdin : Stdin) → self.now ≢ Standard stdin) → result ≡ 61440 }
+    {
         match self {
             InputReader::Standard(_) => PIPE_READ,
             _ => FILE_READ,
