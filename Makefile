@@ -1,6 +1,6 @@
 # Builds the program, shows it at work, and checks the repository.
 
-.PHONY: all library example demo check bench guide install uninstall deb clean
+.PHONY: all library example demo check bench guide install uninstall deb dist clean
 
 PREFIX ?= /usr/local
 # Where libraries go; some systems have a folder for each processor.
@@ -28,9 +28,10 @@ example:
 demo:
 	examples/demo.py
 
-# The gate, and then the repository's own checks.
+# The gate, and then the repository's own checks, with the program and the library that the gate has just proved.
 check:
 	rt ci
+	tools/take_gate.sh
 	tools/check_repository.sh
 
 # How fast each command is, beside cat.
@@ -67,5 +68,9 @@ uninstall:
 deb:
 	tools/make_deb.sh
 
+# A release in dist/: archives of the source and of what was built, and the packages.
+dist:
+	tools/make_dist.sh
+
 clean:
-	rm -rf bin lib crates/*/out
+	rm -rf bin lib deb dist crates/*/out

@@ -4,7 +4,8 @@
 #
 # TARGET is x86_64-unknown-linux-gnu, or aarch64-unknown-linux-gnu, whose library is left in a folder of
 # its own in lib/. CPU is the oldest processor that it has to run on: x86-64 and generic, or a newer one
-# (rt lib --help lists them). CC is the C compiler that links it.
+# (rt lib --help lists them). CC is the C compiler that links it. With OVER_GATE=1 it stands on what `rt ci` has just
+# proved, if that is all there, so that nothing below the library is proved a second time.
 set -e
 cd "$(dirname "$0")/.."
 host=x86_64-unknown-linux-gnu
@@ -19,8 +20,10 @@ compiler=${CC:-${prefix}cc}
 for tool in "$compiler" "${prefix}ld" "${prefix}objcopy" "${prefix}ar"; do
     command -v "$tool" >/dev/null || { echo "build_library: there is no $tool" >&2; exit 1; }
 done
-tools/prove_crates.py ribjasper_c
-(cd crates/ribjasper_c && rt lib --target "$target" --cpu "$cpu" ${JOBS:+--jobs "$JOBS"})
+if [ -z "$OVER_GATE" ] || ! tools/build_over_gate.py ribjasper_c "$cpu" ${JOBS:+"$JOBS"}; then
+    tools/prove_crates.py ribjasper_c
+    (cd crates/ribjasper_c && rt lib --target "$target" --cpu "$cpu" ${JOBS:+--jobs "$JOBS"})
+fi
 
 work=$(mktemp -d)
 trap 'rm -rf "$work"' EXIT

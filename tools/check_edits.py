@@ -2,7 +2,8 @@
 """Looks at the wrong bodies that the checker has to refuse: check_edits.py [TOP]
 
 Each edit's old text has to stand exactly once in the file that it names, so that the edit still turns what it was
-written for. Where an edit has several texts, each is looked for in what those before it made.
+written for. Where an edit has several texts, each is looked for in what those before it made. Those of `must-fail/` are
+tried by the gate, and those of `wrong-bodies/` by tools/try_wrong_bodies.py.
 """
 import argparse
 import sys
@@ -11,6 +12,7 @@ from typing import Iterator
 
 TOP = Path(__file__).resolve().parent.parent
 KEYS = ("file", "old", "new")
+FOLDERS = ("must-fail", "wrong-bodies")
 
 
 def steps(edit: Path) -> Iterator[tuple[str | None, str | None, str]]:
@@ -50,7 +52,7 @@ def main() -> int:
     parser = argparse.ArgumentParser(description="Looks at the wrong bodies that the checker has to refuse.")
     parser.add_argument("top", nargs="?", type=Path, default=TOP, help="the repository (default: this one)")
     top = parser.parse_args().top
-    edits = sorted(top.glob("crates/*/must-fail/*.edit"))
+    edits = sorted(edit for folder in FOLDERS for edit in top.glob(f"crates/*/{folder}/*.edit"))
     wrong = [f"{edit.relative_to(top)} {what}" for edit in edits for what in complaints(edit)]
     for line in wrong:
         print(f"check_edits: {line}", file=sys.stderr)

@@ -1,12 +1,17 @@
 #!/bin/sh
-# Installs, where it may, the packages that the desk uses beside Python itself: as root, by apt-get, within two minutes.
-# Whatever comes of it, it ends well: tests that lack a package are skipped and counted.
-python=/usr/bin/python3
-font=/usr/share/fonts/truetype/dejavu/DejaVuSans-Bold.ttf
-"$python" -c 'import PIL, tqdm, distributed' 2>/dev/null && [ -e "$font" ] && exit 0
-[ "$(id -u)" = 0 ] && command -v apt-get >/dev/null || exit 0
-get() { DEBIAN_FRONTEND=noninteractive timeout 60 apt-get -qq -o Acquire::Retries=0 -o DPkg::Lock::Timeout=20 "$@"; }
-packages="python3-pil python3-tqdm python3-distributed fonts-dejavu-core"
-{ get install -y --no-install-recommends $packages || { get update && get install -y --no-install-recommends $packages; }; } \
-    </dev/null >/dev/null 2>&1
+# Installs, where it may, what the checks use beside Python itself, as root, by apt-get, within some minutes: packages of
+# Python, a font, compilers, and the programs that ours are compared with. Whatever comes of it, it ends well: checks that
+# lack a package are skipped, and counted.
+packages="python3-pil python3-tqdm python3-distributed python3-hypothesis mypy fonts-dejavu-core ffmpeg cdrdao cdrskin
+libburn-dev valgrind gcc g++ binutils pkg-config"
+[ "$(id -u)" = 0 ] && command -v apt-get >/dev/null && command -v dpkg-query >/dev/null || exit 0
+lacking=
+for package in $packages; do
+    dpkg-query --show --showformat='${db:Status-Status}' "$package" 2>/dev/null | grep -qx installed || lacking="$lacking $package"
+done
+[ -n "$lacking" ] || exit 0
+get() { DEBIAN_FRONTEND=noninteractive timeout 240 apt-get -qq -o Acquire::Retries=1 -o DPkg::Lock::Timeout=60 "$@"; }
+# One that cannot be had does not keep the others out.
+{ get install -y --no-install-recommends $lacking || { get update && get install -y --no-install-recommends $lacking; } ||
+    for package in $lacking; do get install -y --no-install-recommends "$package"; done; } </dev/null >/dev/null 2>&1
 exit 0

@@ -22,6 +22,7 @@ package() {
         mkdir -p "$room/$(dirname "$file")"
         mv "$work/all/$file" "$room/$file"
     done
+    install -D -m 644 share/copyright "$room/usr/share/doc/$name/copyright"
     {
         echo "Package: $name"
         echo "Version: $version"
