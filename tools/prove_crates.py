@@ -19,6 +19,8 @@ import time
 ROOT = pathlib.Path(__file__).resolve().parent.parent
 # How many lines of code and proofs a processor works off in a second, and the seconds that any crate takes.
 LINES_A_SECOND, LEAST_SECONDS = 45, 10
+# How many seconds of work weigh as much as that: what this run shows by and by counts for more.
+LEARNT_SECONDS = 60
 # What a check takes of memory.
 BYTES = 2_500_000_000
 
@@ -153,11 +155,18 @@ class Proving:
         # When each crate began that is being proved, and how many processors it was given.
         self.running: dict[str, float] = {}
         self.used: dict[str, int] = {}
+        # The seconds that what was proved here took, and those that were reckoned for it.
+        self.took, self.reckoned = 0.0, 0.0
         self.news = threading.Condition()
+
+    def pace(self) -> float:
+        """How many seconds one that was reckoned takes here, as far as this run has shown; the first minute shows little."""
+        return (LEARNT_SECONDS + self.took) / (LEARNT_SECONDS + self.reckoned)
 
     def seconds_left(self) -> float:
         rest = [*self.left, *self.running]
-        return max(sum(self.cost[it] for it in rest) / self.lanes, max((self.chain[it] for it in rest), default=0))
+        whole = max(sum(self.cost[it] for it in rest) / self.lanes, max((self.chain[it] for it in rest), default=0))
+        return whole * self.pace()
 
     def jobs(self, ready: int) -> int:
         """How many processors the next crate is given: those that no running or ready crate waits for."""
@@ -178,6 +187,7 @@ class Proving:
         with self.news:
             took = time.monotonic() - self.running.pop(name)
             del self.used[name]
+            self.took, self.reckoned = self.took + took, self.reckoned + self.cost[name]
             if is_well:
                 self.done.add(name)
                 left = spoken(self.seconds_left())
