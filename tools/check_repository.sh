@@ -88,6 +88,10 @@ else
     echo "try_deb: skipped, there is no bin/ribjasper (make) or no dpkg-deb" | tee -a "$skipped"
 fi
 
+# No function of Python is without its types, and no command takes more instructions than it did.
+try tools/check_types.sh || complain "the types of what is written in Python are not in order"
+try bench/instructions.py --check || complain "a command takes more instructions than bench/instructions.tsv says"
+
 # Other programs agree, where they are installed.
 for other in compare_ffmpeg compare_cdrskin; do
     try tools/$other.sh || complain "tools/$other.sh fails"
