@@ -19,7 +19,8 @@ state now packs = run_state thin_next now packs
 abbrev pub run : Standing → List (List ℕ) → List ℕ
 run now packs = concat (run_gives thin_next thin_gives now packs)
 
--- The stage went over the packs of a row before a place: so many are left, they stand as they were, and what comes of all
+-- The stage went over the packs of a row before a place: so many are left, they stand as they were, and what
+-- comes of all
 -- is what stands before that place and what comes of those.
 pub record Left (s : Standing) (all : List (List ℕ)) (now : Standing) (row : List ℕ) (at : ℕ) : Type 0 where
   pub count : ℕ
@@ -59,7 +60,15 @@ put_length : (at k : ℕ) (row new : List ℕ) → at + k ≤ length row → len
     → length (put_mid at k row new) ≡ length row
 put_length at k row new within long =
     length-append (take at row) (new ++ drop k (drop at row))
-    ∙ omega (arith, within, long, length-append new (drop k (drop at row)), length-take-le at row (omega (arith, within)), length-drop at row, length-drop k (drop at row))
+    ∙ omega (
+      arith,
+      within,
+      long,
+      length-append new (drop k (drop at row)),
+      length-take-le at row (omega (arith, within)),
+      length-drop at row,
+      length-drop k (drop at row),
+    )
 
 -- one more
 pub left_less : (s now now' : Standing) (all : List (List ℕ)) (row new : List ℕ) (at k : ℕ) → at < length row
@@ -78,7 +87,8 @@ left_less s now now' all row new at k within is long after gave left =
     let row' : List ℕ = put_mid at k row new in
     let rest : drop 24 behind ≡ drop (at + 24) row' =
     drop-drop 24 at row
-    ∙ sym (drop-put_mid at k row new (at + 24) (omega (arith, is)) (omega (arith, within)) (omega (arith, is, long))) in
+    ∙ sym (drop-put_mid at k row new (at + 24) (omega (arith, is)) (omega (arith, within))
+    (omega (arith, is, long))) in
     let front : take (at + 24) row' ≡ take at row ++ new =
     take-put_mid at k row new (at + 24) (omega (arith, is, long)) (omega (arith, within)) in
     record {
@@ -89,8 +99,10 @@ left_less s now now' all row new at k within is long after gave left =
           ∙ ap₂ (λ (t : Standing) (bytes : List ℕ). state t (units_of 24 n bytes)) (sym next) rest;
       gives =
           left.gives ∙ ap (λ (m : ℕ). take at row ++ run now (units_of 24 m behind)) more
-          ∙ ap (λ (l : List ℕ). take at row ++ l) (given_first now (take 24 behind) new (units_of 24 n (drop 24 behind)) gives)
-          ∙ ap₂ (λ (t : Standing) (bytes : List ℕ). take at row ++ (new ++ run t (units_of 24 n bytes))) (sym next) rest
+          ∙ ap (λ (l : List ℕ). take at row ++ l)
+          (given_first now (take 24 behind) new (units_of 24 n (drop 24 behind)) gives)
+          ∙ ap₂ (λ (t : Standing) (bytes : List ℕ). take at row ++ (new ++ run t (units_of 24 n bytes)))
+          (sym next) rest
           ∙ sym (append_assoc (take at row) new (run now' (units_of 24 n (drop (at + 24) row'))))
           ∙ ap (λ (l : List ℕ). l ++ run now' (units_of 24 n (drop (at + 24) row'))) (sym front);
     }
