@@ -4,3 +4,4 @@ pub mod Forms
 pub mod Sameness
 pub mod Runs
 pub mod Calls
+pub mod Rows

@@ -1,9 +1,11 @@
 // From packs to those of the thin form.
-ghost use Rattle.std.specs.Prelude.{◌≡◌, ◌≢◌, ◌≤◌, List, ℕ, [], ◌∷◌, length, Err, IfOk, IfSome, IsErrOf, Some};
+ghost use Rattle.std.specs.Prelude.{◌≡◌, ◌≢◌, ◌≤◌, ◌*◌, List, ℕ, [], ◌∷◌, length, Err, IfOk, IfSome, IsErrOf, Some};
+ghost use Rattle.std.specs.List.{concat};
 ghost use Rattle.cdg_instructions.specs.Instruction.{InRange};
 ghost use Rattle.cdg_io.specs.Causes.{TellsFault};
 ghost use Rattle.cdg_io.specs.Change.{change, passed};
-ghost use Rattle.cdg_io.specs.Pump.{FillsUnits, IsUnlessFault, TellsEndOf, answer_of};
+ghost use Rattle.cdg_io.specs.Pump.{FillsUnits, IsUnlessFault, TellsEndOf, answer_of, units_of};
+ghost use Rattle.cdg_io.specs.Run.{run_state, run_gives};
 ghost use Rattle.cdg_screen.specs.Standing.{blank, standing_after};
 ghost use Rattle.raw_subcode.specs.Sizes.{symbols_a_slot};
 ghost use Rattle.cdg_thin.specs.Calls.{Thins, ThinsAll, most_file_packs};
@@ -12,7 +14,7 @@ ghost use Rattle.cdg_thin.specs.Steps.{pack_instruction, is_needless, thin_next,
 use crate::instruction::{instruction, is_graphic, is_idle};
 use crate::laws::thin_forms_stand_alike;
 use cdg_instructions::Instr;
-use cdg_io::{Piece, PumpStop, Pumped, Sink, Source, Stage, pump};
+use cdg_io::{PassedUnits, Piece, PumpStop, Pumped, Sink, Source, UnitStage, pump_units};
 use cdg_screen::Screen;
 use raw_subcode::{MOST_UNITS, SLOTS_A_BLOCK, SYMBOLS_A_SLOT};
 use std::alloc::{AllocError, Global};
@@ -79,7 +81,7 @@ impl Thinner {
     {
         thin_forms_stand_alike();
         self.reset();
-        pump(source, MOST_PACKS, self, out)
+        pump_units(source, MOST_PACKS, self, out)
     }
 
     // Makes all zero again.
@@ -126,42 +128,89 @@ impl Thinner {
         self.passes_over(&instruction(pack))
     }
 
-    // Makes a piece of a pack, or of an idle one where it is needless.
+    // Makes a pack idle where it is needless.
+    #[inline]
     #[tactic(auto, unfolding(crate::specs::Steps::thin_gives))]
-    fn pass(&mut self, pack: &[u8; SYMBOLS_A_SLOT], piece: &mut Piece)
-        ensures next { self.new ≡ thin_next self.old pack.now }
-        ensures gives { Some piece.new ≡ thin_gives self.old pack.now }
+    fn thin(&mut self, pack: &mut [u8; SYMBOLS_A_SLOT])
+        ensures next { self.new ≡ thin_next self.old pack.old }
+        ensures gives { Some pack.new ≡ thin_gives self.old pack.old }
     {
         if self.is_needless(pack) {
-            piece.set_zeros(SYMBOLS_A_SLOT);
-        } else {
-            piece.set(pack);
+            *pack = [0; SYMBOLS_A_SLOT];
+        }
+    }
+
+    // The same of a pack in a row of bytes.
+    #[inline]
+    fn thin_bytes(&mut self, bytes: &mut [u8])
+        requires { length bytes.old ≡ symbols_a_slot }
+        ensures next { self.new ≡ thin_next self.old bytes.old }
+        ensures gives { Some bytes.new ≡ thin_gives self.old bytes.old }
+    {
+        match bytes.first_chunk_mut::<SYMBOLS_A_SLOT>() {
+            Some(pack) => self.thin(pack),
+            None => unreachable!(),
+        }
+    }
+
+    // Goes over so many packs that stand one behind another, and makes those that are needless idle where they stand.
+    #[inline]
+    fn thin_row(&mut self, packs: &mut [u8], count: usize)
+        requires { length packs.old ≡ symbols_a_slot * count }
+        ensures next { self.new ≡ run_state thin_next self.old (units_of symbols_a_slot count packs.old) }
+        ensures gives { packs.new
+            ≡ concat (run_gives thin_next thin_gives self.old (units_of symbols_a_slot count packs.old)) }
+    {
+        let mut at = 0;
+        while at < packs.len() {
+            self.thin_bytes(&mut packs[at..at + SYMBOLS_A_SLOT]);
+            at += SYMBOLS_A_SLOT;
         }
     }
 }
 
-impl Stage for Thinner {
-    type Item = [u8; SYMBOLS_A_SLOT];
-
-    type Out = Piece;
+impl UnitStage for Thinner {
+    ghost SIZE = { symbols_a_slot };
 
     ghost next = { thin_next };
 
     ghost gives = { thin_gives };
 
-    // It stands apart, so that a piece that is written over does not pay for one that is made.
+    const SIZE: usize = SYMBOLS_A_SLOT;
+
+    // It stands apart, so that packs that come many at a time do not pay for one that comes in parts.
     #[cold]
     #[inline(never)]
-    fn feed(&mut self, pack: &[u8; SYMBOLS_A_SLOT]) -> Option<Piece> {
+    fn take_unit(&mut self, unit: &[u8], given: &mut Option<Piece>) {
+        let mut pack = [0; SYMBOLS_A_SLOT];
+        pack.copy_from_slice(unit);
+        self.thin(&mut pack);
         let mut piece = Piece::new();
-        self.pass(pack, &mut piece);
-        Some(piece)
+        piece.set(&pack);
+        *given = Some(piece);
     }
 
-    fn emit(&mut self, pack: &[u8; SYMBOLS_A_SLOT], out: &mut Option<Piece>) {
-        match out {
-            Some(piece) => self.pass(pack, piece),
-            None => *out = self.feed(pack),
+    /// Most packs stay as they are, so all whole ones are copied at once, and those that are needless become idle there.
+    #[inline]
+    fn take_row(
+        &mut self,
+        row: &mut &[u8],
+        given: &mut Option<Piece>,
+        buffer: &mut [u8],
+        start: usize,
+        most: u32,
+    ) -> PassedUnits {
+        let room = (buffer.len() - start) / SYMBOLS_A_SLOT;
+        let count = (row.len() / SYMBOLS_A_SLOT).min(room).min(most as usize);
+        let size = SYMBOLS_A_SLOT * count;
+        let end = start + size;
+        let place = &mut buffer[start..end];
+        place.copy_from_slice(&row[..size]);
+        self.thin_row(place, count);
+        *row = &row[size..];
+        PassedUnits {
+            units: count as u32,
+            end,
         }
     }
 }

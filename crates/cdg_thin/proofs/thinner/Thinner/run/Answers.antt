@@ -3,9 +3,9 @@ use Rattle.cdg_thin.proofs.thinner.Thinner.run.Goals as goal
 
 pub returns-clause-thins : goal.returns-clause-thins
 returns-clause-thins g c = (
-  c.pump.ensures.pumps.0,
-  thins _ c.pump.ensures.pumps.0 c.reset.ensures c.pump.result c.pump.ensures.pumps.1,
+  c.pump_units.ensures.pumps.0,
+  thins _ c.pump_units.ensures.pumps.0 c.reset.ensures c.pump_units.result c.pump_units.ensures.pumps.1,
 )
 
 pub returns-clause-whole : goal.returns-clause-whole
-returns-clause-whole g c = whole _ _ _ c.pump.result _ (returns-clause-thins g c).1
+returns-clause-whole g c = whole _ _ _ c.pump_units.result _ (returns-clause-thins g c).1
