@@ -58,9 +58,9 @@ def tables() -> dict[str, tuple[str, list[int]]]:
     """Each table with the source in which it stands, and its numbers."""
     differences, logs = pairs()
     return {
-        "SYNDROMES": ("rw_code/src/syndrome_table.rt", [sums(i, s) for i in range(24) for s in range(64)]),
-        "DIFFERENCES": ("rw_code/src/pair_tables.rt", differences),
-        "SUMS": ("rw_code/src/pair_tables.rt", logs),
+        "SYNDROMES": ("rw_code/src/syndromes.rt", [sums(i, 1 << b) for i in range(24) for b in range(6)]),
+        "DIFFERENCES": ("rw_code/src/correction.rt", differences),
+        "SUMS": ("rw_code/src/correction.rt", logs),
         "REMAINDERS": ("subcode_crc/src/check.rt", [remainder(byte, 16) for byte in range(256)]),
         "HIGH_REMAINDERS": ("subcode_crc/src/check.rt", [remainder(byte, 24) for byte in range(256)]),
         "LINES": ("cdg_screen/src/line_table.rt", [line(bits) for bits in range(64)]),

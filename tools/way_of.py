@@ -1,7 +1,7 @@
 #!/usr/bin/env python3
 """Tells which files a reader meets who follows the calls of a command: way_of.py FILE.. [--top TOP].
 
-From each FILE (crates/cdg_cmd/src/convert.rt, say) it follows what the code imports, down to the kit: a name that a `use` line
+From each FILE (crates/cdg_cmd/src/streams.rt, say) it follows what the code imports, down to the kit: a name that a `use` line
 brings in and that stands outside of clauses leads to the file that declares it, in the same crate or in another. It prints
 these files with their lines, crate by crate, and how many there are. A file that is met counts whole.
 """

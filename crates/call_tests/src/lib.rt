@@ -6,26 +6,16 @@
 #[cfg(test)]
 mod blocks;
 #[cfg(test)]
-mod field;
-#[cfg(test)]
-mod files;
-#[cfg(test)]
 mod instructions;
 #[cfg(test)]
 mod lines;
 #[cfg(test)]
+mod own;
+#[cfg(test)]
 mod players;
-#[cfg(test)]
-mod readings;
-#[cfg(test)]
-mod slots;
-#[cfg(test)]
-mod stopped;
 #[cfg(test)]
 mod streams;
 #[cfg(test)]
 mod tiles;
-#[cfg(test)]
-mod times;
 #[cfg(test)]
 mod words;

@@ -1,6 +1,6 @@
 -- Where a command line is split.
 use Rattle.std.specs.Prelude.{ℕ, ◌-◌, List, length, Option, Some, None, String, string_bytes, position, bytes_eq, codes, nat_le, if◌then◌else◌}
-use Rattle.cdg_cmd.specs.declared.parts.Split.{Split}
+use Rattle.cdg_cmd.specs.declared.command.Split.{Split}
 
 -- all words are the command's
 abbrev pub unsplit : ℕ → Split

@@ -1,12 +1,15 @@
-// Each command with its numbers, and the words of a command line that spell it.
-ghost use Rattle.std.specs.Prelude.{◌≡◌, IfSome, Some};
-ghost use Rattle.cdg_cmd.specs.Words.{texts};
+// Each command with its numbers, and the words and options that spell it.
+ghost use Rattle.std.specs.Prelude.{◌≡◌, ◌≢◌, ◌≤◌, ◌<◌, ◌^◌, ◌↔◌, IfSome, Some, ℕ, codes, decimal, IsTrue};
+ghost use Rattle.cdg_cmd.specs.Words.{texts, IsLeadInOption, IsLengths, IsMoment, IsScratchOptions, IsSeedOptions, IsStreamOptions, IsTimedOptions, form_name, IsFormOption};
 ghost use Rattle.cdg_cmd.specs.Spelling.{Spells};
+ghost use Rattle.cdg_workload.specs.Script.{most_generated};
+ghost use Rattle.disc_time.specs.Counts.{most_lead_in, time_count};
+ghost use Rattle.raw_subcode.specs.declared.form.Form.{Form};
+ghost use Rattle.disc_time.specs.Time.{time_text};
 
-use crate::option_lists::{
-    Lengths, ScratchOptions, SeedOptions, StreamOptions, TimedOptions, only_lead_in, only_moment,
-    read_blocks, read_lengths, read_scratches, read_seeded, read_stream, read_timed,
-};
+use cdg_workload::MOST_GENERATED;
+use disc_time::{MOST_LEAD_IN, parse_time};
+use itoa::Buffer;
 use raw_subcode::Form;
 
 /// A command with its numbers. A time is the number of its block.
@@ -116,4 +119,281 @@ pub fn read_words(words: &[String]) -> Option<Command>
         }
         _ => None,
     }
+}
+
+// How a stream stands in the input: the blocks of its lead-in, and its form.
+#[derive(Clone, Copy)]
+struct StreamOptions {
+    pub lead_in: u32,
+    pub form: Form,
+}
+
+// The options of a stream: its lead-in, and its form where one is named.
+fn read_stream(words: &[String]) -> Option<StreamOptions>
+    ensures spelled { IfSome result (λ o. (o.lead_in ≤ most_lead_in)
+        × IsStreamOptions o.lead_in o.form (texts words.now)) }
+    ensures all { (lead_in : ℕ) (form : Form) → lead_in ≤ most_lead_in
+        → IsStreamOptions lead_in form (texts words.now)
+        → result ≡ Some (record { lead_in = lead_in; form = form }) }
+{
+    match words {
+        [option, number, rest @ ..] => Some(StreamOptions {
+            lead_in: read_lead_in(option, number)?,
+            form: read_form(rest)?,
+        }),
+        _ => None,
+    }
+}
+
+// The options of a stream whose blocks have a Q channel.
+fn read_blocks(words: &[String]) -> Option<StreamOptions>
+    ensures spelled { IfSome result (λ o. (o.lead_in ≤ most_lead_in) × (o.form ≢ Form.Cooked)
+        × IsStreamOptions o.lead_in o.form (texts words.now)) }
+    ensures all { (lead_in : ℕ) (form : Form) → lead_in ≤ most_lead_in → form ≢ Form.Cooked
+        → IsStreamOptions lead_in form (texts words.now)
+        → result ≡ Some (record { lead_in = lead_in; form = form }) }
+{
+    let stream = read_stream(words)?;
+    if stream.form == Form::Cooked {
+        return None;
+    }
+    Some(stream)
+}
+
+// The options of a stream and a moment of it.
+#[derive(Clone, Copy)]
+struct TimedOptions {
+    pub lead_in: u32,
+    pub form: Form,
+    pub at: u32,
+}
+
+// The options of a stream, and the block of a time.
+fn read_timed(words: &[String]) -> Option<TimedOptions>
+    ensures spelled { IfSome result (λ o. (o.lead_in ≤ most_lead_in) × (o.at < time_count)
+        × IsTimedOptions o.lead_in o.form o.at (texts words.now)) }
+    ensures all { (lead_in : ℕ) (form : Form) (at : ℕ) → lead_in ≤ most_lead_in → at < time_count
+        → IsTimedOptions lead_in form at (texts words.now)
+        → result ≡ Some (record { lead_in = lead_in; form = form; at = at }) }
+{
+    match words {
+        [options @ .., option, time] => {
+            let StreamOptions { lead_in, form } = read_stream(options)?;
+            let at = read_time("--at", option, time)?;
+            Some(TimedOptions { lead_in, form, at })
+        }
+        _ => None,
+    }
+}
+
+// How long a lead-in and an audio are, in blocks.
+#[derive(Clone, Copy)]
+struct Lengths {
+    pub lead_in: u32,
+    pub length: u32,
+}
+
+// The lengths of a lead-in and of an audio.
+fn read_lengths(words: &[String]) -> Option<Lengths>
+    ensures spelled { IfSome result (λ o. (o.lead_in ≤ most_lead_in) × (o.length < time_count)
+        × IsLengths o.lead_in o.length (texts words.now)) }
+    ensures all { (lead_in length : ℕ) → lead_in ≤ most_lead_in → length < time_count
+        → IsLengths lead_in length (texts words.now)
+        → result ≡ Some (record { lead_in = lead_in; length = length }) }
+{
+    match words {
+        [option, number, second, time] => Some(Lengths {
+            lead_in: read_lead_in(option, number)?,
+            length: read_time("--length", second, time)?,
+        }),
+        _ => None,
+    }
+}
+
+// A seed and a number of pictures.
+#[derive(Clone, Copy)]
+struct SeedOptions {
+    pub seed: u64,
+    pub pictures: u32,
+}
+
+// A seed and a number of pictures, which is 1 to 500.
+fn read_seeded(words: &[String]) -> Option<SeedOptions>
+    ensures spelled { IfSome result (λ o. (o.seed < 2 ^ 64) × (1 ≤ o.pictures) × (o.pictures ≤ most_generated)
+        × IsSeedOptions o.seed o.pictures (texts words.now)) }
+    ensures all { (seed pictures : ℕ) → seed < 2 ^ 64 → 1 ≤ pictures → pictures ≤ most_generated
+        → IsSeedOptions seed pictures (texts words.now)
+        → result ≡ Some (record { seed = seed; pictures = pictures }) }
+{
+    match words {
+        [option, number, second, count] => Some(SeedOptions {
+            seed: read_seed(option, number)?,
+            pictures: read_pictures(second, count)?,
+        }),
+        _ => None,
+    }
+}
+
+// A lead-in and the seed of its scratches.
+#[derive(Clone, Copy)]
+struct ScratchOptions {
+    pub lead_in: u32,
+    pub seed: u64,
+}
+
+// A lead-in and a seed.
+fn read_scratches(words: &[String]) -> Option<ScratchOptions>
+    ensures spelled { IfSome result (λ o. (o.lead_in ≤ most_lead_in) × (o.seed < 2 ^ 64)
+        × IsScratchOptions o.lead_in o.seed (texts words.now)) }
+    ensures all { (lead_in seed : ℕ) → lead_in ≤ most_lead_in → seed < 2 ^ 64
+        → IsScratchOptions lead_in seed (texts words.now)
+        → result ≡ Some (record { lead_in = lead_in; seed = seed }) }
+{
+    match words {
+        [option, number, second, count] => Some(ScratchOptions {
+            lead_in: read_lead_in(option, number)?,
+            seed: read_seed(second, count)?,
+        }),
+        _ => None,
+    }
+}
+
+// A lead-in alone.
+fn only_lead_in(words: &[String]) -> Option<u32>
+    ensures spelled { IfSome result (λ n. (n ≤ most_lead_in) × IsLeadInOption n (texts words.now)) }
+    ensures all { (n : ℕ) → n ≤ most_lead_in → IsLeadInOption n (texts words.now) → result ≡ Some n }
+{
+    match words {
+        [option, number] => read_lead_in(option, number),
+        _ => None,
+    }
+}
+
+// A moment alone.
+fn only_moment(words: &[String]) -> Option<u32>
+    ensures spelled { IfSome result (λ n. (n < time_count) × IsMoment n (texts words.now)) }
+    ensures all { (n : ℕ) → n < time_count → IsMoment n (texts words.now) → result ≡ Some n }
+{
+    match words {
+        [option, time] => read_time("--at", option, time),
+        _ => None,
+    }
+}
+
+// Is this the number in decimal, with no leading zero?
+fn is_decimal(word: &str, number: u64) -> bool
+    ensures { IsTrue result ↔ (word.now ≡ decimal number) }
+{
+    Buffer::new().format(number) == word
+}
+
+// The number that a word writes in decimal, with no leading zero, where it is at most `most`.
+#[tactic(auto, using(crate::proofs::Decimals::parsed_back))]
+fn read_number(word: &str, most: u64) -> Option<u64>
+    ensures written { IfSome result (λ n. (n ≤ most) × (word.now ≡ decimal n)) }
+    ensures all { (n : ℕ) → n ≤ most → word.now ≡ decimal n → result ≡ Some n }
+{
+    let Ok(number) = word.parse::<u64>() else {
+        return None;
+    };
+    if number > most {
+        return None;
+    }
+    if !is_decimal(word, number) {
+        return None;
+    }
+    Some(number)
+}
+
+// The blocks of a lead-in.
+fn read_lead_in(option: &str, number: &str) -> Option<u32>
+    ensures spelled { IfSome result (λ n. (n ≤ most_lead_in) × (option.now ≡ codes "--lead-in")
+        × (number.now ≡ decimal n)) }
+    ensures all { (n : ℕ) → n ≤ most_lead_in → option.now ≡ codes "--lead-in" → number.now ≡ decimal n
+        → result ≡ Some n }
+{
+    if option != "--lead-in" {
+        return None;
+    }
+    let lead_in = read_number(number, u64::from(MOST_LEAD_IN))?;
+    Some(lead_in as u32)
+}
+
+// A seed.
+fn read_seed(option: &str, number: &str) -> Option<u64>
+    ensures spelled { IfSome result (λ n. (option.now ≡ codes "--seed") × (number.now ≡ decimal n)) }
+    ensures all { (n : ℕ) → n < 2 ^ 64 → option.now ≡ codes "--seed" → number.now ≡ decimal n
+        → result ≡ Some n }
+{
+    if option != "--seed" {
+        return None;
+    }
+    read_number(number, u64::MAX)
+}
+
+// How many pictures there are: 1 to 500.
+fn read_pictures(option: &str, number: &str) -> Option<u32>
+    ensures spelled { IfSome result (λ n. (1 ≤ n) × (n ≤ most_generated) × (option.now ≡ codes "--pictures")
+        × (number.now ≡ decimal n)) }
+    ensures all { (n : ℕ) → 1 ≤ n → n ≤ most_generated → option.now ≡ codes "--pictures"
+        → number.now ≡ decimal n
+        → result ≡ Some n }
+{
+    if option != "--pictures" {
+        return None;
+    }
+    let pictures = read_number(number, u64::from(MOST_GENERATED))?;
+    if pictures == 0 {
+        return None;
+    }
+    Some(pictures as u32)
+}
+
+// The block of the time of the option with this name.
+fn read_time(name: &str, option: &str, time: &str) -> Option<u32>
+    ensures spelled { IfSome result (λ n. (n < time_count) × (option.now ≡ name.now)
+        × (time.now ≡ time_text n)) }
+    ensures all { (n : ℕ) → n < time_count → option.now ≡ name.now → time.now ≡ time_text n
+        → result ≡ Some n }
+{
+    if option != name {
+        return None;
+    }
+    parse_time(time.as_bytes())
+}
+
+// The form that words name: raw where there are none.
+fn read_form(words: &[String]) -> Option<Form>
+    ensures spelled { IfSome result (λ form. IsFormOption form (texts words.now)) }
+    ensures all { (form : Form) → IsFormOption form (texts words.now) → result ≡ Some form }
+{
+    match words {
+        [] => Some(Form::Raw),
+        [option, name] => named_form(option, name),
+        _ => None,
+    }
+}
+
+// The form that the option names.
+fn named_form(option: &str, name: &str) -> Option<Form>
+    ensures spelled { IfSome result (λ form. (option.now ≡ codes "--form") × (name.now ≡ form_name form)) }
+    ensures all { (form : Form) → option.now ≡ codes "--form" → name.now ≡ form_name form
+        → result ≡ Some form }
+{
+    if option != "--form" {
+        return None;
+    }
+    match name {
+        "raw" => Some(Form::Raw),
+        "sector" => Some(Form::Sector),
+        "cooked" => Some(Form::Cooked),
+        _ => None,
+    }
+}
+
+/// How many words of a command line are the command's, and how many names follow them.
+#[derive(Clone, Copy, Debug, PartialEq, Eq)]
+pub struct Split {
+    pub words: usize,
+    pub names: usize,
 }

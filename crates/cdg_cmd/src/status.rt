@@ -1,9 +1,23 @@
-// How a run ends, and the number that the process ends with.
-ghost use Rattle.std.specs.Prelude.{◌≡◌};
-ghost use Rattle.cdg_cmd.specs.Line.{exit_of};
+// How a run ends: what each answer of another crate is to the program, the number that the process ends with, and the
+// line that is printed.
+ghost use Rattle.std.specs.Prelude.{◌≡◌, ◌≤◌, ◌++◌, ◌+◌, length, [], OnOk, OnErr};
+ghost use Rattle.cdg_cmd.specs.Line.{exit_of, cue_words, script_words, words_and_count, error_line, late_words, line_words, refusal_words};
+ghost use Rattle.cdg_cmd.specs.Stops.{author_status, merge_status, play_status, press_status, pump_status, read_status, resume_status, script_status, sheet_status, text_fault_status, thin_status};
+ghost use Rattle.std.specs.Io.KnownBytes.{Appends};
+ghost use Rattle.cdg_io.specs.Causes.{HasCause};
+ghost use Rattle.cdg_io.specs.Moves.{AppendsPrefix};
 
-use cue_sheet::CueWhy;
-use picture_script::ScriptWhy;
+use arrayvec::ArrayString;
+use cdg_checkpoint::{ResumeStop, Resumed};
+use cdg_io::{Failed, PumpStop, Pumped, ReadStop, Sink, put_all};
+use cdg_press::PressStop;
+use cdtext_packs::TextFault;
+use cue_sheet::{CueStop, CueWhy};
+use itoa::Buffer;
+use picture_script::{ScriptStop, ScriptWhy};
+use rw_merge::{MergeStop, Merged};
+use stream_stages::{PlayStop, Played};
+use subcode_author::AuthorStop;
 
 /// One of the two inputs.
 #[derive(Clone, Copy, Debug, PartialEq, Eq)]
@@ -95,4 +109,334 @@ impl Status {
             Status::NoMemory => 7,
         }
     }
+}
+
+/// The status of an input that is not read whole.
+pub(crate) fn read_status(which: Which, stop: ReadStop) -> Status
+    ensures { result ≡ read_status which stop }
+{
+    match stop {
+        ReadStop::Failed => Status::ReadFault(which),
+        ReadStop::TooLong => Status::Refused(Refusal::TooLong),
+        ReadStop::NoMemory => Status::NoMemory,
+    }
+}
+
+/// The status of a cue sheet that is not accepted.
+pub(crate) fn sheet_status(stop: CueStop) -> Status
+    ensures { result ≡ sheet_status stop }
+{
+    match stop {
+        CueStop::Fault { line, why } => Status::Refused(Refusal::Cue { line, why }),
+        CueStop::NoMemory => Status::NoMemory,
+    }
+}
+
+/// The status of a picture script that is not accepted.
+pub(crate) fn script_status(stop: ScriptStop) -> Status
+    ensures { result ≡ script_status stop }
+{
+    match stop {
+        ScriptStop::Fault { line, why } => Status::Refused(Refusal::Script { line, why }),
+        ScriptStop::NoMemory => Status::NoMemory,
+    }
+}
+
+/// The status of what a player answers.
+pub(crate) fn play_status(answer: Result<Played, PlayStop>) -> Status
+    ensures { result ≡ play_status answer }
+{
+    match answer {
+        Ok(played) if played.bad == 0 => Status::Done,
+        Ok(played) => Status::Damaged(played.bad),
+        Err(PlayStop::ReadFault) => Status::ReadFault(Which::First),
+        Err(PlayStop::WriteFault) => Status::WriteFault,
+        Err(PlayStop::Torn { block }) => Status::Refused(Refusal::Torn { block }),
+        Err(PlayStop::TooLong) => Status::Refused(Refusal::TooLong),
+        Err(PlayStop::PastEnd { blocks }) => Status::Refused(Refusal::PastEnd { blocks }),
+        Err(PlayStop::Text(fault)) => text_fault_status(fault),
+    }
+}
+
+// The status where the text packs of a lead-in give no texts.
+fn text_fault_status(fault: TextFault) -> Status
+    ensures { result ≡ text_fault_status fault }
+{
+    match fault {
+        TextFault::Missing { seq } => Status::Refused(Refusal::TextMissing { seq }),
+        TextFault::NoSize => Status::Refused(Refusal::TextNoSize),
+        TextFault::Malformed { seq, byte } => Status::Refused(Refusal::TextMalformed { seq, byte }),
+        TextFault::NoMemory => Status::NoMemory,
+    }
+}
+
+/// The status of what a pump answers.
+pub(crate) fn pump_status(answer: Result<Pumped, PumpStop>) -> Status
+    ensures { result ≡ pump_status answer }
+{
+    match answer {
+        Ok(_) => Status::Done,
+        Err(PumpStop::ReadFault) => Status::ReadFault(Which::First),
+        Err(PumpStop::WriteFault) => Status::WriteFault,
+        Err(PumpStop::Torn { unit }) => Status::Refused(Refusal::Torn { block: unit }),
+        Err(PumpStop::TooLong) => Status::Refused(Refusal::TooLong),
+    }
+}
+
+/// The status of what a thinner answers.
+pub(crate) fn thin_status(answer: Result<Pumped, PumpStop>) -> Status
+    ensures { result ≡ thin_status answer }
+{
+    match answer {
+        Ok(_) => Status::Done,
+        Err(PumpStop::ReadFault) => Status::ReadFault(Which::First),
+        Err(PumpStop::WriteFault) => Status::WriteFault,
+        Err(PumpStop::Torn { unit }) => Status::Refused(Refusal::PackTorn { pack: unit }),
+        Err(PumpStop::TooLong) => Status::Refused(Refusal::TooLong),
+    }
+}
+
+/// The status of what a merger answers.
+pub(crate) fn merge_status(answer: Result<Merged, MergeStop>) -> Status
+    ensures { result ≡ merge_status answer }
+{
+    match answer {
+        Ok(merged) if merged.bad == 0 => Status::Done,
+        Ok(merged) => Status::Damaged(merged.bad),
+        Err(MergeStop::FirstFault) => Status::ReadFault(Which::First),
+        Err(MergeStop::SecondFault) => Status::ReadFault(Which::Second),
+        Err(MergeStop::WriteFault) => Status::WriteFault,
+        Err(MergeStop::TooLong) => Status::Refused(Refusal::TooLong),
+        Err(MergeStop::Torn { block }) => Status::Refused(Refusal::Torn { block }),
+        Err(MergeStop::SecondTorn { block }) => Status::Refused(Refusal::SecondTorn { block }),
+        Err(MergeStop::Unequal { blocks }) => Status::Refused(Refusal::Unequal { blocks }),
+    }
+}
+
+/// The status of what a resumed call answers.
+pub(crate) fn resume_status(answer: Result<Resumed, ResumeStop>) -> Status
+    ensures { result ≡ resume_status answer }
+{
+    match answer {
+        Ok(resumed) if resumed.bad == 0 => Status::Done,
+        Ok(resumed) => Status::Damaged(resumed.bad),
+        Err(ResumeStop::FirstFault) => Status::ReadFault(Which::First),
+        Err(ResumeStop::SecondFault) => Status::ReadFault(Which::Second),
+        Err(ResumeStop::WriteFault) => Status::WriteFault,
+        Err(ResumeStop::BadSave { byte }) => Status::Refused(Refusal::BadSave { byte }),
+        Err(ResumeStop::BeforeSave { blocks }) => Status::Refused(Refusal::BeforeSave { blocks }),
+        Err(ResumeStop::Torn { block }) => Status::Refused(Refusal::Torn { block }),
+        Err(ResumeStop::TooLong) => Status::Refused(Refusal::TooLong),
+        Err(ResumeStop::PastEnd { blocks }) => Status::Refused(Refusal::PastEnd { blocks }),
+    }
+}
+
+/// The status of the answer to a sheet and a script.
+pub(crate) fn author_status(answer: Result<(), AuthorStop>) -> Status
+    ensures { result ≡ author_status answer }
+{
+    match answer {
+        Ok(()) => Status::Done,
+        Err(AuthorStop::LengthShort { need }) => Status::Refused(Refusal::LengthShort { need }),
+        Err(AuthorStop::DiscTooLong { blocks }) => {
+            Status::Refused(Refusal::DiscTooLong { blocks })
+        }
+        Err(AuthorStop::PastEnd { blocks }) => Status::Refused(Refusal::PastEnd { blocks }),
+        Err(AuthorStop::TextTooLong { packs }) => Status::Refused(Refusal::TextTooLong { packs }),
+        Err(AuthorStop::LeadInShort { need }) => Status::Refused(Refusal::LeadInShort { need }),
+        Err(
+            AuthorStop::Late {
+                picture,
+                need,
+                free,
+            },
+        ) => Status::Late {
+            picture,
+            need,
+            free,
+        },
+        Err(AuthorStop::WriteFault) => Status::WriteFault,
+        Err(AuthorStop::NoMemory) => Status::NoMemory,
+    }
+}
+
+/// The status of the answer to a sheet and a file.
+pub(crate) fn press_status(answer: Result<(), PressStop>) -> Status
+    ensures { result ≡ press_status answer }
+{
+    match answer {
+        Ok(()) => Status::Done,
+        Err(PressStop::PackTorn { pack }) => Status::Refused(Refusal::PackTorn { pack }),
+        Err(PressStop::LengthShort { need }) => Status::Refused(Refusal::LengthShort { need }),
+        Err(PressStop::DiscTooLong { blocks }) => Status::Refused(Refusal::DiscTooLong { blocks }),
+        Err(PressStop::Gap { track }) => Status::Refused(Refusal::Gap { track }),
+        Err(PressStop::CdgTooLong { packs, room }) => {
+            Status::Refused(Refusal::CdgTooLong { packs, room })
+        }
+        Err(PressStop::TextTooLong { packs }) => Status::Refused(Refusal::TextTooLong { packs }),
+        Err(PressStop::LeadInShort { need }) => Status::Refused(Refusal::LeadInShort { need }),
+        Err(PressStop::WriteFault) => Status::WriteFault,
+        Err(PressStop::NoMemory) => Status::NoMemory,
+    }
+}
+
+// Why a line of a cue sheet is refused.
+fn cue_words(why: CueWhy) -> &'static str
+    ensures words { result.now ≡ cue_words why }
+    ensures short { length result.now ≤ 20 }
+{
+    match why {
+        CueWhy::UnknownCommand => "unknown-command",
+        CueWhy::SecondFile => "second-file",
+        CueWhy::Misplaced => "misplaced",
+        CueWhy::BadArgument => "bad-argument",
+        CueWhy::Repeated => "repeated",
+        CueWhy::NoIndex => "no-index",
+        CueWhy::NotAudio => "not-audio",
+        CueWhy::NumberOrder => "number-order",
+        CueWhy::IndexOrder => "index-order",
+        CueWhy::TimeOrder => "time-order",
+        CueWhy::NoFile => "no-file",
+        CueWhy::NoTrack => "no-track",
+    }
+}
+
+// Why a line of a picture script is refused.
+fn script_words(why: ScriptWhy) -> &'static str
+    ensures words { result.now ≡ script_words why }
+    ensures short { length result.now ≤ 20 }
+{
+    match why {
+        ScriptWhy::UnknownCommand => "unknown-command",
+        ScriptWhy::BadArgument => "bad-argument",
+        ScriptWhy::OutOfRange => "out-of-range",
+        ScriptWhy::TimeOrder => "time-order",
+        ScriptWhy::TooMany => "too-many",
+    }
+}
+
+// The line of a status, which is never longer.
+type ErrorLine = ArrayString<128>;
+
+// A blank and a number.
+fn push_number(text: &mut ErrorLine, number: u32)
+    requires { length text.old.bytes ≤ 80 }
+    ensures text { text.new.bytes ≡ words_and_count text.old.bytes number }
+    ensures short { length text.new.bytes ≤ length text.old.bytes + 11 }
+{
+    let mut digits = Buffer::new();
+    text.push_str(" ");
+    text.push_str(digits.format(number));
+}
+
+// Words and a number.
+fn push_counted(text: &mut ErrorLine, words: &str, number: u32)
+    requires { length text.old.bytes + length words.now ≤ 80 }
+    ensures text { text.new.bytes ≡ text.old.bytes ++ words_and_count words.now number }
+    ensures short { length text.new.bytes ≤ length text.old.bytes + length words.now + 11 }
+{
+    text.push_str(words);
+    push_number(text, number);
+}
+
+// The name of an input, the number of a line of it, and why it is refused.
+fn push_line(text: &mut ErrorLine, name: &str, line: u32, why: &str)
+    requires room { length text.old.bytes + length name.now ≤ 40 }
+    requires why { length why.now ≤ 20 }
+    ensures text { text.new.bytes ≡ text.old.bytes ++ line_words name.now line why.now }
+    ensures short { length text.new.bytes ≤ 80 }
+{
+    push_counted(text, name, line);
+    text.push_str(" ");
+    text.push_str(why);
+}
+
+// The words of a refusal.
+fn push_refusal(text: &mut ErrorLine, refusal: Refusal)
+    requires { length text.old.bytes ≤ 20 }
+    ensures text { text.new.bytes ≡ text.old.bytes ++ refusal_words refusal }
+    ensures short { length text.new.bytes ≤ 100 }
+{
+    match refusal {
+        Refusal::Torn { block } => push_counted(text, "torn", block),
+        Refusal::TooLong => text.push_str("too-long"),
+        Refusal::PastEnd { blocks } => push_counted(text, "past-end", blocks),
+        Refusal::Cue { line, why } => push_line(text, "cue", line, cue_words(why)),
+        Refusal::Script { line, why } => push_line(text, "script", line, script_words(why)),
+        Refusal::LengthShort { need } => push_counted(text, "length-short", need),
+        Refusal::DiscTooLong { blocks } => push_counted(text, "disc-too-long", blocks),
+        Refusal::LeadInShort { need } => push_counted(text, "lead-in-short", need),
+        Refusal::TextTooLong { packs } => push_counted(text, "text-too-long", packs),
+        Refusal::TextMissing { seq } => push_counted(text, "text-missing", u32::from(seq)),
+        Refusal::TextNoSize => text.push_str("text-no-size"),
+        Refusal::TextMalformed { seq, byte } => {
+            push_counted(text, "text-malformed", u32::from(seq));
+            push_number(text, u32::from(byte));
+        }
+        Refusal::SecondTorn { block } => push_counted(text, "second-torn", block),
+        Refusal::Unequal { blocks } => push_counted(text, "unequal", blocks),
+        Refusal::PackTorn { pack } => push_counted(text, "pack-torn", pack),
+        Refusal::Gap { track } => push_counted(text, "gap", u32::from(track)),
+        Refusal::CdgTooLong { packs, room } => {
+            push_counted(text, "cdg-too-long", packs);
+            push_number(text, room);
+        }
+        Refusal::BadSave { byte } => push_counted(text, "bad-save", byte),
+        Refusal::BeforeSave { blocks } => push_counted(text, "before-save", blocks),
+    }
+}
+
+// The words of a picture that is late.
+fn push_late(text: &mut ErrorLine, picture: u32, need: u32, free: u32)
+    requires { text.old.bytes ≡ [] }
+    ensures text { text.new.bytes ≡ late_words picture need free }
+    ensures short { length text.new.bytes ≤ 100 }
+{
+    text.push_str("late");
+    push_number(text, picture);
+    text.push_str(" need");
+    push_number(text, need);
+    text.push_str(" free");
+    push_number(text, free);
+}
+
+// The line of a status, with its line feed.
+fn error_line(status: Status) -> ErrorLine
+    ensures { result.bytes ≡ error_line status }
+{
+    let mut text = ErrorLine::new();
+    match status {
+        Status::Done => return text,
+        Status::Damaged(count) => {
+            text.push_str("damaged");
+            push_number(&mut text, count);
+        }
+        Status::Usage => text.push_str("usage"),
+        Status::Refused(refusal) => {
+            text.push_str("refused ");
+            push_refusal(&mut text, refusal);
+        }
+        Status::Late {
+            picture,
+            need,
+            free,
+        } => push_late(&mut text, picture, need, free),
+        Status::ReadFault(Which::First) => text.push_str("read fault first"),
+        Status::ReadFault(Which::Second) => text.push_str("read fault second"),
+        Status::WriteFault => text.push_str("write fault"),
+        Status::NoMemory => text.push_str("no memory"),
+    }
+    text.push_str("\n");
+    text
+}
+
+/// Writes the line of a status, with its line feed: nothing where the work is done. After `Failed`
+/// a prefix of it was written.
+pub fn tell<E: Sink>(err: &mut E, status: Status) -> Result<(), Failed>
+    ensures ok { OnOk result (Appends (E.held err.old) (E.held err.new) (error_line status)) }
+    ensures part { OnErr result (AppendsPrefix (E.held err.old) (E.held err.new) (error_line status)) }
+    ensures cause { HasCause (E.faults err.old) (E.faults err.new) result }
+    ensures done { status ≡ Status.Done → err.new ≡ err.old }
+{
+    put_all(err, error_line(status).as_str().as_bytes())
 }

@@ -1,5 +1,5 @@
-// Running a command: its words are read, its work is done, and the line of its status is told.
-ghost use Rattle.std.specs.Prelude.{◌≡◌, ◌≢◌, ◌↔◌, ◌≤◌, ◌⊎◌, ℕ, List, Some, None, IfSome};
+// Running a command: its line is split, its words are read, its work is done, and the line of its status is told.
+ghost use Rattle.std.specs.Prelude.{◌≡◌, ◌≢◌, ◌↔◌, ◌≤◌, ◌<◌, ◌⊎◌, ℕ, List, Some, None, IfSome, length, position, string_bytes, bytes_eq, codes};
 ghost use Rattle.disc_time.specs.Counts.{most_program};
 ghost use Rattle.std.specs.List.{concat};
 ghost use Rattle.raw_subcode.specs.declared.form.Form.{Form};
@@ -13,6 +13,7 @@ ghost use Rattle.std.specs.Io.KnownBytes.{Appends};
 ghost use Rattle.round_trips.specs.Pictured.{IsHeldAt};
 ghost use Rattle.round_trips.specs.FrameLines.{frame_lines};
 ghost use Rattle.cdg_cmd.specs.Words.{texts};
+ghost use Rattle.cdg_cmd.specs.Splitting.{split_of};
 ghost use Rattle.cdg_cmd.specs.Spelling.{IsAllowed, Spells};
 ghost use Rattle.cdg_io.specs.Change.{Bytes, change, input};
 ghost use Rattle.cdg_cmd.specs.Call.{call, dry_call};
@@ -27,23 +28,11 @@ ghost use Rattle.cdg_cmd.specs.LeadInTexts.{AreLinesOf};
 ghost use Rattle.cdg_cmd.specs.Resumes.{ResumesFrom};
 ghost use Rattle.cdg_cmd.specs.Unpresses.{Unpresses};
 
-use crate::author::run_author;
-use crate::check::run_check;
-use crate::convert::run_convert;
-use crate::gen_script::run_gen;
-use crate::line::tell;
-use crate::merge::run_merge;
-use crate::press::run_press;
-use crate::q::run_q;
-use crate::resume::run_resume;
-use crate::save::run_save;
-use crate::screen::run_screen;
-use crate::state::run_state;
-use crate::text::run_text;
-use crate::thin::run_thin;
-use crate::trial::run_trial;
-use crate::turn::{run_planar, run_raw, run_scratch};
-use crate::{Command, Status, read_words};
+use crate::making::{run_author, run_gen, run_press, run_trial};
+use crate::packs::{run_merge, run_planar, run_raw, run_resume, run_save, run_scratch, run_thin};
+use crate::status::tell;
+use crate::streams::{run_check, run_convert, run_q, run_screen, run_state, run_text};
+use crate::{Command, Split, Status, read_words};
 use cdg_checkpoint::a_saved_stream_goes_on_as_the_whole;
 use cdg_io::{Sink, Source, SteadySink, SteadySource};
 use picture_changes::needs_are_fewest;
@@ -55,6 +44,35 @@ use rw_interleave::{found_packs_are_the_text, packs_are_recovered};
 use rw_merge::two_readings_give_packs;
 use std::alloc::Global;
 use subcode_author::accepted_scripts_are_in_order;
+
+// The number of words before the first `--`.
+fn words_before(line: &[String]) -> Option<usize>
+    ensures place { result ≡ position (λ word. bytes_eq (string_bytes word) (codes "--")) line.now }
+    ensures within { IfSome result (λ n. n < length line.now) }
+{
+    line.iter().position(|word| word.as_str() == "--")
+}
+
+/// Splits a command line at its first `--`, where at most two names follow it. Otherwise all words
+/// are the command's.
+pub fn split(line: &[String]) -> Split
+    ensures { result ≡ split_of line.now }
+{
+    let whole = Split {
+        words: line.len(),
+        names: 0,
+    };
+    let Some(words) = words_before(line) else {
+        return whole;
+    };
+    if line.len() - words > 3 {
+        return whole;
+    }
+    Split {
+        words,
+        names: line.len() - words - 1,
+    }
+}
 
 /// Runs the command of the words over its inputs, its output and the error output.
 ///

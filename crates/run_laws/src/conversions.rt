@@ -1,4 +1,4 @@
-// What conversions and screens give of streams.
+// What conversions and screens give of streams, of two readings of a disc, and of players that were saved.
 ghost use Rattle.std.specs.Prelude.{◌≡◌, ◌≤◌, ℕ, List, IfSome};
 ghost use Rattle.disc_time.specs.Counts.{most_lead_in, most_program};
 ghost use Rattle.std.specs.List.{concat};
@@ -17,14 +17,25 @@ ghost use Rattle.cdg_cmd.specs.Answer.{GivesBack};
 ghost use Rattle.cdg_io.specs.Change.{Bytes};
 ghost use Rattle.cdg_cmd.specs.Call.{Call};
 ghost use Rattle.cdg_cmd.specs.Headline.{PutsPicture};
-ghost use Rattle.cdg_cmd.specs.declared.command.Command.TheVariants.{Convert, Screen};
+ghost use Rattle.cdg_cmd.specs.declared.command.Command.TheVariants.{Convert, Screen, Merge};
 ghost use Rattle.cdg_cmd.specs.declared.status.Status.{Status};
 ghost use Rattle.run_laws.specs.Ran.{IsRun};
 ghost use Rattle.run_laws.specs.Undamaged.{IsCleanStream, form_words};
+ghost use Rattle.picture_changes.specs.Shown.{AreTimesInOrder};
+ghost use Rattle.rw_merge.specs.Readings.{IsDamagedTwice};
+ghost use Rattle.checkpoint_files.specs.Checkpoint.{checkpoint_in, file_of};
+ghost use Rattle.cdg_checkpoint.specs.Cut.{IsFirstPart};
+ghost use Rattle.cdg_cmd.specs.Resumes.{IsSaveOf};
+ghost use Rattle.live_player.specs.Lives.{Given, HasPlayed};
+ghost use Rattle.live_player.specs.Saving.{IsAt, checkpoint_of};
+ghost use Rattle.live_player.specs.declared.live.LivePlayer.{LivePlayer};
+ghost use Rattle.run_laws.specs.Players.{AreBlocksOf};
 
-use crate::scratched_streams_are_damaged;
+use raw_subcode::Form;
 use round_trips::shown_moments_give_pictures;
 use rw_interleave::{clean_words_are_found, found_packs_are_the_text, packs_are_recovered};
+use rw_merge::two_readings_give_packs;
+use stream_trial::scratched_streams_are_recovered;
 
 /// A law: from damage of at most two symbols a word a conversion gives back every pack of a stream, wherever it comes
 /// from.
@@ -76,3 +87,52 @@ pub fn scratched_streams_give_their_packs()
     found_packs_are_the_text();
     scratched_streams_are_damaged();
 }
+
+/// A law: an authored stream with scratches differs from one that carries its packs, a schedule of the script, in at
+/// most two symbols of each word. From such a stream `Player::convert` gives back every pack, and `Player::screen_at`
+/// each picture. What it gives of a raw stream is the packs alone: no zeros follow those of the program.
+pub fn scratched_streams_are_damaged()
+    ensures damaged { (sheet : CueSheet) (script : List Drawing) (lead_in audio seed : ℕ) (bytes : List ℕ)
+        (packs : List (List ℕ))
+        → lead_in ≤ most_lead_in → program_blocks sheet audio ≤ most_program
+        → IsAuthored (disc_of sheet script lead_in audio) bytes packs
+        → IsDamagedStream Form.Raw lead_in (program_blocks sheet audio) packs (scratched lead_in seed bytes) }
+    ensures packs { (sheet : CueSheet) (script : List Drawing) (lead_in audio : ℕ) (bytes : List ℕ)
+        (packs : List (List ℕ))
+        → IsAuthored (disc_of sheet script lead_in audio) bytes packs
+        → concat (all_packs Form.Raw (program_blocks sheet audio) packs) ≡ concat packs }
+    ensures scheduled { (sheet : CueSheet) (script : List Drawing) (lead_in audio seed : ℕ) (bytes : List ℕ)
+        (packs : List (List ℕ))
+        → lead_in ≤ most_lead_in → program_blocks sheet audio ≤ most_program → AreTimesInOrder script
+        → IsAuthored (disc_of sheet script lead_in audio) bytes packs
+        → IsScheduledStream Form.Raw lead_in script (scratched lead_in seed bytes) }
+{
+    scratched_streams_are_recovered();
+}
+
+/// A law: from two readings, each damaged in at most two symbols of each word, every pack is merged, wherever the
+/// damage is.
+pub fn damaged_readings_give_their_packs()
+    ensures { (lead_in : ℕ) (call : Call Bytes) (status : Status) → IsRun (Merge lead_in) call status
+        → IfSome call.first.before (λ one. IfSome call.second.before (λ other. (blocks : ℕ)
+        (packs : List (List ℕ)) → IsDamagedTwice lead_in blocks packs one other
+        → GivesBack (concat packs) call.out status)) }
+{
+    two_readings_give_packs();
+}
+
+/// A law: a player that goes to the file which `save` wrote of a stream is where one is that was fed its blocks. The
+/// same stands, and what either is fed from there on gives the same.
+pub fn players_go_on_from_saved_streams()
+    ensures { (lead_in : ℕ) (given : List Given) (bytes file : List ℕ) (back : LivePlayer)
+        → AreBlocksOf bytes given → IsSaveOf lead_in bytes file → IsAt (checkpoint_in file) back
+        → HasPlayed Raw lead_in given back }
+{}
+
+/// A law: the file of a player that was fed the blocks of a stream is what `save` writes of them. So `resume` does with
+/// it and the rest what `screen` does with the whole.
+pub fn streams_go_on_from_saved_players()
+    ensures { (lead_in : ℕ) (given : List Given) (bytes : List ℕ) (saved : LivePlayer)
+        → AreBlocksOf bytes given → IsFirstPart lead_in bytes → HasPlayed Raw lead_in given saved
+        → IsSaveOf lead_in bytes (file_of (checkpoint_of saved)) }
+{}

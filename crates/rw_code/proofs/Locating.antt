@@ -8,10 +8,10 @@ use Rattle.gf64.proofs.Tables.{all_below, all_below-at, same_exponent}
 use Rattle.gf64.proofs.FieldLaws.{product_comm, product_assoc, product_swap, product-sum, sum-product, zero-product, product-alpha_power, product-one, product-lt, product_cancel, sum_swap, sum_twice, alpha_power-lt, alpha_power-mod, times_power, times_power_is, sum_cancel, element_cases}
 use Rattle.rw_code.specs.Syndromes.{lane, AreLanes, IsError, IsEntry, IsOneWrong, AreTwoWrong, AreTwoSums, IsLocator, IsLocatorOf, IsPair}
 use Rattle.rw_code.specs.declared.syndromes.Sums.{Sums}
-use Rattle.rw_code.specs.declared.wrong_symbols.Locator.{Locator}
-use Rattle.rw_code.specs.declared.wrong_symbols.Places.{Places}
-use Rattle.rw_code.specs.declared.wrong_symbols.TwoErrors.{TwoErrors}
-use Rattle.rw_code.specs.declared.pair_tables.TheConstants.{DIFFERENCES, SUMS}
+use Rattle.rw_code.specs.declared.correction.Locator.{Locator}
+use Rattle.rw_code.specs.declared.correction.Places.{Places}
+use Rattle.rw_code.specs.declared.correction.TwoErrors.{TwoErrors}
+use Rattle.rw_code.specs.declared.correction.TheConstants.{DIFFERENCES, SUMS}
 use Rattle.rw_code.proofs.SyndromeLemmas.{lane-xor, table_entry, table_entry_is}
 use Rattle.rw_code.proofs.Errors.{powers_apart}
 

@@ -8,7 +8,7 @@ use Rattle.std.specs.Int.Bits.{xor_assoc, xor_self, xor_zero_l, xor_zero_r}
 use Rattle.gf64.specs.Field.{product, alpha_power}
 use Rattle.gf64.proofs.Tables.{all_below, all_below-at}
 use Rattle.gf64.proofs.FieldLaws.{alpha_power-mod, times_power, times_power_is, sum_cancel}
-use Rattle.rw_code.specs.declared.syndrome_table.TheConstants.{SYNDROMES}
+use Rattle.rw_code.specs.declared.syndromes.TheConstants.{SYNDROMES}
 use Rattle.rw_code.specs.Codeword.{IsWord, IsCodeword, weighted_sum}
 use Rattle.rw_code.specs.Syndromes.{lane, AreSyndromes, IsEntry}
 use Rattle.rw_code.proofs.SumLemmas.{weighted_sum_none}

@@ -1,11 +1,11 @@
 -- The sums of a word as the code keeps them, and what its steps do with them.
 use Rattle.std.specs.Prelude.{◌≡◌, ◌≢◌, ℕ, ◌+◌, ◌-◌, ◌*◌, ◌/◌, ◌%◌, ◌^◌, ◌<◌, ◌≤◌, List, [], ◌∷◌, ◌++◌, take, bit_xor}
 use Rattle.gf64.specs.Field.{product, alpha_power}
-use Rattle.rw_code.specs.declared.sealing.LastFour.{LastFour}
+use Rattle.rw_code.specs.declared.pack.LastFour.{LastFour}
 use Rattle.rw_code.specs.declared.syndromes.Sums.{Sums}
-use Rattle.rw_code.specs.declared.wrong_symbols.Locator.{Locator}
-use Rattle.rw_code.specs.declared.wrong_symbols.Places.{Places}
-use Rattle.rw_code.specs.declared.wrong_symbols.TwoErrors.{TwoErrors}
+use Rattle.rw_code.specs.declared.correction.Locator.{Locator}
+use Rattle.rw_code.specs.declared.correction.Places.{Places}
+use Rattle.rw_code.specs.declared.correction.TwoErrors.{TwoErrors}
 use Rattle.rw_code.specs.Sizes.{word_symbols, last_position, symbol_values}
 use Rattle.rw_code.specs.Codeword.{weighted_sum}
 

@@ -1,12 +1,14 @@
-// The codeword near a word.
-ghost use Rattle.std.specs.Prelude.{◌≡◌, List, ℕ, MatchOption};
+// The codeword near a word, and the wrong symbols by which it is found.
+ghost use Rattle.std.specs.Prelude.{◌≡◌, ◌≢◌, ◌<◌, ◌+◌, ◌-◌, ◌*◌, ◌%◌, List, ℕ, MatchOption, Some, IfSome};
 ghost use Rattle.rw_code.specs.Codeword.{IsCodeword, IsWord, differences, Reads};
-ghost use Rattle.rw_code.specs.Syndromes.{AreSyndromes, IsOneWrong, AreErrors};
+ghost use Rattle.rw_code.specs.Syndromes.{AreSyndromes, IsOneWrong, AreErrors, IsEntry, IsError, AreTwoWrong, AreTwoSums, IsLocator, IsLocatorOf, IsPair};
+ghost use Rattle.gf64.specs.Field.{product, alpha_power};
+ghost use Rattle.rw_code.specs.Sizes.{last_position, word_symbols};
 
-use crate::syndromes::Syndromes;
+use crate::syndromes::{Sums, Syndromes, entry};
 use crate::word::words_have_24_symbols;
-use crate::wrong_symbols::{SymbolError, TwoErrors, one_error, two_errors};
-use crate::{Pack, Word};
+use crate::{Pack, SYMBOLS, Word};
+use gf64::Sym;
 
 /// A codeword near a word.
 #[derive(Clone, Copy)]
@@ -96,3 +98,218 @@ fn without_two(received: &Word, syndromes: Syndromes, errors: TwoErrors) -> Fixe
         wrong: 2,
     }
 }
+
+// What is wrong with the symbol at a position.
+#[derive(Clone, Copy)]
+struct SymbolError {
+    pub(crate) position: usize,
+    /// The difference from the right symbol.
+    pub(crate) value: Sym,
+}
+
+// Two wrong symbols.
+#[derive(Clone, Copy)]
+struct TwoErrors {
+    pub(crate) first: SymbolError,
+    pub(crate) second: SymbolError,
+}
+
+impl SymbolError {
+    // Its part in the six sums.
+    #[inline]
+    fn entry(&self) -> u64
+        requires { self.now.position < word_symbols }
+        ensures { IsEntry self.now.position self.now.value result }
+    {
+        entry(self.position, self.value.value() as usize)
+    }
+}
+
+// The only wrong symbol of a word, if one alone is wrong.
+#[inline]
+fn one_error(syndromes: Syndromes) -> Option<SymbolError>
+    ensures { MatchOption result
+        ((i e : ℕ) → ¬ IsOneWrong syndromes.lanes i e)
+        (λ error. IsOneWrong syndromes.lanes error.position error.value) }
+{
+    let Sums { zeroth, first, .. } = syndromes.sums();
+    let Some(position) = single_position(zeroth, first) else {
+        return None;
+    };
+    if entry(position, zeroth.value() as usize) != syndromes.lanes {
+        return None;
+    }
+    Some(SymbolError {
+        position,
+        value: zeroth,
+    })
+}
+
+// The position whose power is the first sum over the zeroth.
+#[inline]
+fn single_position(zeroth: Sym, first: Sym) -> Option<usize>
+    ensures only { (i : ℕ) → IsError i zeroth → product (alpha_power (last_position - i)) zeroth ≡ first
+        → result ≡ Some i }
+    ensures error { IfSome result (λ i. (i < word_symbols) × (zeroth ≢ 0)) }
+{
+    if zeroth.is_zero() || first.is_zero() {
+        return None;
+    }
+    let exponent = (first.logarithm() as usize + 63 - zeroth.logarithm() as usize) % 63;
+    if exponent >= SYMBOLS {
+        return None;
+    }
+    Some(SYMBOLS - 1 - exponent)
+}
+
+// The two wrong symbols of a word, if two are wrong.
+fn two_errors(syndromes: Syndromes) -> Option<TwoErrors>
+    ensures { MatchOption result
+        ((i e j f : ℕ) → ¬ AreTwoWrong syndromes.lanes i e j f)
+        (λ errors. AreErrors syndromes.lanes errors) }
+{
+    let sums = syndromes.sums();
+    let Some(places) = Locator::of(&sums).places() else {
+        return None;
+    };
+    let Some(errors) = errors_at(&sums, places) else {
+        return None;
+    };
+    let part = errors.first.entry() ^ errors.second.entry();
+    if part != syndromes.lanes {
+        return None;
+    }
+    Some(errors)
+}
+
+// A square polynomial that is 0 at the powers of both wrong positions, where two are wrong.
+#[derive(Clone, Copy)]
+struct Locator {
+    square: Sym,
+    linear: Sym,
+    constant: Sym,
+}
+
+// Two positions, in order.
+#[derive(Clone, Copy)]
+struct Places {
+    first: usize,
+    second: usize,
+}
+
+// How two powers of alpha lie to each other.
+#[derive(Clone, Copy)]
+struct Pair {
+    difference: usize,
+    sum: usize,
+}
+
+impl Locator {
+    // That of the sums of a word.
+    fn of(sums: &Sums) -> Locator
+        ensures { IsLocator sums.now result }
+    {
+        Locator {
+            square: sums.first.mul(sums.first).add(sums.zeroth.mul(sums.second)),
+            linear: sums.first.mul(sums.second).add(sums.zeroth.mul(sums.third)),
+            constant: sums.second.mul(sums.second).add(sums.first.mul(sums.third)),
+        }
+    }
+
+    // The two positions at whose powers it is 0. The logarithm of its constant times its square coefficient over
+    // the square of its linear one depends on the difference of their exponents alone.
+    #[inline]
+    fn places(self) -> Option<Places>
+        ensures only { (i j : ℕ) → i < j → j < word_symbols → IsLocatorOf self i j
+            → result ≡ Some (record { first = i; second = j }) }
+        ensures places { IfSome result
+            (λ places. (places.first < places.second) × (places.second < word_symbols)) }
+    {
+        if self.square.is_zero() || self.linear.is_zero() || self.constant.is_zero() {
+            return None;
+        }
+        let square = self.square.logarithm() as usize;
+        let linear = self.linear.logarithm() as usize;
+        let constant = self.constant.logarithm() as usize;
+        let pair = pair_at((square + constant + 126 - 2 * linear) % 63);
+        let low = (linear + 126 - square - pair.sum) % 63;
+        let high = low + pair.difference;
+        if pair.difference == 0 || high >= SYMBOLS {
+            return None;
+        }
+        Some(Places {
+            first: SYMBOLS - 1 - high,
+            second: SYMBOLS - 1 - low,
+        })
+    }
+}
+
+// The pair of powers of which the product over the square of the sum has this logarithm.
+#[inline]
+fn pair_at(ratio: usize) -> Pair
+    requires { ratio < 63 }
+    ensures only { (d z : ℕ) → IsPair d z → ratio ≡ (d + 126 - 2 * z) % 63
+        → result ≡ record { difference = d; sum = z } }
+    ensures bound { (result.difference < word_symbols) × (result.sum < 63) }
+{
+    Pair {
+        difference: DIFFERENCES[ratio] as usize,
+        sum: SUMS[ratio] as usize,
+    }
+}
+
+// The errors at two positions that have the first two sums.
+fn errors_at(sums: &Sums, places: Places) -> Option<TwoErrors>
+    requires { (places.first < places.second) × (places.second < word_symbols) }
+    ensures only { (e f : ℕ) → AreTwoSums sums.now places e f → result ≡ Some (record {
+      first = record { position = places.first; value = e };
+      second = record { position = places.second; value = f };
+    }) }
+    ensures some { IfSome result (λ errors. (errors.first.position ≡ places.first)
+        × (errors.second.position ≡ places.second)
+        × IsError places.first errors.first.value × IsError places.second errors.second.value) }
+{
+    let high = power_at(places.first);
+    let low = power_at(places.second);
+    let second = sums
+        .first
+        .add(high.mul(sums.zeroth))
+        .mul(high.add(low).inv());
+    let first = sums.zeroth.add(second);
+    if first.is_zero() || second.is_zero() {
+        return None;
+    }
+    Some(TwoErrors {
+        first: SymbolError {
+            position: places.first,
+            value: first,
+        },
+        second: SymbolError {
+            position: places.second,
+            value: second,
+        },
+    })
+}
+
+// The power of alpha that the sum at 1 has at a position.
+#[inline]
+fn power_at(i: usize) -> Sym
+    requires { i < word_symbols }
+    ensures { result ≡ alpha_power (last_position - i) }
+{
+    Sym::alpha((SYMBOLS - 1 - i) as u32)
+}
+
+// The difference of the exponents, and 0 where there is no such pair.
+static DIFFERENCES: [u8; 63] = [
+    21, 0, 3, 0, 6, 0, 13, 5, 12, 0, 0, 0, 0, 16, 10, 0, 0, 0, 7, 4, 0, 0, 0, 0, 11, 0, 0, 18, 20,
+    0, 0, 0, 15, 19, 0, 0, 14, 0, 8, 0, 0, 2, 0, 0, 0, 9, 0, 0, 22, 17, 0, 0, 1, 0, 0, 0, 23, 0, 0,
+    0, 0, 0, 0,
+];
+
+// The logarithm of the sum of the two powers, where the lower exponent is 0.
+static SUMS: [u8; 63] = [
+    42, 0, 32, 0, 1, 0, 35, 62, 2, 0, 0, 0, 0, 33, 61, 0, 0, 0, 26, 24, 0, 0, 0, 0, 25, 0, 0, 27,
+    59, 0, 0, 0, 23, 56, 0, 0, 52, 0, 48, 0, 0, 12, 0, 0, 0, 45, 0, 0, 50, 47, 0, 0, 6, 0, 0, 0,
+    15, 0, 0, 0, 0, 0, 0,
+];

@@ -14,3 +14,10 @@ pub mod Views
 pub mod Counted
 pub mod IdlePacks
 pub mod NearIdle
+pub mod QListing
+pub mod Checks
+pub mod TextLists
+pub mod OneText
+pub mod Ends
+pub mod Told
+pub mod TextFaults

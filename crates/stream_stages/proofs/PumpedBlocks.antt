@@ -15,7 +15,7 @@ use Rattle.raw_subcode.specs.declared.form.Form.{Form}
 use Rattle.raw_subcode.specs.declared.form.Form.TheVariants.{Raw, Sector, Cooked}
 use Rattle.raw_subcode.specs.Sizes.{most_units}
 use Rattle.stream_stages.specs.Watch.{on_units}
-use Rattle.stream_stages.specs.declared.sector_blocks.SectorBlocks.{SectorBlocks}
+use Rattle.stream_stages.specs.declared.block_words.SectorBlocks.{SectorBlocks}
 
 -- the units of an input, of so many bytes
 abbrev units_cut : ℕ → Cut

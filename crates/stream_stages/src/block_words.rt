@@ -1,14 +1,16 @@
-// From blocks to words.
-ghost use Rattle.std.specs.Prelude.{◌≡◌, ◌<◌, true, List, ℕ, MatchOption, Some, replicate};
+// From sectors to blocks, and from blocks to words.
+ghost use Rattle.std.specs.Prelude.{◌≡◌, ◌<◌, true, List, ℕ, MatchOption, Some, replicate, length, map, drop};
 ghost use Rattle.arrayvec.specs.ArrayVec.{ArrayVec};
-ghost use Rattle.raw_subcode.specs.Sizes.{slots_a_block};
+ghost use Rattle.raw_subcode.specs.Sizes.{slots_a_block, audio_bytes};
 ghost use Rattle.rw_code.specs.Packs.{idle_pack};
 ghost use Rattle.stream_stages.specs.Steps.{IdlesOn, fresh_words, words_or_idle, slot_of, slots_of, words_next, words_give};
+ghost use Rattle.rw_code.specs.Codeword.{IsCodeword};
+ghost use Rattle.rw_code.specs.Finding.{finding};
 
 use arrayvec::ArrayVec;
 use cdg_io::Stage;
-use raw_subcode::{BLOCK_BYTES, Form, SLOTS_A_BLOCK, SYMBOLS_A_SLOT};
-use rw_code::Word;
+use raw_subcode::{BLOCK_BYTES, Block, Form, SECTOR_BYTES, SLOTS_A_BLOCK, SYMBOLS_A_SLOT};
+use rw_code::{Pack, Word};
 use rw_interleave::Gather;
 use std::marker::Model;
 
@@ -121,9 +123,6 @@ impl Stage for BlockWords {
     #[inline]
     #[tactic(auto, unfolding(crate::specs::Steps::words_next, crate::specs::Steps::words_give))]
     fn feed(&mut self, block: &[u8; BLOCK_BYTES]) -> Option<BlockOfWords> {
-        if self.stays_idle(block) {
-            return Some(BlockOfWords::idle());
-        }
         if self.lead_in > 0 {
             self.lead_in -= 1;
             return None;
@@ -166,4 +165,63 @@ fn slot(block: &[u8; BLOCK_BYTES], i: usize) -> Word
     let mut bytes = [0; SYMBOLS_A_SLOT];
     bytes.copy_from_slice(&block[SYMBOLS_A_SLOT * i..SYMBOLS_A_SLOT * i + SYMBOLS_A_SLOT]);
     Word::new(&bytes)
+}
+
+/// Whether a word is the idle pack.
+#[inline]
+pub(crate) fn is_idle(word: &Word) -> bool
+    ensures { result ≡ true → (word.now ≡ idle_pack) × IsCodeword word.now }
+{
+    word.bytes() == Pack::idle().word().bytes()
+}
+
+/// Whether it is quickly seen that the idle pack is found for each word.
+#[inline]
+pub(crate) fn are_near_idle(words: &ArrayVec<Word, SLOTS_A_BLOCK>) -> bool
+    requires { IsCodeword idle_pack }
+    ensures { result ≡ true
+        → map finding words.now.items ≡ replicate (length words.now.items) (Some idle_pack) }
+{
+    for word in words.as_slice() {
+        if !word.is_near_idle() {
+            return false;
+        }
+    }
+    true
+}
+
+/// A law: the idle pack is a codeword.
+#[inline]
+pub(crate) fn idle_is_codeword()
+    ensures { IsCodeword idle_pack }
+{
+    Pack::idle().word();
+}
+
+/// A stage on blocks as one on sectors: it is fed the block of each.
+#[derive(Drop)]
+pub struct SectorBlocks<G> {
+    /// The stage on blocks.
+    pub blocks: G,
+}
+
+impl<G: Stage<Item = [u8; BLOCK_BYTES]>> Stage for SectorBlocks<G>
+where
+    G::Out: Drop,
+{
+    type Item = [u8; SECTOR_BYTES];
+
+    type Out = G::Out;
+
+    ghost next = { λ s sector. record { blocks = G.next s.blocks (drop audio_bytes sector) } };
+
+    ghost gives = { λ s sector. G.gives s.blocks (drop audio_bytes sector) };
+
+    fn feed(&mut self, sector: &[u8; SECTOR_BYTES]) -> Option<G::Out> {
+        self.blocks.feed(&Block::from_sector(sector).bytes())
+    }
+
+    fn emit(&mut self, sector: &[u8; SECTOR_BYTES], out: &mut Option<G::Out>) {
+        self.blocks.emit(&Block::from_sector(sector).bytes(), out);
+    }
 }

@@ -7,8 +7,7 @@ ghost use Rattle.rw_code.specs.Packs.{idle_pack};
 ghost use Rattle.rw_interleave.specs.Texts.{cdg_bytes, entry_bytes};
 ghost use Rattle.stream_stages.specs.Steps.{bad_next, correction_next, correction_gives};
 
-use crate::block_words::BlockOfWords;
-use crate::idle_words::{are_near_idle, idle_is_codeword};
+use crate::block_words::{BlockOfWords, are_near_idle, idle_is_codeword};
 use arrayvec::ArrayVec;
 use cdg_io::{Piece, Stage};
 use raw_subcode::{BLOCK_BYTES, SLOTS_A_BLOCK, SYMBOLS_A_SLOT};

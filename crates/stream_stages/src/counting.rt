@@ -9,8 +9,7 @@ ghost use Rattle.stream_stages.specs.Check.{is_known};
 ghost use Rattle.stream_stages.specs.CheckSteps.{tick, wrong_counted, kind_counted, count_found, count_next, count_after, counts_next, counts_give, frames_next, counting_next, counting_gives, nothing_counted};
 
 use crate::BlockWords;
-use crate::block_words::BlockOfWords;
-use crate::idle_words::idle_is_codeword;
+use crate::block_words::{BlockOfWords, idle_is_codeword};
 use arrayvec::ArrayVec;
 use cdg_io::{Piece, Stage, Then};
 use q_channel::is_frame;

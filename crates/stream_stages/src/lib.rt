@@ -3,18 +3,21 @@
 #![tactic(auto)]
 
 mod block_words;
+mod check;
+mod convert;
 mod correction;
 mod counting;
-mod idle_words;
+mod listings;
 mod painting;
 mod played;
-mod pumping;
-mod sector_blocks;
+mod screen;
 
-pub use block_words::{BlockOfWords, BlockWords};
+pub use block_words::{BlockOfWords, BlockWords, SectorBlocks};
+pub use check::Checker;
+pub use convert::Converter;
 pub use correction::Correction;
 pub use counting::{Counting, FrameCounts, WordCounts};
+pub use listings::{TextLister, list_frames};
 pub use painting::Painting;
-pub use played::{PlayStop, Played, play_stop};
-pub use pumping::{pump_blocks, watch};
-pub use sector_blocks::SectorBlocks;
+pub use played::{PlayStop, Played, one_text_is_written, play_stop, pump_blocks, watch};
+pub use screen::Viewer;

@@ -9,8 +9,7 @@ ghost use Rattle.rw_code.specs.Packs.{idle_pack};
 ghost use Rattle.stream_stages.specs.Steps.{bad_next};
 ghost use Rattle.stream_stages.specs.Drawn.{entry_drawn, draw_next, draw_after, painting_next, painting_gives};
 
-use crate::block_words::BlockOfWords;
-use crate::idle_words::{idle_is_codeword, is_idle};
+use crate::block_words::{BlockOfWords, idle_is_codeword, is_idle};
 use arrayvec::ArrayVec;
 use cdg_instructions::read;
 use cdg_io::{Piece, Stage};

@@ -1,9 +1,25 @@
-// What a call that plays a whole input answers.
-ghost use Rattle.std.specs.Prelude.{◌≡◌};
-ghost use Rattle.stream_stages.specs.Watch.{play_stop};
+// Pumping a whole input through a stage, and what a call that plays it answers.
+ghost use Rattle.std.specs.Prelude.{◌≡◌, ◌≢◌, ◌≤◌, List, ℕ, length, IfSome, IsErrOf, Err};
+ghost use Rattle.stream_stages.specs.Watch.{play_stop, Watches, on_units};
+ghost use Rattle.cdg_io.specs.Causes.{TellsFault};
+ghost use Rattle.cdg_io.specs.Change.{fed, moved};
+ghost use Rattle.cdg_io.specs.Pump.{FillsUnits, IsUnlessFault, Pumps, TellsEndOf, answer_of};
+ghost use Rattle.raw_subcode.specs.Channels.{unit_size};
+ghost use Rattle.raw_subcode.specs.Sizes.{most_units};
+ghost use Rattle.q_channel.specs.QList.{IsQListed};
+ghost use Rattle.raw_subcode.specs.declared.form.Form.{Form};
+ghost use Rattle.stream_stages.specs.Convert.{IsConverted};
+ghost use Rattle.stream_stages.specs.Check.{IsCheckListed};
+ghost use Rattle.stream_stages.specs.Screen.{IsScreenAt, IsStateAt, moment};
+ghost use Rattle.stream_stages.specs.TextListing.{IsTextListed};
 
-use cdg_io::PumpStop;
+use crate::SectorBlocks;
+use cdg_instructions::only_one_meaning;
+use cdg_io::{Piece, PumpStop, Pumped, Sink, Source, Stage, SteadySink, pump};
 use cdtext_packs::TextFault;
+use q_channel::readings_are_functions;
+use raw_subcode::{BLOCK_BYTES, Form, MOST_UNITS};
+use rw_code::each_word_has_one_finding;
 
 /// What was played of a whole input.
 #[derive(Clone, Copy, Debug, PartialEq, Eq)]
@@ -41,4 +57,78 @@ pub fn play_stop(stop: PumpStop) -> PlayStop
         PumpStop::Torn { unit } => PlayStop::Torn { block: unit },
         PumpStop::TooLong => PlayStop::TooLong,
     }
+}
+
+/// Feeds the blocks of an input to a stage, and writes what it gives for each.
+pub fn pump_blocks<S: Source, G: Stage<Item = [u8; BLOCK_BYTES], Out = Piece>, K: Sink>(
+    form: Form,
+    source: &mut S,
+    stages: &mut SectorBlocks<G>,
+    out: &mut K,
+) -> Result<Pumped, PumpStop>
+    ensures pumps { (taken : List ℕ) × Pumps (record { size = unit_size form; limit = most_units })
+        (record { next = on_units form G.next; gives = on_units form G.gives })
+        (moved S.left K.held (source.old, stages.old.blocks, out.old)
+        (source.new, stages.new.blocks, out.new)) result taken }
+    // Where nothing failed, the answer is that of the whole input's length.
+    ensures answer { IfSome (S.left source.old) (λ all.
+        IsUnlessFault result (answer_of (unit_size form) most_units (length all))) }
+    ensures read_fault { TellsFault PumpStop.ReadFault
+        (S.faults source.old) (S.faults source.new) result }
+    ensures ended { TellsEndOf result (S.ends source.old) (S.ends source.new) }
+    ensures rooms { FillsUnits most_units result (S.fills source.old) (S.fills source.new) }
+    ensures write_fault { TellsFault PumpStop.WriteFault (K.faults out.old) (K.faults out.new) result }
+{
+    match form {
+        Form::Sector => pump(source, MOST_UNITS, stages, out),
+        Form::Raw | Form::Cooked => pump(source, MOST_UNITS, &mut stages.blocks, out),
+    }
+}
+
+/// Feeds the blocks of an input to a stage, which keeps what it learns of them.
+pub fn watch<S: Source, G: Stage<Item = [u8; BLOCK_BYTES], Out = Piece>>(
+    form: Form,
+    source: &mut S,
+    stages: &mut SectorBlocks<G>,
+) -> Result<Pumped, PumpStop>
+    ensures watches { (taken : List ℕ) × Watches form G.next
+        (fed S.left (source.old, stages.old.blocks) (source.new, stages.new.blocks)) result taken }
+    // Where nothing failed, the answer is that of the whole input's length.
+    ensures answer { IfSome (S.left source.old) (λ all.
+        IsUnlessFault result (answer_of (unit_size form) most_units (length all))) }
+    ensures read_fault { TellsFault PumpStop.ReadFault
+        (S.faults source.old) (S.faults source.new) result }
+    ensures ended { TellsEndOf result (S.ends source.old) (S.ends source.new) }
+    ensures rooms { FillsUnits most_units result (S.fills source.old) (S.fills source.new) }
+{
+    pump_blocks(form, source, stages, &mut SteadySink::new())
+}
+
+/// A law: for the bytes of a stream each call has one text and one number of bad entries, however a source cuts the
+/// bytes.
+pub fn one_text_is_written()
+    ensures converted { (form : Form) (lead_in : ℕ) (bytes one other : List ℕ) (bad another : ℕ)
+        → IsConverted form lead_in bytes one bad → IsConverted form lead_in bytes other another
+        → (one ≡ other) × (bad ≡ another) }
+    ensures screen { (form : Form) (lead_in at : ℕ) (bytes one other : List ℕ) (bad another : ℕ)
+        → IsScreenAt (moment form lead_in at) bytes one bad
+        → IsScreenAt (moment form lead_in at) bytes other another
+        → (one ≡ other) × (bad ≡ another) }
+    ensures state { (form : Form) (lead_in at : ℕ) (bytes one other : List ℕ) (bad another : ℕ)
+        → IsStateAt (moment form lead_in at) bytes one bad
+        → IsStateAt (moment form lead_in at) bytes other another
+        → (one ≡ other) × (bad ≡ another) }
+    ensures checked { (form : Form) (lead_in : ℕ) (bytes one other : List ℕ) (bad another : ℕ)
+        → IsCheckListed form lead_in bytes one bad → IsCheckListed form lead_in bytes other another
+        → (one ≡ other) × (bad ≡ another) }
+    ensures frames { (form : Form) (bytes one other : List ℕ) (bad another : ℕ)
+        → IsQListed form bytes one bad → IsQListed form bytes other another
+        → (one ≡ other) × (bad ≡ another) }
+    ensures texts { (form : Form) (lead_in : ℕ) (bytes one other : List ℕ) (bad another : ℕ)
+        → IsTextListed form lead_in bytes one bad → IsTextListed form lead_in bytes other another
+        → (one ≡ other) × (bad ≡ another) }
+{
+    each_word_has_one_finding();
+    only_one_meaning();
+    readings_are_functions();
 }

@@ -5,6 +5,7 @@ mod player;
 
 pub use player::Player;
 pub use raw_subcode::Form;
-pub use stream_calls::{Checker, Converter, TextLister, Viewer, list_frames, one_text_is_written};
-pub use stream_stages::{PlayStop, Played};
+pub use stream_stages::{
+    Checker, Converter, PlayStop, Played, TextLister, Viewer, list_frames, one_text_is_written,
+};
 pub use subcode_author::{AuthorStop, author_stream};

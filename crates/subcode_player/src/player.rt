@@ -20,8 +20,7 @@ ghost use Rattle.stream_stages.specs.TextListing.{IsListedBy, ListsTexts};
 use cdg_io::{Sink, Source};
 use raw_subcode::Form;
 use std::alloc::{AllocError, Global};
-use stream_calls::{Checker, Converter, TextLister, Viewer, list_frames};
-use stream_stages::{PlayStop, Played};
+use stream_stages::{Checker, Converter, PlayStop, Played, TextLister, Viewer, list_frames};
 
 /// Plays streams, one at a time. All its memory is taken at the start; each call begins anew, whatever stopped the
 /// one before.

@@ -1,0 +1,37 @@
+use Rattle.cdg_io.specs.Change.{input}
+use Rattle.cdg_cmd.proofs.MergeTold.{ended, never_memory, never_usage, told}
+use Rattle.cdg_cmd.proofs.packs.run_merge.Goals as goal
+
+pub returns-clause-does : goal.returns-clause-does
+returns-clause-does g c =
+    let done = c.run.ensures in
+    let (xs, ys, first, second, merges) = done.merges in
+    record {
+      answer = c.run.result;
+      status_is = c.merge_status.ensures;
+      taken = xs;
+      other_taken = ys;
+      first = first;
+      second = second;
+      put = merges;
+      first_end = done.first_end;
+      second_end = done.second_end;
+      exactly = done.answer;
+    }
+
+pub returns-clause-memory : goal.returns-clause-memory
+returns-clause-memory g c = never_memory c.run.result _ c.merge_status.ensures
+
+pub returns-clause-never : goal.returns-clause-never
+returns-clause-never g c = never_usage c.run.result _ c.merge_status.ensures
+
+pub returns-clause-faults : goal.returns-clause-faults
+returns-clause-faults g c =
+    let done = c.run.ensures in
+    told c.run.result _ _ _ _ _ _ _ c.merge_status.ensures done.first_fault done.second_fault done.write_fault
+
+pub returns-clause-ended : goal.returns-clause-ended
+returns-clause-ended g c =
+    ended c.run.result _ (input g.S.Source.left g.S.Source.ends c.args.first.now c.run.new.first)
+    (input g.T.Source.left g.T.Source.ends c.args.second.now c.run.new.second) c.merge_status.ensures
+    c.run.ensures.told

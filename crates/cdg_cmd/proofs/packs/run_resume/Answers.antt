@@ -1,0 +1,50 @@
+use Rattle.std.proofs.Common.{ap}
+use Rattle.cdg_io.specs.Change.{input}
+use Rattle.cdg_cmd.proofs.ResumeTold.{first_ended, reads_second, second_ended, told, untouched}
+use Rattle.cdg_cmd.proofs.packs.run_resume.Goals as goal
+
+pub returns-in-Ok-clause-does : goal.returns-in-Ok-clause-does
+returns-in-Ok-clause-does g c = λ found.
+    let done = c.resume.ensures in
+    record {
+      answer = c.resume.result;
+      status_is = c.resume_status.ensures;
+      file = c.resume.new.self.file;
+      most = done.reads.most;
+      taken = done.reads.taken;
+      cut = done.reads.cut;
+      whole = done.reads.end;
+      accepted = done.accepted;
+      goes_on = done.resumes;
+      exactly = done.answer;
+    }
+
+pub returns-in-Ok-clause-untouched : goal.returns-in-Ok-clause-untouched
+returns-in-Ok-clause-untouched g c =
+    untouched c.resume.result _ _ _ c.resume_status.ensures c.resume.ensures.untouched
+
+pub returns-in-Ok-clause-second : goal.returns-in-Ok-clause-second
+returns-in-Ok-clause-second g c =
+    let done = c.resume.ensures in
+    let first = input g.S.Source.left g.S.Source.ends c.args.first.now c.resume.new.saved in
+    reads_second _ _ c.args.at first c.resume.new.self.file c.resume.result done.rest_untouched done.accepted
+    done.reads.taken done.reads.end done.reads.told
+
+pub returns-in-Ok-clause-first_ended : goal.returns-in-Ok-clause-first_ended
+returns-in-Ok-clause-first_ended g c =
+    let done = c.resume.ensures in
+    first_ended c.args.at (input g.S.Source.left g.S.Source.ends c.args.first.now c.resume.new.saved)
+    c.resume.new.self.file c.resume.result _ c.resume_status.ensures done.accepted done.reads.told
+    done.reads.goes_on done.reads.not_told
+
+pub returns-in-Ok-clause-second_ended : goal.returns-in-Ok-clause-second_ended
+returns-in-Ok-clause-second_ended g c =
+    let done = c.resume.ensures in
+    second_ended c.resume.result _ (input g.T.Source.left g.T.Source.ends c.args.second.now c.resume.new.rest)
+    c.resume_status.ensures (λ refused. ap g.T.Source.ends (done.rest_untouched refused)) done.rest_told
+
+pub returns-in-Ok-clause-faults : goal.returns-in-Ok-clause-faults
+returns-in-Ok-clause-faults g c =
+    let done = c.resume.ensures in
+    told c.resume.result _ _ _ _ _ _ _ c.resume_status.ensures done.first_fault done.second_fault
+    done.write_fault

@@ -1,0 +1,32 @@
+use Rattle.cdg_io.specs.Change.{input}
+use Rattle.cdg_cmd.proofs.Pumped.{never_memory, told_one}
+use Rattle.cdg_cmd.proofs.SaveTold.{ended_first, untouched}
+use Rattle.cdg_cmd.proofs.packs.run_save.Goals as goal
+
+pub returns-in-Ok-clause-does : goal.returns-in-Ok-clause-does
+returns-in-Ok-clause-does g c = λ found.
+    let saved = c.save.ensures in
+    record {
+      answer = c.save.result;
+      status_is = c.pump_status.ensures;
+      taken = saved.saves.0;
+      did = saved.saves.1;
+      exactly = saved.answer;
+    }
+
+pub returns-in-Ok-clause-no_memory : goal.returns-in-Ok-clause-no_memory
+returns-in-Ok-clause-no_memory g c = λ none. absurd (never_memory c.save.result _ c.pump_status.ensures none)
+
+pub returns-in-Ok-clause-untouched : goal.returns-in-Ok-clause-untouched
+returns-in-Ok-clause-untouched g c =
+    untouched c.save.result _ _ _ c.pump_status.ensures c.save.ensures.untouched
+
+pub returns-in-Ok-clause-faults : goal.returns-in-Ok-clause-faults
+returns-in-Ok-clause-faults g c =
+    let saved = c.save.ensures in
+    told_one c.save.result _ _ _ _ _ c.pump_status.ensures saved.read_fault saved.write_fault
+
+pub returns-in-Ok-clause-ended : goal.returns-in-Ok-clause-ended
+returns-in-Ok-clause-ended g c =
+    ended_first c.save.result _ (input g.S.Source.left g.S.Source.ends c.args.source.now c.save.new.source)
+    c.pump_status.ensures c.save.ensures.ended

@@ -1,0 +1,33 @@
+use Rattle.cdg_io.specs.Change.{input}
+use Rattle.cdg_cmd.proofs.Played.{ended_first, shown_never_memory, told_one, untouched}
+use Rattle.cdg_cmd.proofs.streams.run_state.Goals as goal
+
+pub returns-in-Ok-clause-does : goal.returns-in-Ok-clause-does
+returns-in-Ok-clause-does g c = λ found.
+    let played = c.state_at.ensures in
+    record {
+      answer = c.state_at.result;
+      status_is = c.play_status.ensures;
+      taken = played.shows.0;
+      did = played.shows.1;
+      exactly = (played.stops, played.answer);
+    }
+
+pub returns-in-Ok-clause-no_memory : goal.returns-in-Ok-clause-no_memory
+returns-in-Ok-clause-no_memory g c =
+    λ none.
+    absurd (shown_never_memory c.state_at.result _ c.play_status.ensures c.state_at.ensures.stops none)
+
+pub returns-in-Ok-clause-untouched : goal.returns-in-Ok-clause-untouched
+returns-in-Ok-clause-untouched g c =
+    untouched c.state_at.result _ _ _ c.play_status.ensures c.state_at.ensures.untouched
+
+pub returns-in-Ok-clause-faults : goal.returns-in-Ok-clause-faults
+returns-in-Ok-clause-faults g c =
+    told_one c.state_at.result _ _ _ _ _ c.play_status.ensures c.state_at.ensures.faults
+
+pub returns-in-Ok-clause-ended : goal.returns-in-Ok-clause-ended
+returns-in-Ok-clause-ended g c =
+    ended_first c.state_at.result _
+    (input g.S.Source.left g.S.Source.ends c.args.source.now c.state_at.new.source)
+    c.play_status.ensures c.state_at.ensures.stops c.state_at.ensures.ended

@@ -1,0 +1,181 @@
+// The commands that make a stream or a script.
+ghost use Rattle.std.specs.Prelude.{◌≡◌, ◌≢◌, ◌≤◌, ◌<◌, ◌⊎◌, IfOk, IfErr, OnOk, Err};
+ghost use Rattle.disc_time.specs.Counts.{most_lead_in, time_count};
+ghost use Rattle.cdg_io.specs.Causes.{RoseOnce, TellsFault};
+ghost use Rattle.cdg_cmd.specs.Authors.{AuthorsWith, IsScriptStop, IsSheetStop, ReadsScript, ReadsSheet, TakesAtStop};
+ghost use Rattle.cdg_io.specs.Change.{change, input};
+ghost use Rattle.cdg_cmd.specs.Call.{call};
+ghost use Rattle.cdg_cmd.specs.Ends.{ScriptEnds, SheetEnds};
+ghost use Rattle.cdg_cmd.specs.Faults.{TellsFaults, IsTold};
+ghost use Rattle.cdg_cmd.specs.Keeps.{MayReadSecond};
+ghost use Rattle.cdg_cmd.specs.Presses.{IsFileStop, PressesWith, ReadsFile};
+ghost use Rattle.cdg_workload.specs.Script.{generated_script, most_generated};
+ghost use Rattle.cdg_cmd.specs.Answer.{Generates, Tries};
+
+use crate::status::{author_status, press_status, read_status, script_status, sheet_status};
+use crate::{Command, Status, Which};
+use cdg_io::{Failed, Sink, Source, read_whole};
+use cdg_press::press_stream;
+use cdg_workload::write_script;
+use cue_sheet::Sheet;
+use picture_script::Script;
+use std::alloc::Global;
+use stream_trial::{TrialStop, trial};
+use subcode_author::{accepted_scripts_have_streams, author_stream};
+use text_lines::MOST_TEXT_BYTES;
+
+// The cue sheet of the first input, or the status that says why there is none.
+fn read_sheet<S: Source>(alloc: Global, first: &mut S) -> Result<Sheet, Status>
+    ensures ok { IfOk result (ReadsSheet (change S.left first.old first.new)) }
+    ensures err { IfErr result (IsSheetStop (S.left first.old)) }
+    ensures taken { IfErr result (TakesAtStop (change S.left first.old first.new)) }
+    ensures fault { TellsFault (Status.ReadFault Which.First)
+        (S.faults first.old) (S.faults first.new) result }
+    ensures told { OnOk result (RoseOnce (S.ends first.old) (S.ends first.new)) }
+    ensures once { IfErr result (SheetEnds (input S.left S.ends first.old first.new)) }
+{
+    let text = match read_whole(alloc, first, MOST_TEXT_BYTES) {
+        Ok(text) => text,
+        Err(stop) => return Err(read_status(Which::First, stop)),
+    };
+    match Sheet::parse(alloc, &text) {
+        Ok(sheet) => Ok(sheet),
+        Err(stop) => Err(sheet_status(stop)),
+    }
+}
+
+// The picture script of the second input, or the status that says why there is none.
+fn read_script<S: Source>(alloc: Global, second: &mut S) -> Result<Script, Status>
+    ensures ok { IfOk result (ReadsScript (change S.left second.old second.new)) }
+    ensures err { IfErr result (IsScriptStop (S.left second.old)) }
+    ensures taken { IfErr result (TakesAtStop (change S.left second.old second.new)) }
+    ensures fault { TellsFault (Status.ReadFault Which.Second)
+        (S.faults second.old) (S.faults second.new) result }
+    ensures told { OnOk result (RoseOnce (S.ends second.old) (S.ends second.new)) }
+    ensures once { IfErr result (ScriptEnds (input S.left S.ends second.old second.new)) }
+{
+    let text = match read_whole(alloc, second, MOST_TEXT_BYTES) {
+        Ok(text) => text,
+        Err(stop) => return Err(read_status(Which::Second, stop)),
+    };
+    match Script::parse(alloc, &text) {
+        Ok(script) => Ok(script),
+        Err(stop) => Err(script_status(stop)),
+    }
+}
+
+/// Writes the stream of a cue sheet, which is the first input, and a picture script, which is the second.
+pub(crate) fn run_author<S: Source, T: Source, K: Sink>(
+    alloc: Global,
+    lead_in: u32,
+    length: u32,
+    first: &mut S,
+    second: &mut T,
+    out: &mut K,
+) -> Status
+    requires lead_in { lead_in ≤ most_lead_in }
+    requires length { length < time_count }
+    ensures does { AuthorsWith lead_in length (call S.left T.left K.held (first.old, second.old, out.old)
+        (first.new, second.new, out.new)) result }
+    ensures never { result ≢ Status.Usage }
+    ensures untouched { result ≢ Status.Done → result ≢ Status.WriteFault → out.new ≡ out.old }
+    ensures second { (second.new ≡ second.old)
+        ⊎ MayReadSecond (Command.Author lead_in length) (input S.left S.ends first.old first.new) }
+    ensures faults { TellsFaults (call S.faults T.faults K.faults (first.old, second.old, out.old)
+        (first.new, second.new, out.new)) result }
+    ensures first_ended { SheetEnds (input S.left S.ends first.old first.new) result }
+    ensures second_ended { ScriptEnds (input T.left T.ends second.old second.new) result }
+{
+    let sheet = match read_sheet(alloc, first) {
+        Ok(sheet) => sheet,
+        Err(status) => return status,
+    };
+    let script = match read_script(alloc, second) {
+        Ok(script) => script,
+        Err(status) => return status,
+    };
+    // What holds of every sheet and script, and so a stream of both there is.
+    sheet.tracks_are_in_order();
+    script.times_rise_and_colours_are_in_range();
+    accepted_scripts_have_streams();
+    author_status(author_stream(alloc, &sheet, &script, lead_in, length, out))
+}
+
+// The file of the second input, which may be as long as a text, or the status that says why there is none.
+fn read_file<S: Source>(alloc: Global, second: &mut S) -> Result<Vec<u8>, Status>
+    ensures ok { IfOk result (λ v. ReadsFile (change S.left second.old second.new) v.items) }
+    ensures err { IfErr result (IsFileStop (S.left second.old)) }
+    ensures taken { IfErr result (TakesAtStop (change S.left second.old second.new)) }
+    ensures fault { TellsFault (Status.ReadFault Which.Second)
+        (S.faults second.old) (S.faults second.new) result }
+    ensures told { OnOk result (RoseOnce (S.ends second.old) (S.ends second.new)) }
+    ensures once { IfErr result (ScriptEnds (input S.left S.ends second.old second.new)) }
+{
+    match read_whole(alloc, second, MOST_TEXT_BYTES) {
+        Ok(file) => Ok(file),
+        Err(stop) => Err(read_status(Which::Second, stop)),
+    }
+}
+
+/// Writes the stream of a cue sheet, which is the first input, and a file of packs, which is the second.
+pub(crate) fn run_press<S: Source, T: Source, K: Sink>(
+    alloc: Global,
+    lead_in: u32,
+    length: u32,
+    first: &mut S,
+    second: &mut T,
+    out: &mut K,
+) -> Status
+    requires lead_in { lead_in ≤ most_lead_in }
+    requires length { length < time_count }
+    ensures does { PressesWith lead_in length (call S.left T.left K.held (first.old, second.old, out.old)
+        (first.new, second.new, out.new)) result }
+    ensures never { result ≢ Status.Usage }
+    ensures untouched { result ≢ Status.Done → result ≢ Status.WriteFault → out.new ≡ out.old }
+    ensures second { (second.new ≡ second.old)
+        ⊎ MayReadSecond (Command.Press lead_in length) (input S.left S.ends first.old first.new) }
+    ensures faults { TellsFaults (call S.faults T.faults K.faults (first.old, second.old, out.old)
+        (first.new, second.new, out.new)) result }
+    ensures first_ended { SheetEnds (input S.left S.ends first.old first.new) result }
+    ensures second_ended { ScriptEnds (input T.left T.ends second.old second.new) result }
+{
+    let sheet = match read_sheet(alloc, first) {
+        Ok(sheet) => sheet,
+        Err(status) => return status,
+    };
+    let file = match read_file(alloc, second) {
+        Ok(file) => file,
+        Err(status) => return status,
+    };
+    press_status(press_stream(alloc, &sheet, &file, lead_in, length, out))
+}
+
+/// Writes the script of a seed.
+#[tactic(auto, using(crate::proofs::Written::told_done, crate::proofs::Written::told_cut))]
+pub(crate) fn run_gen<K: Sink>(seed: u64, pictures: u32, out: &mut K) -> Status
+    requires { (1 ≤ pictures) × (pictures ≤ most_generated) }
+    ensures does { Generates (generated_script seed pictures) (change K.held out.old out.new) result }
+    ensures never { (result ≡ Status.Done) ⊎ (result ≡ Status.WriteFault) }
+    ensures faults { IsTold Status.WriteFault (change K.faults out.old out.new) result }
+{
+    match write_script(seed, pictures, out) {
+        Ok(()) => Status::Done,
+        Err(Failed) => Status::WriteFault,
+    }
+}
+
+/// Writes the lines of a trial of a seed.
+#[tactic(auto, using(crate::proofs::Written::told_done, crate::proofs::Written::told_cut, crate::proofs::Written::told_nothing))]
+pub(crate) fn run_trial<K: Sink>(alloc: Global, seed: u64, pictures: u32, out: &mut K) -> Status
+    requires { (1 ≤ pictures) × (pictures ≤ most_generated) }
+    ensures does { result ≢ Status.NoMemory → Tries seed pictures (change K.held out.old out.new) result }
+    ensures never { (result ≡ Status.Done) ⊎ (result ≡ Status.WriteFault) ⊎ (result ≡ Status.NoMemory) }
+    ensures no_memory { result ≡ Status.NoMemory → out.new ≡ out.old }
+    ensures faults { IsTold Status.WriteFault (change K.faults out.old out.new) result }
+{
+    match trial(alloc, seed, pictures, out) {
+        Ok(()) => Status::Done,
+        Err(TrialStop::WriteFault) => Status::WriteFault,
+        Err(TrialStop::NoMemory) => Status::NoMemory,
+    }
+}

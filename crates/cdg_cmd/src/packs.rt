@@ -1,0 +1,158 @@
+// The commands that make packs of packs, streams of streams, and checkpoints of streams.
+ghost use Rattle.std.specs.Prelude.{◌≡◌, ◌≢◌, ◌≤◌, ◌<◌, ◌⊎◌};
+ghost use Rattle.disc_time.specs.Counts.{most_lead_in, time_count};
+ghost use Rattle.cdg_cmd.specs.Answer.{Does};
+ghost use Rattle.cdg_io.specs.Change.{change, input};
+ghost use Rattle.cdg_cmd.specs.Call.{call, one_input};
+ghost use Rattle.cdg_cmd.specs.Ends.{ReadingsEnd, EndsInTurn, EndsFirst, CheckpointEnds, RestEnds};
+ghost use Rattle.cdg_cmd.specs.Faults.{TellsFaults, TellsOne};
+ghost use Rattle.cdg_cmd.specs.Keeps.{MayWrite, MayReadSecond};
+
+use crate::status::{merge_status, pump_status, resume_status, thin_status};
+use crate::{Command, Status};
+use cdg_checkpoint::Checkpointer;
+use cdg_io::{Sink, Source, pump};
+use cdg_thin::Thinner;
+use cdg_workload::scratch;
+use q_channel::{BlockForms, PlanarForms};
+use raw_subcode::MOST_UNITS;
+use rw_merge::Merger;
+use std::alloc::Global;
+
+/// Writes the packs on which two readings of a stream agree, as their blocks are read.
+pub(crate) fn run_merge<S: Source, T: Source, K: Sink>(
+    alloc: Global,
+    lead_in: u32,
+    first: &mut S,
+    second: &mut T,
+    out: &mut K,
+) -> Status
+    requires { lead_in ≤ most_lead_in }
+    ensures does { Does (Command.Merge lead_in)
+        (call S.left T.left K.held (first.old, second.old, out.old) (first.new, second.new, out.new)) result }
+    // A merger takes no memory.
+    ensures memory { result ≢ Status.NoMemory }
+    ensures never { result ≢ Status.Usage }
+    ensures faults { TellsFaults (call S.faults T.faults K.faults (first.old, second.old, out.old)
+        (first.new, second.new, out.new)) result }
+    ensures ended { ReadingsEnd (input S.left S.ends first.old first.new)
+        (input T.left T.ends second.old second.new) result }
+{
+    match Merger::start(alloc) {
+        Ok(mut merger) => merge_status(merger.run(lead_in, first, second, out)),
+        Err(_) => unreachable!(),
+    }
+}
+
+/// Writes the thin form of a file of packs as they are read.
+#[tactic(auto, using(crate::proofs::ThinTold::told_one, crate::proofs::Played::told_none, crate::proofs::ThinTold::never_memory, crate::proofs::ThinTold::ended_in_turn))]
+pub(crate) fn run_thin<S: Source, K: Sink>(alloc: Global, source: &mut S, out: &mut K) -> Status
+    ensures does { result ≢ Status.NoMemory → Does Command.Thin
+        (one_input S.left K.held (source.old, out.old) (source.new, out.new)) result }
+    ensures no_memory { result ≡ Status.NoMemory → (source.new ≡ source.old) × (out.new ≡ out.old) }
+    ensures faults { TellsOne (change S.faults source.old source.new)
+        (change K.faults out.old out.new) result }
+    ensures ended { EndsInTurn (input S.left S.ends source.old source.new) result }
+{
+    match Thinner::start(alloc) {
+        Ok(mut thinner) => thin_status(thinner.run(source, out)),
+        Err(_) => Status::NoMemory,
+    }
+}
+
+/// Writes the checkpoint after a stream.
+#[tactic(auto, using(crate::proofs::Played::told_none))]
+pub(crate) fn run_save<S: Source, K: Sink>(
+    alloc: Global,
+    lead_in: u32,
+    source: &mut S,
+    out: &mut K,
+) -> Status
+    requires { lead_in ≤ most_lead_in }
+    ensures does { result ≢ Status.NoMemory → Does (Command.Save lead_in)
+        (one_input S.left K.held (source.old, out.old) (source.new, out.new)) result }
+    ensures no_memory { result ≡ Status.NoMemory → (source.new ≡ source.old) × (out.new ≡ out.old) }
+    ensures untouched { ¬ (MayWrite result) → out.new ≡ out.old }
+    ensures faults { TellsOne (change S.faults source.old source.new)
+        (change K.faults out.old out.new) result }
+    ensures ended { EndsFirst (input S.left S.ends source.old source.new) result }
+{
+    match Checkpointer::start(alloc) {
+        Ok(mut checkpointer) => pump_status(checkpointer.save(lead_in, source, out)),
+        Err(_) => Status::NoMemory,
+    }
+}
+
+/// Writes the picture at a moment of a stream of which a checkpoint, which is the first input, and the rest are given.
+#[tactic(auto, using(crate::proofs::MergeTold::told_none, crate::proofs::ResumeTold::never_memory, crate::proofs::ResumeTold::never_usage))]
+pub(crate) fn run_resume<S: Source, T: Source, K: Sink>(
+    alloc: Global,
+    at: u32,
+    first: &mut S,
+    second: &mut T,
+    out: &mut K,
+) -> Status
+    requires { at < time_count }
+    ensures does { result ≢ Status.NoMemory → Does (Command.Resume at)
+        (call S.left T.left K.held (first.old, second.old, out.old) (first.new, second.new, out.new)) result }
+    ensures no_memory { result ≡ Status.NoMemory
+        → (first.new ≡ first.old) × (second.new ≡ second.old) × (out.new ≡ out.old) }
+    ensures never { result ≢ Status.Usage }
+    ensures untouched { ¬ (MayWrite result) → out.new ≡ out.old }
+    ensures second { (second.new ≡ second.old)
+        ⊎ MayReadSecond (Command.Resume at) (input S.left S.ends first.old first.new) }
+    ensures faults { TellsFaults (call S.faults T.faults K.faults (first.old, second.old, out.old)
+        (first.new, second.new, out.new)) result }
+    ensures first_ended { CheckpointEnds (input S.left S.ends first.old first.new) result }
+    ensures second_ended { RestEnds (input T.left T.ends second.old second.new) result }
+{
+    match Checkpointer::start(alloc) {
+        Ok(mut checkpointer) => resume_status(checkpointer.resume(at, first, second, out)),
+        Err(_) => Status::NoMemory,
+    }
+}
+
+/// Writes a stream with the scratches of a seed as its blocks are read.
+#[tactic(auto, using(crate::proofs::Pumped::told_one, crate::proofs::Pumped::ended_in_turn, crate::proofs::Pumped::never_memory))]
+pub(crate) fn run_scratch<S: Source, K: Sink>(
+    lead_in: u32,
+    seed: u64,
+    source: &mut S,
+    out: &mut K,
+) -> Status
+    requires { lead_in ≤ most_lead_in }
+    ensures does { Does (Command.Scratch lead_in seed) (one_input S.left K.held (source.old, out.old)
+        (source.new, out.new)) result }
+    ensures memory { result ≢ Status.NoMemory }
+    ensures faults { TellsOne (change S.faults source.old source.new)
+        (change K.faults out.old out.new) result }
+    ensures ended { EndsInTurn (input S.left S.ends source.old source.new) result }
+{
+    pump_status(scratch(lead_in, seed, source, out))
+}
+
+/// Writes the planar form of each block as the blocks are read.
+#[tactic(auto, using(crate::proofs::Pumped::told_one, crate::proofs::Pumped::ended_in_turn, crate::proofs::Pumped::never_memory))]
+pub(crate) fn run_planar<S: Source, K: Sink>(source: &mut S, out: &mut K) -> Status
+    ensures does { Does Command.Planar (one_input S.left K.held (source.old, out.old)
+        (source.new, out.new)) result }
+    ensures memory { result ≢ Status.NoMemory }
+    ensures faults { TellsOne (change S.faults source.old source.new)
+        (change K.faults out.old out.new) result }
+    ensures ended { EndsInTurn (input S.left S.ends source.old source.new) result }
+{
+    pump_status(pump(source, MOST_UNITS, &mut PlanarForms, out))
+}
+
+/// Writes the block of each planar form as the blocks are read.
+#[tactic(auto, using(crate::proofs::Pumped::told_one, crate::proofs::Pumped::ended_in_turn, crate::proofs::Pumped::never_memory))]
+pub(crate) fn run_raw<S: Source, K: Sink>(source: &mut S, out: &mut K) -> Status
+    ensures does { Does Command.Raw (one_input S.left K.held (source.old, out.old)
+        (source.new, out.new)) result }
+    ensures memory { result ≢ Status.NoMemory }
+    ensures faults { TellsOne (change S.faults source.old source.new)
+        (change K.faults out.old out.new) result }
+    ensures ended { EndsInTurn (input S.left S.ends source.old source.new) result }
+{
+    pump_status(pump(source, MOST_UNITS, &mut BlockForms, out))
+}

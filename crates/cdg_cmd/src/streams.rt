@@ -1,0 +1,154 @@
+// The commands that play a stream.
+ghost use Rattle.std.specs.Prelude.{◌≢◌, ◌≤◌, ◌≡◌, ◌<◌};
+ghost use Rattle.disc_time.specs.Counts.{most_lead_in, time_count};
+ghost use Rattle.cdg_cmd.specs.Answer.{Does, LacksMemory};
+ghost use Rattle.cdg_io.specs.Change.{change, input};
+ghost use Rattle.cdg_cmd.specs.Call.{one_input};
+ghost use Rattle.cdg_cmd.specs.Ends.{EndsInTurn, EndsFirst, EndsAsListed};
+ghost use Rattle.cdg_cmd.specs.Faults.{TellsOne};
+ghost use Rattle.cdg_cmd.specs.Keeps.{MayWrite};
+
+use crate::status::play_status;
+use crate::{Command, Status};
+use cdg_io::{Sink, Source};
+use raw_subcode::Form;
+use std::alloc::Global;
+use stream_stages::{Checker, Converter, TextLister, Viewer, list_frames};
+
+/// Writes the packs of a stream as its blocks are read.
+#[tactic(auto, using(crate::proofs::Played::told_one, crate::proofs::Played::never_memory, crate::proofs::Played::ended_in_turn))]
+pub(crate) fn run_convert<S: Source, K: Sink>(
+    lead_in: u32,
+    form: Form,
+    source: &mut S,
+    out: &mut K,
+) -> Status
+    requires { lead_in ≤ most_lead_in }
+    ensures does { Does (Command.Convert lead_in form) (one_input S.left K.held (source.old, out.old)
+        (source.new, out.new)) result }
+    ensures memory { result ≢ Status.NoMemory }
+    ensures faults { TellsOne (change S.faults source.old source.new)
+        (change K.faults out.old out.new) result }
+    ensures ended { EndsInTurn (input S.left S.ends source.old source.new) result }
+{
+    play_status(Converter::new().convert(lead_in, form, source, out))
+}
+
+/// Writes the counts of a stream.
+#[tactic(auto, using(crate::proofs::Played::told_one, crate::proofs::Played::never_memory, crate::proofs::Played::ended_whole, crate::proofs::Played::untouched))]
+pub(crate) fn run_check<S: Source, K: Sink>(
+    lead_in: u32,
+    form: Form,
+    source: &mut S,
+    out: &mut K,
+) -> Status
+    requires { lead_in ≤ most_lead_in }
+    ensures does { Does (Command.Check lead_in form) (one_input S.left K.held (source.old, out.old)
+        (source.new, out.new)) result }
+    ensures memory { result ≢ Status.NoMemory }
+    ensures untouched { ¬ (MayWrite result) → out.new ≡ out.old }
+    ensures faults { TellsOne (change S.faults source.old source.new)
+        (change K.faults out.old out.new) result }
+    ensures ended { EndsFirst (input S.left S.ends source.old source.new) result }
+{
+    play_status(Checker::new().check(lead_in, form, source, out))
+}
+
+/// Writes the lines of the Q channel as blocks are read.
+#[tactic(auto, using(crate::proofs::Played::told_one, crate::proofs::Played::never_memory, crate::proofs::Played::ended_in_turn))]
+pub(crate) fn run_q<S: Source, K: Sink>(
+    lead_in: u32,
+    form: Form,
+    source: &mut S,
+    out: &mut K,
+) -> Status
+    requires lead_in { lead_in ≤ most_lead_in }
+    requires form { form ≢ Form.Cooked }
+    ensures does { Does (Command.Q lead_in form) (one_input S.left K.held (source.old, out.old)
+        (source.new, out.new)) result }
+    ensures memory { result ≢ Status.NoMemory }
+    ensures faults { TellsOne (change S.faults source.old source.new)
+        (change K.faults out.old out.new) result }
+    ensures ended { EndsInTurn (input S.left S.ends source.old source.new) result }
+{
+    play_status(list_frames(lead_in, form, source, out))
+}
+
+/// Writes the texts of the lead-in of a stream, after all of it is read.
+#[tactic(auto, using(crate::proofs::Played::told_none))]
+pub(crate) fn run_text<S: Source, K: Sink>(
+    alloc: Global,
+    lead_in: u32,
+    form: Form,
+    source: &mut S,
+    out: &mut K,
+) -> Status
+    requires lead_in { lead_in ≤ most_lead_in }
+    requires form { form ≢ Form.Cooked }
+    ensures does { result ≢ Status.NoMemory → Does (Command.Text lead_in form)
+        (one_input S.left K.held (source.old, out.old) (source.new, out.new)) result }
+    // Where there is no memory nothing was read, or all of a whole input, whose lead-in gives texts.
+    ensures lacks { result ≡ Status.NoMemory → LacksMemory (Command.Text lead_in form)
+        (one_input S.left K.held (source.old, out.old) (source.new, out.new)) }
+    ensures untouched { ¬ (MayWrite result) → out.new ≡ out.old }
+    ensures faults { TellsOne (change S.faults source.old source.new)
+        (change K.faults out.old out.new) result }
+    ensures ended { EndsAsListed (input S.left S.ends source.old source.new) result }
+{
+    match TextLister::start(alloc) {
+        Ok(mut lister) => play_status(lister.text_list(alloc, lead_in, form, source, out)),
+        Err(_) => Status::NoMemory,
+    }
+}
+
+/// Writes the picture at a moment of a stream.
+#[tactic(auto, using(crate::proofs::Played::told_none))]
+pub(crate) fn run_screen<S: Source, K: Sink>(
+    alloc: Global,
+    lead_in: u32,
+    form: Form,
+    at: u32,
+    source: &mut S,
+    out: &mut K,
+) -> Status
+    requires lead_in { lead_in ≤ most_lead_in }
+    requires at { at < time_count }
+    ensures does { result ≢ Status.NoMemory → Does (Command.Screen lead_in form at)
+        (one_input S.left K.held (source.old, out.old) (source.new, out.new)) result }
+    ensures no_memory { result ≡ Status.NoMemory → (source.new ≡ source.old) × (out.new ≡ out.old) }
+    ensures untouched { ¬ (MayWrite result) → out.new ≡ out.old }
+    ensures faults { TellsOne (change S.faults source.old source.new)
+        (change K.faults out.old out.new) result }
+    ensures ended { EndsFirst (input S.left S.ends source.old source.new) result }
+{
+    match Viewer::start(alloc) {
+        Ok(mut viewer) => play_status(viewer.screen_at(lead_in, form, at, source, out)),
+        Err(_) => Status::NoMemory,
+    }
+}
+
+/// Writes the state of the screen at a moment of a stream.
+#[tactic(auto, using(crate::proofs::Played::told_none))]
+pub(crate) fn run_state<S: Source, K: Sink>(
+    alloc: Global,
+    lead_in: u32,
+    form: Form,
+    at: u32,
+    source: &mut S,
+    out: &mut K,
+) -> Status
+    requires lead_in { lead_in ≤ most_lead_in }
+    requires at { at < time_count }
+    ensures does { result ≢ Status.NoMemory → Does (Command.State lead_in form at)
+        (one_input S.left K.held (source.old, out.old) (source.new, out.new)) result }
+    ensures no_memory { result ≡ Status.NoMemory → (source.new ≡ source.old) × (out.new ≡ out.old) }
+    ensures untouched { ¬ (MayWrite result) → out.new ≡ out.old }
+    ensures faults { TellsOne (change S.faults source.old source.new)
+        (change K.faults out.old out.new) result }
+    ensures ended { EndsFirst (input S.left S.ends source.old source.new) result }
+{
+    match Viewer::start(alloc) {
+        Ok(mut viewer) => play_status(viewer.state_at(lead_in, form, at, source, out)),
+        Err(_) => Status::NoMemory,
+    }
+}

@@ -1,0 +1,162 @@
+// The lines of the Q channel of a stream, and those of the texts of its lead-in.
+ghost use Rattle.std.specs.Prelude.{◌≡◌, ◌≢◌, ◌≤◌, ◌-◌, List, ℕ, length, IfSome, IfErr, IfOk, IsErrOf, Ok, Err};
+ghost use Rattle.disc_time.specs.Counts.{most_lead_in};
+ghost use Rattle.cdg_io.specs.Change.{passed};
+ghost use Rattle.cdg_io.specs.Streams.{Streams};
+ghost use Rattle.raw_subcode.specs.Channels.{unit_size};
+ghost use Rattle.q_channel.specs.QList.{IsQListed};
+ghost use Rattle.raw_subcode.specs.declared.form.Form.{Form};
+ghost use Rattle.stream_stages.specs.Faults.{TellsStops};
+ghost use Rattle.stream_stages.specs.Calls.{EndInTurn, IsAnsweredBy, IsStreamStop, in_turn, EndFirst, IsListStop};
+ghost use Rattle.cdg_io.specs.Causes.{TellsFault};
+ghost use Rattle.cdtext_packs.specs.Reading.{read_texts};
+ghost use Rattle.cdtext_packs.specs.TextSteps.{fresh_texts};
+ghost use Rattle.stream_stages.specs.TextListing.{ListsTexts, IsListedBy};
+ghost use Rattle.stream_stages.specs.Watch.{WritesTexts};
+
+use crate::{PlayStop, Played, SectorBlocks, play_stop, pump_blocks, watch};
+use cdg_io::{Failed, Sink, Source};
+use cdtext_packs::{LeadInTexts, TextMap, lead_in_packs_are_read, write_lines};
+use q_channel::QLines;
+use raw_subcode::Form;
+use std::alloc::{AllocError, Global};
+
+/// Writes the line of the Q channel of each block, lead-in included, as the blocks are read. It takes no memory.
+///
+/// `lead_in` is at most 450,000 blocks, and the form is raw or sector: cooked packs have no Q channel. `Played::bad`
+/// counts the frames that are refused.
+///
+/// # Errors
+///
+/// `Torn` and `TooLong` come after the lines of all whole blocks are written, `ReadFault` after those of the blocks
+/// that were read. After `WriteFault` the sink holds a prefix, and no later block was read.
+pub fn list_frames<S: Source, K: Sink>(
+    lead_in: u32,
+    form: Form,
+    source: &mut S,
+    out: &mut K,
+) -> Result<Played, PlayStop>
+    requires lead_in { lead_in ≤ most_lead_in }
+    requires form { form ≢ Form.Cooked }
+    ensures lists { (taken : List ℕ) × Streams (in_turn (IsQListed form) form lead_in)
+        (passed S.left K.held (source.old, out.old) (source.new, out.new)) result taken }
+    // It never answers that a moment is past the end, nor a fault of texts, whatever the input.
+    ensures stops { IfErr result IsStreamStop }
+    // Where nothing failed, the answer is that of the whole input's length.
+    ensures answer { IfSome (S.left source.old) (λ all. IsAnsweredBy result (unit_size form) (length all)) }
+    ensures faults { TellsStops (S.faults source.old) (S.faults source.new)
+        (K.faults out.old) (K.faults out.new) result }
+    ensures ended { EndInTurn result (S.ends source.old) (S.ends source.new) }
+{
+    let mut lines = SectorBlocks {
+        blocks: QLines { block: 0, bad: 0 },
+    };
+    match pump_blocks(form, source, &mut lines, out) {
+        Ok(pumped) => Ok(Played {
+            blocks: pumped.units.saturating_sub(lead_in),
+            bad: lines.blocks.bad,
+        }),
+        Err(stop) => Err(play_stop(stop)),
+    }
+}
+
+/// Lists the texts of lead-ins, one at a time: each call begins anew, whatever stopped the one before. It holds
+/// a table of text packs.
+#[derive(Drop)]
+pub struct TextLister {
+    /// The text packs of a lead-in.
+    pub texts: SectorBlocks<LeadInTexts>,
+}
+
+impl TextLister {
+    /// Takes the memory of the table.
+    pub fn start(alloc: Global) -> Result<TextLister, AllocError>
+        ensures { IfOk result (λ lister. lister.texts.blocks ≡ fresh_texts 0) }
+    {
+        let texts = LeadInTexts::start(alloc)?;
+        Ok(TextLister {
+            texts: SectorBlocks { blocks: texts },
+        })
+    }
+
+    /// Writes the texts of a stream's lead-in, after all of it is read: a line for each string that is not empty, and
+    /// one on the packs. Memory is taken for the texts alone, once all is read.
+    ///
+    /// `lead_in` is at most 450,000 blocks, and the form is raw or sector: cooked packs have no lead-in.
+    /// `Played::bad` is 0.
+    ///
+    /// # Errors
+    ///
+    /// `Text` where the packs are no texts, or they are and no memory is found for them, and `Torn`, `TooLong` and
+    /// `ReadFault` as the input says: then nothing is written. After `WriteFault` the sink holds a prefix.
+    pub fn text_list<S: Source, K: Sink>(
+        &mut self,
+        alloc: Global,
+        lead_in: u32,
+        form: Form,
+        source: &mut S,
+        out: &mut K,
+    ) -> Result<Played, PlayStop>
+        requires lead_in { lead_in ≤ most_lead_in }
+        requires form { form ≢ Form.Cooked }
+        ensures lists { (taken : List ℕ) × ListsTexts form lead_in
+            (passed S.left K.held (source.old, out.old) (source.new, out.new)) result taken }
+        // It never answers that a moment is past the end, whatever the input.
+        ensures stops { IfErr result IsListStop }
+        // Where nothing failed, the answer is that of the whole input.
+        ensures answer { IfSome (S.left source.old) (λ all. IsListedBy result form lead_in all) }
+        // Where the output is not written it is as it was.
+        ensures untouched { IfErr result (λ stop. stop ≢ PlayStop.WriteFault → out.new ≡ out.old) }
+        ensures faults { TellsStops (S.faults source.old) (S.faults source.new)
+            (K.faults out.old) (K.faults out.new) result }
+        ensures ended { EndFirst result (S.ends source.old) (S.ends source.new) }
+    {
+        lead_in_packs_are_read();
+        self.texts.blocks.begin(lead_in);
+        match watch(form, source, &mut self.texts) {
+            Ok(pumped) => self.write_texts(alloc, pumped.units.saturating_sub(lead_in), out),
+            Err(stop) => Err(play_stop(stop)),
+        }
+    }
+
+    // Writes the texts of the packs that were read.
+    fn write_texts<K: Sink>(
+        &self,
+        alloc: Global,
+        blocks: u32,
+        out: &mut K,
+    ) -> Result<Played, PlayStop>
+        ensures writes { WritesTexts self.now.texts.blocks blocks (K.held out.old) (K.held out.new) result }
+        ensures untouched { IfErr result (λ stop. stop ≢ PlayStop.WriteFault → out.new ≡ out.old) }
+        ensures write_fault { TellsFault PlayStop.WriteFault
+            (K.faults out.old) (K.faults out.new) result }
+    {
+        let map = match self.texts.blocks.reader.finish(alloc) {
+            Ok(map) => map,
+            Err(fault) => return Err(PlayStop::Text(fault)),
+        };
+        let written = self.write_map(&map, blocks, out);
+        drop(map);
+        written
+    }
+
+    // Writes the lines of these texts, which are those of the packs that were read.
+    fn write_map<K: Sink>(
+        &self,
+        map: &TextMap,
+        blocks: u32,
+        out: &mut K,
+    ) -> Result<Played, PlayStop>
+        requires { read_texts self.now.texts.blocks.reader ≡ Ok map.now }
+        ensures writes { WritesTexts self.now.texts.blocks blocks (K.held out.old) (K.held out.new) result }
+        ensures untouched { IfErr result (λ stop. stop ≢ PlayStop.WriteFault → out.new ≡ out.old) }
+        ensures write_fault { TellsFault PlayStop.WriteFault
+            (K.faults out.old) (K.faults out.new) result }
+    {
+        let texts = &self.texts.blocks;
+        match write_lines(map, texts.good, texts.bad, texts.other, out) {
+            Ok(()) => Ok(Played { blocks, bad: 0 }),
+            Err(Failed) => Err(PlayStop::WriteFault),
+        }
+    }
+}

@@ -1,0 +1,190 @@
+// The screen at a moment of a stream.
+ghost use Rattle.std.specs.Prelude.{◌≡◌, ◌≢◌, ◌≤◌, ◌-◌, List, ℕ, length, IfSome, IfOk, IfErr, IsErrOf, Err};
+ghost use Rattle.disc_time.specs.Counts.{last_block, most_lead_in};
+ghost use Rattle.cdg_io.specs.Causes.{TellsFault};
+ghost use Rattle.cdg_io.specs.Change.{change, passed};
+ghost use Rattle.raw_subcode.specs.Channels.{unit_size};
+ghost use Rattle.rw_interleave.specs.Interleave.{whole_packs};
+ghost use Rattle.cdg_screen.specs.Standing.{blank};
+ghost use Rattle.cdg_screen.specs.Texts.{pixmap, state_text};
+ghost use Rattle.stream_stages.specs.Faults.{TellsStops};
+ghost use Rattle.stream_stages.specs.Calls.{EndFirst, IsMomentStop};
+ghost use Rattle.stream_stages.specs.Steps.{fresh_words};
+ghost use Rattle.stream_stages.specs.Stages.{painting_of, words_of};
+ghost use Rattle.stream_stages.specs.Screen.{IsShownBy, Shows, moment};
+ghost use Rattle.stream_stages.specs.Watch.{Views, viewed};
+
+use crate::{BlockWords, Painting, PlayStop, Played, SectorBlocks, play_stop, watch};
+use cdg_io::{Failed, Pumped, Sink, Source, Then};
+use cdg_screen::Screen;
+use raw_subcode::Form;
+use rw_interleave::whole_packs;
+use std::alloc::{AllocError, Global};
+
+/// Shows moments of streams, one at a time: each call begins anew, whatever stopped the one before. It holds one
+/// screen.
+#[derive(Drop)]
+pub struct Viewer {
+    /// The picture at a moment of a stream.
+    pub views: SectorBlocks<Then<BlockWords, Painting>>,
+}
+
+impl Viewer {
+    /// Takes the memory of the screen.
+    pub fn start(alloc: Global) -> Result<Viewer, AllocError>
+        ensures words { IfOk result (λ viewer. words_of viewer.views.blocks ≡ fresh_words Form.Raw 0) }
+        ensures painting { IfOk result (λ viewer. ((painting_of viewer.views.blocks).screen ≡ blank)
+            × ((painting_of viewer.views.blocks).left ≡ 0) × ((painting_of viewer.views.blocks).bad ≡ 0)) }
+    {
+        let painting = Painting {
+            screen: Screen::start(alloc)?,
+            left: 0,
+            bad: 0,
+        };
+        Ok(Viewer {
+            views: SectorBlocks {
+                blocks: Then::new(BlockWords::new(), painting),
+            },
+        })
+    }
+
+    /// Writes the picture at a moment, after all of the stream is read: a pixmap of what stands after the packs that
+    /// are whole at program block `at`, the first 4 * at - 7.
+    ///
+    /// `lead_in` is at most 450,000 blocks, and `at` at most 449,999. A word with no codeword within two symbols
+    /// changes nothing; `Played::bad` counts those among the packs that are drawn.
+    ///
+    /// # Errors
+    ///
+    /// `PastEnd` where the program has fewer than `at` blocks, and `Torn`, `TooLong` and `ReadFault` as the input says:
+    /// then nothing is written. After `WriteFault` the sink holds a prefix.
+    pub fn screen_at<S: Source, K: Sink>(
+        &mut self,
+        lead_in: u32,
+        form: Form,
+        at: u32,
+        source: &mut S,
+        out: &mut K,
+    ) -> Result<Played, PlayStop>
+        requires lead_in { lead_in ≤ most_lead_in }
+        requires at { at ≤ last_block }
+        ensures shows { (taken : List ℕ) × Shows pixmap (moment form lead_in at)
+            (passed S.left K.held (source.old, out.old) (source.new, out.new)) result taken }
+        // It never answers a fault of texts, whatever the input.
+        ensures stops { IfErr result IsMomentStop }
+        // Where nothing failed, the answer is that of the whole input's length.
+        ensures answer { IfSome (S.left source.old) (λ all.
+            IsShownBy result lead_in at (unit_size form) (length all)) }
+        // Where the output is not written it is as it was.
+        ensures untouched { IfErr result (λ stop. stop ≢ PlayStop.WriteFault → out.new ≡ out.old) }
+        ensures faults { TellsStops (S.faults source.old) (S.faults source.new)
+            (K.faults out.old) (K.faults out.new) result }
+        ensures ended { EndFirst result (S.ends source.old) (S.ends source.new) }
+    {
+        match self.view(lead_in, form, at, source) {
+            Ok(played) => {
+                let painting = &self.views.blocks.second;
+                match painting.screen.write_ppm(out) {
+                    Ok(()) => Ok(played),
+                    Err(Failed) => Err(PlayStop::WriteFault),
+                }
+            }
+            Err(stop) => Err(stop),
+        }
+    }
+
+    /// Writes the state at a moment: border, offsets, colours and levels of what `screen_at` shows, under the same
+    /// conditions.
+    pub fn state_at<S: Source, K: Sink>(
+        &mut self,
+        lead_in: u32,
+        form: Form,
+        at: u32,
+        source: &mut S,
+        out: &mut K,
+    ) -> Result<Played, PlayStop>
+        requires lead_in { lead_in ≤ most_lead_in }
+        requires at { at ≤ last_block }
+        ensures shows { (taken : List ℕ) × Shows state_text (moment form lead_in at)
+            (passed S.left K.held (source.old, out.old) (source.new, out.new)) result taken }
+        // It never answers a fault of texts, whatever the input.
+        ensures stops { IfErr result IsMomentStop }
+        // Where nothing failed, the answer is that of the whole input's length.
+        ensures answer { IfSome (S.left source.old) (λ all.
+            IsShownBy result lead_in at (unit_size form) (length all)) }
+        // Where the output is not written it is as it was.
+        ensures untouched { IfErr result (λ stop. stop ≢ PlayStop.WriteFault → out.new ≡ out.old) }
+        ensures faults { TellsStops (S.faults source.old) (S.faults source.new)
+            (K.faults out.old) (K.faults out.new) result }
+        ensures ended { EndFirst result (S.ends source.old) (S.ends source.new) }
+    {
+        match self.view(lead_in, form, at, source) {
+            Ok(played) => {
+                let painting = &self.views.blocks.second;
+                match painting.screen.write_state(out) {
+                    Ok(()) => Ok(played),
+                    Err(Failed) => Err(PlayStop::WriteFault),
+                }
+            }
+            Err(stop) => Err(stop),
+        }
+    }
+
+    // Draws the packs of a whole stream that are whole at a moment.
+    #[tactic(auto, using(crate::proofs::Ends::ends_first, crate::proofs::Ends::stops_moment, crate::proofs::Ends::viewed_stops))]
+    fn view<S: Source>(
+        &mut self,
+        lead_in: u32,
+        form: Form,
+        at: u32,
+        source: &mut S,
+    ) -> Result<Played, PlayStop>
+        requires lead_in { lead_in ≤ most_lead_in }
+        requires at { at ≤ last_block }
+        ensures views { (taken : List ℕ)
+            × Views (moment form lead_in at) (change S.left source.old source.new)
+            (painting_of self.new.views.blocks).screen result taken }
+        ensures stops { IfErr result IsMomentStop }
+        ensures answer { IfSome (S.left source.old) (λ all.
+            IsShownBy result lead_in at (unit_size form) (length all)) }
+        ensures read_fault { TellsFault PlayStop.ReadFault
+            (S.faults source.old) (S.faults source.new) result }
+        ensures ended { EndFirst result (S.ends source.old) (S.ends source.new) }
+    {
+        self.begin_view(lead_in, form, at);
+        match watch(form, source, &mut self.views) {
+            Ok(pumped) => self.viewed(pumped, lead_in, at),
+            Err(stop) => Err(play_stop(stop)),
+        }
+    }
+
+    // What was played, where the program reaches the moment.
+    fn viewed(&self, pumped: Pumped, lead_in: u32, at: u32) -> Result<Played, PlayStop>
+        ensures { result ≡ viewed (pumped.units - lead_in) at (painting_of self.now.views.blocks).bad }
+    {
+        let blocks = pumped.units.saturating_sub(lead_in);
+        if blocks < at {
+            return Err(PlayStop::PastEnd { blocks });
+        }
+        let painting = &self.views.blocks.second;
+        Ok(Played {
+            blocks,
+            bad: painting.bad,
+        })
+    }
+
+    // Brings back the state after the start, for a stream of this form and a moment.
+    fn begin_view(&mut self, lead_in: u32, form: Form, at: u32)
+        requires { at ≤ last_block }
+        ensures words { words_of self.new.views.blocks ≡ fresh_words form lead_in }
+        ensures left { (painting_of self.new.views.blocks).left ≡ whole_packs at }
+        ensures bad { (painting_of self.new.views.blocks).bad ≡ 0 }
+        ensures blank { (painting_of self.new.views.blocks).screen ≡ blank }
+    {
+        self.views.blocks.first.begin(lead_in, form);
+        let painting = &mut self.views.blocks.second;
+        painting.left = whole_packs(at);
+        painting.bad = 0;
+        painting.screen.reset();
+    }
+}
