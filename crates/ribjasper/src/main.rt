@@ -1,18 +1,16 @@
 //! Works on the subcode of Compact Discs, from standard input or named files to standard output.
 #![tactic(auto)]
 
-mod input;
-mod live;
+mod streams;
 
 use cdg_cmd::{Status, run, split, tell};
 use cdg_io::{BufferedSink, BufferedSource, Failed, SteadySink, WriteSink};
-use input::InputReader;
-use live::{LiveInput, LiveOutput, Waiting, flush};
 use std::alloc::Global;
 use std::cell::RefCell;
 use std::io::{BufReader, ErrorKind};
 use std::process::ExitCode;
 use std::{env, io};
+use streams::{InputReader, LiveInput, LiveOutput, Waiting, flush};
 
 // The most that waits to be written: what one read of an input gives, and more.
 const BUFFER: usize = 131_072;
