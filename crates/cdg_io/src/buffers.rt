@@ -1,5 +1,5 @@
 // A reader and a writer with a buffer between, as a source and a sink.
-ghost use Rattle.std.specs.Prelude.{◌≡◌, ◌<◌, ◌≤◌, List, ℕ, Some, drop, length, take, true, false, ◌≢◌, ◌+◌, [], slice_range, IfOk, IsOk, OnErr, OnOk, vec_len};
+ghost use Rattle.std.specs.Prelude.{◌⊎◌, ◌++◌, ◌-◌, ◌^◌, Ok, min, ◌≡◌, ◌<◌, ◌≤◌, List, ℕ, Some, drop, length, take, true, false, ◌≢◌, ◌+◌, [], IfOk, IsOk, OnErr, OnOk, vec_len};
 ghost use Rattle.std.specs.Io.{ReadsAtMost};
 ghost use Rattle.std.specs.Io.Buffered.{reader_inner, reader_remaining};
 ghost use Rattle.std.specs.Io.KnownBytes.{Consumes, ReadConsumes, WriteAppends, Appends, Keeps};
@@ -11,11 +11,11 @@ ghost use Rattle.cdg_io.specs.Moves.{TakesSome};
 ghost use Rattle.cdg_io.specs.Pump.{RoseBy, Works};
 ghost use Rattle.cdg_io.specs.Waiting.{Buffered, bytes_with_waiting};
 
-use crate::ends::Tally;
+use crate::ends::{CountedWriter, Outcome, Tally};
 use crate::piece::copy_front;
 use crate::{Failed, PassedUnits, Piece, Sink, Source, UnitStage};
 use std::alloc::{AllocError, Global};
-use std::io::{BufRead, BufReader, ErrorKind, Read, Write};
+use std::io::{BufRead, BufReader, Read, Write};
 use std::marker::Model;
 
 /// A buffered reader as a source, as `ReadSource`. What its buffer holds is at hand, and fed from there.
@@ -142,16 +142,17 @@ impl<R: Read> Source for BufferedSource<R> {
     }
 }
 
-/// A writer as a sink. What is put waits until there is no room for more, or until it is asked for. The sink tells the
+/// A writer as a sink. What is put waits until more than a turn would wait, or until it is asked for. The sink tells the
 /// bytes that the writer tells, and then those that wait. An error of the writer is a failure, and so is a write of
-/// nothing; what was not written still waits.
+/// nothing; what was not written still waits. A write that was interrupted is made again.
 #[derive(Drop)]
 pub struct BufferedSink<W: Write> {
-    writer: W,
+    writer: CountedWriter<W>,
     buffer: Vec<u8>,
-    /// What waits stands in the buffer from here on.
-    start: usize,
+    /// What waits is the front of the buffer, up to here.
     end: usize,
+    /// The most that waits after a piece is put. What units at hand give may wait in all of the buffer.
+    turn: usize,
     faults: u64,
 }
 
@@ -159,26 +160,41 @@ impl<W: Write> Model for BufferedSink<W> {
     ghost Value = { Buffered W };
 
     ghost view = { λ s. record {
-      inner = s.writer;
-      waiting = slice_range s.buffer.items s.start s.end;
+      inner = s.writer.inner;
+      waiting = take s.end s.buffer.items;
       faults = s.faults;
+      failed = s.writer.faults;
+      turn = s.turn;
+      room = vec_len s.buffer;
     } };
 
-    ghost invariant = { λ s. (0 < vec_len s.buffer) × (s.start ≤ s.end) × (s.end ≤ vec_len s.buffer) };
+    ghost invariant = { λ s. (0 < s.turn) × (s.turn ≤ vec_len s.buffer) × (s.end ≤ vec_len s.buffer) };
 }
 
 impl<W: Write + Drop> BufferedSink<W> {
-    /// A sink with memory for `room` bytes that wait.
-    pub fn new(alloc: Global, room: usize, writer: W) -> Result<BufferedSink<W>, AllocError>
-        requires { 0 < room }
-        ensures { IfOk result (λ s. s ≡ record { inner = writer; waiting = []; faults = 0 }) }
+    /// A sink with memory for `room` bytes that wait, `turn` of them after a piece is put.
+    pub fn new(
+        alloc: Global,
+        room: usize,
+        turn: usize,
+        writer: W,
+    ) -> Result<BufferedSink<W>, AllocError>
+        requires { (0 < turn) × (turn ≤ room) }
+        ensures { IfOk result (λ s. s ≡ record {
+          inner = writer;
+          waiting = [];
+          faults = 0;
+          failed = 0;
+          turn = turn;
+          room = room;
+        }) }
     {
         let buffer = vec![in alloc; 0; room]?;
         Ok(BufferedSink {
-            writer,
+            writer: CountedWriter::new(writer),
             buffer,
-            start: 0,
             end: 0,
+            turn,
             faults: 0,
         })
     }
@@ -188,7 +204,8 @@ impl<W: Write> BufferedSink<W> {
     /// Writes what waits.
     ///
     /// # Errors
-    /// `Failed` where a write failed. The count of faults stays: the next piece for which there is no room says so.
+    /// `Failed` if a write failed, which is not made again. The count of faults stays: the next piece for which there is no
+    /// room says so.
     pub fn flush(&mut self) -> Result<(), Failed>
         ensures empty { OnOk result (self.new.waiting ≡ []) }
         // Where nothing waits there is nothing to fail, and where a write failed something still waits.
@@ -197,14 +214,16 @@ impl<W: Write> BufferedSink<W> {
         ensures bytes { Keeps (bytes_with_waiting W.contents self.old)
             (bytes_with_waiting W.contents self.new) }
         ensures faults { self.new.faults ≡ self.old.faults }
+        // It failed exactly where one write of the writer did.
+        ensures failed { self.new.failed ≡ counted_after result self.old.failed }
+        ensures same { (self.new.turn ≡ self.old.turn) × (self.new.room ≡ self.old.room) }
     {
-        let written = write_front(&mut self.writer, &self.buffer[self.start..self.end]);
-        self.start += written;
-        if self.start < self.end {
+        let written = write_front(&mut self.writer, &self.buffer[..self.end]);
+        move_to_front(&mut self.buffer, written, self.end);
+        self.end -= written;
+        if self.end > 0 {
             return Err(Failed);
         }
-        self.start = 0;
-        self.end = 0;
         Ok(())
     }
 
@@ -218,14 +237,16 @@ impl<W: Write> BufferedSink<W> {
         ensures bytes { WriteAppends (bytes_with_waiting W.contents self.old)
             (bytes_with_waiting W.contents self.new) result piece.now }
         ensures counted { self.new.faults ≡ counted_after result self.old.faults }
+        ensures failed { self.new.failed ≡ counted_after result self.old.failed }
         ensures nothing { self.old.waiting ≡ [] → IsOk result }
+        ensures written { IfOk result
+            (λ n. (n ≡ min (length piece.now) self.old.turn) × (self.new.waiting ≡ take n piece.now)) }
+        ensures same { (self.new.turn ≡ self.old.turn) × (self.new.room ≡ self.old.room) }
     {
         match self.flush() {
             Ok(()) => {
-                let count = piece.len().min(self.buffer.len());
+                let count = piece.len().min(self.turn);
                 copy_front(&mut self.buffer, &piece[..count]);
-                // All else was written.
-                self.start = 0;
                 self.end = count;
                 Ok(count)
             }
@@ -250,15 +271,38 @@ impl<W: Write> Sink for BufferedSink<W> {
             (bytes_with_waiting W.contents self.new) result piece.now }
         ensures cause { HasCause self.old.faults self.new.faults result }
         ensures counted { self.new.faults ≡ counted_after result self.old.faults }
+        // It failed exactly where one write of the writer did.
+        ensures failed { self.new.failed ≡ counted_after result self.old.failed }
         // Where nothing waits no write can fail.
         ensures nothing { self.old.waiting ≡ [] → IsOk result }
+        // Where there is room nothing is written, and else all that waited.
+        ensures kept { length self.old.waiting + length piece.now ≤ self.old.turn
+            → (result ≡ Ok (length piece.now)) × (self.new.inner ≡ self.old.inner)
+            × (self.new.waiting ≡ self.old.waiting ++ piece.now) }
+        ensures written { self.old.turn < length self.old.waiting + length piece.now
+            → IfOk result (λ n. (n ≡ min (length piece.now) self.old.turn)
+            × (self.new.waiting ≡ take n piece.now)) }
+        ensures same { (self.new.turn ≡ self.old.turn) × (self.new.room ≡ self.old.room) }
     {
-        if piece.len() > self.buffer.len() - self.end {
+        if piece.len() > self.turn.saturating_sub(self.end) {
             return self.put_full(piece);
         }
         copy_front(&mut self.buffer[self.end..], piece);
         self.end += piece.len();
         Ok(piece.len())
+    }
+
+    /// Writes what waits. What cannot be written still waits, and a later call says so.
+    fn pass_waiting(&mut self)
+        ensures bytes { Keeps (bytes_with_waiting W.contents self.old)
+            (bytes_with_waiting W.contents self.new) }
+        ensures no_fault { self.new.faults ≡ self.old.faults }
+        // Nothing waits any more, or one write of the writer failed.
+        ensures passed { (self.new.waiting ≡ []) × (self.new.failed ≡ self.old.failed)
+            ⊎ (self.new.waiting ≢ []) × (self.new.failed ≡ min (self.old.failed + 1) (2 ^ 64 - 1)) }
+        ensures same { (self.new.turn ≡ self.old.turn) × (self.new.room ≡ self.old.room) }
+    {
+        let _later = self.flush();
     }
 
     /// What the stage gives is written behind what waits.
@@ -277,31 +321,29 @@ impl<W: Write> Sink for BufferedSink<W> {
 }
 
 // Writes bytes until all are written or a write fails, and answers how many were written.
-fn write_front<W: Write>(writer: &mut W, bytes: &[u8]) -> usize
+fn write_front<W: Write>(writer: &mut CountedWriter<W>, bytes: &[u8]) -> usize
     ensures within { result ≤ length bytes.now }
-    ensures bytes { Appends (W.contents writer.old) (W.contents writer.new) (take result bytes.now) }
+    ensures bytes { Appends (W.contents writer.old.inner) (W.contents writer.new.inner)
+        (take result bytes.now) }
+    ensures all { result ≡ length bytes.now → writer.new.faults ≡ writer.old.faults }
+    ensures part { result < length bytes.now
+        → writer.new.faults ≡ min (writer.old.faults + 1) (2 ^ 64 - 1) }
 {
     let mut written = 0;
-    for _ in 0..u64::MAX {
-        if written == bytes.len() {
-            return written;
-        }
-        match write_some(writer, &bytes[written..]) {
-            Ok(count) => written += count,
-            Err(Failed) => return written,
+    while written < bytes.len() {
+        match writer.write(&bytes[written..]) {
+            Outcome::Wrote(count) => written += count,
+            Outcome::Interrupted => {}
+            Outcome::Fault => return written,
         }
     }
     written
 }
 
-// Writes bytes of the front, and answers how many: none where the write was interrupted and can be made again.
-fn write_some<W: Write>(writer: &mut W, bytes: &[u8]) -> Result<usize, Failed>
-    ensures within { IfOk result (λ n. n ≤ length bytes.now) }
-    ensures bytes { WriteAppends (W.contents writer.old) (W.contents writer.new) result bytes.now }
+// Moves the bytes from one place to another to the front.
+fn move_to_front(bytes: &mut [u8], from: usize, end: usize)
+    requires { (from ≤ end) × (end ≤ length bytes.old) }
+    ensures { take (end - from) bytes.new ≡ drop from (take end bytes.old) }
 {
-    match writer.write(bytes) {
-        Ok(count) if count > 0 => Ok(count),
-        Err(error) if error.kind() == ErrorKind::Interrupted => Ok(0),
-        _ => Err(Failed),
-    }
+    bytes.copy_within(from..end, 0);
 }

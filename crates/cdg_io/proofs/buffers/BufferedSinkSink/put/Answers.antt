@@ -1,4 +1,4 @@
-use Rattle.std.proofs.Common.{ℕ, ◌+◌, ◌-◌, ◌≤◌, List, ◌++◌, length, take, slice_range, sym, ap, ◌∙◌, arith, rules}
+use Rattle.std.proofs.Common.{ℕ, ◌+◌, ◌-◌, ◌≤◌, List, ◌++◌, length, take, sym, ap, ◌∙◌, arith, rules}
 use borrow.Rule.Slice.PartMut.{post_of}
 use Rattle.std.proofs.Math.Seq.{take-length}
 use Rattle.std.proofs.lemmas.List.{with_items_is, places}
@@ -15,15 +15,12 @@ returns-clause-bytes g c =
     let post = post_of self.end (length held - self.end) held in
     let written = take self.end held ++ (c.copy_front.new.to ++ post) in
     let parts =
-    ap (λ (l : List ℕ). slice_range l self.start (self.end + length piece))
-    (with_items_is self.buffer written (search (rules, places))) in
+    ap (take (self.end + length piece)) (with_items_is self.buffer written (search (rules, places))) in
     let copied =
-    ap (λ (l : List ℕ). slice_range (take self.end held ++ (l ++ post)) self.start (self.end + length piece))
+    ap (λ (l : List ℕ). take (self.end + length piece) (take self.end held ++ (l ++ post)))
     c.copy_front.ensures in
-    let behind = piece_behind held piece _ _ self.start self.end c.self.invariant.1 within in
-    let before =
-    ap (λ (l : List ℕ). slice_range l self.start self.end ++ piece) c.deref_mut.ensures.value in
-    let whole =
-    ap (λ (l : List ℕ). slice_range self.buffer.items self.start self.end ++ l) (sym (take-length piece)) in
+    let behind = piece_behind held piece _ _ self.end within in
+    let before = ap (λ (l : List ℕ). take self.end l ++ piece) c.deref_mut.ensures.value in
+    let whole = ap (λ (l : List ℕ). take self.end self.buffer.items ++ l) (sym (take-length piece)) in
     rw (← c.self.view_is)
     (append_known-grown _ _ _ _ _ (Keeps-refl _) (parts ∙ copied ∙ behind ∙ before ∙ whole))
