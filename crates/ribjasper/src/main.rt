@@ -1,91 +1,129 @@
 //! Works on the subcode of Compact Discs, from standard input or named files to standard output.
 #![tactic(auto)]
 
-mod input;
-mod live;
+ghost use Rattle.std.specs.Prelude.{◌≡◌, ◌≢◌, ◌⊎◌, ◌-◌, [], drop, take, length, Err, IfOk, IsErr, IsOk, OnErr};
+ghost use Rattle.std.specs.Io.KnownBytes.{Appends};
+ghost use Rattle.std.specs.IoError.{error_kind};
+ghost use Rattle.std.specs.Process.{exit_status};
+ghost use Rattle.std.specs.Vec.Iter.{into_iter_items};
+ghost use Rattle.std.specs.declared.io.Error.{Error};
+ghost use Rattle.cdg_io.specs.Causes.{Rose};
+ghost use Rattle.cdg_cmd.specs.Line.{error_line, exit_of};
+ghost use Rattle.cdg_cmd.specs.Splitting.{split_of};
+
+mod inputs;
 
 use cdg_cmd::{Status, run, split, tell};
-use cdg_io::{BufferedSink, BufferedSource, Failed, SteadySink, WriteSink};
-use input::InputReader;
-use live::{LiveInput, LiveOutput, Waiting, flush};
-use std::alloc::Global;
-use std::cell::RefCell;
-use std::io::{BufReader, ErrorKind};
+use cdg_io::{BufferedSink, BufferedSource, Failed, Sink, SteadySink, WriteSink};
+use inputs::{InputReader, named};
+use std::alloc::{AllocError, Global};
+use std::env::Args;
+use std::io::{BufReader, ErrorKind, Stdout};
 use std::process::ExitCode;
 use std::{env, io};
 
 // The most that waits to be written: what one read of an input gives, and more.
 const BUFFER: usize = 131_072;
 
-// All words after the program's own name. Where they are no text, there are none.
-fn words(rt: &HostRuntime) -> io::Result<Vec<String>> {
-    let mut words = Vec::new(rt.alloc());
-    match env::args(rt) {
-        Ok(args) => {
-            for word in args.skip(1) {
-                words.push(word)?;
-            }
-        }
-        Err(error) if error.kind() == ErrorKind::InvalidData => {}
-        Err(error) => return Err(error),
-    }
-    Ok(words)
-}
+// The most that waits after a piece is put: as much as a pipe holds.
+const TURN: usize = 65_536;
 
-// The two inputs: those that are named, or standard input.
-fn inputs<'a>(rt: &'a HostRuntime, names: &'a [String]) -> (InputReader<'a>, InputReader<'a>) {
-    match names {
-        [first, second] => (
-            InputReader::Unopened(rt, first),
-            InputReader::Unopened(rt, second),
-        ),
-        [first] => (InputReader::Unopened(rt, first), InputReader::Empty),
-        _ => (InputReader::Standard(rt.stdin()), InputReader::Empty),
+// The words after the program's own name, as the machine answered; if they are no text, there are none.
+fn own_words(alloc: Global, answer: io::Result<Args>) -> io::Result<Vec<String>>
+    ensures words { IfOk answer (λ all. IfOk result (λ words. words.items ≡ drop 1 (into_iter_items all))) }
+    ensures no_text { (error : Error) → answer ≡ Err error → error_kind error ≡ ErrorKind.InvalidData
+        → IsOk result × IfOk result (λ words. words.items ≡ []) }
+    ensures failed { (error : Error) → answer ≡ Err error → error_kind error ≢ ErrorKind.InvalidData
+        → result ≡ Err error }
+{
+    match answer {
+        Ok(all) => Ok(after_first(alloc, all)?),
+        Err(error) if error.kind() == ErrorKind::InvalidData => Ok(Vec::new(alloc)),
+        Err(error) => Err(error),
     }
 }
 
-// A source of an input, before whose reads all that waits is written.
-fn source<'a>(
-    alloc: Global,
-    input: InputReader<'a>,
-    waiting: &'a Waiting,
-) -> io::Result<BufferedSource<LiveInput<'a>>> {
-    let most = input.most_a_read();
-    let reader = BufReader::with_capacity(alloc, most, LiveInput { input, waiting })?;
-    Ok(BufferedSource::new(reader))
+// All words but the first.
+fn after_first(alloc: Global, all: Args) -> Result<Vec<String>, AllocError>
+    ensures { IfOk result (λ words. words.items ≡ drop 1 (into_iter_items all)) }
+{
+    all.skip(1).collect(alloc)
 }
 
-// Runs the words of a line on the inputs, and on an output that may still wait.
-fn run_words(rt: &HostRuntime, line: &[String], waiting: &Waiting) -> io::Result<Status> {
+// The command's words of a line, and the names of its inputs.
+fn parted(line: &[String]) -> (&[String], &[String])
+    ensures words { result.0.now ≡ take (split_of line.now).words line.now }
+    ensures names { result.1.now ≡ drop (length line.now - (split_of line.now).names) line.now }
+{
     let split = split(line);
-    let first_name = line.len() - split.names;
-    let (first, second) = inputs(rt, &line[first_name..]);
-    let mut first = source(rt.alloc(), first, waiting)?;
-    let mut second = source(rt.alloc(), second, waiting)?;
+    (&line[..split.words], &line[line.len() - split.names..])
+}
+
+// A source of an input.
+fn source(alloc: Global, input: InputReader<'_>) -> io::Result<BufferedSource<InputReader<'_>>> {
+    let most = input.most_a_read();
+    Ok(BufferedSource::new(BufReader::with_capacity(alloc, most, input)?))
+}
+
+// Runs the words of a line on its inputs, and on an output in which the last bytes may still wait.
+fn run_words(
+    rt: &HostRuntime,
+    line: &[String],
+    out: &mut BufferedSink<Stdout>,
+) -> io::Result<Status> {
+    let (words, names) = parted(line);
+    let (first, second) = named(rt, rt.stdin(), names);
+    let mut first = source(rt.alloc(), first)?;
+    let mut second = source(rt.alloc(), second)?;
     Ok(run(
         rt.alloc(),
-        &line[..split.words],
+        words,
         &mut first,
         &mut second,
-        &mut LiveOutput::new(waiting),
+        out,
         &mut SteadySink::new(),
     ))
 }
 
-// Runs the words of the program on the inputs and standard output.
-fn run_on_streams(rt: &HostRuntime) -> io::Result<Status> {
-    let line = words(rt)?;
-    let waiting = RefCell::new(BufferedSink::new(rt.alloc(), BUFFER, rt.stdout())?);
-    let status = run_words(rt, &line, &waiting)?;
-    match flush(&waiting) {
-        Ok(()) => Ok(status),
-        Err(Failed) => Ok(Status::WriteFault),
+// The status after the last flush: what could not be written is a write fault.
+fn after_flush(status: Status, flushed: Result<(), Failed>) -> Status
+    ensures written { IsOk flushed → result ≡ status }
+    ensures lost { IsErr flushed → result ≡ Status.WriteFault }
+{
+    match flushed {
+        Ok(()) => status,
+        Err(Failed) => Status::WriteFault,
     }
 }
 
-fn main(rt: HostRuntime) -> ExitCode {
-    let status = run_on_streams(&rt).unwrap_or(Status::NoMemory);
-    // A failure there changes nothing.
-    let _told = tell(&mut WriteSink::new(rt.stderr()), status);
+// Runs the words of the program on the inputs and standard output.
+fn run_on_streams(rt: &HostRuntime) -> io::Result<Status> {
+    let line = own_words(rt.alloc(), env::args(rt))?;
+    let mut out = BufferedSink::new(rt.alloc(), BUFFER, TURN, rt.stdout())?;
+    let status = run_words(rt, &line, &mut out)?;
+    Ok(after_flush(status, out.flush()))
+}
+
+// The status of a run that may have found no memory for its words or its buffers.
+fn ended(ran: io::Result<Status>) -> Status
+    ensures ran { IfOk ran (λ status. result ≡ status) }
+    ensures no_memory { OnErr ran (result ≡ Status.NoMemory) }
+{
+    ran.unwrap_or(Status::NoMemory)
+}
+
+// Writes the line of a status, and answers what the process ends with. If the line cannot be written, that stays the
+// same.
+fn report<E: Sink>(err: &mut E, status: Status) -> ExitCode
+    ensures told { Rose (E.faults err.old) (E.faults err.new)
+        ⊎ Appends (E.held err.old) (E.held err.new) (error_line status) }
+    ensures exit { exit_status result ≡ exit_of status }
+{
+    let _told = tell(err, status);
     ExitCode::from(status.exit())
+}
+
+fn main(rt: HostRuntime) -> ExitCode {
+    let status = ended(run_on_streams(&rt));
+    report(&mut WriteSink::new(rt.stderr()), status)
 }

@@ -2,8 +2,8 @@
 use Rattle.std.proofs.Common.{◌≡◌, ◌≢◌, ◌⊎◌, ℕ, ◌+◌, ◌-◌, ◌*◌, ◌/◌, ◌%◌, ◌<◌, ◌≤◌, min, List, [], ◌++◌, length, take, drop, refl, sym, ap, ap₂, ◌∙◌, subst, subst₂, inl, inr, arith, append-nil, length-append, IfOk, Result, Ok, Err}
 use Rattle.std.specs.Prelude.{IfSome}
 use Rattle.std.specs.declared.option.Option.{Option}
-use Rattle.std.specs.Io.KnownBytes.{Appends, Consumes, IsAtEnd}
-use Rattle.std.proofs.KnownBytes.{Appends-trans, Consumes-trans, Appends-nil, Consumes-nil}
+use Rattle.std.specs.Io.KnownBytes.{Appends, Consumes, IsAtEnd, Keeps}
+use Rattle.std.proofs.KnownBytes.{Appends-kept, Appends-trans, Consumes-trans, Appends-nil, Consumes-nil}
 use Rattle.std.proofs.lemmas.List.{take_all, take-append-le, drop-append-le}
 use Rattle.cdg_io.specs.Moves.{AppendsPrefix}
 use Rattle.cdg_io.proofs.PumpSteps.{between}
@@ -47,6 +47,20 @@ pub record Works (lead_in blocks : ℕ) (left left' other other' held held' : Op
   pub is_found : IsFound lead_in blocks xs ys w v found
   pub put : Appends held held' (cdg_bytes found)
   pub bad_is : bad ≡ bad_count found
+
+-- what waited was passed on
+pub works_kept : (lead_in blocks : ℕ) (left left' other other' held held' kept : Option (List ℕ))
+    (w v : List (List ℕ)) (bad : ℕ) (xs ys : List ℕ)
+    → Works lead_in blocks left left' other other' held held' w v bad xs ys → Keeps held' kept
+    → Works lead_in blocks left left' other other' held kept w v bad xs ys
+works_kept lead_in blocks left left' other other' held held' kept w v bad xs ys works same = record {
+  first_taken = works.first_taken;
+  second_taken = works.second_taken;
+  found = works.found;
+  is_found = works.is_found;
+  put = Appends-kept _ _ _ _ works.put same;
+  bad_is = works.bad_is;
+}
 
 no_slots : (lead_in blocks : ℕ) (bytes : List ℕ) → blocks ≤ lead_in → program_of lead_in blocks bytes ≡ []
 no_slots lead_in blocks bytes le =

@@ -174,7 +174,7 @@ impl Merger {
         let mut packs = Packs::new();
         let mut bad = 0;
         for block in 0..MOST_UNITS {
-            match next_pair(first, second, &mut one, &mut other, block) {
+            match next_pair(first, second, &mut one, &mut other, block, out) {
                 Ok(true) => {}
                 Ok(false) => {
                     return Ok(Merged {
@@ -193,6 +193,7 @@ impl Merger {
                 }
             }
         }
+        out.pass_waiting();
         match nothing_follows(first, second) {
             Ok(()) => Ok(Merged {
                 blocks: MOST_UNITS - lead_in,

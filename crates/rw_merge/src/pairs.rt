@@ -1,24 +1,25 @@
 // Pairs of blocks, one of each input, in turn.
 ghost use Rattle.std.specs.Prelude.{◌≡◌, List, ℕ, Ok, true};
-ghost use Rattle.std.specs.Io.KnownBytes.{Consumes};
+ghost use Rattle.std.specs.Io.KnownBytes.{Consumes, Keeps};
 ghost use Rattle.cdg_io.specs.Change.{change, input};
 ghost use Rattle.rw_merge.specs.Steps.{CountsReadFaults, EndsAfter, EndsOfPair, FillsAfter, FillsFirstOfPair, FillsSecondOfPair, IsEndRead, IsPairRead, taken_of};
 
 use crate::blocks::next_block;
 use crate::merge::MergeStop;
-use cdg_io::{Failed, Source, fill};
+use cdg_io::{Failed, Sink, Source, fill};
 use raw_subcode::BLOCK_BYTES;
 
-/// Reads a block of the first input, and then one of the second. False where both inputs are at their end.
+/// Reads a block of the first input, and then one of the second; before a read the output passes on what waits. False where both inputs are at their end.
 ///
 /// # Errors
 /// A stop, where there is no whole block of both: all but the faults say the number of the block.
-pub(crate) fn next_pair<S: Source, T: Source>(
+pub(crate) fn next_pair<S: Source, T: Source, K: Sink>(
     first: &mut S,
     second: &mut T,
     one: &mut [u8; BLOCK_BYTES],
     other: &mut [u8; BLOCK_BYTES],
     block: u32,
+    out: &mut K,
 ) -> Result<bool, MergeStop>
     ensures pair { (xs ys : List ℕ) × Consumes (S.left first.old) (S.left first.new) xs
         × Consumes (T.left second.old) (T.left second.new) ys
@@ -30,15 +31,17 @@ pub(crate) fn next_pair<S: Source, T: Source>(
         (input T.left T.ends second.old second.new) }
     ensures rooms { FillsFirstOfPair result (S.fills first.old) (S.fills first.new)
         × FillsSecondOfPair result (T.fills second.old) (T.fills second.new) }
+    ensures keeps { Keeps (K.held out.old) (K.held out.new) }
+    ensures no_write_fault { K.faults out.new ≡ K.faults out.old }
 {
-    let from_first = match next_block(first, one) {
+    let from_first = match next_block(first, one, out) {
         Ok(count) => count,
         Err(Failed) => return Err(MergeStop::FirstFault),
     };
     if 0 < from_first && from_first < BLOCK_BYTES {
         return Err(MergeStop::Torn { block });
     }
-    let from_second = match next_block(second, other) {
+    let from_second = match next_block(second, other, out) {
         Ok(count) => count,
         Err(Failed) => return Err(MergeStop::SecondFault),
     };

@@ -9,7 +9,7 @@ use Rattle.cdg_io.proofs.Stops.{later_since, rose_once_since, rose_since}
 use Rattle.rw_merge.proofs.Faults.{counted_last}
 use Rattle.rw_merge.proofs.Ends.{stop_since}
 use Rattle.rw_merge.proofs.Stops.{first_at_end, first_at_end_after, second_at_end, second_at_end_after, write_answer}
-use Rattle.rw_merge.proofs.Working.{both_end, both_of_whole, end_of_whole, end_stops, pair_found, pair_of_whole, pair_stops, skipped_as, works_more, works_none, write_stops}
+use Rattle.rw_merge.proofs.Working.{works_kept, both_end, both_of_whole, end_of_whole, end_stops, pair_found, pair_of_whole, pair_stops, skipped_as, works_more, works_none, write_stops}
 use Rattle.rw_merge.proofs.merge.Merger.merge_pairs.Goals as goal
 use Rattle.rw_merge.proofs.merge.Merger.merge_pairs.Goals.{then-block-lead_in+in-Ok, else-block-lead_in}
 
@@ -28,35 +28,40 @@ loop-block-init g c = record {
 
 pub returns-in-Ok-false-clause-merges : goal.returns-in-Ok-false-clause-merges
 returns-in-Ok-false-clause-merges g c =
-    let (xs, ys, works) = c.loop-block.invariant.works in
+    let (xs, ys, worked) = c.loop-block.invariant.works in
+    let works = works_kept _ _ _ _ _ _ _ _ _ _ _ _ _ _ worked c.in-Ok-false.ensures.keeps in
     let (us, vs, first, second, read, whole) = rw c.in-Ok-false.field-0-test at c.in-Ok-false.ensures.pair in
     both_end c.args.lead_in c.loop-block.block _ _ _ _ _ _ _ _ _ _ _ _ xs ys us vs works first second read.0
     read.1 (omega (arith, c.loop-block-test.true)) c.saturating_sub.ensures
 
 pub returns-in-Ok-false-clause-answer : goal.returns-in-Ok-false-clause-answer
 returns-in-Ok-false-clause-answer g c =
-    let (xs, ys, works) = c.loop-block.invariant.works in
+    let (xs, ys, worked) = c.loop-block.invariant.works in
+    let works = works_kept _ _ _ _ _ _ _ _ _ _ _ _ _ _ worked c.in-Ok-false.ensures.keeps in
     let (us, vs, first, second, read, whole) = rw c.in-Ok-false.field-0-test at c.in-Ok-false.ensures.pair in
     both_of_whole c.args.lead_in c.loop-block.block _ c.loop-block.bad _ _ _ _ _ _ _ _ _ _ _ xs ys us vs works
     first second read.0 read.1 read.2 read.3 (omega (arith, c.loop-block-test.true)) c.saturating_sub.ensures
 
 pub returns-in-Err-clause-merges : goal.returns-in-Err-clause-merges
 returns-in-Err-clause-merges g c =
-    let (xs, ys, works) = c.loop-block.invariant.works in
+    let (xs, ys, worked) = c.loop-block.invariant.works in
+    let works = works_kept _ _ _ _ _ _ _ _ _ _ _ _ _ _ worked c.in-Err.ensures.keeps in
     let (us, vs, first, second, read, whole) = c.in-Err.ensures.pair in
     pair_stops c.args.lead_in c.loop-block.block _ _ _ _ _ _ _ _ _ _ _ xs ys us vs c.in-Err.stop works first
     second read c.loop-block-test.true
 
 pub returns-in-Err-clause-answer : goal.returns-in-Err-clause-answer
 returns-in-Err-clause-answer g c =
-    let (xs, ys, works) = c.loop-block.invariant.works in
+    let (xs, ys, worked) = c.loop-block.invariant.works in
+    let works = works_kept _ _ _ _ _ _ _ _ _ _ _ _ _ _ worked c.in-Err.ensures.keeps in
     let (us, vs, first, second, read, whole) = c.in-Err.ensures.pair in
     pair_of_whole c.args.lead_in c.loop-block.block _ _ _ _ _ _ _ _ _ _ _ xs ys us vs c.in-Err.stop works
     first second read c.loop-block-test.true
 
 pub returns-in-Ok-nothing_follows-clause-merges : goal.returns-in-Ok-nothing_follows-clause-merges
 returns-in-Ok-nothing_follows-clause-merges g c =
-    let (xs, ys, works) = c.loop-block.invariant.works in
+    let (xs, ys, worked) = c.loop-block.invariant.works in
+    let works = works_kept _ _ _ _ _ _ _ _ _ _ _ _ _ _ worked c.pass_waiting.ensures.bytes in
     let (us, vs, first, second, read) = c.in-Ok-nothing_follows.ensures.end in
     both_end c.args.lead_in c.loop-block.block _ _ _ _ _ _ _ _ _ _ _ _ xs ys us vs works first second read.0
     read.1 (omega (arith, c.loop-block.auto.block-end))
@@ -64,7 +69,8 @@ returns-in-Ok-nothing_follows-clause-merges g c =
 
 pub returns-in-Ok-nothing_follows-clause-answer : goal.returns-in-Ok-nothing_follows-clause-answer
 returns-in-Ok-nothing_follows-clause-answer g c =
-    let (xs, ys, works) = c.loop-block.invariant.works in
+    let (xs, ys, worked) = c.loop-block.invariant.works in
+    let works = works_kept _ _ _ _ _ _ _ _ _ _ _ _ _ _ worked c.pass_waiting.ensures.bytes in
     let (us, vs, first, second, read) = c.in-Ok-nothing_follows.ensures.end in
     both_of_whole c.args.lead_in c.loop-block.block _ c.loop-block.bad _ _ _ _ _ _ _ _ _ _ _ xs ys us vs works
     first second read.0 read.1 read.2 read.3 (omega (arith, c.loop-block.auto.block-end))
@@ -72,7 +78,8 @@ returns-in-Ok-nothing_follows-clause-answer g c =
 
 pub returns-in-Err-nothing_follows-clause-merges : goal.returns-in-Err-nothing_follows-clause-merges
 returns-in-Err-nothing_follows-clause-merges g c =
-    let (xs, ys, works) = c.loop-block.invariant.works in
+    let (xs, ys, worked) = c.loop-block.invariant.works in
+    let works = works_kept _ _ _ _ _ _ _ _ _ _ _ _ _ _ worked c.pass_waiting.ensures.bytes in
     let (us, vs, first, second, read) = c.in-Err-nothing_follows.ensures.end in
     end_stops c.args.lead_in c.loop-block.block _ _ _ _ _ _ _ _ _ _ _ xs ys us vs
     c.in-Err-nothing_follows.stop works first second read
@@ -80,7 +87,8 @@ returns-in-Err-nothing_follows-clause-merges g c =
 
 pub returns-in-Err-nothing_follows-clause-answer : goal.returns-in-Err-nothing_follows-clause-answer
 returns-in-Err-nothing_follows-clause-answer g c =
-    let (xs, ys, works) = c.loop-block.invariant.works in
+    let (xs, ys, worked) = c.loop-block.invariant.works in
+    let works = works_kept _ _ _ _ _ _ _ _ _ _ _ _ _ _ worked c.pass_waiting.ensures.bytes in
     let (us, vs, first, second, read) = c.in-Err-nothing_follows.ensures.end in
     end_of_whole c.args.lead_in c.loop-block.block _ _ _ _ _ _ _ _ _ _ _ xs ys us vs
     c.in-Err-nothing_follows.stop works first second read
@@ -88,7 +96,8 @@ returns-in-Err-nothing_follows-clause-answer g c =
 
 pub returns-in-Err-put_all-clause-merges : goal.returns-in-Err-put_all-clause-merges
 returns-in-Err-put_all-clause-merges g c =
-    let (xs, ys, works) = c.loop-block.invariant.works in
+    let (xs, ys, worked) = c.loop-block.invariant.works in
+    let works = works_kept _ _ _ _ _ _ _ _ _ _ _ _ _ _ worked c.in-Ok-true.ensures.keeps in
     let (us, vs, first, second, read, whole) = rw c.in-Ok-true.field-0-test at c.in-Ok-true.ensures.pair in
     let (u_is, v_is) = whole refl in
     let pair =
@@ -102,7 +111,8 @@ returns-in-Err-put_all-clause-merges g c =
 pub loop-block-preserved : goal.loop-block-preserved
 loop-block-preserved g c =
     let before = c.loop-block.invariant in
-    let (xs, ys, works) = before.works in
+    let (xs, ys, worked) = before.works in
+    let works = works_kept _ _ _ _ _ _ _ _ _ _ _ _ _ _ worked c.in-Ok-true.ensures.keeps in
     let (us, vs, first, second, read, whole) = rw c.in-Ok-true.field-0-test at c.in-Ok-true.ensures.pair in
     let (u_is, v_is) = whole refl in
     let told = rw c.in-Ok-true.field-0-test at c.in-Ok-true.ensures.told in
@@ -119,7 +129,7 @@ loop-block-preserved g c =
           w.merge.ensures.first w.merge.ensures.second w.merge.ensures.packs in
           let held = ap g.K.Sink.held w.out-is in
           let put =
-          subst (λ h. Appends (g.K.Sink.held c.loop-block.out) h w.bytes.result.now) (sym held)
+          subst (λ h. Appends (g.K.Sink.held c.next_pair.new.out) h w.bytes.result.now) (sym held)
           w.in-Ok.ensures.ok in
           record {
             same = ap length first_is ∙ w.merge.ensures.same ∙ sym (ap length second_is);
@@ -131,7 +141,10 @@ loop-block-preserved g c =
             );
             no_first_fault = c.in-Ok-true.ensures.faults.0 ∙ before.no_first_fault;
             no_second_fault = c.in-Ok-true.ensures.faults.1 ∙ before.no_second_fault;
-            no_write_fault = ap g.K.Sink.faults w.out-is ∙ w.in-Ok.ensures.cause.same ∙ before.no_write_fault;
+            no_write_fault =
+                ap g.K.Sink.faults w.out-is
+                ∙ w.in-Ok.ensures.cause.same
+                ∙ (c.in-Ok-true.ensures.no_write_fault ∙ before.no_write_fault);
             first_told = told.0 ∙ before.first_told;
             second_told = told.1 ∙ before.second_told;
             first_rooms = one_more _ _ _ _ before.first_rooms rooms.0;
@@ -150,7 +163,8 @@ loop-block-preserved g c =
             );
             no_first_fault = c.in-Ok-true.ensures.faults.0 ∙ before.no_first_fault;
             no_second_fault = c.in-Ok-true.ensures.faults.1 ∙ before.no_second_fault;
-            no_write_fault = ap g.K.Sink.faults w.out-is ∙ before.no_write_fault;
+            no_write_fault =
+                ap g.K.Sink.faults w.out-is ∙ (c.in-Ok-true.ensures.no_write_fault ∙ before.no_write_fault);
             first_told = told.0 ∙ before.first_told;
             second_told = told.1 ∙ before.second_told;
             first_rooms = one_more _ _ _ _ before.first_rooms rooms.0;
@@ -163,7 +177,7 @@ returns-in-Ok-false-clause-faults g c =
     let (first, second) = c.in-Ok-false.ensures.faults in (
       first ∙ c.loop-block.invariant.no_first_fault,
       second ∙ c.loop-block.invariant.no_second_fault,
-      c.loop-block.invariant.no_write_fault,
+      (c.in-Ok-false.ensures.no_write_fault ∙ c.loop-block.invariant.no_write_fault),
     )
 
 pub returns-in-Ok-false-clause-ends : goal.returns-in-Ok-false-clause-ends
@@ -181,12 +195,14 @@ returns-in-Ok-false-clause-ends g c =
 pub returns-in-Err-clause-faults : goal.returns-in-Err-clause-faults
 returns-in-Err-clause-faults g c =
     counted_last Bool _ _ _ _ _ _ _ _ c.in-Err.stop c.loop-block.invariant.no_first_fault
-    c.loop-block.invariant.no_second_fault c.loop-block.invariant.no_write_fault c.in-Err.ensures.faults
+    c.loop-block.invariant.no_second_fault
+    (c.in-Err.ensures.no_write_fault ∙ c.loop-block.invariant.no_write_fault) c.in-Err.ensures.faults
 
 pub returns-in-Err-clause-ends : goal.returns-in-Err-clause-ends
 returns-in-Err-clause-ends g c =
     let before = c.loop-block.invariant in
-    let (xs, ys, works) = before.works in
+    let (xs, ys, worked) = before.works in
+    let works = works_kept _ _ _ _ _ _ _ _ _ _ _ _ _ _ worked c.in-Err.ensures.keeps in
     let (us, vs, first, second, read, whole) = c.in-Err.ensures.pair in (
       first_at_end c.loop-block.block _ _ c.in-Err.stop us read,
       second_at_end c.loop-block.block _ _ c.in-Err.stop vs read,
@@ -200,7 +216,7 @@ returns-in-Ok-nothing_follows-clause-faults g c =
     let (first, second) = c.in-Ok-nothing_follows.ensures.faults in (
       first ∙ c.loop-block.invariant.no_first_fault,
       second ∙ c.loop-block.invariant.no_second_fault,
-      c.loop-block.invariant.no_write_fault,
+      (c.pass_waiting.ensures.no_fault ∙ c.loop-block.invariant.no_write_fault),
     )
 
 pub returns-in-Ok-nothing_follows-clause-ends : goal.returns-in-Ok-nothing_follows-clause-ends
@@ -219,12 +235,14 @@ pub returns-in-Err-nothing_follows-clause-faults : goal.returns-in-Err-nothing_f
 returns-in-Err-nothing_follows-clause-faults g c =
     counted_last (Unit {0}) _ _ _ _ _ _ _ _ c.in-Err-nothing_follows.stop
     c.loop-block.invariant.no_first_fault c.loop-block.invariant.no_second_fault
-    c.loop-block.invariant.no_write_fault c.in-Err-nothing_follows.ensures.faults
+    (c.pass_waiting.ensures.no_fault ∙ c.loop-block.invariant.no_write_fault)
+    c.in-Err-nothing_follows.ensures.faults
 
 pub returns-in-Err-nothing_follows-clause-ends : goal.returns-in-Err-nothing_follows-clause-ends
 returns-in-Err-nothing_follows-clause-ends g c =
     let before = c.loop-block.invariant in
-    let (xs, ys, works) = before.works in
+    let (xs, ys, worked) = before.works in
+    let works = works_kept _ _ _ _ _ _ _ _ _ _ _ _ _ _ worked c.pass_waiting.ensures.bytes in
     let (us, vs, first, second, read) = c.in-Err-nothing_follows.ensures.end in (
       first_at_end_after _ _ _ c.in-Err-nothing_follows.stop read,
       second_at_end_after _ _ _ c.in-Err-nothing_follows.stop read,
@@ -240,8 +258,8 @@ returns-in-Err-put_all-clause-faults g c =
       first ∙ c.loop-block.invariant.no_first_fault,
       second ∙ c.loop-block.invariant.no_second_fault,
       (
-        later_since c.loop-block.invariant.no_write_fault cause.later,
-        rose_since c.loop-block.invariant.no_write_fault cause.failed,
+        later_since (c.in-Ok-true.ensures.no_write_fault ∙ c.loop-block.invariant.no_write_fault) cause.later,
+        rose_since (c.in-Ok-true.ensures.no_write_fault ∙ c.loop-block.invariant.no_write_fault) cause.failed,
       ),
     )
 

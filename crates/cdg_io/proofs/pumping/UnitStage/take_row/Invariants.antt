@@ -1,0 +1,22 @@
+use Rattle.std.proofs.Common.{◌-◌, ◌≡◌, ◌≤◌, ℕ, List, drop, length, take, Some}
+use Rattle.cdg_io.specs.Change.{from_to}
+use Rattle.cdg_io.specs.Pump.{Works}
+use Rattle.cdg_io.proofs.pumping.UnitStage.take_row.Given as goal
+
+abbrev pub invariant-loop-units : goal.invariant-loop-units
+invariant-loop-units g l = record {
+  works : (taken : List ℕ)
+      × Works g.Self.UnitStage.SIZE (record { next = g.Self.UnitStage.next; gives = g.Self.UnitStage.gives })
+      (record {
+        left = from_to (Some l.initial.row.now) (Some l.row.now);
+        state = from_to l.initial.self l.self;
+        held = from_to (Some (take l.start l.initial.buffer)) (Some (take l.end l.buffer));
+      }) l.units taken;
+  order : l.start ≤ l.end;
+  within : l.end ≤ length l.buffer;
+  most : l.units ≤ l.most;
+  behind : drop l.end l.buffer ≡ drop l.end l.initial.buffer;
+}
+
+abbrev pub decreases-loop-units : goal.decreases-loop-units
+decreases-loop-units g l = l.most - l.units

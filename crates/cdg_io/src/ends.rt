@@ -1,0 +1,395 @@
+// Where bytes come from and where they go, with a count of faults.
+ghost use Rattle.std.specs.Prelude.{◌≡◌, ◌≢◌, ◌<◌, ◌≤◌, ◌+◌, ◌-◌, ◌^◌, ◌⊎◌, ◌↔◌, min, Ok, Err, List, ℕ, None, Some, drop, length, take, true, false};
+ghost use Rattle.std.specs.Io.{ReadsAtMost};
+ghost use Rattle.std.specs.Io.KnownBytes.{Appends, Keeps, Consumes, ReadConsumes, WriteAppends};
+ghost use Rattle.std.specs.declared.option.Option.{Option};
+ghost use Rattle.cdg_io.specs.Causes.{CountedWrites, FillsRoom, HasCause, RoseOnce, TellsEnd, Counted, CountedReader, counted_after};
+ghost use Rattle.cdg_io.specs.declared.ends.Outcome.TheVariants.{Fault, Interrupted, Wrote};
+ghost use Rattle.std.specs.IoError.{error_kind};
+ghost use Rattle.std.specs.declared.io.Error.{Error};
+ghost use Rattle.cdg_io.specs.Change.{from_to, moved};
+ghost use Rattle.cdg_io.specs.Moves.{TakesSome};
+ghost use Rattle.cdg_io.specs.Pump.{RoseBy, Works};
+
+use crate::{PassedUnits, Piece, UnitStage};
+use std::io;
+use std::io::{ErrorKind, Read, Write};
+use std::marker::Model;
+
+/// A read or a write failed.
+#[derive(Clone, Copy, Debug, PartialEq, Eq)]
+pub struct Failed;
+
+/// Bytes that are taken one call after another. A call that failed may be made again: what it did not take is
+/// still there.
+///
+/// `take` is all that a source has to have. One that counts its ends and its full answers says so, and then each call
+/// that reads says of both counts how they rose; one that has bytes at hand may feed a stage straight from them.
+pub trait Source {
+    /// The bytes that are still given, where the source tells them.
+    ghost left: { Self → Option (List ℕ) };
+
+    /// How often a read has failed.
+    ghost faults: { Self → ℕ };
+
+    /// How often its end was told, where the source counts that.
+    ghost ends: { Self → Option ℕ } = { λ _. None };
+
+    /// How often a read gave all that it had room for, where the source counts that.
+    ghost fills: { Self → Option ℕ } = { λ _. None };
+
+    /// Takes bytes into the front of `buf`, which is not empty, and answers how many; none only at the end.
+    ///
+    /// # Errors
+    /// `Failed` where the read failed: no byte is taken and the count of faults rises.
+    fn take(&mut self, buf: &mut [u8]) -> Result<usize, Failed>
+        requires { 0 < length buf.old }
+        ensures bound { ReadsAtMost result buf.new }
+        ensures bytes { ReadConsumes (left self.old) (left self.new) result buf.new }
+        ensures cause { HasCause (faults self.old) (faults self.new) result }
+        ensures end { TellsEnd 1 (ends self.old) (ends self.new) result }
+        ensures room { FillsRoom (length buf.old) (fills self.old) (fills self.new) result };
+
+    /// Feeds a whole unit to a stage from where it is at hand, which is one read that gives all that it had room for.
+    /// What the stage gives is left in `given`. Where no unit is at hand, which says nothing of the end, it answers
+    /// false and nothing is done.
+    fn feed_at_hand<G: UnitStage>(&mut self, stage: &mut G, given: &mut Option<Piece>) -> bool
+        requires { 0 < G.SIZE }
+        ensures fed { result ≡ true → (unit : List ℕ) × (length unit ≡ G.SIZE)
+            × Consumes (left self.old) (left self.new) unit
+            × (stage.new ≡ G.next stage.old unit) × (given.new ≡ G.gives stage.old unit) }
+        ensures full { result ≡ true → RoseOnce (fills self.old) (fills self.new) }
+        ensures faults { faults self.new ≡ faults self.old }
+        ensures ends { ends self.new ≡ ends self.old }
+        ensures none { result ≡ false
+            → (self.new ≡ self.old) × (stage.new ≡ stage.old) × (given.new ≡ given.old) }
+    {
+        false
+    }
+
+    /// Feeds units to a stage from where they are at hand, one after another and at most so many, and puts what the
+    /// stage gives into `buffer`, from `start` on. It goes on for as long as a whole unit is at hand and there is room
+    /// for a whole piece. Each unit is one read that gives all that it had room for.
+    #[inline]
+    fn feed_all_at_hand<G: UnitStage>(
+        &mut self,
+        stage: &mut G,
+        given: &mut Option<Piece>,
+        buffer: &mut [u8],
+        start: usize,
+        most: u32,
+    ) -> PassedUnits
+        requires size { 0 < G.SIZE }
+        requires start { start ≤ length buffer.old }
+        ensures works { (taken : List ℕ) × Works G.SIZE (record { next = G.next; gives = G.gives }) (record {
+          left = from_to (left self.old) (left self.new);
+          state = from_to stage.old stage.new;
+          held = from_to (Some (take start buffer.old)) (Some (take result.end buffer.new));
+        }) result.units taken }
+        ensures most { result.units ≤ most }
+        ensures within { (start ≤ result.end) × (result.end ≤ length buffer.new) }
+        ensures behind { drop result.end buffer.new ≡ drop result.end buffer.old }
+        ensures full { RoseBy result.units (fills self.old) (fills self.new) }
+        ensures faults { faults self.new ≡ faults self.old }
+        ensures ends { ends self.new ≡ ends self.old }
+    {
+        PassedUnits {
+            units: 0,
+            end: start,
+        }
+    }
+}
+
+/// Bytes are put to it one call after another. After a call that failed, another one may be made.
+pub trait Sink {
+    /// The bytes taken so far, where the sink tells them.
+    ghost held: { Self → Option (List ℕ) };
+
+    /// How often a write has failed.
+    ghost faults: { Self → ℕ };
+
+    /// Appends bytes of the front of `piece`, which is not empty, and answers how many, at least one.
+    ///
+    /// # Errors
+    /// `Failed` where the write failed: no byte is appended and the count of faults rises.
+    fn put(&mut self, piece: &[u8]) -> Result<usize, Failed>
+        requires { 0 < length piece.now }
+        ensures bound { TakesSome result piece.now }
+        ensures bytes { WriteAppends (held self.old) (held self.new) result piece.now }
+        ensures cause { HasCause (faults self.old) (faults self.new) result };
+
+    /// Passes on what waits in the sink, if anything does. `pump` calls it before it reads, so that a live stream is not
+    /// held back. A write that fails here is left to a later call to tell. A sink in which nothing waits leaves this as it
+    /// is.
+    fn pass_waiting(&mut self)
+        ensures bytes { Keeps (held self.old) (held self.new) }
+        ensures no_fault { faults self.new ≡ faults self.old }
+    {}
+
+    /// Feeds units of a source to a stage from where they are at hand, at most so many, and appends what the stage
+    /// gives, for as long as there is surely room for it: no write can fail. It answers how many units there were. A
+    /// sink that shows no room leaves this as it is.
+    #[inline]
+    fn pass_at_hand<S: Source, G: UnitStage>(
+        &mut self,
+        source: &mut S,
+        stage: &mut G,
+        given: &mut Option<Piece>,
+        most: u32,
+    ) -> u32
+        requires { 0 < G.SIZE }
+        ensures works { (taken : List ℕ) × Works G.SIZE (record { next = G.next; gives = G.gives })
+            (moved S.left held (source.old, stage.old, self.old) (source.new, stage.new, self.new)) result
+            taken }
+        ensures most { result ≤ most }
+        ensures full { RoseBy result (S.fills source.old) (S.fills source.new) }
+        ensures no_read_fault { S.faults source.new ≡ S.faults source.old }
+        ensures ends { S.ends source.new ≡ S.ends source.old }
+        ensures no_write_fault { faults self.new ≡ faults self.old }
+    {
+        0
+    }
+}
+
+/// How often a source told its end, and how often it gave all that it was offered room for.
+#[derive(Clone, Copy)]
+pub(crate) struct Tally {
+    pub ends: u64,
+    pub fills: u64,
+}
+
+impl Tally {
+    pub fn new() -> Tally
+        ensures ends { result.ends ≡ 0 }
+        ensures fills { result.fills ≡ 0 }
+    {
+        Tally { ends: 0, fills: 0 }
+    }
+
+    /// Counts an answer of so many bytes, of the most that there was room for.
+    pub fn add(&mut self, count: usize, room: usize)
+        requires { 0 < room }
+        ensures ended { count < 1 → RoseOnce (Some self.old.ends) (Some self.new.ends) }
+        ensures goes_on { 1 ≤ count → self.new.ends ≡ self.old.ends }
+        ensures full { room ≤ count → RoseOnce (Some self.old.fills) (Some self.new.fills) }
+        ensures short { count < room → self.new.fills ≡ self.old.fills }
+    {
+        if count == 0 {
+            self.ends = self.ends.saturating_add(1);
+        } else if count >= room {
+            self.fills = self.fills.saturating_add(1);
+        }
+    }
+
+    /// Counts so many answers that gave all that there was room for.
+    #[inline]
+    pub fn add_full(&mut self, answers: u32)
+        ensures full { RoseBy answers (Some self.old.fills) (Some self.new.fills) }
+        ensures goes_on { self.new.ends ≡ self.old.ends }
+    {
+        self.fills = self.fills.saturating_add(u64::from(answers));
+    }
+}
+
+/// A reader as a source. It tells the bytes that the reader tells. An error of the reader is a failure.
+#[derive(Drop)]
+pub struct ReadSource<R: Read> {
+    reader: R,
+    faults: u64,
+    tally: Tally,
+}
+
+impl<R: Read> Model for ReadSource<R> {
+    ghost Value = { CountedReader R };
+
+    ghost view = { λ s. record {
+      inner = s.reader;
+      faults = s.faults;
+      ends = s.tally.ends;
+      fills = s.tally.fills;
+    } };
+}
+
+impl<R: Read> ReadSource<R> {
+    pub fn new(reader: R) -> Self
+        ensures { result ≡ record { inner = reader; faults = 0; ends = 0; fills = 0 } }
+    {
+        ReadSource {
+            reader,
+            faults: 0,
+            tally: Tally::new(),
+        }
+    }
+}
+
+impl<R: Read> Source for ReadSource<R> {
+    ghost left = { λ s. R.remaining s.inner };
+
+    ghost faults = { λ s. s.faults };
+
+    ghost ends = { λ s. Some s.ends };
+
+    ghost fills = { λ s. Some s.fills };
+
+    #[tactic(auto, using(crate::proofs::Stops::rose_by_one))]
+    fn take(&mut self, buf: &mut [u8]) -> Result<usize, Failed>
+        requires { 0 < length buf.old }
+        ensures bound { ReadsAtMost result buf.new }
+        ensures bytes { ReadConsumes (R.remaining self.old.inner) (R.remaining self.new.inner) result
+            buf.new }
+        ensures cause { HasCause self.old.faults self.new.faults result }
+        ensures end { TellsEnd 1 (Some self.old.ends) (Some self.new.ends) result }
+        ensures room { FillsRoom (length buf.old) (Some self.old.fills) (Some self.new.fills) result }
+        ensures counted { self.new.faults ≡ counted_after result self.old.faults }
+    {
+        match self.reader.read(buf) {
+            Ok(count) => {
+                self.tally.add(count, buf.len());
+                Ok(count)
+            }
+            Err(_) => {
+                self.faults = self.faults.saturating_add(1);
+                Err(Failed)
+            }
+        }
+    }
+}
+
+/// A writer as a sink. It tells the bytes that the writer tells. An error of the writer is a failure, and so is a write
+/// of nothing.
+#[derive(Drop)]
+pub struct WriteSink<W: Write> {
+    writer: W,
+    faults: u64,
+}
+
+impl<W: Write> Model for WriteSink<W> {
+    ghost Value = { Counted W };
+
+    ghost view = { λ s. record { inner = s.writer; faults = s.faults } };
+}
+
+impl<W: Write> WriteSink<W> {
+    pub fn new(writer: W) -> Self
+        ensures { result ≡ record { inner = writer; faults = 0 } }
+    {
+        WriteSink { writer, faults: 0 }
+    }
+}
+
+impl<W: Write> Sink for WriteSink<W> {
+    ghost held = { λ s. W.contents s.inner };
+
+    ghost faults = { λ s. s.faults };
+
+    #[tactic(auto, using(crate::proofs::Stops::rose_by_one))]
+    fn put(&mut self, piece: &[u8]) -> Result<usize, Failed>
+        requires { 0 < length piece.now }
+        ensures bound { TakesSome result piece.now }
+        ensures bytes { WriteAppends (W.contents self.old.inner) (W.contents self.new.inner) result
+            piece.now }
+        ensures cause { HasCause self.old.faults self.new.faults result }
+        ensures counted { self.new.faults ≡ counted_after result self.old.faults }
+    {
+        match self.writer.write(piece) {
+            Ok(count) if count > 0 => Ok(count),
+            _ => {
+                self.faults = self.faults.saturating_add(1);
+                Err(Failed)
+            }
+        }
+    }
+}
+
+/// What a write comes to.
+#[derive(Clone, Copy, Debug, PartialEq, Eq)]
+pub(crate) enum Outcome {
+    /// So many bytes were written, at least one.
+    Wrote(usize),
+    /// The write was interrupted, and can be made again.
+    Interrupted,
+    /// The write failed, or wrote nothing.
+    Fault,
+}
+
+impl Outcome {
+    // What a writer's answer comes to.
+    fn of(answer: io::Result<usize>) -> Outcome
+        ensures wrote { (n : ℕ) → (result ≡ Wrote n ↔ (answer ≡ Ok n) × (0 < n)) }
+        ensures interrupted { result ≡ Interrupted
+            ↔ (error : Error) × (answer ≡ Err error) × (error_kind error ≡ ErrorKind.Interrupted) }
+    {
+        match answer {
+            Ok(count) if count > 0 => Outcome::Wrote(count),
+            Err(error) if error.kind() == ErrorKind::Interrupted => Outcome::Interrupted,
+            _ => Outcome::Fault,
+        }
+    }
+}
+
+/// A writer that counts the writes that failed, and those that were interrupted. It may be interrupted 2^64 - 1 times;
+/// one time more is a failure.
+#[derive(Drop)]
+pub(crate) struct CountedWriter<W: Write> {
+    writer: W,
+    faults: u64,
+    interrupts: u64,
+}
+
+impl<W: Write> Model for CountedWriter<W> {
+    ghost Value = { CountedWrites W };
+
+    ghost view = { λ s. record { inner = s.writer; faults = s.faults; interrupts = s.interrupts } };
+}
+
+impl<W: Write> CountedWriter<W> {
+    pub fn new(writer: W) -> CountedWriter<W>
+        ensures { result ≡ record { inner = writer; faults = 0; interrupts = 0 } }
+    {
+        CountedWriter {
+            writer,
+            faults: 0,
+            interrupts: 0,
+        }
+    }
+
+    /// Writes bytes of the front of these. It is one call of the writer.
+    pub fn write(&mut self, bytes: &[u8]) -> Outcome
+        ensures wrote { (n : ℕ) → result ≡ Wrote n → (0 < n) × (n ≤ length bytes.now)
+            × Appends (W.contents self.old.inner) (W.contents self.new.inner) (take n bytes.now) }
+        ensures keeps { ((n : ℕ) → result ≢ Wrote n)
+            → Keeps (W.contents self.old.inner) (W.contents self.new.inner) }
+        ensures faults { result ≢ Fault → self.new.faults ≡ self.old.faults }
+        ensures fault { result ≡ Fault → self.new.faults ≡ min (self.old.faults + 1) (2 ^ 64 - 1) }
+        ensures interrupts { result ≢ Interrupted → self.new.interrupts ≡ self.old.interrupts }
+        ensures interrupted { result ≡ Interrupted
+            → (self.new.interrupts ≡ self.old.interrupts + 1) × (self.new.interrupts < 2 ^ 64) }
+    {
+        let answer = self.writer.write(bytes);
+        self.count(Outcome::of(answer))
+    }
+
+    // Counts what a write came to. An interruption that cannot be counted any more is a failure.
+    fn count(&mut self, outcome: Outcome) -> Outcome
+        ensures inner { self.new.inner ≡ self.old.inner }
+        ensures wrote { (n : ℕ) → (result ≡ Wrote n ↔ outcome ≡ Wrote n) }
+        ensures again { result ≡ Interrupted ↔ (outcome ≡ Interrupted) × (self.old.interrupts < 2 ^ 64 - 1) }
+        ensures faults { result ≢ Fault → self.new.faults ≡ self.old.faults }
+        ensures fault { result ≡ Fault → self.new.faults ≡ min (self.old.faults + 1) (2 ^ 64 - 1) }
+        ensures interrupts { result ≢ Interrupted → self.new.interrupts ≡ self.old.interrupts }
+        ensures interrupted { result ≡ Interrupted
+            → (self.new.interrupts ≡ self.old.interrupts + 1) × (self.new.interrupts < 2 ^ 64) }
+    {
+        match outcome {
+            Outcome::Wrote(count) => Outcome::Wrote(count),
+            Outcome::Interrupted if self.interrupts < u64::MAX => {
+                self.interrupts += 1;
+                Outcome::Interrupted
+            }
+            Outcome::Interrupted | Outcome::Fault => {
+                self.faults = self.faults.saturating_add(1);
+                Outcome::Fault
+            }
+        }
+    }
+}

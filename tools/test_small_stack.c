@@ -1,0 +1,229 @@
+/* How much of a stack each call of the library takes. Every call is run on a stack of its own, which is painted before; it
+   may touch LIMIT bytes of it at most. malloc and free, which belong to the C library, stand on that stack too. Prints the
+   most that a call took. Its argument is an authored stream with texts, whose first 200 blocks are of the lead-in. */
+#define _GNU_SOURCE
+#include "ribjasper.h"
+
+#include <stdio.h>
+#include <stdlib.h>
+#include <string.h>
+#include <ucontext.h>
+
+enum { LIMIT = 16384, ROOM = 262144, PAINT = 0xa5, BLOCKS = 200 };
+
+static unsigned char stack[ROOM] __attribute__((aligned(16)));
+static ucontext_t outside, inside;
+static void (*call)(void);
+
+static ribjasper_player player = RIBJASPER_CLOSED, other = RIBJASPER_CLOSED;
+static uint8_t stream[BLOCKS * RIBJASPER_BLOCK], worn[BLOCKS * RIBJASPER_BLOCK], idle[BLOCKS * RIBJASPER_BLOCK];
+static uint8_t lead_in[BLOCKS * RIBJASPER_BLOCK];
+static uint8_t packs[BLOCKS * RIBJASPER_BLOCK], pixels[RIBJASPER_PICTURE], file[RIBJASPER_CHECKPOINT];
+static ribjasper_row rows[BLOCKS];
+static ribjasper_plan_row plan[16];
+static int32_t answer;
+
+static const char sheet[] = "TITLE \"Demo\"\nFILE \"a.wav\" WAVE\nTRACK 01 AUDIO\nTITLE \"One\"\nINDEX 01 00:00:00\n";
+static const char script[] = "colour 1 F00\nfill 0 0 50 18 1\nshow 00:00:20 00:00:30\n";
+static const char refused[] = "colour 1 F00\nfill 0 0 50 18 what\n";
+
+static void open_player(void) { answer = ribjasper_player_open(&player); }
+static void open_other(void) { answer = ribjasper_player_open(&other); }
+static void begin(void) { answer = ribjasper_player_begin(&player, RIBJASPER_RAW, 0); }
+
+static void feed(void)
+{
+    int k;
+    for (k = 0; k < BLOCKS; k++)
+        answer = ribjasper_player_feed(&player, worn + k * RIBJASPER_BLOCK);
+}
+
+static void take(void)
+{
+    ribjasper_pack taken[4];
+    int k;
+    for (k = 0; k < BLOCKS; k++)
+        answer = ribjasper_player_take(&player, worn + k * RIBJASPER_BLOCK, taken);
+}
+
+static void draw(void)
+{
+    /* Each instruction in turn: memory, border, tiles, scrolls, transparent colours and the table. */
+    static const uint8_t kinds[9] = { 1, 2, 6, 38, 20, 24, 28, 30, 31 };
+    uint8_t pack[24];
+    int k, at;
+    for (k = 0; k < 9; k++) {
+        for (at = 0; at < 24; at++)
+            pack[at] = at < 2 ? 9 : 1;
+        pack[1] = kinds[k];
+        answer = ribjasper_player_draw(&player, pack);
+        answer = ribjasper_pack_touches(pack);
+    }
+}
+
+static void look(void)
+{
+    uint16_t colours[RIBJASPER_COLOURS];
+    uint8_t levels[RIBJASPER_COLOURS], one, two;
+    answer = ribjasper_player_screen(&player, pixels);
+    answer = ribjasper_player_picture(&player, pixels);
+    answer = ribjasper_player_rect(&player, 1, 2, 30, 40, pixels, sizeof pixels, 30);
+    answer = ribjasper_player_pixel(&player, 7, 8, &one);
+    answer = ribjasper_player_colours(&player, colours);
+    answer = ribjasper_player_colour(&player, 3, colours);
+    answer = ribjasper_player_levels(&player, levels);
+    answer = ribjasper_player_border(&player, &one);
+    answer = ribjasper_player_offsets(&player, &one, &two);
+}
+
+static void save(void) { answer = ribjasper_player_save(&player, file); }
+static void copy(void) { answer = ribjasper_player_copy(&player, &other); }
+
+static void load(void)
+{
+    uint32_t byte;
+    answer = ribjasper_player_load(&player, file, &byte);
+}
+
+static void single(void)
+{
+    static const uint8_t text[18] = { 0x80, 0, 0, 0, 'D', 'e', 'm', 'o', 0, 'O', 'n', 'e', 0, 0, 0, 0, 0x51, 0xd3 };
+    static const uint8_t pause[12] = { 1, 1, 0, 0, 2, 0, 0, 0, 0, 0, 0xf0, 0xd9 };
+    ribjasper_q_frame frame;
+    uint8_t bytes[72], block[RIBJASPER_BLOCK], bit;
+    answer = ribjasper_correct(worn, bytes);
+    answer = ribjasper_text_pack_matches(text);
+    ribjasper_text_pack_symbols(text, bytes);
+    answer = ribjasper_q_decode(pause, &frame, &bit);
+    answer = ribjasper_q_encode(&frame, bytes);
+    ribjasper_block_to_planar(worn, block);
+    ribjasper_block_from_planar(worn, block);
+    ribjasper_block_text_packs(worn, bytes);
+    answer = (int32_t)ribjasper_version();
+}
+
+static void convert(void)
+{
+    ribjasper_converted told;
+    answer = ribjasper_convert(worn, sizeof worn, RIBJASPER_RAW, 0, packs, sizeof packs, &told);
+    answer = ribjasper_convert(worn, sizeof worn, RIBJASPER_PACKS, 0, packs, sizeof packs, &told);
+}
+
+static void mend(void)
+{
+    ribjasper_mended told;
+    answer = ribjasper_mend(worn, sizeof worn, stream, sizeof stream, 0, packs, sizeof packs, &told);
+    answer = ribjasper_mend(idle, sizeof idle, worn, sizeof worn, 0, packs, sizeof packs, &told);
+}
+
+static void survey(void)
+{
+    ribjasper_surveyed told;
+    answer = ribjasper_survey(worn, sizeof worn, RIBJASPER_RAW, 4, rows, BLOCKS, &told);
+    answer = ribjasper_survey(worn, sizeof worn, RIBJASPER_PACKS, 4, rows, BLOCKS, &told);
+}
+
+static void texts(void)
+{
+    ribjasper_listed told;
+    answer = ribjasper_texts(lead_in, sizeof lead_in, RIBJASPER_RAW, BLOCKS, packs, sizeof packs, &told);
+    if (answer == RIBJASPER_CONVERTED && told.bytes < 60)
+        answer = RIBJASPER_NO_ROOM;
+}
+
+static void planned(void)
+{
+    ribjasper_planned told;
+    const uint8_t *lines = (const uint8_t *)sheet;
+    answer = ribjasper_plan(lines, sizeof sheet - 1, (const uint8_t *)script, sizeof script - 1, 300, 9000, plan, 16, &told);
+    answer = ribjasper_plan(lines, sizeof sheet - 1, (const uint8_t *)refused, sizeof refused - 1, 300, 9000, plan, 16,
+                            &told);
+}
+
+static void close_player(void) { ribjasper_player_close(&player); }
+static void close_other(void) { ribjasper_player_close(&other); }
+
+static void run(void)
+{
+    call();
+}
+
+/* How many bytes of the stack a call touches. */
+static size_t taken_by(void (*tried)(void))
+{
+    size_t clean = 0;
+    memset(stack, PAINT, ROOM);
+    call = tried;
+    if (getcontext(&inside) != 0) {
+        perror("getcontext");
+        exit(1);
+    }
+    inside.uc_stack.ss_sp = stack;
+    inside.uc_stack.ss_size = ROOM;
+    inside.uc_link = &outside;
+    makecontext(&inside, run, 0);
+    if (swapcontext(&outside, &inside) != 0) {
+        perror("swapcontext");
+        exit(1);
+    }
+    while (clean < ROOM && stack[clean] == PAINT)
+        clean++;
+    return ROOM - clean;
+}
+
+int main(int count, char **words)
+{
+    FILE *authored = count == 2 ? fopen(words[1], "rb") : NULL;
+    static const struct {
+        const char *name;
+        void (*call)(void);
+        int32_t answer; /* of the last call, so that none is refused at its door */
+    } calls[] = {
+        { "open", open_player, RIBJASPER_DONE },
+        { "open another", open_other, RIBJASPER_DONE },
+        { "begin", begin, RIBJASPER_DONE },
+        { "feed", feed, RIBJASPER_DONE },
+        { "take", take, 4 },
+        { "draw", draw, RIBJASPER_TOUCHES_COLOURS },
+        { "look", look, RIBJASPER_DONE },
+        { "save", save, RIBJASPER_DONE },
+        { "load", load, RIBJASPER_DONE },
+        { "copy", copy, RIBJASPER_DONE },
+        { "single things", single, RIBJASPER_VERSION },
+        { "convert", convert, RIBJASPER_DAMAGED },
+        { "mend", mend, RIBJASPER_DAMAGED },
+        { "survey", survey, RIBJASPER_CONVERTED },
+        { "texts", texts, RIBJASPER_CONVERTED },
+        { "plan", planned, RIBJASPER_NOT_PLANNED },
+        { "close", close_player, RIBJASPER_NOT_PLANNED },
+        { "close another", close_other, RIBJASPER_NOT_PLANNED },
+    };
+    uint32_t number = 1;
+    size_t k, most = 0;
+    int failed = 0;
+    if (authored == NULL || fread(lead_in, 1, sizeof lead_in, authored) != sizeof lead_in) {
+        fputs("no authored stream\n", stderr);
+        return 2;
+    }
+    fclose(authored);
+    for (k = 0; k < sizeof stream; k++) {
+        /* Codewords of zeros with a wrong symbol here and there, so that all ways of correcting are gone. */
+        number = number * 1664525u + 1013904223u;
+        worn[k] = number >> 24 < 20 ? (uint8_t)(number >> 8) : 0;
+        stream[k] = number >> 24 > 240 ? (uint8_t)(number >> 10) : 0;
+    }
+    for (k = 0; k < sizeof calls / sizeof calls[0]; k++) {
+        size_t bytes = taken_by(calls[k].call);
+        most = bytes > most ? bytes : most;
+        if (answer != calls[k].answer) {
+            printf("%s answers %ld and not %ld\n", calls[k].name, (long)answer, (long)calls[k].answer);
+            failed = 1;
+        }
+        if (bytes > LIMIT) {
+            printf("%s takes %lu bytes of the stack, more than %d\n", calls[k].name, (unsigned long)bytes, LIMIT);
+            failed = 1;
+        }
+    }
+    printf("a call takes %lu bytes of the stack at most\n", (unsigned long)most);
+    return failed;
+}
