@@ -14,7 +14,7 @@ mod sector_blocks;
 pub use block_words::{BlockOfWords, BlockWords};
 pub use correction::Correction;
 pub use counting::{Counting, FrameCounts, WordCounts};
-pub use painting::Painting;
+pub use painting::{Painting, draw_word};
 pub use played::{PlayStop, Played, play_stop};
 pub use pumping::{pump_blocks, watch};
 pub use sector_blocks::SectorBlocks;
