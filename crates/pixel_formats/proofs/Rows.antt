@@ -9,6 +9,7 @@ use Rattle.cdg_screen.specs.Standing.{Standing, screen_pixel}
 use Rattle.cdg_screen.proofs.WholeRows.{else_before, else_behind, then_within}
 use Rattle.pixel_formats.specs.Formats.{pixel_bytes, pixel_size, shown_bytes}
 use Rattle.pixel_formats.specs.declared.format.PixelFormat.{PixelFormat}
+use Rattle.pixel_formats.specs.declared.format.PixelFormat.TheVariants.{Indexed}
 
 -- ---- pixels in a row
 
@@ -125,3 +126,15 @@ shown_pixel format now table x y number k is small k_lt bytes =
     sym (get_or-take (pixel_size format) (get_or table number []) k 0 k_lt)
     ∙ ap (λ (l : List ℕ). get_or l k 0) (bytes number small)
     ∙ ap (λ p. get_or (pixel_bytes format p (slice_index now.colours p) (slice_index now.levels p)) k 0) is
+
+-- a pixel that is a number alone
+pub shown_number : (format : PixelFormat) (now : Standing) (x y number k : ℕ) → format ≡ Indexed
+    → number ≡ screen_pixel now x y
+    → k < pixel_size format
+    → number ≡ get_or (shown_bytes format now x y) k 0
+unfolding shown_bytes
+shown_number format now x y number k indexed is lt =
+    let first : k ≡ 0 = omega (arith, lt, ap pixel_size indexed) in
+    is
+    ∙ ap (λ n. get_or (shown_bytes Indexed now x y) n 0) (sym first)
+    ∙ ap (λ f. get_or (shown_bytes f now x y) k 0) (sym indexed)

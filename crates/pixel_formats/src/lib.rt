@@ -7,4 +7,4 @@ mod table;
 mod writing;
 
 pub use format::PixelFormat;
-pub use writing::write_pixels;
+pub use writing::{write_picture, write_pixels};

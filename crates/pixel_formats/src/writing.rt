@@ -1,15 +1,16 @@
 // A part of the screen in a format.
 ghost use Rattle.std.specs.Prelude.{◌≡◌, ◌<◌, ◌≤◌, ◌+◌, ◌-◌, ◌*◌, ◌&&◌, nat_le, nat_lt, if◌then◌else◌, ℕ, [], length, slice_index, slice_index_or, take};
 ghost use Rattle.cdg_instructions.specs.Sizes.{screen_height};
+ghost use Rattle.live_player.specs.Lives.{picture_byte, picture_bytes};
 ghost use Rattle.live_player.specs.Parts.{IsOnScreen};
 ghost use Rattle.pixel_formats.specs.Formats.{line_bytes, pixel_bytes, pixel_size, shown_bytes, HasRoom, ShowsPixels};
 
 use crate::format::PixelFormat;
 use crate::line::{LINE, write_line};
 use crate::table::table_of;
-use cdg_instructions::{COLOURS, SCREEN_WIDTH};
+use cdg_instructions::{COLOURS, SCREEN_HEIGHT, SCREEN_WIDTH};
 use cdg_screen::Screen;
-use live_player::ScreenPart;
+use live_player::{PICTURE_BYTES, ScreenPart};
 
 /// Writes the pixels of a part of the screen in a format, row by row: row j of it begins `stride` times j bytes from the
 /// front. What is between the rows is left as it was.
@@ -34,6 +35,19 @@ pub fn write_pixels(
     }
 }
 
+/// Writes red, green and blue of all pixels of the screen, row by row.
+pub fn write_picture(screen: &Screen, bytes: &mut [u8; PICTURE_BYTES])
+    ensures { (n : ℕ) → n < picture_bytes → slice_index bytes.new n ≡ picture_byte screen.now n }
+{
+    let whole = ScreenPart {
+        left: 0,
+        top: 0,
+        width: SCREEN_WIDTH,
+        height: SCREEN_HEIGHT,
+    };
+    write_pixels(screen, &whole, PixelFormat::Rgb, bytes, 3 * SCREEN_WIDTH);
+}
+
 // Writes the bytes of the pixels of row j of a part.
 fn write_row(
     screen: &Screen,
@@ -55,7 +69,18 @@ fn write_row(
     let mut row = [0; SCREEN_WIDTH];
     screen.write_row(part.top + j, &mut row);
     let pixels = &row[part.left..part.left + part.width];
-    write_line(pixels, table, format.size(), line);
+    match format {
+        PixelFormat::Indexed => put_front(line, pixels),
+        _ => write_line(pixels, table, format.size(), line),
+    }
+}
+
+// Writes some bytes to the front.
+fn put_front(line: &mut [u8; LINE], bytes: &[u8])
+    requires { length bytes.now ≤ line_bytes }
+    ensures { (n : ℕ) → n < length bytes.now → slice_index line.new n ≡ slice_index bytes.now n }
+{
+    line[..bytes.len()].copy_from_slice(bytes);
 }
 
 // Writes some bytes from a place on.

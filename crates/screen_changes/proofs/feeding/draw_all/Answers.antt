@@ -6,7 +6,8 @@ use Rattle.cdg_instructions.specs.declared.instr.Instr.{Instr}
 use Rattle.cdg_screen.specs.Standing.{Standing, standing_after}
 use Rattle.cdg_screen.proofs.Turns.{in_turn}
 use Rattle.live_player.specs.Lives.{Given, Drawn, HasPlayed, instruction_of, standing_on}
-use Rattle.screen_changes.specs.Changes.{sees, watch_from}
+use Rattle.screen_changes.specs.Changes.{changes_on, sees, watch_from, KeepsUntold}
+use Rattle.screen_changes.specs.declared.change.ScreenChange.{ScreenChange}
 use Rattle.screen_changes.specs.declared.watch.Watch.{Watch}
 use Rattle.screen_changes.proofs.Seen.{given_more, one_more}
 use Rattle.screen_changes.proofs.feeding.draw_all.Goals as goal
@@ -41,3 +42,12 @@ loop-pack-preserved c =
           (c.draw.ensures.drawn form lead_in (map Drawn (reverse (take i packs)) ++ given)
           (c.loop-pack.invariant.drawn form lead_in given played));
     }
+
+pub returns-clause-keeps : goal.returns-clause-keeps
+returns-clause-keeps c =
+    let start : Standing = standing_on c.args.live.now in
+    let instrs = map instruction_of (take c.loop-pack.pack-index c.args.packs.now) in
+    subst (λ (it : ScreenChange). KeepsUntold it start (standing_on c.loop-pack.live))
+    (sym (ap (λ (w : Watch). w.change) c.loop-pack.invariant.told))
+    (subst (λ (s : Standing). KeepsUntold (changes_on start instrs) start s) (sym c.loop-pack.invariant.stands)
+    (c.untold_stays.ensures start instrs c.what_stands_is_whole.ensures))

@@ -7,7 +7,8 @@ use Rattle.cdg_screen.proofs.Turns.{in_turn}
 use Rattle.stream_stages.specs.Steps.{words_give}
 use Rattle.live_player.specs.Lives.{Given, Fed, HasPlayed, drawn_for, instructions_of, standing_on}
 use Rattle.live_player.specs.Steps.{words_come}
-use Rattle.screen_changes.specs.Changes.{sees, watch_from}
+use Rattle.screen_changes.specs.Changes.{changes_on, sees, watch_from, KeepsUntold}
+use Rattle.screen_changes.specs.declared.change.ScreenChange.{ScreenChange}
 use Rattle.screen_changes.specs.declared.watch.Watch.{Watch}
 use Rattle.screen_changes.proofs.Seen.{drawn_come, given_more, one_more}
 use Rattle.screen_changes.proofs.feeding.feed_all.Goals as goal
@@ -45,3 +46,12 @@ loop-block-preserved c =
           (c.take-words.ensures.fed form lead_in (map Fed (reverse (take i blocks)) ++ given)
           (c.loop-block.invariant.fed form lead_in given played));
     }
+
+pub returns-clause-keeps : goal.returns-clause-keeps
+returns-clause-keeps c =
+    let start : Standing = standing_on c.args.live.now in
+    let instrs : List Instr = c.loop-block.invariant.told.0 in
+    subst (λ (it : ScreenChange). KeepsUntold it start (standing_on c.loop-block.live))
+    (sym (ap (λ (w : Watch). w.change) c.loop-block.invariant.told.1))
+    (subst (λ (s : Standing). KeepsUntold (changes_on start instrs) start s) (sym c.loop-block.invariant.told.2)
+    (c.untold_stays.ensures start instrs c.what_stands_is_whole.ensures))
