@@ -1,6 +1,7 @@
 // A part of the screen in a format.
 ghost use Rattle.std.specs.Prelude.{◌≡◌, ◌<◌, ◌≤◌, ◌+◌, ◌-◌, ◌*◌, ◌&&◌, nat_le, nat_lt, if◌then◌else◌, ℕ, [], length, slice_index, slice_index_or, take};
 ghost use Rattle.cdg_instructions.specs.Sizes.{screen_height};
+ghost use Rattle.cdg_screen.specs.Memory.{seen};
 ghost use Rattle.live_player.specs.Lives.{picture_byte, picture_bytes};
 ghost use Rattle.live_player.specs.Parts.{IsOnScreen};
 ghost use Rattle.pixel_formats.specs.Formats.{line_bytes, pixel_bytes, pixel_size, shown_bytes, HasRoom, ShowsPixels};
@@ -9,13 +10,13 @@ use crate::format::PixelFormat;
 use crate::line::{LINE, write_line};
 use crate::table::table_of;
 use cdg_instructions::{COLOURS, SCREEN_HEIGHT, SCREEN_WIDTH};
-use cdg_screen::Screen;
+use cdg_screen::PlainScreen;
 use live_player::{PICTURE_BYTES, ScreenPart};
 
 /// Writes the pixels of a part of the screen in a format, row by row: row j of it begins `stride` times j bytes from the
 /// front. What is between the rows is left as it was.
 pub fn write_pixels(
-    screen: &Screen,
+    screen: &PlainScreen,
     part: &ScreenPart,
     format: PixelFormat,
     out: &mut [u8],
@@ -24,7 +25,7 @@ pub fn write_pixels(
     requires part { IsOnScreen part.now }
     requires apart { pixel_size format * part.now.width ≤ stride }
     requires room { HasRoom format part.now stride (length out.old) }
-    ensures { ShowsPixels format screen.now part.now stride out.old out.new }
+    ensures { ShowsPixels format (seen screen.now) part.now stride out.old out.new }
 {
     let table = table_of(screen, format);
     let count = format.size() * part.width;
@@ -36,8 +37,8 @@ pub fn write_pixels(
 }
 
 /// Writes red, green and blue of all pixels of the screen, row by row.
-pub fn write_picture(screen: &Screen, bytes: &mut [u8; PICTURE_BYTES])
-    ensures { (n : ℕ) → n < picture_bytes → slice_index bytes.new n ≡ picture_byte screen.now n }
+pub fn write_picture(screen: &PlainScreen, bytes: &mut [u8; PICTURE_BYTES])
+    ensures { (n : ℕ) → n < picture_bytes → slice_index bytes.new n ≡ picture_byte (seen screen.now) n }
 {
     let whole = ScreenPart {
         left: 0,
@@ -50,7 +51,7 @@ pub fn write_picture(screen: &Screen, bytes: &mut [u8; PICTURE_BYTES])
 
 // Writes the bytes of the pixels of row j of a part.
 fn write_row(
-    screen: &Screen,
+    screen: &PlainScreen,
     part: &ScreenPart,
     j: usize,
     format: PixelFormat,
@@ -61,10 +62,10 @@ fn write_row(
     requires row { j < part.now.height }
     requires sizes { (p : ℕ) → p < 16 → length (slice_index_or table.now p []) ≡ 4 }
     requires bytes { (p : ℕ) → p < 16 → take (pixel_size format) (slice_index_or table.now p [])
-        ≡ pixel_bytes format p (slice_index screen.now.colours p) (slice_index screen.now.levels p) }
+        ≡ pixel_bytes format p (slice_index (seen screen.now).colours p) (slice_index (seen screen.now).levels p) }
     ensures { (i k : ℕ) → i < part.now.width → k < pixel_size format
         → slice_index line.new (pixel_size format * i + k)
-        ≡ slice_index (shown_bytes format screen.now (part.now.left + i) (part.now.top + j)) k }
+        ≡ slice_index (shown_bytes format (seen screen.now) (part.now.left + i) (part.now.top + j)) k }
 {
     let mut row = [0; SCREEN_WIDTH];
     screen.write_row(part.top + j, &mut row);

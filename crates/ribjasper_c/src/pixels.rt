@@ -92,5 +92,5 @@ fn shown_pixels(
     // Two laws, for the clause.
     live.shows_its_blocks();
     live.shows_its_packs();
-    write_pixels(&live.painting.screen, part, format, out, stride);
+    write_pixels(&live.screen, part, format, out, stride);
 }

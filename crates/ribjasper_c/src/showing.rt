@@ -198,7 +198,7 @@ fn shown_picture(live: &LivePlayer, bytes: &mut [u8; PICTURE_BYTES])
     // Two laws, for the clause.
     live.shows_its_blocks();
     live.shows_its_packs();
-    write_picture(&live.painting.screen, bytes);
+    write_picture(&live.screen, bytes);
 }
 
 /// Writes the number of the border's colour. 0, or -1 where the player is closed.

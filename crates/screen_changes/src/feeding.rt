@@ -40,7 +40,7 @@ pub fn draw_all(live: &mut LivePlayer, packs: &[[u8; SYMBOLS]]) -> ScreenChange
         → HasPlayed form lead_in (map Drawn (reverse packs.now) ++ given) live.new }
 {
     untold_stays();
-    live.painting.screen.what_stands_is_whole();
+    live.screen.what_stands_is_whole();
     let mut watch = Watch::from(live.offsets());
     for pack in packs {
         live.draw(pack);
@@ -59,7 +59,7 @@ pub fn feed_all(live: &mut LivePlayer, blocks: &[[u8; BLOCK_BYTES]]) -> ScreenCh
         → HasPlayed form lead_in (map Fed (reverse blocks.now) ++ given) live.new }
 {
     untold_stays();
-    live.painting.screen.what_stands_is_whole();
+    live.screen.what_stands_is_whole();
     let mut watch = Watch::from(live.offsets());
     for block in blocks {
         let words = live.take(block);

@@ -1,4 +1,5 @@
 use Rattle.std.proofs.Common.{◌≡◌, ◌+◌, ◌*◌, ◌/◌, ◌%◌, ◌<◌, ◌∙◌, ℕ, get_or, ap, ap₂, arith}
+use Rattle.cdg_screen.specs.Memory.{seen}
 use Rattle.live_player.specs.Lives.{picture_byte}
 use Rattle.pixel_formats.specs.Formats.{shown_bytes}
 use Rattle.pixel_formats.specs.declared.format.PixelFormat.TheVariants.{Rgb}
@@ -7,7 +8,7 @@ use Rattle.pixel_formats.proofs.writing.write_picture.Goals as goal
 pub returns : goal.returns
 unfolding picture_byte shown_bytes
 returns c n lt =
-    let now = c.args.screen.now in
+    let now = seen c.args.screen.now in
     let i = n / 3 % 300 in
     let j = n / 3 / 300 in
     let k = n % 3 in

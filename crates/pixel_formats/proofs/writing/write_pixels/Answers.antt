@@ -1,12 +1,13 @@
 use Rattle.std.proofs.Common.{◌≡◌, ◌+◌, ◌-◌, ◌*◌, ◌<◌, ◌≤◌, ◌∙◌, ℕ, length, get_or, take, ap, sym, arith}
 use Rattle.std.proofs.lemmas.List.{get_or-take, length-take-le}
 use Rattle.pixel_formats.specs.Formats.{pixel_size, shown_bytes}
+use Rattle.cdg_screen.specs.Memory.{seen}
 use Rattle.pixel_formats.proofs.Rows.{in_row, line_fits, row_others, row_pixels}
 use Rattle.pixel_formats.proofs.writing.write_pixels.Goals as goal
 
 pub loop-j-preserved : goal.loop-j-preserved
 loop-j-preserved c =
-    let now = c.args.screen.now in
+    let now = seen c.args.screen.now in
     let part = c.args.part.now in
     let format = c.args.format in
     let size = pixel_size format in

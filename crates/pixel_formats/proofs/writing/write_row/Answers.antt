@@ -2,12 +2,13 @@ use Rattle.std.proofs.Common.{◌≡◌, ◌+◌, ◌-◌, ◌*◌, ◌<◌, ◌
 use Rattle.cdg_screen.specs.Standing.{screen_pixel}
 use Rattle.live_player.proofs.Pictures.{length-piece, piece_at}
 use Rattle.pixel_formats.specs.Formats.{pixel_size}
+use Rattle.cdg_screen.specs.Memory.{seen}
 use Rattle.pixel_formats.proofs.Rows.{shown_number, shown_pixel}
 use Rattle.pixel_formats.proofs.writing.write_row.Goals as goal
 
 pub returns-in_default : goal.returns-in_default
 returns-in_default c i k i_lt k_lt =
-    let now = c.args.screen.now in
+    let now = seen c.args.screen.now in
     let part = c.args.part.now in
     let row = c.write_row.new.row in
     let w = part.left + part.width - part.left in
@@ -27,7 +28,7 @@ returns-in_default c i k i_lt k_lt =
 
 pub returns-in-Indexed : goal.returns-in-Indexed
 returns-in-Indexed c i k i_lt k_lt =
-    let now = c.args.screen.now in
+    let now = seen c.args.screen.now in
     let part = c.args.part.now in
     let row = c.write_row.new.row in
     let w = part.left + part.width - part.left in
