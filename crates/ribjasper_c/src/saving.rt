@@ -66,7 +66,7 @@ fn save(alloc: Global, live: &LivePlayer, file: &mut [u8; FILE_BYTES]) -> i32
     let Ok(mut saved) = CheckpointFile::start(alloc) else {
         return NO_MEMORY;
     };
-    live.save(&mut saved);
+    live.save(&mut saved.plain);
     match saved.check() {
         Ok(()) => {
             file.copy_from_slice(saved.bytes());
@@ -108,7 +108,7 @@ pub extern "C" fn ribjasper_player_load(
     match saved.check() {
         Ok(()) => {
             let mut live = player.take_out();
-            live.load(&saved);
+            live.load(&saved.plain);
             player.put_back(live);
             DONE
         }
