@@ -3,7 +3,9 @@ ghost use Rattle.std.specs.Prelude.{◌≡◌, ◌≢◌, ◌≤◌, ◌⊎◌, 
 ghost use Rattle.disc_time.specs.Counts.{most_lead_in};
 ghost use Rattle.raw_subcode.specs.Sizes.{most_units};
 ghost use Rattle.raw_subcode.specs.declared.form.Form.{Form};
+ghost use Rattle.checkpoint_files.specs.Checkpoint.{checkpoint_in};
 ghost use Rattle.checkpoint_files.specs.Table.{IsBadAt, IsCheckpointFile};
+ghost use Rattle.live_player.specs.Saving.{IsAt};
 ghost use Rattle.live_player.specs.Lives.{Given, HasPlayed, blocks_in};
 ghost use Rattle.live_player.specs.declared.live.LivePlayer.{LivePlayer};
 ghost use Rattle.ribjasper_c.specs.Handles.{IsPlaying};
@@ -108,7 +110,7 @@ pub extern "C" fn ribjasper_player_load(
     match saved.check() {
         Ok(()) => {
             let mut live = player.take_out();
-            live.load(&saved.plain);
+            go_to(&mut live, &saved);
             player.put_back(live);
             DONE
         }
@@ -117,6 +119,14 @@ pub extern "C" fn ribjasper_player_load(
             REFUSED
         }
     }
+}
+
+// Goes to the checkpoint of a file.
+fn go_to(live: &mut LivePlayer, file: &CheckpointFile)
+    requires { IsCheckpointFile file.now }
+    ensures { IsAt (checkpoint_in file.now) live.new }
+{
+    live.load(&file.plain);
 }
 
 // The file of these bytes, where there is memory.

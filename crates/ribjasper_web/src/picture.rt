@@ -79,5 +79,8 @@ fn opaque(colour: u16) -> u32
     ensures { result ≡ opaque colour }
 {
     let colour = u32::from(colour);
-    17 * (colour / 256) + 256 * (17 * (colour / 16 % 16)) + 65_536 * (17 * (colour % 16)) + 0xff00_0000
+    17 * (colour / 256)
+        + 256 * (17 * (colour / 16 % 16))
+        + 65_536 * (17 * (colour % 16))
+        + 0xff00_0000
 }
