@@ -7,7 +7,7 @@ ghost use Rattle.live_player.specs.Lives.{Given, instruction_of, standing_on};
 ghost use Rattle.live_player.specs.Lives.Given.{Drawn, Fed};
 ghost use Rattle.raw_subcode.specs.declared.form.Form.{Form};
 ghost use Rattle.ribjasper_c.specs.Handles.{IsPlaying, PlayersGo};
-ghost use Rattle.screen_changes.specs.Changes.{changes_on, sees, watch_from, KeepsUntold};
+ghost use Rattle.screen_changes.specs.Changes.{changes_on, sees, watch_from, AreDrawnFor, KeepsUntold};
 
 use crate::Playing;
 use crate::answers::{DONE, NOT_DONE};
@@ -27,7 +27,8 @@ pub extern "C" fn ribjasper_player_feed_all(
         → IsPlaying form lead_in (map Fed (reverse blocks.now) ++ given) player.new.handle.players }
     ensures told { result ≡ pos 0 → PlayersGo player.old.handle.players player.new.handle.players
         (λ before after. (instrs : List Instr) × (change.new ≡ changes_on (standing_on before) instrs)
-        × (standing_on after ≡ standing_after (standing_on before) instrs)) }
+        × (standing_on after ≡ standing_after (standing_on before) instrs)
+        × AreDrawnFor blocks.now before instrs) }
     ensures keeps { result ≡ pos 0 → PlayersGo player.old.handle.players player.new.handle.players
         (λ before after. KeepsUntold change.new (standing_on before) (standing_on after)) }
     ensures answer { result ≡ (if player.old.is_open then pos 0 else negsuc 0) }

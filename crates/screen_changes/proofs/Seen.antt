@@ -1,7 +1,7 @@
 -- Instructions one after the other.
-use Rattle.std.proofs.Common.{◌≡◌, ℕ, suc, ◌+◌, ◌<◌, List, [], ◌∷◌, ◌++◌, length, get_or, map, take, reverse, refl, sym, ap, ◌∙◌, arith, None, Some}
+use Rattle.std.proofs.Common.{◌≡◌, ℕ, suc, ◌+◌, ◌<◌, List, [], ◌∷◌, ◌++◌, length, get_or, map, take, drop, reverse, append_assoc, refl, sym, ap, ◌∙◌, arith, None, Some}
 use Rattle.std.specs.declared.option.Option.{Option}
-use Rattle.std.proofs.Math.Seq.{take-suc}
+use Rattle.std.proofs.Math.Seq.{drop-append_seam, take-suc}
 use Rattle.std.proofs.lemmas.List.{map-append, reverse-append}
 use Rattle.cdg_io.specs.Run.{run_state}
 use Rattle.cdg_io.proofs.Runs.{run_state-append}
@@ -9,7 +9,8 @@ use Rattle.cdg_instructions.specs.declared.instr.Instr.{Instr}
 use Rattle.cdg_instructions.specs.Meaning.{meaning}
 use Rattle.rw_code.specs.Finding.{finding}
 use Rattle.arrayvec.specs.ArrayVec.{ArrayVec}
-use Rattle.live_player.specs.Lives.{Given, drawn_for, instructions_of, meant_by}
+use Rattle.raw_subcode.specs.declared.form.Form.{Form}
+use Rattle.live_player.specs.Lives.{Given, Fed, blocks_in, drawn_for, instructions_in, instructions_of, meant_by, stream_words, words_with}
 use Rattle.live_player.specs.Steps.{words_come}
 use Rattle.screen_changes.specs.Changes.{sees}
 use Rattle.screen_changes.specs.declared.watch.Watch.{Watch}
@@ -39,3 +40,17 @@ given_more gives xs x given =
 pub drawn_come : (o : Option (ArrayVec (List ℕ))) → drawn_for o ≡ instructions_of (words_come o)
 drawn_come None = refl
 drawn_come (Some words) = refl
+
+-- what a block brings after what was given: the instructions of the words that come with it
+pub drawn_more : (form : Form) (lead_in : ℕ) (given : List Given) (block : List ℕ) (words : List (List ℕ))
+    (before instrs : List Instr)
+    → stream_words form lead_in (blocks_in given ++ block ∷ []) ≡ stream_words form lead_in (blocks_in given) ++ words
+    → instructions_in form lead_in given ≡ before ++ instrs
+    → instructions_in form lead_in (Fed block ∷ given) ≡ before ++ (instrs ++ instructions_of words)
+drawn_more form lead_in given block words before instrs come drawn =
+    let old = stream_words form lead_in (blocks_in given) in
+    let new : words_with form lead_in (blocks_in given) block ≡ words =
+    ap (drop (length old)) come ∙ drop-append_seam old words in
+    ap (λ (ws : List (List ℕ)). instructions_in form lead_in given ++ instructions_of ws) new
+    ∙ ap (λ (l : List Instr). l ++ instructions_of words) drawn
+    ∙ append_assoc before instrs (instructions_of words)

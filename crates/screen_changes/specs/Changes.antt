@@ -1,5 +1,5 @@
 -- What of the screen may change by instructions.
-use Rattle.std.specs.Prelude.{◌≡◌, ◌+◌, ◌-◌, ◌*◌, ◌<◌, ◌≤◌, ◌&&◌, ℕ, List, [], ◌∷◌, max, min, nat_lt, if◌then◌else◌}
+use Rattle.std.specs.Prelude.{◌≡◌, ◌+◌, ◌-◌, ◌*◌, ◌<◌, ◌≤◌, ◌&&◌, ◌++◌, ℕ, List, [], ◌∷◌, map, reverse, max, min, nat_lt, if◌then◌else◌}
 use Rattle.cdg_io.specs.Run.{run_state}
 use Rattle.cdg_instructions.specs.declared.effect.Effect.{Effect}
 use Rattle.cdg_instructions.specs.declared.effect.Effect.TheVariants.{Scroll}
@@ -8,6 +8,9 @@ use Rattle.cdg_screen.specs.Standing.{Standing, offsets_from, screen_pixel}
 use Rattle.cdg_screen.specs.Touched.{touched_by}
 use Rattle.cdg_screen.specs.declared.touching.Touched.{Touched}
 use Rattle.cdg_screen.specs.declared.touching.Touched.TheVariants.{Nothing, Tile, All, Border, Colours, Levels}
+use Rattle.raw_subcode.specs.declared.form.Form.{Form}
+use Rattle.live_player.specs.Lives.{Given, Fed, HasPlayed, instructions_in}
+use Rattle.live_player.specs.declared.live.LivePlayer.{LivePlayer}
 use Rattle.screen_changes.specs.declared.change.ScreenChange.{ScreenChange}
 use Rattle.screen_changes.specs.declared.watch.Watch.{Watch}
 
@@ -84,3 +87,11 @@ pub record KeepsUntold (change : ScreenChange) (old new : Standing) : Type 0 whe
       → screen_pixel new x y ≡ screen_pixel old x y
   pub colours : change.colours ≡ 0 → new.colours ≡ old.colours
   pub levels : change.levels ≡ 0 → new.levels ≡ old.levels
+
+-- These instructions are drawn for blocks by a player: where it is known what it was given before, they are those that
+-- blocks bring after it.
+abbrev pub AreDrawnFor : List (List ℕ) → LivePlayer → List Instr → Type 0
+AreDrawnFor blocks player instrs = (form : Form) (lead_in : ℕ) (given : List Given)
+    → HasPlayed form lead_in given player
+    → instructions_in form lead_in (map Fed (reverse blocks) ++ given)
+    ≡ instructions_in form lead_in given ++ instrs

@@ -6,7 +6,7 @@ ghost use Rattle.cdg_screen.specs.Standing.{IsWholeStanding, Standing, standing_
 ghost use Rattle.raw_subcode.specs.declared.form.Form.{Form};
 ghost use Rattle.live_player.specs.Lives.{Given, HasPlayed, instruction_of, standing_on};
 ghost use Rattle.live_player.specs.Lives.Given.{Drawn, Fed};
-ghost use Rattle.screen_changes.specs.Changes.{changes_on, sees, watch_from, KeepsUntold};
+ghost use Rattle.screen_changes.specs.Changes.{changes_on, sees, watch_from, AreDrawnFor, KeepsUntold};
 
 use crate::change::ScreenChange;
 use crate::keeping::untold_stays;
@@ -52,7 +52,8 @@ pub fn draw_all(live: &mut LivePlayer, packs: &[[u8; SYMBOLS]]) -> ScreenChange
 /// Feeds blocks in turn, and tells what may have changed.
 pub fn feed_all(live: &mut LivePlayer, blocks: &[[u8; BLOCK_BYTES]]) -> ScreenChange
     ensures told { (instrs : List Instr) × (result ≡ changes_on (standing_on live.old) instrs)
-        × (standing_on live.new ≡ standing_after (standing_on live.old) instrs) }
+        × (standing_on live.new ≡ standing_after (standing_on live.old) instrs)
+        × AreDrawnFor blocks.now live.old instrs }
     ensures keeps { KeepsUntold result (standing_on live.old) (standing_on live.new) }
     ensures fed { (form : Form) (lead_in : ℕ) (given : List Given)
         → HasPlayed form lead_in given live.old

@@ -5,12 +5,12 @@ use Rattle.cdg_instructions.specs.declared.instr.Instr.{Instr}
 use Rattle.cdg_screen.specs.Standing.{Standing, standing_after}
 use Rattle.cdg_screen.proofs.Turns.{in_turn}
 use Rattle.stream_stages.specs.Steps.{words_give}
-use Rattle.live_player.specs.Lives.{Given, Fed, HasPlayed, drawn_for, instructions_of, standing_on}
+use Rattle.live_player.specs.Lives.{Given, Fed, HasPlayed, drawn_for, instructions_in, instructions_of, standing_on}
 use Rattle.live_player.specs.Steps.{words_come}
 use Rattle.screen_changes.specs.Changes.{changes_on, sees, watch_from, KeepsUntold}
 use Rattle.screen_changes.specs.declared.change.ScreenChange.{ScreenChange}
 use Rattle.screen_changes.specs.declared.watch.Watch.{Watch}
-use Rattle.screen_changes.proofs.Seen.{drawn_come, given_more, one_more}
+use Rattle.screen_changes.proofs.Seen.{drawn_come, drawn_more, given_more, one_more}
 use Rattle.screen_changes.proofs.feeding.feed_all.Goals as goal
 
 pub loop-block-preserved : goal.loop-block-preserved
@@ -38,6 +38,14 @@ loop-block-preserved c =
             ∙ ap (standing_after (standing_on c.loop-block.live)) come
             ∙ ap (λ (s : Standing). standing_after s words) c.loop-block.invariant.told.2
             ∙ sym (in_turn start before words),
+        λ form lead_in given played.
+            ap (instructions_in form lead_in) (ap (λ (l : List (List ℕ)). map Fed (reverse l) ++ given) more
+            ∙ given_more Fed (take i blocks) block given)
+            ∙ drawn_more form lead_in (map Fed (reverse (take i blocks)) ++ given) block c.take-words.result.items
+            (instructions_in form lead_in given) before
+            (c.take-words.ensures.words form lead_in (map Fed (reverse (take i blocks)) ++ given)
+            (c.loop-block.invariant.fed form lead_in given played))
+            (c.loop-block.invariant.told.3 form lead_in given played),
       );
       fed =
           λ form lead_in given played. subst (λ (g : List Given). HasPlayed form lead_in g c.take-words.new.self)
