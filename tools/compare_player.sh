@@ -4,7 +4,7 @@
 # the tour: fed as blocks and drawn as packs. A stream with twenty blocks lost has to be noticed. Runs
 # tools/test_library.c, tools/test_mend.c, tools/test_plan.c, tools/test_desk_calls.c, tools/test_pixels.c and
 # tools/test_sheets.c, and all of it once under the address sanitizer where that is there; tools/test_stack.c
-# measures what the calls take of the stack. Skipped where a compiler or what make builds is missing.
+# measures what the calls take of the stack, and tools/test_given_back.c counts what they ask for and give back. Skipped where a compiler or what make builds is missing.
 # With the argument `measure` it also tells how many blocks a second the player takes, and how long pictures
 # take beside plain C.
 set -e
@@ -49,6 +49,8 @@ done
 ./test_pixels stream >/dev/null
 cc $flags -std=gnu99 "$top/tools/test_stack.c" "$top/lib/libribjasper.a" -o test_stack
 ./test_stack
+cc $flags -std=c99 "$top/tools/test_given_back.c" "$top/lib/libribjasper.a" $wrap -o test_given_back
+./test_given_back hello.cue hello.script whole
 moments="2 77 150 301 449 535 777 1111 1350 1649"
 packs=
 for blocks in $moments; do
