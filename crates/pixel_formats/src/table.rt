@@ -13,7 +13,8 @@ pub(crate) fn table_of(screen: &PlainScreen, format: PixelFormat) -> [[u8; 4]; C
     ensures size { length result ≡ 16 }
     ensures sizes { (p : ℕ) → p < 16 → length (slice_index_or result p []) ≡ 4 }
     ensures bytes { (p : ℕ) → p < 16 → take (pixel_size format) (slice_index_or result p [])
-        ≡ pixel_bytes format p (slice_index (seen screen.now).colours p) (slice_index (seen screen.now).levels p) }
+        ≡ pixel_bytes format p (slice_index (seen screen.now).colours p)
+        (slice_index (seen screen.now).levels p) }
 {
     let mut table = [[0; 4]; COLOURS];
     for p in 0..COLOURS {

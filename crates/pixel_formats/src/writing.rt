@@ -62,7 +62,8 @@ fn write_row(
     requires row { j < part.now.height }
     requires sizes { (p : ℕ) → p < 16 → length (slice_index_or table.now p []) ≡ 4 }
     requires bytes { (p : ℕ) → p < 16 → take (pixel_size format) (slice_index_or table.now p [])
-        ≡ pixel_bytes format p (slice_index (seen screen.now).colours p) (slice_index (seen screen.now).levels p) }
+        ≡ pixel_bytes format p (slice_index (seen screen.now).colours p)
+        (slice_index (seen screen.now).levels p) }
     ensures { (i k : ℕ) → i < part.now.width → k < pixel_size format
         → slice_index line.new (pixel_size format * i + k)
         ≡ slice_index (shown_bytes format (seen screen.now) (part.now.left + i) (part.now.top + j)) k }

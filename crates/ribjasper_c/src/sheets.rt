@@ -3,7 +3,7 @@ ghost use Rattle.std.specs.Prelude.{◌≡◌, ◌≢◌, ◌<◌, ◌≤◌, �
 ghost use Rattle.text_lines.specs.Text.{most_text_bytes};
 ghost use Rattle.cue_sheet.specs.Grammar.{read_cue};
 ghost use Rattle.cue_sheet.specs.declared.fault.CueWhy.{CueWhy};
-ghost use Rattle.sheet_rows.specs.Rows.{told_refusal, AreRowsOf, IsSheetStop, IsTextOf, IsTextStop};
+ghost use Rattle.sheet_rows.specs.Rows.{told_refusal, AreRowsOf, IsRowsStop, IsTextOf, IsTextStop};
 ghost use Rattle.sheet_rows.specs.declared.stops.SheetStop.{SheetStop};
 ghost use Rattle.sheet_rows.specs.declared.stops.TextStop.{TextStop};
 ghost use Rattle.ribjasper_c.specs.Sheets.{text_kind};
@@ -26,7 +26,7 @@ pub extern "C" fn ribjasper_sheet(
     ensures long { (result ≡ pos 2) ↔ (most_text_bytes < length sheet.now) }
     ensures refused { result ≡ pos 3 → (line : ℕ) × (why : CueWhy)
         × (read_cue sheet.now ≡ Err (line, why)) × (told.new ≡ told_refusal line why) }
-    ensures small { result ≡ pos 6 → IsSheetStop sheet.now (length rows.old) (SheetStop.NoRoom told.new) }
+    ensures small { result ≡ pos 6 → IsRowsStop sheet.now (length rows.old) (SheetStop.NoRoom told.new) }
     ensures answer { (result ≡ pos 0) ⊎ (result ≡ pos 2) ⊎ (result ≡ pos 3) ⊎ (result ≡ pos 6)
         ⊎ (result ≡ pos 7) }
     ensures untouched { result ≢ pos 0 → rows.new ≡ rows.old }

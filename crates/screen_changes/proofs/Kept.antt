@@ -15,7 +15,7 @@ use Rattle.cdg_screen.specs.declared.touching.Touched.{Touched}
 use Rattle.cdg_screen.specs.declared.touching.Touched.TheVariants.{Nothing, Tile, All, Border, Colours, Levels}
 use Rattle.cdg_screen.proofs.Lists.{length-row, length-rows_of}
 use Rattle.cdg_screen.proofs.Turns.{in_turn, whole_after}
-use Rattle.screen_changes.specs.Changes.{change_of, join, offsets_by, rectangle, sees, tile_change, IsWithin, KeepsUntold}
+use Rattle.screen_changes.specs.Changes.{touched_change, join, offsets_by, rectangle, sees, tile_change, IsInChange, KeepsUntold}
 use Rattle.screen_changes.specs.declared.change.ScreenChange.{ScreenChange}
 use Rattle.screen_changes.specs.declared.watch.Watch.{Watch}
 
@@ -96,7 +96,8 @@ in_window x y is = record {
 
 -- the screen shows the same at a place where the memory and the border are the same
 screen_same : (old new : Standing) (x y : ℕ)
-    → (IsShown x y → pixel_at new.memory (x + new.h) (y + new.v) ≡ pixel_at old.memory (x + old.h) (y + old.v))
+    → (IsShown x y
+    → pixel_at new.memory (x + new.h) (y + new.v) ≡ pixel_at old.memory (x + old.h) (y + old.v))
     → new.border ≡ old.border
     → screen_pixel new x y ≡ screen_pixel old x y
 screen_same old new x y inside beside =
@@ -116,23 +117,23 @@ has_pixel left top right bottom x y l r t b =
     grind (arith, nat_tests)
 
 in_rectangle : (left top right bottom x y : ℕ) → left ≤ x → x < right → top ≤ y → y < bottom
-    → IsWithin (rectangle left top right bottom) x y
+    → IsInChange (rectangle left top right bottom) x y
 in_rectangle left top right bottom x y l r t b =
-    subst (λ (it : ScreenChange). IsWithin it x y)
+    subst (λ (it : ScreenChange). IsInChange it x y)
     (sym (if_true (nat_lt left right && nat_lt top bottom)
     (record { left = left; top = top; right = right; bottom = bottom; colours = 0; levels = 0 }) _
     (has_pixel left top right bottom x y l r t b)))
     (record { left = l; right = r; top = t; bottom = b })
 
 in_tile : (row column h v x y : ℕ) → IsShown x y → (x + h) / 6 ≡ column → (y + v) / 12 ≡ row
-    → IsWithin (tile_change row column h v) x y
+    → IsInChange (tile_change row column h v) x y
 in_tile row column h v x y shown is_column is_row =
     in_rectangle (max (6 * column - h) 6) (max (12 * row - v) 12) (min (6 * column + 6 - h) 294)
     (min (12 * row + 12 - v) 204) x y
     (omega (arith, shown.left, is_column)) (omega (arith, shown.right, is_column))
     (omega (arith, shown.top, is_row)) (omega (arith, shown.bottom, is_row))
 
-join_left : (one other : ScreenChange) (x y : ℕ) → IsWithin one x y → IsWithin (join one other) x y
+join_left : (one other : ScreenChange) (x y : ℕ) → IsInChange one x y → IsInChange (join one other) x y
 join_left one other x y is = record {
   left = omega (arith, is.left);
   right = omega (arith, is.right);
@@ -140,7 +141,7 @@ join_left one other x y is = record {
   bottom = omega (arith, is.bottom);
 }
 
-join_right : (one other : ScreenChange) (x y : ℕ) → IsWithin other x y → IsWithin (join one other) x y
+join_right : (one other : ScreenChange) (x y : ℕ) → IsInChange other x y → IsInChange (join one other) x y
 join_right one other x y is = record {
   left = omega (arith, is.left);
   right = omega (arith, is.right);
@@ -151,7 +152,7 @@ join_right one other x y is = record {
 -- ---- one instruction
 
 beside_same : (change : ScreenChange) (old new : Standing) → IsSameBeside old new
-    → ((x y : ℕ) → ¬ IsWithin change x y → x < 300 → y < 216 → screen_pixel new x y ≡ screen_pixel old x y)
+    → ((x y : ℕ) → ¬ IsInChange change x y → x < 300 → y < 216 → screen_pixel new x y ≡ screen_pixel old x y)
     → KeepsUntold change old new
 beside_same change old new same pixels = record {
   pixels = pixels;
@@ -167,7 +168,7 @@ moved_same old new x y memory place =
     ∙ ap₂ (λ h v. pixel_at old.memory (x + h) (y + v)) place.0 place.1
 
 pub step_keeps : (touched : Touched) (old new : Standing) → IsWholeStanding old → IsWholeStanding new
-    → KeepsTheRest touched old new → KeepsUntold (change_of touched old.h old.v) old new
+    → KeepsTheRest touched old new → KeepsUntold (touched_change touched old.h old.v) old new
 step_keeps Nothing old new whole whole_new same = record {
   pixels = λ x y out x_lt y_lt. ap (λ (s : Standing). screen_pixel s x y) same;
   colours = λ _. ap (λ (s : Standing). s.colours) same;
@@ -181,7 +182,7 @@ step_keeps (Tile row column) old new whole whole_new same =
     (λ a b. same.0 (x + old.h) (y + old.v) a b
     (λ at. out (in_tile row column old.h old.v x y shown at.0 at.1)))) same.1.border)
 step_keeps All old new whole whole_new same =
-    beside_same (change_of All old.h old.v) old new same
+    beside_same (touched_change All old.h old.v) old new same
     (λ x y out x_lt y_lt. screen_same old new x y
     (λ shown. absurd (out (in_rectangle 6 12 294 204 x y shown.left (omega (arith, shown.right)) shown.top
     (omega (arith, shown.bottom))))) same.border)
@@ -209,7 +210,7 @@ step_keeps Levels old new whole whole_new same = record {
 -- what was told before is told still, and the rest stays
 pub record Tells (told : ScreenChange) (before : ScreenChange) (old new : Standing) : Type 0 where
   pub keeps : KeepsUntold told old new
-  pub within : (x y : ℕ) → IsWithin before x y → IsWithin told x y
+  pub within : (x y : ℕ) → IsInChange before x y → IsInChange told x y
   pub colours : told.colours ≡ 0 → before.colours ≡ 0
   pub levels : told.levels ≡ 0 → before.levels ≡ 0
 
@@ -231,13 +232,14 @@ tells untouched [] watch now whole across down = record {
 tells untouched (instr ∷ rest) watch now whole across down =
     let next : Standing = standing_after now (instr ∷ []) in
     let whole_next : IsWholeStanding next = whole_after now (instr ∷ []) in
-    let change : ScreenChange = change_of (touched_by instr) watch.across watch.down in
-    let there : change_of (touched_by instr) now.h now.v ≡ change =
-    ap₂ (change_of (touched_by instr)) (sym across) (sym down) in
+    let change : ScreenChange = touched_change (touched_by instr) watch.across watch.down in
+    let there : touched_change (touched_by instr) now.h now.v ≡ change =
+    ap₂ (touched_change (touched_by instr)) (sym across) (sym down) in
     let step : KeepsUntold change now next =
     subst (λ (it : ScreenChange). KeepsUntold it now next) there
     (step_keeps (touched_by instr) now next whole whole_next (untouched instr now whole)) in
-    let offsets : offsets_from (watch.across, watch.down) (instr ∷ []) ≡ offsets_from (now.h, now.v) (instr ∷ []) =
+    let offsets : offsets_from (watch.across, watch.down) (instr ∷ [])
+    ≡ offsets_from (now.h, now.v) (instr ∷ []) =
     ap₂ (λ h v. offsets_from (h, v) (instr ∷ [])) across down in
     let further : Tells (run_state sees (sees watch instr) rest).change (join watch.change change) next
     (standing_after next rest) =

@@ -44,7 +44,8 @@ drawn_come (Some words) = refl
 -- what a block brings after what was given: the instructions of the words that come with it
 pub drawn_more : (form : Form) (lead_in : ℕ) (given : List Given) (block : List ℕ) (words : List (List ℕ))
     (before instrs : List Instr)
-    → stream_words form lead_in (blocks_in given ++ block ∷ []) ≡ stream_words form lead_in (blocks_in given) ++ words
+    → stream_words form lead_in (blocks_in given ++ block ∷ [])
+    ≡ stream_words form lead_in (blocks_in given) ++ words
     → instructions_in form lead_in given ≡ before ++ instrs
     → instructions_in form lead_in (Fed block ∷ given) ≡ before ++ (instrs ++ instructions_of words)
 drawn_more form lead_in given block words before instrs come drawn =

@@ -33,13 +33,13 @@ tile_change row column h v =
     (min (12 * row + 12 - v) 204)
 
 -- what may change where this is touched: of the memory the window alone is shown, and around it lies the border
-abbrev pub change_of : Touched → ℕ → ℕ → ScreenChange
-change_of Nothing h v = no_change
-change_of (Tile row column) h v = tile_change row column h v
-change_of All h v = rectangle 6 12 294 204
-change_of Border h v = rectangle 0 0 300 216
-change_of Colours h v = record no_change { colours = 1 }
-change_of Levels h v = record no_change { levels = 1 }
+abbrev pub touched_change : Touched → ℕ → ℕ → ScreenChange
+touched_change Nothing h v = no_change
+touched_change (Tile row column) h v = tile_change row column h v
+touched_change All h v = rectangle 6 12 294 204
+touched_change Border h v = rectangle 0 0 300 216
+touched_change Colours h v = record no_change { colours = 1 }
+touched_change Levels h v = record no_change { levels = 1 }
 
 -- all that changes here or there: the least rectangle that holds both
 abbrev pub join : ScreenChange → ScreenChange → ScreenChange
@@ -64,7 +64,7 @@ watch_from h v = record { change = no_change; across = h; down = v }
 -- what changed so far after one more instruction
 abbrev pub sees : Watch → Instr → Watch
 sees watch instr = record {
-  change = join watch.change (change_of (touched_by instr) watch.across watch.down);
+  change = join watch.change (touched_change (touched_by instr) watch.across watch.down);
   across = (offsets_from (watch.across, watch.down) (instr ∷ [])).0;
   down = (offsets_from (watch.across, watch.down) (instr ∷ [])).1;
 }
@@ -74,7 +74,7 @@ abbrev pub changes_on : Standing → List Instr → ScreenChange
 changes_on now instrs = (run_state sees (watch_from now.h now.v) instrs).change
 
 -- the pixel lies in the rectangle
-pub record IsWithin (change : ScreenChange) (x y : ℕ) : Type 0 where
+pub record IsInChange (change : ScreenChange) (x y : ℕ) : Type 0 where
   pub left : change.left ≤ x
   pub right : x < change.right
   pub top : change.top ≤ y
@@ -83,7 +83,7 @@ pub record IsWithin (change : ScreenChange) (x y : ℕ) : Type 0 where
 -- From what stood before, only what was told may have changed: the screen shows the same outside of the rectangle, and the
 -- colours and the levels are the same unless they were told.
 pub record KeepsUntold (change : ScreenChange) (old new : Standing) : Type 0 where
-  pub pixels : (x y : ℕ) → ¬ IsWithin change x y → x < 300 → y < 216
+  pub pixels : (x y : ℕ) → ¬ IsInChange change x y → x < 300 → y < 216
       → screen_pixel new x y ≡ screen_pixel old x y
   pub colours : change.colours ≡ 0 → new.colours ≡ old.colours
   pub levels : change.levels ≡ 0 → new.levels ≡ old.levels

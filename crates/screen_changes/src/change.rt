@@ -1,6 +1,6 @@
 // What of the screen may change.
 ghost use Rattle.std.specs.Prelude.{◌≡◌};
-ghost use Rattle.screen_changes.specs.Changes.{change_of, join, no_change, rectangle, tile_change};
+ghost use Rattle.screen_changes.specs.Changes.{touched_change, join, no_change, rectangle, tile_change};
 
 use cdg_screen::Touched;
 
@@ -55,8 +55,8 @@ impl ScreenChange {
 
 /// What may change where this is touched, of a screen that begins so many pixels further right and further down in the
 /// memory.
-pub fn change_of(touched: Touched, across: u8, down: u8) -> ScreenChange
-    ensures { result ≡ change_of touched across down }
+pub fn touched_change(touched: Touched, across: u8, down: u8) -> ScreenChange
+    ensures { result ≡ touched_change touched across down }
 {
     match touched {
         Touched::Nothing => ScreenChange::none(),

@@ -6,6 +6,6 @@ mod feeding;
 mod keeping;
 mod watch;
 
-pub use change::{ScreenChange, change_of};
+pub use change::{ScreenChange, touched_change};
 pub use feeding::{draw_all, feed_all, pack_change};
 pub use keeping::untold_stays;

@@ -4,7 +4,7 @@ ghost use Rattle.cdg_io.specs.Run.{run_state};
 ghost use Rattle.live_player.specs.Lives.{instruction_of, instructions_of};
 ghost use Rattle.screen_changes.specs.Changes.{offsets_by, sees, watch_from};
 
-use crate::change::{ScreenChange, change_of};
+use crate::change::{ScreenChange, touched_change};
 use cdg_instructions::{Effect, Instr, read_word};
 use cdg_screen::touches;
 use rw_code::{SYMBOLS, Word, correct};
@@ -33,7 +33,7 @@ impl Watch {
     pub(crate) fn see(&mut self, instr: &Instr)
         ensures { self.new ≡ sees self.old instr.now }
     {
-        let change = change_of(touches(instr), self.across, self.down);
+        let change = touched_change(touches(instr), self.across, self.down);
         let (across, down) = offsets_by(&instr.effect(), self.across, self.down);
         *self = Watch {
             change: self.change.join(&change),

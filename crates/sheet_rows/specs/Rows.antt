@@ -77,12 +77,12 @@ AreRowsOf text old new told = (sheet : CueSheet) × IsTextOfSheet text sheet × 
     × (new ≡ sheet_rows sheet ++ drop (length (sheet_rows sheet)) old)
 
 -- why the text of a sheet gives no rows where there are so many; memory may run out where it is not too long
-abbrev pub IsSheetStop : List ℕ → ℕ → SheetStop → Type 0
-IsSheetStop text room TooLong = most_text_bytes < length text
-IsSheetStop text room (Fault line why) = (length text ≤ most_text_bytes) × (read_cue text ≡ Err (line, why))
-IsSheetStop text room (NoRoom told) = (sheet : CueSheet) × IsTextOfSheet text sheet
+abbrev pub IsRowsStop : List ℕ → ℕ → SheetStop → Type 0
+IsRowsStop text room TooLong = most_text_bytes < length text
+IsRowsStop text room (Fault line why) = (length text ≤ most_text_bytes) × (read_cue text ≡ Err (line, why))
+IsRowsStop text room (NoRoom told) = (sheet : CueSheet) × IsTextOfSheet text sheet
     × (told ≡ told_sheet sheet) × (room < length (sheet_rows sheet))
-IsSheetStop text room NoMemory = length text ≤ most_text_bytes
+IsRowsStop text room NoMemory = length text ≤ most_text_bytes
 
 -- a text of the sheet stands at the front, and has so many bytes
 abbrev pub IsTextOf : CueText → ℕ → List ℕ → List ℕ → List ℕ → ℕ → Type 0

@@ -1,6 +1,6 @@
 // The rows of the text of a sheet.
 ghost use Rattle.std.specs.Prelude.{◌≡◌, ◌++◌, IfErr, IfOk, OnErr, drop, length};
-ghost use Rattle.sheet_rows.specs.Rows.{AreRowsOf, IsSheetStop};
+ghost use Rattle.sheet_rows.specs.Rows.{AreRowsOf, IsRowsStop};
 
 use crate::rows::{SheetRow, write_rows};
 use crate::stops::SheetStop;
@@ -12,7 +12,7 @@ use text_lines::MOST_TEXT_BYTES;
 /// Writes a row for each index line of the text of a cue sheet to the front of some rows.
 pub fn sheet_rows(alloc: Global, text: &[u8], rows: &mut [SheetRow]) -> Result<ToldSheet, SheetStop>
     ensures rows { IfOk result (AreRowsOf text.now rows.old rows.new) }
-    ensures stop { IfErr result (IsSheetStop text.now (length rows.old)) }
+    ensures stop { IfErr result (IsRowsStop text.now (length rows.old)) }
     ensures untouched { OnErr result (rows.new ≡ rows.old) }
 {
     if text.len() > MOST_TEXT_BYTES {

@@ -17,7 +17,8 @@ returns-in_default c i k i_lt k_lt =
     length-piece row part.left part.width w c.write_row.array_long c.requires.part.0 w_is in
     let piece : get_or (take w (drop part.left row)) i 0 ≡ get_or row (part.left + i) 0 =
     piece_at row part.left part.width w i w_is i_lt in
-    let number : get_or (take w (drop part.left row)) i 0 ≡ screen_pixel now (part.left + i) (part.top + c.args.j) =
+    let number : get_or (take w (drop part.left row)) i 0
+    ≡ screen_pixel now (part.left + i) (part.top + c.args.j) =
     piece ∙ c.write_row.ensures.pixels (part.left + i) (omega (arith, i_lt, c.requires.part.0)) in
     let small : get_or (take w (drop part.left row)) i 0 < 16 =
     subst (λ v. v < 16) (sym piece) (c.write_row.ensures.range (part.left + i)) in
@@ -35,7 +36,8 @@ returns-in-Indexed c i k i_lt k_lt =
     let w_is : w ≡ part.width = omega arith in
     let long : length (take w (drop part.left row)) ≡ part.width =
     length-piece row part.left part.width w c.write_row.array_long c.requires.part.0 w_is in
-    let number : get_or (take w (drop part.left row)) i 0 ≡ screen_pixel now (part.left + i) (part.top + c.args.j) =
+    let number : get_or (take w (drop part.left row)) i 0
+    ≡ screen_pixel now (part.left + i) (part.top + c.args.j) =
     piece_at row part.left part.width w i w_is i_lt
     ∙ c.write_row.ensures.pixels (part.left + i) (omega (arith, i_lt, c.requires.part.0)) in
     let size : pixel_size c.args.format ≡ 1 = ap pixel_size c.in-Indexed.is in

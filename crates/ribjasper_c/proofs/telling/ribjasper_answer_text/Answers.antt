@@ -9,5 +9,7 @@ pub returns : goal.returns
 returns c =
     c.put.ensures
     ∙ ap (λ (l : List ℕ). l ++ drop (length l) (replicate 64 0)) c.meaning.ensures.text
-    ∙ ap (λ (z : ℤ). answer_text z ++ drop (length (answer_text z)) (replicate 64 0)) (to_z-of_z c.ranges.answer)
-    ∙ ap (λ (l : List ℕ). answer_text c.args.answer ++ l) (drop-replicate (length (answer_text c.args.answer)) 64 0)
+    ∙ ap (λ (z : ℤ). answer_text z ++ drop (length (answer_text z)) (replicate 64 0))
+    (to_z-of_z c.ranges.answer)
+    ∙ ap (λ (l : List ℕ). answer_text c.args.answer ++ l)
+    (drop-replicate (length (answer_text c.args.answer)) 64 0)

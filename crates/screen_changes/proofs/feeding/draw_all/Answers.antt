@@ -49,5 +49,6 @@ returns-clause-keeps c =
     let instrs = map instruction_of (take c.loop-pack.pack-index c.args.packs.now) in
     subst (λ (it : ScreenChange). KeepsUntold it start (standing_on c.loop-pack.live))
     (sym (ap (λ (w : Watch). w.change) c.loop-pack.invariant.told))
-    (subst (λ (s : Standing). KeepsUntold (changes_on start instrs) start s) (sym c.loop-pack.invariant.stands)
+    (subst (λ (s : Standing). KeepsUntold (changes_on start instrs) start s)
+    (sym c.loop-pack.invariant.stands)
     (c.untold_stays.ensures start instrs c.what_stands_is_whole.ensures))

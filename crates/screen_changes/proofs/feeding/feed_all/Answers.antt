@@ -31,7 +31,8 @@ loop-block-preserved c =
       told = (
         before ++ words,
         c.see_words.ensures
-            ∙ ap (λ (ws : List (List ℕ)). run_state sees c.loop-block.watch (instructions_of ws)) c.as_slice.ensures.value
+            ∙ ap (λ (ws : List (List ℕ)). run_state sees c.loop-block.watch (instructions_of ws))
+            c.as_slice.ensures.value
             ∙ ap (λ (w : Watch). run_state sees w words) c.loop-block.invariant.told.1
             ∙ sym (run_state-append sees watch before words),
         c.take-words.ensures.takes.draws
@@ -41,14 +42,16 @@ loop-block-preserved c =
         λ form lead_in given played.
             ap (instructions_in form lead_in) (ap (λ (l : List (List ℕ)). map Fed (reverse l) ++ given) more
             ∙ given_more Fed (take i blocks) block given)
-            ∙ drawn_more form lead_in (map Fed (reverse (take i blocks)) ++ given) block c.take-words.result.items
+            ∙ drawn_more form lead_in (map Fed (reverse (take i blocks)) ++ given) block
+            c.take-words.result.items
             (instructions_in form lead_in given) before
             (c.take-words.ensures.words form lead_in (map Fed (reverse (take i blocks)) ++ given)
             (c.loop-block.invariant.fed form lead_in given played))
             (c.loop-block.invariant.told.3 form lead_in given played),
       );
       fed =
-          λ form lead_in given played. subst (λ (g : List Given). HasPlayed form lead_in g c.take-words.new.self)
+          λ form lead_in given played.
+          subst (λ (g : List Given). HasPlayed form lead_in g c.take-words.new.self)
           (sym (ap (λ (l : List (List ℕ)). map Fed (reverse l) ++ given) more
           ∙ given_more Fed (take i blocks) block given))
           (c.take-words.ensures.fed form lead_in (map Fed (reverse (take i blocks)) ++ given)
@@ -61,5 +64,6 @@ returns-clause-keeps c =
     let instrs : List Instr = c.loop-block.invariant.told.0 in
     subst (λ (it : ScreenChange). KeepsUntold it start (standing_on c.loop-block.live))
     (sym (ap (λ (w : Watch). w.change) c.loop-block.invariant.told.1))
-    (subst (λ (s : Standing). KeepsUntold (changes_on start instrs) start s) (sym c.loop-block.invariant.told.2)
+    (subst (λ (s : Standing). KeepsUntold (changes_on start instrs) start s)
+    (sym c.loop-block.invariant.told.2)
     (c.untold_stays.ensures start instrs c.what_stands_is_whole.ensures))

@@ -10,7 +10,8 @@ use Rattle.screen_changes.proofs.feeding.feed_all.Given as goal
 abbrev pub invariant-loop-block : goal.invariant-loop-block
 invariant-loop-block l = record {
   told : (instrs : List Instr)
-      × (l.watch ≡ run_state sees (watch_from (standing_on l.initial.live).h (standing_on l.initial.live).v) instrs)
+      × (l.watch
+      ≡ run_state sees (watch_from (standing_on l.initial.live).h (standing_on l.initial.live).v) instrs)
       × (standing_on l.live ≡ standing_after (standing_on l.initial.live) instrs)
       × AreDrawnFor (take l.block-index l.blocks) l.initial.live instrs;
   fed : (form : Form) (lead_in : ℕ) (given : List Given) → HasPlayed form lead_in given l.initial.live

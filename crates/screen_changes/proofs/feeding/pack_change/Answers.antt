@@ -11,7 +11,8 @@ pub returns : goal.returns
 returns c =
     let instr = instruction_of c.args.pack.now in
     let told =
-    ap (λ (w : Watch). w.change) (c.see_pack.ensures ∙ ap (λ (w : Watch). sees w instr) c.from-watch.ensures) in
+    ap (λ (w : Watch). w.change)
+    (c.see_pack.ensures ∙ ap (λ (w : Watch). sees w instr) c.from-watch.ensures) in
     record {
       told = told;
       keeps =

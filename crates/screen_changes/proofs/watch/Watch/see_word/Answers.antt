@@ -14,7 +14,8 @@ returns-in-Some c =
     let codeword : List ℕ = c.in-Some.fixed.pack in
     let read : c.read_word.result ≡ meaning codeword =
     only_meaning codeword c.read_word.result
-    (subst (λ (word : List ℕ). Means word c.read_word.result) c.word.ensures.same c.read_word.ensures.meaning) in
+    (subst (λ (word : List ℕ). Means word c.read_word.result) c.word.ensures.same
+    c.read_word.ensures.meaning) in
     c.see.ensures
     ∙ ap (sees c.args.self.now) read
     ∙ ap (λ (found : Option (List ℕ)). run_state sees c.args.self.now (meant_by (found ∷ [])))
