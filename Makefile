@@ -56,6 +56,8 @@ install:
 
 # What was installed, and the folders that are then empty, but for those of the system.
 uninstall:
+	rm -f "$(DESTDIR)$(PREFIX)"/share/man/man3/ribjasper_*.3 "$(DESTDIR)$(LIBDIR)"/cmake/ribjasper/ribjasper-config*.cmake
+	rmdir "$(DESTDIR)$(LIBDIR)/cmake/ribjasper" "$(DESTDIR)$(LIBDIR)/cmake" 2>/dev/null || true
 	cd "$(DESTDIR)$(LIBDIR)" 2>/dev/null && rm -f libribjasper.a libribjasper.so.0 libribjasper.so pkgconfig/ribjasper.pc || true
 	cd "$(DESTDIR)$(PREFIX)" && rm -f include/ribjasper.h share/man/man3/ribjasper.3 bin/ribjasper \
 		share/man/man1/ribjasper.1 share/bash-completion/completions/ribjasper share/zsh/site-functions/_ribjasper

@@ -2,9 +2,11 @@
 # What lib/libribjasper.a does for programs in C. Builds examples/player.c on it, as C and as C++, and
 # compares its screens with those of the command `screen`, byte for byte, at ten moments of the stream of
 # the tour: fed as blocks and drawn as packs. A stream with twenty blocks lost has to be noticed. Runs
-# tools/test_library.c, tools/test_mend.c, tools/test_plan.c and tools/test_desk_calls.c, and all of it once
-# under the address sanitizer where that is there. Skipped where a compiler or what make builds is missing.
-# With the argument `measure` it also tells how many blocks a second the player takes.
+# tools/test_library.c, tools/test_mend.c, tools/test_plan.c, tools/test_desk_calls.c, tools/test_pixels.c and
+# tools/test_sheets.c, and all of it once under the address sanitizer where that is there; tools/test_stack.c
+# measures what the calls take of the stack, and tools/test_given_back.c counts what they ask for and give back. Skipped where a compiler or what make builds is missing.
+# With the argument `measure` it also tells how many blocks a second the player takes, and how long pictures
+# take beside plain C.
 set -e
 cd "$(dirname "$0")/.."
 top=$PWD
@@ -25,11 +27,11 @@ c++ $flags -x c++ tools/test_library.c -x none lib/libribjasper.a $wrap -o "$wor
 "$work/test_library_of_cxx" >/dev/null
 cc $flags -std=c99 tools/test_mend.c lib/libribjasper.a -o "$work/test_mend"
 c++ $flags -x c++ tools/test_mend.c -x none lib/libribjasper.a -o "$work/test_mend_of_cxx"
-for name in test_plan test_desk_calls; do
+for name in test_plan test_desk_calls test_pixels test_sheets; do
     cc $flags -std=c99 tools/$name.c lib/libribjasper.a $wrap -o "$work/$name"
     c++ $flags -x c++ tools/$name.c -x none lib/libribjasper.a $wrap -o "$work/${name}_of_cxx"
 done
-for name in test_mend test_plan test_desk_calls; do
+for name in test_mend test_plan test_desk_calls test_pixels test_sheets; do
     "$work/$name"
     "$work/${name}_of_cxx" >/dev/null
 done
@@ -44,6 +46,11 @@ for disc in whole scratched; do
     "$top/bin/ribjasper" text --lead-in 300 <$disc >$disc.text
     ./test_desk_calls $disc 300 $disc.check $disc.text
 done
+./test_pixels stream >/dev/null
+cc $flags -std=gnu99 "$top/tools/test_stack.c" "$top/lib/libribjasper.a" -o test_stack
+./test_stack
+cc $flags -std=c99 "$top/tools/test_given_back.c" "$top/lib/libribjasper.a" $wrap -o test_given_back
+./test_given_back hello.cue hello.script whole
 moments="2 77 150 301 449 535 777 1111 1350 1649"
 packs=
 for blocks in $moments; do
@@ -83,6 +90,10 @@ if cc $sanitize empty.c -o empty 2>/dev/null && ./empty 2>/dev/null; then
     cc $flags $sanitize -std=c99 "$top/tools/test_plan.c" "$top/lib/libribjasper.a" $wrap -o test_plan_watched
     cc $flags $sanitize -std=c99 "$top/tools/test_desk_calls.c" "$top/lib/libribjasper.a" $wrap -o test_desk_watched
     ./test_desk_watched scratched 300 scratched.check scratched.text >/dev/null
+    for name in test_pixels test_sheets; do
+        cc $flags $sanitize -std=c99 "$top/tools/$name.c" "$top/lib/libribjasper.a" $wrap -o ${name}_watched
+        ./${name}_watched stream >/dev/null
+    done
     mkdir watched
     (cd watched && ../player_watched $moments <../stream && ../test_watched >/dev/null && ../test_mend_watched >/dev/null &&
         ../test_plan_watched >/dev/null)
@@ -92,5 +103,7 @@ else
 fi
 if [ "$1" = measure ]; then
     ./player -m <stream
+    cc -O3 -Wall -Wextra -Werror -I"$top/include" "$top/tools/measure_pixels.c" "$top/lib/libribjasper.a" -o measure_pixels
+    ./measure_pixels
 fi
 exit "$failed"

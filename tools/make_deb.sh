@@ -1,7 +1,7 @@
 #!/bin/sh
 # Makes packages for Debian of what `make` and `make library` built, with dpkg-deb alone, and leaves them in deb/:
 # ribjasper (the program, its page and completions), libribjasper0 (the shared library) and libribjasper-dev (header,
-# archive, pkg-config). Without lib/ it makes the first alone, and says so.
+# archive, pkg-config, CMake). Without lib/ it makes the first alone, and says so.
 set -e
 cd "$(dirname "$0")/.."
 command -v dpkg-deb >/dev/null || { echo "make_deb: dpkg-deb is missing (package dpkg)" >&2; exit 1; }
@@ -48,7 +48,7 @@ if [ -e "$work/all/usr/lib/libribjasper.so.0" ]; then
         usr/lib/libribjasper.so.0
     package libribjasper-dev "player and tools for the subcode of Compact Discs, for programs in C" \
         "libribjasper0 (= $version)" usr/lib/libribjasper.so usr/lib/libribjasper.a usr/lib/pkgconfig/ribjasper.pc \
-        usr/include/ribjasper.h usr/share/man/man3/ribjasper.3
+        usr/include/ribjasper.h usr/lib/cmake/ribjasper usr/share/man/man3
 else
     echo "make_deb: skipped the library, since lib/ is not built (make library)"
 fi

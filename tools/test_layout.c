@@ -51,6 +51,35 @@ LIES(ribjasper_plan_row, free, 16);
 LIES(ribjasper_plan_row, first, 20);
 LIES(ribjasper_plan_row, late, 24);
 
+HOLDS(change, sizeof(ribjasper_change) == 20);
+LIES(ribjasper_change, top, 4);
+LIES(ribjasper_change, right, 8);
+LIES(ribjasper_change, bottom, 12);
+LIES(ribjasper_change, colours, 16);
+LIES(ribjasper_change, levels, 17);
+
+HOLDS(counts, sizeof(ribjasper_counts) == 24);
+LIES(ribjasper_counts, form, 8);
+LIES(ribjasper_counts, lead_in, 12);
+LIES(ribjasper_counts, blocks, 16);
+LIES(ribjasper_counts, bad, 20);
+
+HOLDS(sheet_row, sizeof(ribjasper_sheet_row) == 28);
+LIES(ribjasper_sheet_row, pregap, 4);
+LIES(ribjasper_sheet_row, postgap, 8);
+LIES(ribjasper_sheet_row, track, 12);
+LIES(ribjasper_sheet_row, index, 13);
+LIES(ribjasper_sheet_row, control, 14);
+LIES(ribjasper_sheet_row, has_isrc, 15);
+LIES(ribjasper_sheet_row, isrc, 16);
+
+HOLDS(sheet_told, sizeof(ribjasper_sheet_told) == 32);
+LIES(ribjasper_sheet_told, tracks, 4);
+LIES(ribjasper_sheet_told, line, 8);
+LIES(ribjasper_sheet_told, why, 12);
+LIES(ribjasper_sheet_told, has_catalogue, 16);
+LIES(ribjasper_sheet_told, catalogue, 17);
+
 HOLDS(planned, sizeof(ribjasper_planned) == 24);
 LIES(ribjasper_planned, blocks, 4);
 LIES(ribjasper_planned, late, 8);

@@ -1,6 +1,6 @@
 #!/bin/sh
 # How the library is linked: its header in each standard of C and C++, the layout of its structs, the names that it
-# brings, and a program that finds it installed, at run time and for good. Skipped where a compiler or the library is
+# brings, and a program that finds it installed, by pkg-config and by CMake, at run time and for good. Skipped where a compiler or the library is
 # missing; the library for another processor is run where it is built and an emulator is there.
 set -e
 cd "$(dirname "$0")/.."
@@ -66,6 +66,42 @@ cc tools/test_layout.c $flags -o "$work/shared"
 told=$(LD_LIBRARY_PATH=$installed "$work/shared")
 [ "$told" = "$version" ] || complain "the shared library tells another version"
 readelf -d "$work/shared" | grep -q 'NEEDED.*\[libribjasper.so.0\]' || complain "a program asks for another name"
+
+# Installed below a name with blanks and other odd characters, and found there by pkg-config, CMake and man.
+odd="$work/a prefix & more"
+tools/install_library.sh "" "$odd" "$odd/lib"
+if command -v pkg-config >/dev/null; then
+    eval "cc tools/test_layout.c $(PKG_CONFIG_PATH=$odd/lib/pkgconfig pkg-config --cflags --libs ribjasper) -o \"$work/odd\"" &&
+        [ "$(LD_LIBRARY_PATH=$odd/lib "$work/odd")" = "$version" ] || complain "ribjasper.pc does not survive a blank"
+fi
+if command -v cmake >/dev/null; then
+    mkdir "$work/cmake"
+    cp tools/test_layout.c "$work/cmake"
+    cat >"$work/cmake/CMakeLists.txt" <<'END'
+cmake_minimum_required(VERSION 3.10)
+project(layout C)
+find_package(ribjasper 1.1 REQUIRED CONFIG)
+add_executable(shared test_layout.c)
+target_link_libraries(shared ribjasper::ribjasper)
+add_executable(static test_layout.c)
+target_link_libraries(static ribjasper::static)
+END
+    if cmake -S "$work/cmake" -B "$work/cmake/built" -DCMAKE_PREFIX_PATH="$odd" >"$work/cmake/told" 2>&1 &&
+        cmake --build "$work/cmake/built" >>"$work/cmake/told" 2>&1; then
+        for program in shared static; do
+            [ "$("$work/cmake/built/$program")" = "$version" ] || complain "CMake links another library"
+        done
+    else
+        tail -n 5 "$work/cmake/told" >&2
+        complain "CMake does not find the library"
+    fi
+    sed -i 's/ribjasper 1.1/ribjasper 2.0/' "$work/cmake/CMakeLists.txt"
+    ! cmake -S "$work/cmake" -B "$work/cmake/other" -DCMAKE_PREFIX_PATH="$odd" >/dev/null 2>&1 ||
+        complain "CMake takes the library for a later version"
+fi
+for call in $named; do
+    [ -e "$odd/share/man/man3/$call.3" ] || complain "there is no page for $call"
+done
 
 # The library for another processor.
 other=aarch64-unknown-linux-gnu

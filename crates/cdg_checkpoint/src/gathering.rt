@@ -6,12 +6,12 @@ ghost use Rattle.checkpoint_files.specs.Checkpoint.{checkpoint_in};
 ghost use Rattle.checkpoint_files.specs.Table.{IsCheckpointFile};
 ghost use Rattle.rw_interleave.specs.Gathering.{gather_next};
 
-use checkpoint_files::CheckpointFile;
+use checkpoint_files::PlainFile;
 use raw_subcode::SLOTS_A_BLOCK;
 use rw_interleave::{Gather, PACKS_KEPT_BACK, Slot};
 
 /// A gatherer of the slots that a checkpoint keeps, the oldest first: it goes on as the one that was saved.
-pub fn gathered_slots(file: &CheckpointFile) -> Gather
+pub fn gathered_slots(file: &PlainFile) -> Gather
     requires { IsCheckpointFile file.now }
     ensures { result ≡ run_state gather_next [] (saved_slots (checkpoint_in file.now)) }
 {

@@ -206,7 +206,7 @@ impl Checkpointer {
         ensures file { self.new.file ≡ self.old.file }
     {
         let words = &mut self.words.first;
-        words.gather = gathered_slots(&self.file);
+        words.gather = gathered_slots(&self.file.plain);
         words.form = Form::Raw;
         words.lead_in = counts.to_come;
         let painting = &mut self.words.second;

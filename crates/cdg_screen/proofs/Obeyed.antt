@@ -7,30 +7,10 @@ use Rattle.cdg_instructions.specs.declared.instr.Instr.{Instr}
 use Rattle.cdg_instructions.specs.Effect.{effect_of}
 use Rattle.cdg_instructions.specs.declared.effect.Effect.{Effect}
 use Rattle.cdg_screen.specs.Standing.{IsWholeStanding, Standing, blank, pixel_at, rows_of, sixteen, memory_from, border_from, colour_from, level_from, offsets_from, standing_after}
-use Rattle.cdg_screen.specs.Memory.{MemoryRows, at, Becomes}
+use Rattle.cdg_screen.specs.Memory.{Kept, MemoryRows, at, Becomes, seen}
 use Rattle.cdg_screen.proofs.Lists.{AreSamePixels, rows_same, pixel_of_rows, sixteen_are, number_of_sixteen}
 use Rattle.cdg_screen.proofs.Turns.{same_memory}
 use Rattle.cdg_screen.proofs.Effects.{memory_by, border_by, colour_by, level_by, offsets_by, memory_is, border_is, colour_is, level_is, offsets_are}
-
--- what a screen keeps, its memory with a moving origin
-pub record Kept : Type 0 where
-  pub memory : MemoryRows
-  pub border : ℕ
-  pub colours : List ℕ
-  pub levels : List ℕ
-  pub h : ℕ
-  pub v : ℕ
-
--- what is seen of it
-abbrev pub seen : Kept → Standing
-seen kept = record {
-  memory = rows_of (at kept.memory);
-  border = kept.border;
-  colours = kept.colours;
-  levels = kept.levels;
-  h = kept.h;
-  v = kept.v;
-}
 
 pub seen_is_whole : (kept : Kept) → length kept.colours ≡ 16 → length kept.levels ≡ 16
     → IsWholeStanding (seen kept)

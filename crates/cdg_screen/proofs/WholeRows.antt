@@ -4,11 +4,10 @@ use Rattle.std.specs.Prelude.{nat_le, nat_lt}
 use Rattle.std.proofs.lemmas.Bool.{cases_lt}
 use Rattle.bit_lists.proofs.Groups.{all_below_bound}
 use Rattle.std.specs.Prelude.{All}
-use Rattle.cdg_screen.specs.Memory.{MemoryRows, IsMemory, at}
+use Rattle.cdg_screen.specs.Memory.{MemoryRows, IsMemory, at, Kept, seen}
 use Rattle.cdg_screen.proofs.MemoryRows.{at-below}
 use Rattle.cdg_screen.specs.Standing.{pixel_at, screen_pixel}
 use Rattle.cdg_screen.proofs.Lists.{pixel_of_rows}
-use Rattle.cdg_screen.proofs.Obeyed.{Kept, seen}
 use Rattle.cdg_screen.proofs.Window.{window_pixel}
 use Rattle.std.proofs.lemmas.Bool.Decides.{nat_tests}
 use Rattle.std.proofs.lemmas.List.{get_or_past, get_or-drop, get_or-take, length-take-le}

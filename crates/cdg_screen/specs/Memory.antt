@@ -5,7 +5,7 @@ use Rattle.cdg_instructions.specs.Drawing.{tile_colour}
 use Rattle.cdg_instructions.specs.declared.effect.DrawnTile.{DrawnTile}
 use Rattle.cdg_instructions.specs.declared.effect.Scrolling.{Scrolling}
 use Rattle.cdg_instructions.specs.Sizes.{colour_count, colour_values, level_values, screen_height, screen_width, tile_height, tile_width}
-use Rattle.cdg_screen.specs.Standing.{covers, is_inside, source_x, source_y}
+use Rattle.cdg_screen.specs.Standing.{Standing, covers, is_inside, rows_of, source_x, source_y}
 
 -- The memory as rows that begin at a moving origin: pixel (0, 0) is element `left` of row `top`, and what is past an
 -- end goes on at the other.
@@ -72,3 +72,23 @@ pub record IsInRange (border : ℕ) (colours levels : List ℕ) (h v : ℕ) : Ty
   pub levels_below : All (λ level. level < level_values) levels
   pub h_most : h ≤ 5
   pub v_most : v ≤ 11
+
+-- what a screen keeps: its memory as rows with a moving origin, and what stands beside it
+pub record Kept : Type 0 where
+  pub memory : MemoryRows
+  pub border : ℕ
+  pub colours : List ℕ
+  pub levels : List ℕ
+  pub h : ℕ
+  pub v : ℕ
+
+-- what stands there
+abbrev pub seen : Kept → Standing
+seen kept = record {
+  memory = rows_of (at kept.memory);
+  border = kept.border;
+  colours = kept.colours;
+  levels = kept.levels;
+  h = kept.h;
+  v = kept.v;
+}

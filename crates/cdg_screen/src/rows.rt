@@ -1,18 +1,18 @@
 // Whole rows of the screen and of its memory.
 ghost use Rattle.std.specs.Prelude.{◌≡◌, ◌<◌, ◌≤◌, ◌+◌, ◌-◌, ◌&&◌, nat_le, nat_lt, if◌then◌else◌, ℕ, [], All, length, slice_index, slice_index_or};
 ghost use Rattle.cdg_instructions.specs.Sizes.{colour_count, screen_height, screen_width, tile_width, window_width};
-ghost use Rattle.cdg_screen.specs.Memory.{at};
+ghost use Rattle.cdg_screen.specs.Memory.{at, seen};
 ghost use Rattle.cdg_screen.specs.Standing.{screen_pixel};
 
-use crate::Screen;
+use crate::PlainScreen;
 use crate::memory::Memory;
 use cdg_instructions::{SCREEN_HEIGHT, SCREEN_WIDTH, TILE_HEIGHT, TILE_WIDTH, WINDOW_WIDTH};
 
-impl Screen {
+impl PlainScreen {
     /// Writes the numbers of the colours of a row of the screen's pixels. `y` is below 216.
     pub fn write_row(&self, y: usize, row: &mut [u8; SCREEN_WIDTH])
         requires { y < screen_height }
-        ensures pixels { (x : ℕ) → x < screen_width → slice_index row.new x ≡ screen_pixel self.now x y }
+        ensures pixels { (x : ℕ) → x < screen_width → slice_index row.new x ≡ screen_pixel (seen self.now) x y }
         ensures range { (x : ℕ) → slice_index row.new x < colour_count }
     {
         fill_row(row, self.border);
@@ -25,7 +25,7 @@ impl Screen {
     /// Row `y` of the memory, 300 numbers of colours. `y` is below 216.
     pub fn memory_row(&self, y: usize) -> [u8; SCREEN_WIDTH]
         requires { y < screen_height }
-        ensures row { result ≡ slice_index_or self.now.memory y [] }
+        ensures row { result ≡ slice_index_or (seen self.now).memory y [] }
         ensures size { length result ≡ screen_width }
         ensures range { All (λ pixel. pixel < colour_count) result }
     {

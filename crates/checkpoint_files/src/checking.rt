@@ -9,7 +9,7 @@ use crate::composing::MARK;
 use crate::fields::{
     ACROSS, BAD, BORDER, CHECK, COLOURS, DOWN, LEAD_IN, LEVELS, MEMORY, PROGRAM, SLOTS, TO_COME,
 };
-use crate::file::{CheckpointFile, FILE_BYTES, SLOTS_BYTES};
+use crate::plain_file::{FILE_BYTES, PlainFile, SLOTS_BYTES};
 use cdg_instructions::{SCREEN_PIXELS, TILE_HEIGHT, TILE_WIDTH};
 use disc_time::MOST_LEAD_IN;
 use raw_subcode::{MOST_UNITS, SLOTS_A_BLOCK, SYMBOLS_A_SLOT};
@@ -25,7 +25,7 @@ fn empty_symbols(program: u32) -> usize
     SYMBOLS_A_SLOT * (PACKS_KEPT_BACK - PACKS_KEPT_BACK.min(slots))
 }
 
-impl CheckpointFile {
+impl PlainFile {
     /// Is this the file of a checkpoint?
     ///
     /// # Errors
@@ -34,7 +34,7 @@ impl CheckpointFile {
     pub fn check(&self) -> Result<(), u32>
         ensures { MatchResult result (λ _. IsCheckpointFile self.now) (IsBadAt self.now) }
     {
-        let length = self.bytes.len();
+        let length = self.count;
         if length != FILE_BYTES {
             return Err(length.min(FILE_BYTES) as u32);
         }
@@ -201,8 +201,9 @@ impl CheckpointFile {
             (λ _. (k : ℕ) → k < count → slice_index self.now (first + k) < bound)
             (IsFirstAbove self.now first count bound) }
     {
+        let bytes = self.bytes();
         for k in 0..count {
-            if self.bytes[first + k] >= bound {
+            if bytes[first + k] >= bound {
                 return Err((first + k) as u32);
             }
         }

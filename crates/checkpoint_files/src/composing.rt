@@ -1,13 +1,14 @@
 // The file of a checkpoint, written.
 ghost use Rattle.std.specs.Prelude.{◌≡◌, ◌≤◌, ◌+◌, ◌++◌, [], ◌∷◌, List, ℕ, length};
+ghost use Rattle.cdg_screen.specs.Memory.{seen};
 ghost use Rattle.cdg_screen.specs.Standing.{Standing};
 ghost use Rattle.checkpoint_files.specs.Table.{Mark, ToCome, LeadIn, Program, Bad, Slots, Memory, Border, Across, Down, Colours, Levels, body_size, row};
 ghost use Rattle.checkpoint_files.specs.Checkpoint.{bytes_of, file_of, kept, part_bytes, with_parts};
 
 use crate::StreamCounts;
-use crate::file::{CheckpointFile, SLOTS_BYTES};
+use crate::plain_file::{PlainFile, SLOTS_BYTES};
 use cdg_instructions::SCREEN_HEIGHT;
-use cdg_screen::Screen;
+use cdg_screen::PlainScreen;
 use subcode_crc::crc16;
 
 /// The bytes at the front of the file.
@@ -16,11 +17,16 @@ pub(crate) const MARK: &[u8; 8] = b"CDGSAVE1";
 // How many colours the table has, and how many levels.
 const COLOUR_COUNT: u8 = 16;
 
-impl CheckpointFile {
+impl PlainFile {
     /// Becomes the file of these counts, of the symbols of the last seven slots, zeros before the first, and
     /// of what stands on the screen.
-    pub fn compose(&mut self, counts: &StreamCounts, slots: &[u8; SLOTS_BYTES], screen: &Screen)
-        ensures { self.new ≡ file_of (kept counts.now slots.now screen.now) }
+    pub fn compose(
+        &mut self,
+        counts: &StreamCounts,
+        slots: &[u8; SLOTS_BYTES],
+        screen: &PlainScreen,
+    )
+        ensures { self.new ≡ file_of (kept counts.now slots.now (seen screen.now)) }
     {
         self.clear();
         self.put_counts(counts);
@@ -58,10 +64,10 @@ impl CheckpointFile {
     }
 
     // Appends the memory of the screen, row by row.
-    fn put_memory(&mut self, screen: &Screen)
+    fn put_memory(&mut self, screen: &PlainScreen)
         requires { length self.old ≡ (row Memory).first }
         ensures part { (counts : StreamCounts) (slots : List ℕ)
-            → self.new ≡ self.old ++ part_bytes (kept counts slots screen.now) Memory }
+            → self.new ≡ self.old ++ part_bytes (kept counts slots (seen screen.now)) Memory }
         ensures size { length self.new ≡ (row Border).first }
     {
         for y in 0..SCREEN_HEIGHT {
@@ -70,10 +76,10 @@ impl CheckpointFile {
     }
 
     // Appends the border and both offsets.
-    fn put_places(&mut self, screen: &Screen)
+    fn put_places(&mut self, screen: &PlainScreen)
         requires { length self.old ≡ (row Border).first }
         ensures parts { (counts : StreamCounts) (slots : List ℕ)
-            → self.new ≡ with_parts self.old (kept counts slots screen.now)
+            → self.new ≡ with_parts self.old (kept counts slots (seen screen.now))
             (Border ∷ Across ∷ Down ∷ []) }
         ensures size { length self.new ≡ (row Colours).first }
     {
@@ -83,10 +89,10 @@ impl CheckpointFile {
     }
 
     // Appends the sixteen colours.
-    fn put_colours(&mut self, screen: &Screen)
+    fn put_colours(&mut self, screen: &PlainScreen)
         requires { length self.old ≡ (row Colours).first }
         ensures part { (counts : StreamCounts) (slots : List ℕ)
-            → self.new ≡ self.old ++ part_bytes (kept counts slots screen.now) Colours }
+            → self.new ≡ self.old ++ part_bytes (kept counts slots (seen screen.now)) Colours }
         ensures size { length self.new ≡ (row Levels).first }
     {
         for k in 0..COLOUR_COUNT {
@@ -95,10 +101,10 @@ impl CheckpointFile {
     }
 
     // Appends the sixteen levels.
-    fn put_levels(&mut self, screen: &Screen)
+    fn put_levels(&mut self, screen: &PlainScreen)
         requires { length self.old ≡ (row Levels).first }
         ensures part { (counts : StreamCounts) (slots : List ℕ)
-            → self.new ≡ self.old ++ part_bytes (kept counts slots screen.now) Levels }
+            → self.new ≡ self.old ++ part_bytes (kept counts slots (seen screen.now)) Levels }
         ensures size { length self.new ≡ body_size }
     {
         for k in 0..COLOUR_COUNT {

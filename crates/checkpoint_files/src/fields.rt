@@ -3,7 +3,7 @@ ghost use Rattle.std.specs.Prelude.{◌≡◌, ◌≤◌, ◌+◌, ◌<◌, leng
 ghost use Rattle.checkpoint_files.specs.Table.{Bad, LeadIn, Program, ToCome, file_size, number, number_at};
 
 use crate::StreamCounts;
-use crate::file::CheckpointFile;
+use crate::plain_file::PlainFile;
 
 // The byte at which each part of the file begins.
 
@@ -31,7 +31,7 @@ pub(crate) const LEVELS: usize = 65_027;
 
 pub(crate) const CHECK: usize = 65_043;
 
-impl CheckpointFile {
+impl PlainFile {
     /// The counts in a file of its full length.
     pub fn counts(&self) -> StreamCounts
         requires { length self.now ≡ file_size }
@@ -53,7 +53,7 @@ impl CheckpointFile {
         requires { at + 4 ≤ length self.now }
         ensures { result ≡ number_at self.now 4 at }
     {
-        let bytes = &self.bytes;
+        let bytes = self.bytes();
         u32::from_be_bytes([bytes[at], bytes[at + 1], bytes[at + 2], bytes[at + 3]])
     }
 
@@ -62,7 +62,8 @@ impl CheckpointFile {
         requires { at + 2 ≤ length self.now }
         ensures { result ≡ number_at self.now 2 at }
     {
-        u16::from_be_bytes([self.bytes[at], self.bytes[at + 1]])
+        let bytes = self.bytes();
+        u16::from_be_bytes([bytes[at], bytes[at + 1]])
     }
 
     /// The number in the eight bytes at the front.
@@ -70,7 +71,7 @@ impl CheckpointFile {
         requires { 8 ≤ length self.now }
         ensures { result ≡ number_at self.now 8 0 }
     {
-        let bytes = &self.bytes;
+        let bytes = self.bytes();
         u64::from_be_bytes([
             bytes[0], bytes[1], bytes[2], bytes[3], bytes[4], bytes[5], bytes[6], bytes[7],
         ])
@@ -82,6 +83,6 @@ impl CheckpointFile {
         ensures byte { result ≡ slice_index self.now at }
         ensures number { result ≡ number_at self.now 1 at }
     {
-        self.bytes[at]
+        self.bytes()[at]
     }
 }

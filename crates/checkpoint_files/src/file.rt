@@ -1,42 +1,31 @@
-// The bytes of a file.
-ghost use Rattle.std.specs.Prelude.{◌≡◌, ◌<◌, ◌≤◌, ◌+◌, [], ◌++◌, List, ℕ, length, IfOk, OnOk, OnErr, vec_len, vec_capacity};
+// A file on the heap.
+ghost use Rattle.std.specs.Prelude.{◌≡◌, ◌≤◌, ◌+◌, ◌<◌, [], ℕ, length, MatchResult, IfOk, OnOk, OnErr, take, drop};
 ghost use Rattle.std.specs.Io.KnownBytes.{Consumes, IsAtEnd};
 ghost use Rattle.cdg_io.specs.Causes.{HasCause, RoseOnce};
 ghost use Rattle.cdg_io.specs.Moves.{ConsumesBelow};
-ghost use Rattle.checkpoint_files.specs.Table.{file_size};
+ghost use Rattle.checkpoint_files.specs.Checkpoint.{file_of, kept, standing_in};
+ghost use Rattle.checkpoint_files.specs.Table.{Bad, IsBadAt, IsCheckpointFile, LeadIn, Program, ToCome, file_size, number};
 
+use crate::StreamCounts;
+use crate::plain_file::{PlainFile, SLOTS_BYTES};
 use cdg_io::{Failed, Source};
-use raw_subcode::SYMBOLS_A_SLOT;
-use rw_interleave::PACKS_KEPT_BACK;
+use cdg_screen::Screen;
 use std::alloc::{AllocError, Global};
 use std::marker::Model;
 
-/// The bytes of a checkpoint's file.
-pub const FILE_BYTES: usize = 65_045;
-
-/// The bytes of the last seven slots in it.
-pub const SLOTS_BYTES: usize = PACKS_KEPT_BACK * SYMBOLS_A_SLOT;
-
-/// The file, and the byte that shows that an input has more.
-pub(crate) const ROOM: usize = FILE_BYTES + 1;
-
-const CHUNK: usize = 4096;
-
-/// A file of at most 65,046 bytes, seen as the list of them.
+/// A `PlainFile` on the heap, seen as the list of its bytes. All memory is taken at the start, and what it holds cannot
+/// grow.
 #[derive(Drop)]
 pub struct CheckpointFile {
-    pub(crate) bytes: Vec<u8>,
+    pub plain: Box<PlainFile>,
 }
 
 impl Model for CheckpointFile {
-    ghost use Rattle.std.specs.Prelude.{◌≤◌, ◌+◌, List, ℕ, vec_len, vec_capacity};
-    ghost use Rattle.checkpoint_files.specs.Table.{file_size};
+    ghost use Rattle.std.specs.Prelude.{List, ℕ};
 
     ghost Value = { List ℕ };
 
-    ghost view = { λ f. f.bytes.items };
-
-    ghost invariant = { λ f. (vec_len f.bytes ≤ file_size + 1) × (file_size + 1 ≤ vec_capacity f.bytes) };
+    ghost view = { λ f. f.plain.value };
 }
 
 impl CheckpointFile {
@@ -44,9 +33,8 @@ impl CheckpointFile {
     pub fn start(alloc: Global) -> Result<CheckpointFile, AllocError>
         ensures { IfOk result (λ f. f ≡ []) }
     {
-        Ok(CheckpointFile {
-            bytes: Vec::with_capacity(alloc, ROOM)?,
-        })
+        let plain = Box::new(alloc, PlainFile::empty())?;
+        Ok(CheckpointFile { plain })
     }
 
     /// The bytes.
@@ -54,23 +42,7 @@ impl CheckpointFile {
         ensures same { result.now ≡ self.now }
         ensures most { length result.now ≤ file_size + 1 }
     {
-        &self.bytes
-    }
-
-    /// Makes the file empty.
-    pub(crate) fn clear(&mut self)
-        ensures { self.new ≡ [] }
-    {
-        self.bytes.clear();
-    }
-
-    /// Appends bytes.
-    pub(crate) fn put(&mut self, bytes: &[u8])
-        requires { length self.old + length bytes.now ≤ file_size + 1 }
-        ensures { self.new ≡ self.old ++ bytes.now }
-    {
-        // There is memory for them.
-        self.bytes.extend_from_slice(bytes).unwrap();
+        self.plain.bytes()
     }
 
     /// Reads an input to its end, but at most 65,046 bytes of it.
@@ -91,16 +63,43 @@ impl CheckpointFile {
         ensures goes_on { OnOk result (file_size < length self.new → S.ends source.new ≡ S.ends source.old) }
         ensures not_told { OnErr result (S.ends source.new ≡ S.ends source.old) }
     {
-        let mut chunk = [0; CHUNK];
-        self.clear();
-        while self.bytes.len() < ROOM {
-            let room = (ROOM - self.bytes.len()).min(CHUNK);
-            let count = source.take(&mut chunk[..room])?;
-            if count == 0 {
-                return Ok(());
-            }
-            self.put(&chunk[..count]);
-        }
-        Ok(())
+        self.plain.read(source)
+    }
+
+    /// Is this the file of a checkpoint?
+    ///
+    /// # Errors
+    /// The byte that shows that it is none, as `PlainFile::check` says.
+    pub fn check(&self) -> Result<(), u32>
+        ensures { MatchResult result (λ _. IsCheckpointFile self.now) (IsBadAt self.now) }
+    {
+        self.plain.check()
+    }
+
+    /// The counts in a file of its full length.
+    pub fn counts(&self) -> StreamCounts
+        requires { length self.now ≡ file_size }
+        ensures to_come { result.to_come ≡ number self.now ToCome 0 }
+        ensures lead_in { result.lead_in ≡ number self.now LeadIn 0 }
+        ensures program { result.program ≡ number self.now Program 0 }
+        ensures bad { result.bad ≡ number self.now Bad 0 }
+    {
+        self.plain.counts()
+    }
+
+    /// Becomes the file of these counts, of the symbols of the last seven slots, zeros before the first, and
+    /// of what stands on the screen.
+    pub fn compose(&mut self, counts: &StreamCounts, slots: &[u8; SLOTS_BYTES], screen: &Screen)
+        ensures { self.new ≡ file_of (kept counts.now slots.now screen.now) }
+    {
+        self.plain.compose(counts, slots, &screen.plain);
+    }
+
+    /// Brings back what stood, by the file of a checkpoint.
+    pub fn bring_back(&self, screen: &mut Screen)
+        requires { IsCheckpointFile self.now }
+        ensures { screen.new ≡ standing_in self.now }
+    {
+        self.plain.bring_back(&mut screen.plain);
     }
 }

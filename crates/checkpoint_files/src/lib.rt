@@ -7,8 +7,10 @@ mod counts;
 mod fields;
 mod file;
 mod laws;
+mod plain_file;
 mod restoring;
 
 pub use counts::StreamCounts;
-pub use file::{CheckpointFile, FILE_BYTES, SLOTS_BYTES};
+pub use file::CheckpointFile;
 pub use laws::{files_are_read_back, sound_checkpoints_are_accepted};
+pub use plain_file::{FILE_BYTES, PlainFile, SLOTS_BYTES};

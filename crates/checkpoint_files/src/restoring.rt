@@ -1,6 +1,7 @@
 // What stood, brought back.
 ghost use Rattle.std.specs.Prelude.{◌≡◌, ◌*◌, ◌<◌, All, length, drop, take};
 ghost use Rattle.cdg_instructions.specs.Sizes.{colour_values, screen_pixels};
+ghost use Rattle.cdg_screen.specs.Memory.{seen};
 ghost use Rattle.cdg_screen.specs.Standing.{rows_in};
 ghost use Rattle.raw_subcode.specs.Sizes.{symbols_a_slot};
 ghost use Rattle.rw_interleave.specs.Interleave.{packs_kept_back};
@@ -8,11 +9,11 @@ ghost use Rattle.checkpoint_files.specs.Checkpoint.{checkpoint_in, standing_in};
 ghost use Rattle.checkpoint_files.specs.Table.{IsCheckpointFile, file_size};
 
 use crate::fields::{ACROSS, BORDER, COLOURS, DOWN, LEVELS, MEMORY, SLOTS};
-use crate::file::CheckpointFile;
-use cdg_screen::Screen;
+use crate::plain_file::PlainFile;
+use cdg_screen::PlainScreen;
 use raw_subcode::SYMBOLS_A_SLOT;
 
-impl CheckpointFile {
+impl PlainFile {
     /// Slot k of the last seven of a checkpoint's file, the oldest first.
     pub fn slot(&self, k: usize) -> [u8; SYMBOLS_A_SLOT]
         requires file { length self.now ≡ file_size }
@@ -26,9 +27,9 @@ impl CheckpointFile {
     }
 
     /// Brings back what stood, by the file of a checkpoint.
-    pub fn bring_back(&self, screen: &mut Screen)
+    pub fn bring_back(&self, screen: &mut PlainScreen)
         requires { IsCheckpointFile self.now }
-        ensures { screen.new ≡ standing_in self.now }
+        ensures { seen screen.new ≡ standing_in self.now }
     {
         screen.restore(
             self.pixels(),

@@ -1,10 +1,10 @@
 -- What stands after what a player was given.
-use Rattle.std.proofs.Common.{◌≡◌, ℕ, ◌+◌, ◌-◌, ◌*◌, ◌^◌, ◌≤◌, ◌==◌, Bool, true, false, cond, List, [], ◌∷◌, ◌++◌, length, map, take, drop, refl, ap, ap₂, ◌∙◌, subst, sym, arith, None, Some, length-append, length-drop}
+use Rattle.std.proofs.Common.{◌≡◌, ℕ, ◌+◌, ◌-◌, ◌*◌, ◌^◌, ◌<◌, replicate, List, [], ◌∷◌, ◌++◌, length, map, take, drop, refl, ap, ap₂, ◌∙◌, subst, sym, arith, None, Some, length-append, length-drop}
 use Rattle.std.specs.declared.option.Option.{Option}
 use Rattle.std.specs.List.{flat_map}
-use Rattle.std.proofs.lemmas.List.{take_all, length-map, map-append}
+use Rattle.std.proofs.lemmas.List.{take_all, map-append}
 use Rattle.arrayvec.specs.ArrayVec.{ArrayVec}
-use Rattle.cdg_io.specs.Run.{give, run_gives}
+use Rattle.cdg_io.specs.Run.{give}
 use Rattle.cdg_io.proofs.Runs.{run_state-append}
 use Rattle.rw_code.specs.Finding.{finding}
 use Rattle.std.specs.Prelude.{min}
@@ -16,17 +16,17 @@ use Rattle.raw_subcode.specs.declared.form.Form.{Form}
 use Rattle.raw_subcode.specs.declared.form.Form.TheVariants.{Raw}
 use Rattle.cdg_instructions.specs.Meaning.{meaning}
 use Rattle.cdg_screen.specs.Standing.{IsWholeStanding, Standing, blank, standing_after}
-use Rattle.cdg_screen.proofs.Turns.{blank_is_whole, in_turn}
-use Rattle.stream_stages.specs.Drawn.{painting_next}
+use Rattle.cdg_screen.proofs.Turns.{blank_is_whole, in_turn, whole_after}
+use Rattle.rw_code.specs.Codeword.{IsCodeword}
+use Rattle.stream_stages.specs.Drawn.{entry_drawn}
 use Rattle.stream_stages.specs.Screen.{AreMeant}
-use Rattle.stream_stages.specs.Steps.{slots_of, fresh_words, window_next, window_gives, words_next, words_give}
+use Rattle.stream_stages.specs.Steps.{bad_next, fresh_words, words_next, words_give}
 use Rattle.stream_stages.specs.declared.block_words.BlockWords.{BlockWords}
-use Rattle.stream_stages.specs.declared.painting.Painting.{Painting}
-use Rattle.stream_stages.proofs.Slots.{Sized, sized_append, sized_drop, length-all_symbols, length-slots_of}
-use Rattle.stream_stages.proofs.StageRuns.{all_items}
-use Rattle.stream_stages.proofs.PlayRuns.{gives_few}
+use Rattle.stream_stages.proofs.Slots.{Sized, sized_append, sized_drop, length-all_symbols}
+use Rattle.stream_stages.proofs.StageRuns.{all_items, one_bad}
+use Rattle.stream_stages.proofs.Recovers.{found_itself}
 use Rattle.stream_stages.proofs.FormWords.{found_in, recovered}
-use Rattle.stream_stages.proofs.Draws.{instrs_of, are_meant, are_drawn}
+use Rattle.stream_stages.proofs.Draws.{instrs_of, are_meant}
 use Rattle.live_player.specs.Lives.{Given, HasPlayed, IsLiveView, IsLiveViewAt, bad_counted, bad_words_in, blocks_in, drawn_for, instruction_of, instructions_in, instructions_of, meant_by, packs_given, standing_on, stream_words, words_with}
 use Rattle.live_player.specs.Lives.Given.{Drawn, Fed}
 use Rattle.live_player.specs.declared.live.LivePlayer.{LivePlayer}
@@ -44,67 +44,59 @@ meant_append [] ys = refl
 meant_append (None ∷ xs) ys = meant_append xs ys
 meant_append (Some word ∷ xs) ys = ap (λ l. meaning word ∷ l) (meant_append xs ys)
 
-instructions_append : (words others : List (List ℕ))
+pub instructions_append : (words others : List (List ℕ))
     → instructions_of (words ++ others) ≡ instructions_of words ++ instructions_of others
 instructions_append words others =
     ap meant_by (map-append finding words others) ∙ meant_append (map finding words) (map finding others)
 
 -- ---- a block
 
-few_of : (program : Bool) (xs : List (List ℕ)) (words : ArrayVec (List ℕ))
-    → Some words ≡ cond program (Some (record { items = xs })) None → length xs ≤ 4
-    → length words.items ≤ 4
-few_of true xs words gave few =
-    let same : words ≡ record { items = xs } = cc in
-    omega (arith, few, ap (λ (v : ArrayVec (List ℕ)). length v.items) same)
-few_of false xs words gave few = let no : ⊥ = cc in absurd no
+pub bad_append : (fs gs : List (Option (List ℕ))) → bad_count (fs ++ gs) ≡ bad_count fs + bad_count gs
+bad_append fs gs = sum_by-append _ fs gs
 
--- at most four words come with it
-few_given : (s : BlockWords) (block : List ℕ) (words : ArrayVec (List ℕ)) → Some words ≡ words_give s block
-    → length words.items ≤ 4
-unfolding words_give
-few_given s block words gave =
-    few_of (s.lead_in == 0) (run_gives (window_next s.form) (window_gives s.form) s.gather (slots_of block))
-    words gave
-    (omega (
-      arith,
-      gives_few (window_next s.form) (window_gives s.form) s.gather (slots_of block),
-      length-slots_of block,
-    ))
+-- what is found for a word, drawn
+pub entry_meant : (now : Standing) (found : Option (List ℕ)) → IsWholeStanding now
+    → entry_drawn now found ≡ standing_after now (meant_by (found ∷ []))
+entry_meant now None whole = sym whole
+entry_meant now (Some codeword) whole = refl
 
--- all words that come with a block are drawn
-pub words_drawn : (now : Standing) (new : Painting) (s : BlockWords) (block : List ℕ)
-    (words : ArrayVec (List ℕ)) → IsWholeStanding now → Some words ≡ words_give s block
-    → new ≡ painting_next (record { screen = now; left = 4; bad = 0 }) words
-    → new.screen ≡ standing_after now (drawn_for (words_give s block))
-unfolding painting_next
-words_drawn now new s block words whole gave is =
-    let few : length words.items ≤ 4 = few_given s block words gave in
-    let drawn = are_drawn now 4 0 words.items whole (omega (arith, few)) in
-    let all : take 4 (map finding words.items) ≡ map finding words.items =
-    take_all 4 (map finding words.items) (omega (arith, few, length-map words.items finding)) in
-    ap (λ (d : Painting). d.screen) is
-    ∙ drawn.stands
-    ∙ ap (λ found. standing_after now (instrs_of found)) all
-    ∙ ap (standing_after now) (sym (meant_same (map finding words.items)))
-    ∙ ap (λ o. standing_after now (drawn_for o)) gave
+-- one word more
+pub word_drawn : (start old new : Standing) (words : List (List ℕ)) (word : List ℕ)
+    → old ≡ standing_after start (instructions_of words) → new ≡ entry_drawn old (finding word)
+    → new ≡ standing_after start (instructions_of (words ++ word ∷ []))
+word_drawn start old new words word done step =
+    let whole : IsWholeStanding old =
+    subst IsWholeStanding (sym done) (whole_after start (instructions_of words)) in
+    step
+    ∙ entry_meant old (finding word) whole
+    ∙ ap (λ now. standing_after now (instructions_of (word ∷ []))) done
+    ∙ sym (in_turn start (instructions_of words) (instructions_of (word ∷ [])))
+    ∙ ap (standing_after start) (sym (instructions_append words (word ∷ [])))
 
--- and those with no codeword near are counted
-pub words_counted : (now : Standing) (new : Painting) (s : BlockWords) (block : List ℕ)
-    (words : ArrayVec (List ℕ)) → IsWholeStanding now → Some words ≡ words_give s block
-    → new ≡ painting_next (record { screen = now; left = 4; bad = 0 }) words
-    → new.bad ≡ bad_count (map finding words.items)
-unfolding painting_next
-words_counted now new s block words whole gave is =
-    let few : length words.items ≤ 4 = few_given s block words gave in
-    let drawn = are_drawn now 4 0 words.items whole (omega (arith, few)) in
-    let all : take 4 (map finding words.items) ≡ map finding words.items =
-    take_all 4 (map finding words.items) (omega (arith, few, length-map words.items finding)) in
-    let counted : new.bad ≡ 0 + bad_count (take 4 (map finding words.items)) =
-    ap (λ (d : Painting). d.bad) is ∙ drawn.counted in
-    let same : bad_count (take 4 (map finding words.items)) ≡ bad_count (map finding words.items) =
-    ap bad_count all in
-    omega (arith, counted, same)
+pub word_counted : (old new : ℕ) (words : List (List ℕ)) (word : List ℕ)
+    → old ≡ bad_count (map finding words) → old + 1 < 2 ^ 32 → new ≡ bad_next old word
+    → new ≡ bad_count (map finding (words ++ word ∷ []))
+unfolding bad_next
+word_counted old new words word done fits step =
+    step
+    ∙ one_bad old (finding word) fits
+    ∙ ap (λ n. n + bad_count (finding word ∷ [])) done
+    ∙ sym (bad_append (map finding words) (finding word ∷ []))
+    ∙ ap bad_count (sym (map-append finding words (word ∷ [])))
+
+-- four idle words
+pub idle_words_drawn : (now : Standing) → IsWholeStanding now → IsCodeword (replicate 24 0)
+    → now ≡ standing_after now (instructions_of (replicate 4 (replicate 24 0)))
+unfolding meaning
+idle_words_drawn now whole is =
+    sym whole
+    ∙ ap (λ (o : Option (List ℕ)). standing_after now (meant_by (o ∷ o ∷ o ∷ o ∷ [])))
+    (found_itself (replicate 24 0) is)
+
+pub idle_words_counted : IsCodeword (replicate 24 0)
+    → 0 ≡ bad_count (map finding (replicate 4 (replicate 24 0)))
+idle_words_counted is =
+    ap (λ (o : Option (List ℕ)). bad_count (o ∷ o ∷ o ∷ o ∷ [])) (found_itself (replicate 24 0) is)
 
 -- a count of some words, and then of those that come with a block
 items_counted : (o : Option (ArrayVec (List ℕ))) (old before : ℕ) → old ≡ min before (2 ^ 32 - 1)
@@ -115,9 +107,6 @@ items_counted (Some words) old before is =
     let same : bad_count (map finding (all_items (words ∷ []))) ≡ bad_count (map finding words.items) =
     ap (λ ws. bad_count (map finding ws)) (nothing_after words.items) in
     omega (arith, is, same)
-
-bad_append : (fs gs : List (Option (List ℕ))) → bad_count (fs ++ gs) ≡ bad_count fs + bad_count gs
-bad_append fs gs = sum_by-append _ fs gs
 
 pub nothing_drawn : (now : Standing) (s : BlockWords) (block : List ℕ) → IsWholeStanding now
     → None ≡ words_give s block

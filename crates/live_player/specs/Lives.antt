@@ -11,6 +11,7 @@ use Rattle.rw_interleave.specs.Stream.{IsRecovered, bad_count, form_word, word_c
 use Rattle.cdg_instructions.specs.declared.instr.Instr.{Instr}
 use Rattle.cdg_instructions.specs.Meaning.{meaning}
 use Rattle.cdg_instructions.specs.Sizes.{screen_width}
+use Rattle.cdg_screen.specs.Memory.{seen}
 use Rattle.cdg_screen.specs.Standing.{Standing, blank, screen_pixel, standing_after}
 use Rattle.cdg_screen.specs.Texts.{colour_bytes}
 use Rattle.stream_stages.specs.Screen.{AreMeant, AreShown}
@@ -20,7 +21,7 @@ use Rattle.raw_subcode.specs.Sizes.{block_bytes}
 
 -- what stands on a player's picture
 abbrev pub standing_on : LivePlayer → Standing
-standing_on player = player.painting.screen
+standing_on player = seen player.screen
 
 -- the words of a stream, each in the order of its last symbol
 unfoldable pub stream_words : Form → ℕ → List (List ℕ) → List (List ℕ)

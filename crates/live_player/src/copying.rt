@@ -16,10 +16,7 @@ impl LivePlayer {
         words.form = other.words.form;
         words.lead_in = other.words.lead_in;
         words.gather = copy_of(&other.words.gather);
-        let painting = &mut self.painting;
-        painting.left = other.painting.left;
-        painting.bad = other.painting.bad;
-        painting.screen.copy_from(&other.painting.screen);
+        self.screen.copy_from(&other.screen);
     }
 }
 

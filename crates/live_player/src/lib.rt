@@ -2,11 +2,13 @@
 #![tactic(auto)]
 
 mod copying;
+mod drawing;
 mod live;
 mod looking;
 mod part;
 mod saving;
 
+pub use drawing::play;
 pub use live::LivePlayer;
 pub use looking::PICTURE_BYTES;
 pub use part::ScreenPart;

@@ -9,25 +9,25 @@ ghost use Rattle.live_player.specs.Lives.Given.{Drawn, Fed};
 ghost use Rattle.live_player.specs.Parts.{HasRoomFor, IsOnScreen, ShowsPart};
 ghost use Rattle.live_player.specs.Steps.{DrawsPack, TakesBlock, words_come};
 
+use crate::drawing::play;
 use crate::looking::{self, PICTURE_BYTES};
 use crate::part::ScreenPart;
 use arrayvec::ArrayVec;
 use cdg_instructions::SCREEN_PIXELS;
-use cdg_io::Stage;
-use cdg_screen::Screen;
-use raw_subcode::{BLOCK_BYTES, Form, SLOTS_A_BLOCK};
+use cdg_screen::PlainScreen;
+use raw_subcode::{BLOCK_BYTES, Form};
 use rw_code::{SYMBOLS, Word};
-use rw_interleave::Gather;
 use std::alloc::{AllocError, Global};
-use stream_stages::{BlockOfWords, BlockWords, Painting};
+use stream_stages::{BlockOfWords, BlockWords};
 
-/// Plays a stream as its blocks come, for as long as they come. All its memory is taken at the start.
+/// Plays a stream as its blocks come, for as long as they come. It is plain numbers of a fixed size, so that nothing that
+/// plays can ask for memory.
 #[derive(Drop)]
 pub struct LivePlayer {
     /// Gathers the words of the stream.
     pub words: BlockWords,
-    /// Draws them.
-    pub painting: Painting,
+    /// What they have drawn.
+    pub screen: PlainScreen,
     /// The blocks of the lead-in, those that came and those still to come.
     pub lead_in: u32,
     /// The blocks that came. From 4,294,967,295 on it stays, and so does the count of bad words.
@@ -38,26 +38,24 @@ pub struct LivePlayer {
 
 impl LivePlayer {
     /// A player of a raw stream with no lead-in, before its first block.
-    pub fn start(alloc: Global) -> Result<LivePlayer, AllocError>
-        ensures { IfOk result (HasPlayed Form.Raw 0 []) }
+    pub fn start(alloc: Global) -> Result<Box<LivePlayer>, AllocError>
+        ensures { IfOk result (λ live. HasPlayed Form.Raw 0 [] live.value) }
     {
-        let painting = Painting {
-            screen: Screen::start(alloc)?,
-            left: 0,
-            bad: 0,
-        };
-        let words = BlockWords {
-            form: Form::Raw,
-            lead_in: 0,
-            gather: Gather::new(),
-        };
-        Ok(LivePlayer {
-            words,
-            painting,
+        Ok(Box::new(alloc, LivePlayer::fresh())?)
+    }
+
+    // The same, which is inlined, so that it is made where it will stand, and takes no stack.
+    #[inline(always)]
+    fn fresh() -> LivePlayer
+        ensures { HasPlayed Form.Raw 0 [] result }
+    {
+        LivePlayer {
+            words: BlockWords::new(),
+            screen: PlainScreen::blank(),
             lead_in: 0,
             blocks: 0,
             bad: 0,
-        })
+        }
     }
 
     /// Begins anew, with a stream of this form.
@@ -68,7 +66,7 @@ impl LivePlayer {
         words.form = form;
         words.lead_in = lead_in;
         words.gather.reset();
-        self.painting.screen.reset();
+        self.screen.reset();
         self.lead_in = lead_in;
         self.blocks = 0;
         self.bad = 0;
@@ -114,22 +112,8 @@ impl LivePlayer {
         ensures blocks { self.new.blocks ≡ min (self.old.blocks + 1) (2 ^ 32 - 1) }
         ensures bad { self.new.bad ≡ bad_counted self.old.bad (words_give self.old.words block.now) }
     {
-        let words = self.words.feed(block);
         self.blocks = self.blocks.saturating_add(1);
-        let painting = &mut self.painting;
-        // A law: instructions are carried out on what stands.
-        painting.screen.what_stands_is_whole();
-        match &words {
-            Some(words) => {
-                // All words of a block are drawn, however many blocks came before.
-                painting.left = SLOTS_A_BLOCK as u32;
-                painting.bad = 0;
-                painting.feed(words);
-                self.bad = self.bad.saturating_add(painting.bad);
-            }
-            None => {}
-        }
-        words
+        play(&mut self.words, &mut self.screen, &mut self.bad, block)
     }
 
     /// Draws a pack of 24 bytes, as a file of packs has them. The low six bits of each byte are its symbols,
@@ -140,8 +124,7 @@ impl LivePlayer {
             → HasPlayed form lead_in given self.old
             → HasPlayed form lead_in (Drawn pack.now ∷ given) self.new }
     {
-        let painting = &mut self.painting;
-        looking::draw(&mut painting.screen, pack);
+        looking::draw(&mut self.screen, pack);
     }
 
     /// A law: where no packs were drawn in between, what stands is what the blocks since the start show.
@@ -169,7 +152,7 @@ impl LivePlayer {
         ensures pixel { result ≡ screen_pixel (standing_on self.now) x y }
         ensures range { result < 16 }
     {
-        self.painting.screen.pixel(x, y)
+        self.screen.pixel(x, y)
     }
 
     /// Colour `k` of the table, as 0xRGB. `k` is below 16.
@@ -178,7 +161,7 @@ impl LivePlayer {
         ensures colour { result ≡ slice_index (standing_on self.now).colours k }
         ensures range { result < colour_values }
     {
-        self.painting.screen.colour(k)
+        self.screen.colour(k)
     }
 
     /// Writes the numbers of the colours of the screen's pixels, row by row: that at (x, y) is number
@@ -188,7 +171,7 @@ impl LivePlayer {
             → slice_index pixels.new n
             ≡ screen_pixel (standing_on self.now) (n % screen_width) (n / screen_width) }
     {
-        looking::pixels(&self.painting.screen, pixels);
+        looking::pixels(&self.screen, pixels);
     }
 
     /// Writes the numbers of the colours of a part of the screen, row by row: row j of it begins `stride` times
@@ -199,21 +182,21 @@ impl LivePlayer {
         requires room { HasRoomFor part.now stride (length pixels.old) }
         ensures { ShowsPart (standing_on self.now) part.now stride pixels.old pixels.new }
     {
-        looking::part_of_screen(&self.painting.screen, part, pixels, stride);
+        looking::part_of_screen(&self.screen, part, pixels, stride);
     }
 
     /// Writes the colours of the table, each as 0xRGB.
     pub fn colours(&self, table: &mut [u16; 16])
         ensures { (k : ℕ) → k < 16 → slice_index table.new k ≡ slice_index (standing_on self.now).colours k }
     {
-        looking::colours(&self.painting.screen, table);
+        looking::colours(&self.screen, table);
     }
 
     /// Writes the levels of the colours.
     pub fn levels(&self, levels: &mut [u8; 16])
         ensures { (k : ℕ) → k < 16 → slice_index levels.new k ≡ slice_index (standing_on self.now).levels k }
     {
-        looking::levels(&self.painting.screen, levels);
+        looking::levels(&self.screen, levels);
     }
 
     /// Writes red, green and blue of the screen's pixels, row by row: those of (x, y) begin at
@@ -222,7 +205,7 @@ impl LivePlayer {
         ensures { (n : ℕ) → n < picture_bytes
             → slice_index bytes.new n ≡ picture_byte (standing_on self.now) n }
     {
-        looking::bytes(&self.painting.screen, bytes);
+        looking::bytes(&self.screen, bytes);
     }
 
     /// The number of the border's colour.
@@ -230,7 +213,7 @@ impl LivePlayer {
         ensures border { result ≡ (standing_on self.now).border }
         ensures range { result < 16 }
     {
-        self.painting.screen.border()
+        self.screen.border()
     }
 
     /// How many pixels further right and further down in the memory the screen begins.
@@ -239,6 +222,6 @@ impl LivePlayer {
         ensures down { result.1 ≡ (standing_on self.now).v }
         ensures ranges { (result.0 ≤ 5) × (result.1 ≤ 11) }
     {
-        looking::offsets(&self.painting.screen)
+        looking::offsets(&self.screen)
     }
 }

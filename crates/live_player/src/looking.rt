@@ -1,6 +1,7 @@
 // What a screen shows, number by number.
 ghost use Rattle.std.specs.Prelude.{◌≡◌, ◌<◌, ◌≤◌, ◌+◌, ◌-◌, ◌/◌, ◌%◌, ◌&&◌, nat_le, nat_lt, if◌then◌else◌, ◌∷◌, [], ℕ, length, slice_index};
 ghost use Rattle.cdg_instructions.specs.Sizes.{colour_values, screen_pixels, screen_width};
+ghost use Rattle.cdg_screen.specs.Memory.{seen};
 ghost use Rattle.cdg_screen.specs.Standing.{screen_pixel, standing_after};
 ghost use Rattle.cdg_screen.specs.Texts.{colour_bytes};
 ghost use Rattle.live_player.specs.Lives.{instruction_of, picture_byte, picture_bytes};
@@ -8,16 +9,16 @@ ghost use Rattle.live_player.specs.Parts.{HasRoomFor, IsOnScreen, ShowsPart};
 
 use crate::part::ScreenPart;
 use cdg_instructions::{SCREEN_HEIGHT, SCREEN_PIXELS, SCREEN_WIDTH, read_word};
-use cdg_screen::Screen;
+use cdg_screen::PlainScreen;
 use rw_code::{SYMBOLS, Word};
 
 /// How many bytes a picture has: red, green and blue of each pixel.
 pub const PICTURE_BYTES: usize = 3 * SCREEN_PIXELS;
 
 /// The pixels of the screen, row by row.
-pub(crate) fn pixels(screen: &Screen, pixels: &mut [u8; SCREEN_PIXELS])
+pub(crate) fn pixels(screen: &PlainScreen, pixels: &mut [u8; SCREEN_PIXELS])
     ensures { (n : ℕ) → n < screen_pixels
-        → slice_index pixels.new n ≡ screen_pixel screen.now (n % screen_width) (n / screen_width) }
+        → slice_index pixels.new n ≡ screen_pixel (seen screen.now) (n % screen_width) (n / screen_width) }
 {
     let mut row = [0; SCREEN_WIDTH];
     for y in 0..SCREEN_HEIGHT {
@@ -27,11 +28,16 @@ pub(crate) fn pixels(screen: &Screen, pixels: &mut [u8; SCREEN_PIXELS])
 }
 
 /// The pixels of a part of the screen: row j of it stands `stride` times j bytes from the front.
-pub(crate) fn part_of_screen(screen: &Screen, part: &ScreenPart, pixels: &mut [u8], stride: usize)
+pub(crate) fn part_of_screen(
+    screen: &PlainScreen,
+    part: &ScreenPart,
+    pixels: &mut [u8],
+    stride: usize,
+)
     requires part { IsOnScreen part.now }
     requires apart { part.now.width ≤ stride }
     requires room { HasRoomFor part.now stride (length pixels.old) }
-    ensures { ShowsPart screen.now part.now stride pixels.old pixels.new }
+    ensures { ShowsPart (seen screen.now) part.now stride pixels.old pixels.new }
 {
     let mut row = [0; SCREEN_WIDTH];
     for j in 0..part.height {
@@ -51,9 +57,9 @@ fn write_at(room: &mut [u8], place: usize, pixels: &[u8])
 }
 
 /// The colours of the table.
-pub(crate) fn colours(screen: &Screen, table: &mut [u16; 16])
+pub(crate) fn colours(screen: &PlainScreen, table: &mut [u16; 16])
     ensures size { length table.new ≡ 16 }
-    ensures colours { (k : ℕ) → k < 16 → slice_index table.new k ≡ slice_index screen.now.colours k }
+    ensures colours { (k : ℕ) → k < 16 → slice_index table.new k ≡ slice_index (seen screen.now).colours k }
     ensures range { (k : ℕ) → k < 16 → slice_index table.new k < colour_values }
 {
     for k in 0..16 {
@@ -62,9 +68,9 @@ pub(crate) fn colours(screen: &Screen, table: &mut [u16; 16])
 }
 
 /// The levels of the colours.
-pub(crate) fn levels(screen: &Screen, levels: &mut [u8; 16])
+pub(crate) fn levels(screen: &PlainScreen, levels: &mut [u8; 16])
     ensures size { length levels.new ≡ 16 }
-    ensures levels { (k : ℕ) → k < 16 → slice_index levels.new k ≡ slice_index screen.now.levels k }
+    ensures levels { (k : ℕ) → k < 16 → slice_index levels.new k ≡ slice_index (seen screen.now).levels k }
     ensures range { (k : ℕ) → k < 16 → slice_index levels.new k < 64 }
 {
     for k in 0..16 {
@@ -73,8 +79,8 @@ pub(crate) fn levels(screen: &Screen, levels: &mut [u8; 16])
 }
 
 /// Red, green and blue of the pixels of the screen, row by row.
-pub(crate) fn bytes(screen: &Screen, bytes: &mut [u8; PICTURE_BYTES])
-    ensures { (n : ℕ) → n < picture_bytes → slice_index bytes.new n ≡ picture_byte screen.now n }
+pub(crate) fn bytes(screen: &PlainScreen, bytes: &mut [u8; PICTURE_BYTES])
+    ensures { (n : ℕ) → n < picture_bytes → slice_index bytes.new n ≡ picture_byte (seen screen.now) n }
 {
     let red = parts(screen, 0);
     let green = parts(screen, 1);
@@ -103,10 +109,10 @@ fn write_three(bytes: &mut [u8; PICTURE_BYTES], at: usize, three: [u8; 3])
 }
 
 // A part of each colour of the table: 0 red, 1 green, 2 blue.
-fn parts(screen: &Screen, which: u32) -> [u8; 16]
+fn parts(screen: &PlainScreen, which: u32) -> [u8; 16]
     requires { which < 3 }
     ensures { (k : ℕ) → k < 16 → slice_index result k
-        ≡ slice_index (colour_bytes (slice_index screen.now.colours k)) which }
+        ≡ slice_index (colour_bytes (slice_index (seen screen.now).colours k)) which }
 {
     let mut table = [0; 16];
     for k in 0..16 {
@@ -129,16 +135,16 @@ fn part(colour: u16, part: u32) -> u8
 }
 
 /// Carries out the instruction of a pack, whose parity has no part in it.
-pub(crate) fn draw(screen: &mut Screen, pack: &[u8; SYMBOLS])
-    ensures { screen.new ≡ standing_after screen.old (instruction_of pack.now ∷ []) }
+pub(crate) fn draw(screen: &mut PlainScreen, pack: &[u8; SYMBOLS])
+    ensures { seen screen.new ≡ standing_after (seen screen.old) (instruction_of pack.now ∷ []) }
 {
     screen.obey(&read_word(&Word::new(pack)));
 }
 
 /// How many pixels further right and further down in the memory the screen begins.
-pub(crate) fn offsets(screen: &Screen) -> (u8, u8)
-    ensures across { result.0 ≡ screen.now.h }
-    ensures down { result.1 ≡ screen.now.v }
+pub(crate) fn offsets(screen: &PlainScreen) -> (u8, u8)
+    ensures across { result.0 ≡ (seen screen.now).h }
+    ensures down { result.1 ≡ (seen screen.now).v }
     ensures ranges { (result.0 ≤ 5) × (result.1 ≤ 11) }
 {
     (screen.offset_h(), screen.offset_v())

@@ -11,13 +11,13 @@ ghost use Rattle.live_player.specs.Saving.{checkpoint_of, IsAt};
 
 use crate::LivePlayer;
 use cdg_checkpoint::gathered_slots;
-use checkpoint_files::{CheckpointFile, StreamCounts};
+use checkpoint_files::{PlainFile, StreamCounts};
 use raw_subcode::Form;
 
 impl LivePlayer {
     /// Writes the file of the checkpoint at which the player is. It is accepted only where the stream is raw and no
     /// longer than a checkpoint can say.
-    pub fn save(&self, file: &mut CheckpointFile)
+    pub fn save(&self, file: &mut PlainFile)
         ensures { file.new ≡ file_of (checkpoint_of self.now) }
     {
         let read = self.blocks.min(self.lead_in);
@@ -28,11 +28,11 @@ impl LivePlayer {
             bad: self.bad,
         };
         let slots = self.words.gather.symbols();
-        file.compose(&counts, &slots, &self.painting.screen);
+        file.compose(&counts, &slots, &self.screen);
     }
 
     /// Goes to the checkpoint of a file, in a raw stream.
-    pub fn load(&mut self, file: &CheckpointFile)
+    pub fn load(&mut self, file: &PlainFile)
         requires { IsCheckpointFile file.now }
         ensures { IsAt (checkpoint_in file.now) self.new }
     {
@@ -46,7 +46,7 @@ impl LivePlayer {
         words.form = Form::Raw;
         words.lead_in = counts.to_come;
         words.gather = gathered_slots(file);
-        file.bring_back(&mut self.painting.screen);
+        file.bring_back(&mut self.screen);
     }
 }
 

@@ -130,8 +130,7 @@ pub extern "C" fn ribjasper_player_open(alloc: Global, player: &mut Playing) -> 
 fn opened(alloc: Global) -> Option<Box<LivePlayer>>
     ensures { IfSome result (λ live. HasPlayed Form.Raw 0 [] live.value) }
 {
-    let live = LivePlayer::start(alloc).ok()?;
-    Box::new(alloc, live).ok()
+    LivePlayer::start(alloc).ok()
 }
 
 /// Closes a player, and frees what it holds.

@@ -3,7 +3,9 @@ ghost use Rattle.std.specs.Prelude.{◌≡◌, ◌≢◌, ◌≤◌, ◌⊎◌, 
 ghost use Rattle.disc_time.specs.Counts.{most_lead_in};
 ghost use Rattle.raw_subcode.specs.Sizes.{most_units};
 ghost use Rattle.raw_subcode.specs.declared.form.Form.{Form};
+ghost use Rattle.checkpoint_files.specs.Checkpoint.{checkpoint_in};
 ghost use Rattle.checkpoint_files.specs.Table.{IsBadAt, IsCheckpointFile};
+ghost use Rattle.live_player.specs.Saving.{IsAt};
 ghost use Rattle.live_player.specs.Lives.{Given, HasPlayed, blocks_in};
 ghost use Rattle.live_player.specs.declared.live.LivePlayer.{LivePlayer};
 ghost use Rattle.ribjasper_c.specs.Handles.{IsPlaying};
@@ -66,7 +68,7 @@ fn save(alloc: Global, live: &LivePlayer, file: &mut [u8; FILE_BYTES]) -> i32
     let Ok(mut saved) = CheckpointFile::start(alloc) else {
         return NO_MEMORY;
     };
-    live.save(&mut saved);
+    live.save(&mut saved.plain);
     match saved.check() {
         Ok(()) => {
             file.copy_from_slice(saved.bytes());
@@ -108,7 +110,7 @@ pub extern "C" fn ribjasper_player_load(
     match saved.check() {
         Ok(()) => {
             let mut live = player.take_out();
-            live.load(&saved);
+            go_to(&mut live, &saved);
             player.put_back(live);
             DONE
         }
@@ -117,6 +119,14 @@ pub extern "C" fn ribjasper_player_load(
             REFUSED
         }
     }
+}
+
+// Goes to the checkpoint of a file.
+fn go_to(live: &mut LivePlayer, file: &CheckpointFile)
+    requires { IsCheckpointFile file.now }
+    ensures { IsAt (checkpoint_in file.now) live.new }
+{
+    live.load(&file.plain);
 }
 
 // The file of these bytes, where there is memory.
@@ -138,13 +148,29 @@ pub extern "C" fn ribjasper_player_copy(from: &mut Playing, to: &mut Playing) ->
     ensures same { from.new.handle.players ≡ from.old.handle.players }
     ensures refused { result ≡ negsuc 0 → to.new.handle.players ≡ to.old.handle.players }
 {
-    if !from.is_open || !to.is_open {
+    if !from.is_open {
         return NOT_DONE;
     }
+    // While it is out `from` is closed: so is `to` then, if a program gives one player twice.
     let other = from.take_out();
-    let mut live = to.take_out();
-    live.copy_from(&other);
+    let answer = go_on_as(&other, to);
     from.put_back(other);
+    answer
+}
+
+// Makes an open player show and gather from here on what another does.
+#[inline(never)]
+fn go_on_as(other: &LivePlayer, to: &mut Playing) -> i32
+    ensures copied { result ≡ pos 0 → to.new.handle.players ≡ other.now ∷ [] }
+    ensures answer { result ≡ (if to.old.is_open then pos 0 else negsuc 0) }
+    ensures stays { to.new.is_open ≡ to.old.is_open }
+    ensures refused { result ≡ negsuc 0 → to.new.handle.players ≡ to.old.handle.players }
+{
+    if !to.is_open {
+        return NOT_DONE;
+    }
+    let mut live = to.take_out();
+    live.copy_from(other);
     to.put_back(live);
     DONE
 }

@@ -8,6 +8,7 @@ use crate::Playing;
 use crate::answers::{DONE, NOT_DONE};
 use cdg_instructions::{SCREEN_HEIGHT, SCREEN_PIXELS, SCREEN_WIDTH};
 use live_player::{LivePlayer, PICTURE_BYTES};
+use pixel_formats::write_picture;
 
 const WIDTH: u32 = SCREEN_WIDTH as u32;
 
@@ -197,7 +198,7 @@ fn shown_picture(live: &LivePlayer, bytes: &mut [u8; PICTURE_BYTES])
     // Two laws, for the clause.
     live.shows_its_blocks();
     live.shows_its_packs();
-    live.bytes(bytes);
+    write_picture(&live.screen, bytes);
 }
 
 /// Writes the number of the border's colour. 0, or -1 where the player is closed.

@@ -19,6 +19,7 @@ use Rattle.rw_interleave.specs.Stream.{IsRecovered, bad_count}
 use Rattle.cdg_instructions.specs.declared.instr.Instr.{Instr}
 use Rattle.cdg_instructions.proofs.Meaning.{only_meaning}
 use Rattle.cdg_screen.specs.Standing.{blank, standing_after}
+use Rattle.cdg_screen.proofs.Turns.{whole_after}
 use Rattle.checkpoint_files.specs.Checkpoint.{Checkpoint, checkpoint_in, file_of}
 use Rattle.stream_stages.specs.Screen.{AreMeant}
 use Rattle.stream_stages.specs.Steps.{fresh_words, words_next}
@@ -38,6 +39,7 @@ use Rattle.live_player.proofs.LiveViews.{live_view}
 use Rattle.live_player.proofs.Saved.{goes_on}
 use Rattle.live_player.proofs.Words.{words_of_stream}
 use Rattle.run_laws.specs.Players.{AreBlocksOf}
+use Rattle.run_laws.proofs.HeldScreens.{held, held_stands}
 
 -- ---- a stream has one checkpoint
 
@@ -189,16 +191,21 @@ module _ (lead_in : ℕ) (given : List Given) (bytes : List ℕ) (first : IsFirs
   abbrev ideal : LivePlayer
   ideal = record {
     words = run_state words_next (fresh_words Raw lead_in) blocks;
-    painting =
-        record { screen = standing_after blank (instructions_in Raw lead_in given); left = 0; bad = 0 };
+    screen = held (standing_after blank (instructions_in Raw lead_in given));
     lead_in = lead_in;
     blocks = min (length blocks) (2 ^ 32 - 1);
     bad = min (bad_words_in Raw lead_in blocks) (2 ^ 32 - 1);
   }
 
   ideal_played : HasPlayed Raw lead_in given ideal
-  ideal_played =
-      record { sized = sized; gathers = refl; stands = refl; begun = refl; counted = refl; bad = refl }
+  ideal_played = record {
+    sized = sized;
+    gathers = refl;
+    stands = held_stands _ (whole_after blank (instructions_in Raw lead_in given));
+    begun = refl;
+    counted = refl;
+    bad = refl;
+  }
 
   pub brought_back : (file : List ℕ) (pumped : Pumped) → IsSaved lead_in bytes pumped file
       → (back : LivePlayer) → IsAt (checkpoint_in file) back

@@ -1,6 +1,7 @@
 mod Accepted
 mod Clean
 mod FedStreams
+mod HeldScreens
 mod Refusals
 mod SaveCalls
 mod Scratched

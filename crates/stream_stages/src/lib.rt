@@ -18,6 +18,6 @@ pub use convert::Converter;
 pub use correction::Correction;
 pub use counting::{Counting, FrameCounts, WordCounts};
 pub use listings::{TextLister, list_frames};
-pub use painting::Painting;
+pub use painting::{Painting, draw_word};
 pub use played::{PlayStop, Played, one_text_is_written, play_stop, pump_blocks, watch};
 pub use screen::Viewer;

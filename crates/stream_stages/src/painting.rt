@@ -1,6 +1,7 @@
 // From words to what stands on a screen.
 ghost use Rattle.std.specs.Prelude.{◌≡◌, ◌∷◌, [], replicate};
 ghost use Rattle.cdg_instructions.specs.Meaning.{meaning};
+ghost use Rattle.cdg_screen.specs.Memory.{seen};
 ghost use Rattle.cdg_screen.specs.Standing.{standing_after};
 ghost use Rattle.raw_subcode.specs.Sizes.{slots_a_block};
 ghost use Rattle.rw_code.specs.Codeword.{IsCodeword};
@@ -13,7 +14,7 @@ use crate::block_words::{BlockOfWords, idle_is_codeword, is_idle};
 use arrayvec::ArrayVec;
 use cdg_instructions::read;
 use cdg_io::{Piece, Stage};
-use cdg_screen::Screen;
+use cdg_screen::{PlainScreen, Screen};
 use raw_subcode::SLOTS_A_BLOCK;
 use rw_code::{Pack, Word, correct};
 
@@ -56,8 +57,8 @@ impl Painting {
         ensures { self.new ≡ draw_after self.old (replicate slots_a_block idle_pack) }
     {
         self.left = self.left.saturating_sub(SLOTS_A_BLOCK as u32);
-        // A law: they draw nothing.
-        idle_packs_draw_nothing(&self.screen);
+        // A law: they draw nothing on what stands.
+        self.screen.what_stands_is_whole();
     }
 
     // Draws what is found for a word, if a pack is left to be drawn.
@@ -67,47 +68,45 @@ impl Painting {
     {
         if self.left > 0 {
             self.left -= 1;
-            self.take(word);
-        }
-    }
-
-    // Draws the codeword near a word, or counts the word.
-    fn take(&mut self, word: &Word)
-        ensures screen { self.new.screen ≡ entry_drawn self.old.screen (finding word.now) }
-        ensures bad { self.new.bad ≡ bad_next self.old.bad word.now }
-        ensures left { self.new.left ≡ self.old.left }
-    {
-        // Most words of a disc are idle, and draw nothing. Few others begin with 0.
-        if word.get(0).value() == 0 && is_idle(word) {
-            idle_packs_draw_nothing(&self.screen);
-        } else {
-            self.take_corrected(word);
-        }
-    }
-
-    // Draws what the correction of a word finds, or counts the word.
-    fn take_corrected(&mut self, word: &Word)
-        ensures screen { self.new.screen ≡ entry_drawn self.old.screen (finding word.now) }
-        ensures bad { self.new.bad ≡ bad_next self.old.bad word.now }
-        ensures left { self.new.left ≡ self.old.left }
-    {
-        match correct(word) {
-            Some(fixed) => carry_out(&fixed.pack, &mut self.screen),
-            None => self.bad = self.bad.saturating_add(1),
+            draw_word(&mut self.screen.plain, &mut self.bad, word);
         }
     }
 }
 
+/// Draws the codeword near a word on a screen, or counts the word.
+pub fn draw_word(screen: &mut PlainScreen, bad: &mut u32, word: &Word)
+    ensures screen { seen screen.new ≡ entry_drawn (seen screen.old) (finding word.now) }
+    ensures bad { bad.new ≡ bad_next bad.old word.now }
+{
+    // Most words of a disc are idle, and draw nothing. Few others begin with 0.
+    if word.get(0).value() == 0 && is_idle(word) {
+        idle_packs_draw_nothing(screen);
+    } else {
+        draw_corrected(screen, bad, word);
+    }
+}
+
+// Draws what the correction of a word finds, or counts the word.
+fn draw_corrected(screen: &mut PlainScreen, bad: &mut u32, word: &Word)
+    ensures screen { seen screen.new ≡ entry_drawn (seen screen.old) (finding word.now) }
+    ensures bad { bad.new ≡ bad_next bad.old word.now }
+{
+    match correct(word) {
+        Some(fixed) => carry_out(&fixed.pack, screen),
+        None => *bad = bad.saturating_add(1),
+    }
+}
+
 // Carries out the instruction of a pack.
-fn carry_out(pack: &Pack, screen: &mut Screen)
-    ensures { screen.new ≡ standing_after screen.old (meaning pack.now ∷ []) }
+fn carry_out(pack: &Pack, screen: &mut PlainScreen)
+    ensures { seen screen.new ≡ standing_after (seen screen.old) (meaning pack.now ∷ []) }
 {
     screen.obey(&read(pack));
 }
 
 // A law: an idle pack leaves a screen as it is.
-fn idle_packs_draw_nothing(screen: &Screen)
-    ensures { screen.now ≡ standing_after screen.now (meaning idle_pack ∷ []) }
+fn idle_packs_draw_nothing(screen: &PlainScreen)
+    ensures { seen screen.now ≡ standing_after (seen screen.now) (meaning idle_pack ∷ []) }
 {
     screen.what_stands_is_whole();
 }

@@ -1,3 +1,4 @@
+use Rattle.cdg_screen.specs.Memory.{seen}
 use Rattle.std.proofs.Common.{◌≡◌, ◌<◌, ◌∙◌, get_or, subst, sym, arith}
 use Rattle.cdg_screen.specs.Standing.{screen_pixel}
 use Rattle.live_player.proofs.Pictures.{three_written}
@@ -5,7 +6,7 @@ use Rattle.live_player.proofs.looking.bytes.Goals as goal
 
 pub loop-x-preserved : goal.loop-x-preserved
 loop-x-preserved c n lt =
-    let now = c.args.screen.now in
+    let now = (seen c.args.screen.now) in
     let x = c.loop-x.x in
     let y = c.loop-y.y in
     let p = c.from-pixel.result in

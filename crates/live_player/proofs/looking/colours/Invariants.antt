@@ -1,3 +1,4 @@
+use Rattle.cdg_screen.specs.Memory.{seen}
 use Rattle.std.proofs.Common.{◌≡◌, ◌<◌, ℕ, length}
 use Rattle.std.specs.Prelude.{slice_index}
 use Rattle.live_player.proofs.looking.colours.Given as goal
@@ -5,6 +6,6 @@ use Rattle.live_player.proofs.looking.colours.Given as goal
 abbrev pub invariant-loop-k : goal.invariant-loop-k
 invariant-loop-k l = record {
   size : length l.table ≡ 16;
-  shown : (n : ℕ) → n < l.k → slice_index l.table n ≡ slice_index l.screen.colours n;
+  shown : (n : ℕ) → n < l.k → slice_index l.table n ≡ slice_index (seen l.screen).colours n;
   range : (n : ℕ) → n < l.k → slice_index l.table n < 4096;
 }

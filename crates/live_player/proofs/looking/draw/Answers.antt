@@ -1,3 +1,4 @@
+use Rattle.cdg_screen.specs.Memory.{seen}
 use Rattle.std.proofs.Common.{◌≡◌, [], ◌∷◌, List, ℕ, map, ◌%◌, ap, ◌∙◌, subst}
 use Rattle.cdg_instructions.specs.Instruction.{Means}
 use Rattle.cdg_instructions.specs.declared.instr.Instr.{Instr}
@@ -12,4 +13,4 @@ returns c =
     let read : c.read_word.result ≡ instruction_of c.args.pack.now =
     only_meaning (map (λ byte. byte % 64) c.args.pack.now) c.read_word.result
     (subst (λ (word : List ℕ). Means word c.read_word.result) c.new.ensures c.read_word.ensures.meaning) in
-    c.obey.ensures ∙ ap (λ (i : Instr). standing_after c.args.screen.now (i ∷ [])) read
+    c.obey.ensures ∙ ap (λ (i : Instr). standing_after (seen c.args.screen.now) (i ∷ [])) read

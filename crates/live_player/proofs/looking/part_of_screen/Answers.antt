@@ -1,10 +1,11 @@
+use Rattle.cdg_screen.specs.Memory.{seen}
 use Rattle.std.proofs.Common.{◌≡◌, ◌+◌, ◌-◌, ◌<◌, ◌∙◌, ℕ, arith}
 use Rattle.live_player.proofs.Pictures.{length-piece, part_others, part_pixels, piece_at}
 use Rattle.live_player.proofs.looking.part_of_screen.Goals as goal
 
 pub loop-j-preserved : goal.loop-j-preserved
 loop-j-preserved c =
-    let now = c.args.screen.now in
+    let now = (seen c.args.screen.now) in
     let part = c.args.part.now in
     let row = c.write_row.new.row in
     let j = c.loop-j.j in

@@ -1,3 +1,4 @@
+use Rattle.cdg_screen.specs.Memory.{seen}
 use Rattle.std.proofs.Common.{◌≡◌, ◌<◌, ℕ, length}
 use Rattle.std.specs.Prelude.{slice_index}
 use Rattle.cdg_screen.specs.Texts.{colour_bytes}
@@ -7,5 +8,5 @@ abbrev pub invariant-loop-k : goal.invariant-loop-k
 invariant-loop-k l = record {
   size : length l.table ≡ 16;
   shown : (n : ℕ) → n < l.k
-      → slice_index l.table n ≡ slice_index (colour_bytes (slice_index l.screen.colours n)) l.which;
+      → slice_index l.table n ≡ slice_index (colour_bytes (slice_index (seen l.screen).colours n)) l.which;
 }

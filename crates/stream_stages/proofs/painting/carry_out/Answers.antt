@@ -1,3 +1,4 @@
+use Rattle.cdg_screen.specs.Memory.{seen}
 use Rattle.std.proofs.Common.{[], ◌∷◌, ap, ◌∙◌}
 use Rattle.cdg_instructions.proofs.Meaning.{only_meaning}
 use Rattle.cdg_screen.specs.Standing.{standing_after}
@@ -7,5 +8,5 @@ use Rattle.stream_stages.proofs.painting.carry_out.Goals as goal
 pub returns : goal.returns
 returns c =
     c.obey.ensures
-    ∙ ap (λ (i : Instr). standing_after c.args.screen.now (i ∷ []))
+    ∙ ap (λ (i : Instr). standing_after (seen c.args.screen.now) (i ∷ []))
     (only_meaning c.args.pack.now c.read.result c.read.ensures.meaning)

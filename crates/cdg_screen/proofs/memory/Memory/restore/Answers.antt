@@ -21,15 +21,15 @@ loop-y-preserved c =
       left = before.left;
       top = before.top;
       rows = λ y lt.
-          ap (λ (r : List ℕ). get_or (set c.loop-y.self-inside.rows.items c.loop-y.y r) y []) row
-          ∙ rows_in_more c.loop-y.self-inside.rows.items c.loop-y.y c.args.pixels.now
+          ap (λ (r : List ℕ). get_or (set c.loop-y.self-inside.rows c.loop-y.y r) y []) row
+          ∙ rows_in_more c.loop-y.self-inside.rows c.loop-y.y c.args.pixels.now
           (omega (arith, before.memory.count, c.loop-y-test.true)) before.rows y lt;
     }
 
 pub returns : goal.returns
 returns c = λ x y x_lt y_lt.
     let after = c.loop-y.invariant in
-    ap₂ (λ left top. at (record { rows = c.loop-y.self-inside.rows.items; left = left; top = top }) x y)
+    ap₂ (λ left top. at (record { rows = c.loop-y.self-inside.rows; left = left; top = top }) x y)
     after.left after.top
-    ∙ rows_in-become c.loop-y.self-inside.rows.items c.args.pixels.now (λ y lt. after.rows y (omega arith)) x
+    ∙ rows_in-become c.loop-y.self-inside.rows c.args.pixels.now (λ y lt. after.rows y (omega arith)) x
     y x_lt y_lt

@@ -1,5 +1,4 @@
 use Rattle.std.proofs.Common.{◌≡◌, replicate, [], ◌+◌, ◌%◌, ◌∙◌, ap, get_or, length, refl, arith}
-use Rattle.std.proofs.lemmas.List.{get_or_read}
 use Rattle.cdg_screen.proofs.MemoryRows.{at_is}
 use Rattle.cdg_screen.proofs.WholeRows.{small_row, turned_row}
 use Rattle.cdg_screen.proofs.memory.Memory.row.Goals as goal
@@ -8,28 +7,26 @@ pub returns-clause-pixels : goal.returns-clause-pixels
 returns-clause-pixels c x lt =
     let g = c.self.invariant in
     let n = c.args.y + c.self.inside.top in
-    let row : c.index-from.result.now ≡ get_or c.self.inside.rows.items (n % 216) [] =
-    get_or_read c.self.inside.rows.items _ _ (omega (arith, g.count)) c.index-from.ensures [] in
-    let size : length c.index-from.result.now ≡ 300 = ap length row ∙ g.widths (n % 216) (omega arith) in
+    let row : get_or c.self.inside.rows (n % 216) [] ≡ get_or c.self.inside.rows (n % 216) [] = refl in
+    let size : length (get_or c.self.inside.rows (n % 216) []) ≡ 300 = ap length row ∙ g.widths (n % 216) (omega arith) in
     let there =
-    turned_row c.index-from.result.now _ _ c.write_at.new.row c.write_at-2.new.row (replicate 300 0)
+    turned_row (get_or c.self.inside.rows (n % 216) []) _ _ c.write_at.new.row c.write_at-2.new.row (replicate 300 0)
     c.self.inside.left x g.left_below lt size refl refl (c.write_at.ensures x lt)
     (c.write_at-2.ensures x lt) in
     rw (← c.self.view_is)
-    (rw (at_is c.self.inside.rows.items c.self.inside.left c.self.inside.top x c.args.y, ← row) there)
+    (rw (at_is c.self.inside.rows c.self.inside.left c.self.inside.top x c.args.y, ← row) there)
 
 pub returns-clause-range : goal.returns-clause-range
 returns-clause-range c =
     let g = c.self.invariant in
     let n = c.args.y + c.self.inside.top in
-    let row : c.index-from.result.now ≡ get_or c.self.inside.rows.items (n % 216) [] =
-    get_or_read c.self.inside.rows.items _ _ (omega (arith, g.count)) c.index-from.ensures [] in
-    let size : length c.index-from.result.now ≡ 300 = ap length row ∙ g.widths (n % 216) (omega arith) in
+    let row : get_or c.self.inside.rows (n % 216) [] ≡ get_or c.self.inside.rows (n % 216) [] = refl in
+    let size : length (get_or c.self.inside.rows (n % 216) []) ≡ 300 = ap length row ∙ g.widths (n % 216) (omega arith) in
     small_row c.write_at-2.new.row
-    (record { rows = c.self.inside.rows.items; left = c.self.inside.left; top = c.self.inside.top }) c.args.y
+    (record { rows = c.self.inside.rows; left = c.self.inside.left; top = c.self.inside.top }) c.args.y
     g c.write_at-2.array_long (λ x lt.
     let there =
-    turned_row c.index-from.result.now _ _ c.write_at.new.row c.write_at-2.new.row (replicate 300 0)
+    turned_row (get_or c.self.inside.rows (n % 216) []) _ _ c.write_at.new.row c.write_at-2.new.row (replicate 300 0)
     c.self.inside.left x g.left_below lt size refl refl (c.write_at.ensures x lt)
     (c.write_at-2.ensures x lt) in
-    rw (at_is c.self.inside.rows.items c.self.inside.left c.self.inside.top x c.args.y, ← row) there)
+    rw (at_is c.self.inside.rows c.self.inside.left c.self.inside.top x c.args.y, ← row) there)

@@ -1,0 +1,28 @@
+use Rattle.std.proofs.Common.{◌+◌, ◌-◌, ◌^◌, ap, sym, ◌∙◌}
+use Rattle.std.specs.Prelude.{min}
+use Rattle.cdg_screen.specs.Memory.{seen}
+use Rattle.cdg_screen.specs.Standing.{standing_after}
+use Rattle.live_player.specs.Lives.{bad_counted, drawn_for}
+use Rattle.live_player.proofs.LiveViews.{nothing_drawn}
+use Rattle.live_player.proofs.drawing.play.Goals as goal
+
+pub returns-in-Some-clause-draws : goal.returns-in-Some-clause-draws
+returns-in-Some-clause-draws c =
+    c.draw_words-none_near.ensures.drawn
+    ∙ ap (λ o. standing_after (seen c.args.screen.now) (drawn_for o))
+    (sym c.in-Some.is ∙ c.feed-came.ensures.gives)
+
+pub returns-in-Some-clause-bad : goal.returns-in-Some-clause-bad
+returns-in-Some-clause-bad c =
+    c.saturating_add.ensures
+    ∙ ap (λ n. min (c.args.bad.now + n) (2 ^ 32 - 1)) c.draw_words-none_near.ensures.bad
+    ∙ ap (λ o. bad_counted c.args.bad.now o) (sym c.in-Some.is ∙ c.feed-came.ensures.gives)
+
+pub returns-in-None-clause-draws : goal.returns-in-None-clause-draws
+returns-in-None-clause-draws c =
+    nothing_drawn _ c.args.words.now c.args.block.now c.what_stands_is_whole.ensures
+    (sym c.in-None.is ∙ c.feed-came.ensures.gives)
+
+pub returns-in-None-clause-bad : goal.returns-in-None-clause-bad
+returns-in-None-clause-bad c =
+    ap (λ o. bad_counted c.args.bad.now o) (sym c.in-None.is ∙ c.feed-came.ensures.gives)

@@ -1,0 +1,13 @@
+use Rattle.std.proofs.Common.{◌≡◌, ◌<◌, ◌+◌, ◌*◌, ◌/◌, ◌%◌, ℕ, length}
+use Rattle.std.specs.Prelude.{slice_index}
+use Rattle.cdg_screen.specs.Memory.{seen}
+use Rattle.cdg_screen.specs.Standing.{screen_pixel}
+use Rattle.ribjasper_web.proofs.picture.ribjasper_web_screen.Given as goal
+
+abbrev pub invariant-loop-y : goal.invariant-loop-y
+invariant-loop-y l = (n : ℕ) → n < 300 * l.y
+    → slice_index l.pixels n ≡ screen_pixel (seen l.player.screen) (n % 300) (n / 300)
+
+abbrev pub invariant-loop-x : goal.invariant-loop-x
+invariant-loop-x l = (n : ℕ) → n < 300 * l.y + l.x
+    → slice_index l.pixels n ≡ screen_pixel (seen l.player.screen) (n % 300) (n / 300)

@@ -1,0 +1,4 @@
+pub mod Players
+pub mod Shown
+pub mod Packs
+pub mod Touches

@@ -1,0 +1,57 @@
+// What a pack changes.
+ghost use Rattle.std.specs.Prelude.{◌≡◌, ◌↔◌, ◌∷◌, [], IsTrue};
+ghost use Rattle.cdg_instructions.specs.Instruction.{InRange};
+ghost use Rattle.cdg_screen.specs.Standing.{standing_after};
+ghost use Rattle.cdg_screen.specs.Touched.{touched_by};
+ghost use Rattle.live_player.specs.Lives.{instruction_of, standing_on};
+ghost use Rattle.ribjasper_web.specs.Players.{player_of};
+ghost use Rattle.ribjasper_web.specs.Touches.{touched_number};
+
+use crate::state::WebPlayer;
+use cdg_instructions::{Instr, SCREEN_COLUMNS, read_word};
+use cdg_screen::{Touched, touches};
+use rw_code::{SYMBOLS, Word};
+
+// Tiles are numbered row by row.
+const COLUMNS: u32 = SCREEN_COLUMNS as u32;
+
+/// Whether a pack would change anything that stands.
+#[unsafe(no_mangle)]
+pub extern "C" fn ribjasper_web_changes(player: &WebPlayer, pack: &[u8; SYMBOLS]) -> bool
+    ensures { ¬ IsTrue result
+        ↔ (standing_after (standing_on (player_of player.now)) (instruction_of pack.now ∷ [])
+        ≡ standing_on (player_of player.now)) }
+{
+    player.screen.changes(&read_pack(pack))
+}
+
+/// The instruction of a pack, whose parity has no part in it.
+pub(crate) fn read_pack(pack: &[u8; SYMBOLS]) -> Instr
+    ensures instruction { result ≡ instruction_of pack.now }
+    ensures range { InRange result }
+{
+    read_word(&Word::new(pack))
+}
+
+/// What the instruction of a pack touches, whose parity has no part in it: a tile of the memory, 50 times its row and
+/// its column, below 900; 900 nothing; 901 the whole memory and the offsets; 902 the border; 903 colours; 904 levels.
+#[unsafe(no_mangle)]
+pub extern "C" fn ribjasper_web_touches(pack: &[u8; SYMBOLS]) -> u32
+    ensures { result ≡ touched_number (touched_by (instruction_of pack.now)) }
+{
+    number(touches(&read_pack(pack)))
+}
+
+// What is touched, as a number.
+fn number(touched: Touched) -> u32
+    ensures { result ≡ touched_number touched }
+{
+    match touched {
+        Touched::Nothing => 900,
+        Touched::Tile { row, column } => COLUMNS * u32::from(row) + u32::from(column),
+        Touched::All => 901,
+        Touched::Border => 902,
+        Touched::Colours => 903,
+        Touched::Levels => 904,
+    }
+}

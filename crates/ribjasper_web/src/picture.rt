@@ -1,0 +1,86 @@
+// Pixels of the screen.
+ghost use Rattle.std.specs.Prelude.{◌≡◌, ◌<◌, ◌/◌, ◌%◌, ℕ, length, slice_index};
+ghost use Rattle.cdg_instructions.specs.Sizes.{colour_values, screen_pixels, screen_width};
+ghost use Rattle.cdg_screen.specs.Memory.{seen};
+ghost use Rattle.cdg_screen.specs.Standing.{screen_pixel};
+ghost use Rattle.live_player.specs.Lives.{standing_on};
+ghost use Rattle.ribjasper_web.specs.Players.{player_of};
+ghost use Rattle.ribjasper_web.specs.Shown.{IsShown, opaque, picture_pixel};
+
+use crate::showing::WebShown;
+use crate::state::WebPlayer;
+use cdg_instructions::{SCREEN_HEIGHT, SCREEN_PIXELS, SCREEN_WIDTH};
+use cdg_screen::PlainScreen;
+
+/// Writes the screen's pixels row by row, each as a number whose bytes, the lowest first, are red, green, blue and 255.
+#[unsafe(no_mangle)]
+pub extern "C" fn ribjasper_web_picture(player: &WebPlayer, pixels: &mut [u32; SCREEN_PIXELS])
+    ensures { (n : ℕ) → n < screen_pixels
+        → slice_index pixels.new n ≡ picture_pixel (standing_on (player_of player.now)) n }
+{
+    let screen = &player.screen;
+    let table = opaque_colours(screen);
+    let mut row = [0; SCREEN_WIDTH];
+    for y in 0..SCREEN_HEIGHT {
+        screen.write_row(y, &mut row);
+        for x in 0..SCREEN_WIDTH {
+            pixels[SCREEN_WIDTH * y + x] = table[usize::from(row[x])];
+        }
+    }
+}
+
+/// Writes the numbers of the colours of the screen's pixels, row by row.
+#[unsafe(no_mangle)]
+pub extern "C" fn ribjasper_web_screen(player: &WebPlayer, pixels: &mut [u8; SCREEN_PIXELS])
+    ensures { (n : ℕ) → n < screen_pixels → slice_index pixels.new n
+        ≡ screen_pixel (standing_on (player_of player.now)) (n % screen_width) (n / screen_width) }
+{
+    let mut row = [0; SCREEN_WIDTH];
+    for y in 0..SCREEN_HEIGHT {
+        player.screen.write_row(y, &mut row);
+        for x in 0..SCREEN_WIDTH {
+            pixels[SCREEN_WIDTH * y + x] = row[x];
+        }
+    }
+}
+
+/// Writes what stands beside the memory.
+#[unsafe(no_mangle)]
+pub extern "C" fn ribjasper_web_shown(player: &WebPlayer, shown: &mut WebShown)
+    ensures { IsShown (standing_on (player_of player.now)) shown.new }
+{
+    let screen = &player.screen;
+    for k in 0..16 {
+        shown.colours[k] = screen.colour(k as u8);
+    }
+    for k in 0..16 {
+        shown.levels[k] = screen.level(k as u8);
+    }
+    shown.border = screen.border();
+    shown.h = screen.offset_h();
+    shown.v = screen.offset_v();
+}
+
+// The colours of the table as the picture has them.
+fn opaque_colours(screen: &PlainScreen) -> [u32; 16]
+    ensures { (k : ℕ) → k < 16 → slice_index result k ≡ opaque (slice_index (seen screen.now).colours k) }
+{
+    let mut table = [0; 16];
+    for k in 0..16 {
+        table[k] = opaque(screen.colour(k as u8));
+    }
+    table
+}
+
+// A colour as a number whose bytes are red, green, blue and 255.
+#[tactic(auto, unfolding(crate::specs::Shown::opaque))]
+fn opaque(colour: u16) -> u32
+    requires { colour < colour_values }
+    ensures { result ≡ opaque colour }
+{
+    let colour = u32::from(colour);
+    17 * (colour / 256)
+        + 256 * (17 * (colour / 16 % 16))
+        + 65_536 * (17 * (colour % 16))
+        + 0xff00_0000
+}

@@ -1,0 +1,64 @@
+// A player that is fed a block and answers with the packs that came with it.
+ghost use Rattle.std.specs.Prelude.{◌≡◌, ◌≤◌, ◌∷◌, List, ℕ, pos, length};
+ghost use Rattle.live_player.specs.Lives.{Given, HasPlayed};
+ghost use Rattle.live_player.specs.Lives.Given.{Fed};
+ghost use Rattle.live_player.specs.Steps.{TakesBlock, words_come};
+ghost use Rattle.raw_subcode.specs.declared.form.Form.{Form};
+ghost use Rattle.stream_stages.specs.Steps.{words_give};
+ghost use Rattle.ribjasper_web.specs.Packs.{AreReadAs, IsReadAs};
+ghost use Rattle.ribjasper_web.specs.Players.{player_of};
+
+use crate::state::WebPlayer;
+use crate::taking::WebPack;
+use raw_subcode::BLOCK_BYTES;
+use rw_code::{Word, correct};
+
+/// Feeds a player the next block, and writes the packs that came with it; those behind them are left as they were. Their
+/// number, 0 to 4.
+#[unsafe(no_mangle)]
+pub extern "C" fn ribjasper_web_take(
+    player: &mut WebPlayer,
+    block: &[u8; BLOCK_BYTES],
+    packs: &mut [WebPack; 4],
+) -> i32
+    ensures takes { TakesBlock block.now (player_of player.old) (player_of player.new) }
+    ensures fed { (form : Form) (lead_in : ℕ) (given : List Given)
+        → HasPlayed form lead_in given (player_of player.old)
+        → HasPlayed form lead_in (Fed block.now ∷ given) (player_of player.new) }
+    ensures count { result ≡ pos (length (words_come (words_give (player_of player.old).words block.now))) }
+    ensures packs { AreReadAs (words_come (words_give (player_of player.old).words block.now))
+        packs.old packs.new }
+{
+    match player.step(block) {
+        Some(words) => read_all(words.into_words().as_slice(), packs),
+        None => 0,
+    }
+}
+
+// Reads words as packs, and says how many they are.
+fn read_all(words: &[Word], packs: &mut [WebPack; 4]) -> i32
+    requires { length words.now ≤ 4 }
+    ensures count { result ≡ pos (length words.now) }
+    ensures packs { AreReadAs words.now packs.old packs.new }
+{
+    for i in 0..words.len() {
+        packs[i] = read(&words[i]);
+    }
+    words.len() as i32
+}
+
+// A word as the codeword near it, or as it is.
+fn read(word: &Word) -> WebPack
+    ensures { IsReadAs word.now result.symbols result.wrong }
+{
+    match correct(word) {
+        Some(fixed) => WebPack {
+            symbols: fixed.pack.word().bytes(),
+            wrong: i32::from(fixed.wrong),
+        },
+        None => WebPack {
+            symbols: word.bytes(),
+            wrong: -1,
+        },
+    }
+}

@@ -1,0 +1,112 @@
+// A player that is saved, and one that goes to where another was saved.
+ghost use Rattle.std.specs.Prelude.{◌≡◌, ◌≢◌, ◌⊎◌, ◌↔◌, pos, negsuc};
+ghost use Rattle.checkpoint_files.specs.Checkpoint.{checkpoint_in, file_of};
+ghost use Rattle.checkpoint_files.specs.Table.{IsBadAt, IsCheckpointFile};
+ghost use Rattle.live_player.specs.Saving.{checkpoint_of, IsAt};
+ghost use Rattle.ribjasper_web.specs.Players.{player_of};
+
+use crate::state::{PlainWords, WebPlayer};
+use cdg_checkpoint::gathered_slots;
+use cdg_io::SteadySource;
+use checkpoint_files::{FILE_BYTES, PlainFile, StreamCounts};
+use raw_subcode::Form;
+use stream_stages::BlockWords;
+
+/// Writes the file of the checkpoint at which a player is. 0, or -1 where its stream is not raw, or is longer than a
+/// checkpoint can say.
+#[unsafe(no_mangle)]
+pub extern "C" fn ribjasper_web_save(player: &WebPlayer, file: &mut [u8; FILE_BYTES]) -> i32
+    ensures saved { result ≡ pos 0 → (file.new ≡ file_of (checkpoint_of (player_of player.now)))
+        × IsCheckpointFile file.new }
+    ensures refused { result ≡ negsuc 0 → (player.now.words.form ≢ 0)
+        ⊎ (¬ IsCheckpointFile (file_of (checkpoint_of (player_of player.now)))) }
+    ensures answer { (result ≡ pos 0) ⊎ (result ≡ negsuc 0) }
+    ensures untouched { result ≡ negsuc 0 → file.new ≡ file.old }
+{
+    if player.words.form != 0 {
+        return -1;
+    }
+    let mut saved = PlainFile::empty();
+    player.compose(&mut saved);
+    match saved.check() {
+        Ok(()) => {
+            file.copy_from_slice(saved.bytes());
+            0
+        }
+        Err(_) => -1,
+    }
+}
+
+impl WebPlayer {
+    // Writes the file of the checkpoint at which the player is.
+    fn compose(&self, file: &mut PlainFile)
+        ensures { file.new ≡ file_of (checkpoint_of (player_of self.now)) }
+    {
+        let read = self.blocks.min(self.lead_in);
+        let counts = StreamCounts {
+            to_come: self.lead_in - read,
+            lead_in: read,
+            program: self.blocks - read,
+            bad: self.bad,
+        };
+        let slots = self.words.words().gather.symbols();
+        file.compose(&counts, &slots, &self.screen);
+    }
+}
+
+/// Brings a player to the checkpoint of a file, in a raw stream. 0; or 3 where the file is none: then the byte that shows
+/// it is told, and the player stays.
+#[unsafe(no_mangle)]
+pub extern "C" fn ribjasper_web_load(
+    player: &mut WebPlayer,
+    file: &[u8; FILE_BYTES],
+    byte: &mut u32,
+) -> i32
+    ensures loaded { result ≡ pos 0
+        → IsCheckpointFile file.now × IsAt (checkpoint_in file.now) (player_of player.new) }
+    ensures bad { result ≡ pos 3 → IsBadAt file.now byte.new }
+    ensures answer { (result ≡ pos 0) ⊎ (result ≡ pos 3) }
+    ensures refused { result ≡ pos 3 → player.new ≡ player.old }
+    ensures same { result ≡ pos 0 → byte.new ≡ byte.old }
+{
+    let mut saved = PlainFile::empty();
+    take_bytes(&mut saved, file);
+    match saved.check() {
+        Ok(()) => {
+            player.go_to(&saved);
+            0
+        }
+        Err(bad) => {
+            *byte = bad;
+            3
+        }
+    }
+}
+
+// A file becomes these bytes.
+fn take_bytes(saved: &mut PlainFile, file: &[u8; FILE_BYTES])
+    ensures { saved.new ≡ file.now }
+{
+    let mut source = SteadySource::new(file);
+    saved.read(&mut source).unwrap();
+}
+
+impl WebPlayer {
+    // Goes to the checkpoint of a file, in a raw stream.
+    fn go_to(&mut self, file: &PlainFile)
+        requires { IsCheckpointFile file.now }
+        ensures { IsAt (checkpoint_in file.now) (player_of self.new) }
+    {
+        let counts = file.counts();
+        let words = BlockWords {
+            form: Form::Raw,
+            lead_in: counts.to_come,
+            gather: gathered_slots(file),
+        };
+        self.words = PlainWords::of(&words);
+        self.lead_in = counts.to_come + counts.lead_in;
+        self.blocks = counts.lead_in + counts.program;
+        self.bad = counts.bad;
+        file.bring_back(&mut self.screen);
+    }
+}

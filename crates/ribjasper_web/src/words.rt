@@ -1,0 +1,64 @@
+// A gatherer of words from its plain numbers, and back.
+ghost use Rattle.std.specs.Prelude.{◌≡◌};
+ghost use Rattle.ribjasper_web.specs.Players.{form_of, words_of};
+
+use crate::state::PlainWords;
+use raw_subcode::Form;
+use rw_interleave::Gather;
+use stream_stages::BlockWords;
+
+impl PlainWords {
+    /// The numbers of a gatherer.
+    pub(crate) fn of(words: &BlockWords) -> PlainWords
+        ensures { words_of result ≡ words.now }
+    {
+        let gather = &words.gather;
+        PlainWords {
+            early: gather.early,
+            late: gather.late,
+            count: gather.count,
+            quiet: gather.quiet,
+            form: number_of(words.form),
+            lead_in: words.lead_in,
+        }
+    }
+
+    /// The gatherer that these numbers are.
+    pub(crate) fn words(&self) -> BlockWords
+        ensures { result ≡ words_of self.now }
+    {
+        let gather = Gather {
+            early: self.early,
+            late: self.late,
+            count: self.count,
+            quiet: self.quiet,
+        };
+        BlockWords {
+            form: form_of(self.form),
+            lead_in: self.lead_in,
+            gather,
+        }
+    }
+}
+
+/// The form that a number means.
+pub(crate) fn form_of(number: u32) -> Form
+    ensures { result ≡ form_of number }
+{
+    match number {
+        0 => Form::Raw,
+        1 => Form::Cooked,
+        _ => Form::Sector,
+    }
+}
+
+// A number that means a form.
+fn number_of(form: Form) -> u32
+    ensures { form_of result ≡ form }
+{
+    match form {
+        Form::Raw => 0,
+        Form::Cooked => 1,
+        Form::Sector => 2,
+    }
+}

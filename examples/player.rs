@@ -1,0 +1,148 @@
+//! A player in Rust on the library for programs in C.
+//!
+//! `player BLOCKS.. <stream` feeds a raw stream, and after each of these numbers of blocks (ascending) writes the screen to
+//! the file BLOCKS.ppm.
+//!
+//! rustc -O examples/player.rs -L lib -l dylib=ribjasper
+use std::error::Error;
+use std::ffi::{c_char, c_void, CStr};
+use std::fs::File;
+use std::io::{self, Read, Write};
+
+const BLOCK: usize = 96;
+const WIDTH: usize = 300;
+const HEIGHT: usize = 216;
+const RGB: u32 = 1;
+
+/// What C keeps of a player: all zero it is closed.
+#[repr(C)]
+struct Handle {
+    at: *mut c_void,
+    is_open: bool,
+}
+
+/// What of the screen may have changed.
+#[repr(C)]
+#[derive(Default)]
+struct Change {
+    left: u32,
+    top: u32,
+    right: u32,
+    bottom: u32,
+    colours: u8,
+    levels: u8,
+}
+
+unsafe extern "C" {
+    fn ribjasper_player_open(player: *mut Handle) -> i32;
+    fn ribjasper_player_close(player: *mut Handle);
+    fn ribjasper_player_feed_all(
+        player: *mut Handle,
+        blocks: *const [u8; BLOCK],
+        count: usize,
+        change: *mut Change,
+    ) -> i32;
+    fn ribjasper_player_pixels(
+        player: *const Handle,
+        format: u32,
+        x: u32,
+        y: u32,
+        width: u32,
+        height: u32,
+        out: *mut u8,
+        room: usize,
+        stride: u32,
+    ) -> i32;
+    fn ribjasper_answer_text(answer: i32, text: *mut [c_char; 64]);
+}
+
+/// A player that is open as long as it lives.
+struct Player(Handle);
+
+impl Player {
+    fn open() -> Result<Player, Box<dyn Error>> {
+        let mut handle = Handle {
+            at: std::ptr::null_mut(),
+            is_open: false,
+        };
+        check(unsafe { ribjasper_player_open(&mut handle) })?;
+        Ok(Player(handle))
+    }
+
+    /// Feeds blocks, all in one call.
+    fn feed(&mut self, blocks: &[[u8; BLOCK]]) -> Result<Change, Box<dyn Error>> {
+        let mut change = Change::default();
+        let count = blocks.len();
+        check(unsafe {
+            ribjasper_player_feed_all(&mut self.0, blocks.as_ptr(), count, &mut change)
+        })?;
+        Ok(change)
+    }
+
+    /// Writes red, green and blue of the pixels that changed into a picture of the whole. The call takes the player out of
+    /// its handle while it looks, so it wants the only reference.
+    fn draw(&mut self, change: &Change, picture: &mut [u8]) -> Result<(), Box<dyn Error>> {
+        let (left, top, right, bottom) = if change.colours == 1 {
+            (0, 0, WIDTH as u32, HEIGHT as u32)
+        } else {
+            (change.left, change.top, change.right, change.bottom)
+        };
+        if left >= right {
+            return Ok(());
+        }
+        let room = &mut picture[3 * (WIDTH * top as usize + left as usize)..];
+        let stride = 3 * WIDTH as u32;
+        let (width, height) = (right - left, bottom - top);
+        check(unsafe {
+            ribjasper_player_pixels(
+                &self.0,
+                RGB,
+                left,
+                top,
+                width,
+                height,
+                room.as_mut_ptr(),
+                room.len(),
+                stride,
+            )
+        })
+    }
+}
+
+impl Drop for Player {
+    fn drop(&mut self) {
+        unsafe { ribjasper_player_close(&mut self.0) }
+    }
+}
+
+/// An answer of the library, in words where it is a refusal.
+fn check(answer: i32) -> Result<(), Box<dyn Error>> {
+    if answer == 0 {
+        return Ok(());
+    }
+    let mut text = [0; 64];
+    unsafe { ribjasper_answer_text(answer, &mut text) };
+    Err(unsafe { CStr::from_ptr(text.as_ptr()) }.to_str()?.into())
+}
+
+fn main() -> Result<(), Box<dyn Error>> {
+    let mut stream = Vec::new();
+    io::stdin().read_to_end(&mut stream)?;
+    let blocks: Vec<[u8; BLOCK]> = stream
+        .chunks_exact(BLOCK)
+        .map(|block| block.try_into().unwrap())
+        .collect();
+    let mut player = Player::open()?;
+    let mut picture = vec![0; 3 * WIDTH * HEIGHT];
+    let mut done = 0;
+    for word in std::env::args().skip(1) {
+        let moment: usize = word.parse()?;
+        let change = player.feed(blocks.get(done..moment).ok_or("there is no such block")?)?;
+        player.draw(&change, &mut picture)?;
+        done = moment;
+        let mut file = File::create(format!("{moment}.ppm"))?;
+        write!(file, "P6\n{WIDTH} {HEIGHT}\n255\n")?;
+        file.write_all(&picture)?;
+    }
+    Ok(())
+}
