@@ -1,5 +1,5 @@
 -- The player that a page keeps as plain numbers.
-use Rattle.std.specs.Prelude.{◌≡◌, ◌==◌, ◌-◌, ◌++◌, if◌then◌else◌, ℕ, List, [], ◌∷◌}
+use Rattle.std.specs.Prelude.{◌==◌, ◌-◌, ◌++◌, if◌then◌else◌, ℕ, List, [], ◌∷◌}
 use Rattle.raw_subcode.specs.declared.form.Form.{Form}
 use Rattle.raw_subcode.specs.declared.form.Form.TheVariants.{Raw, Cooked, Sector}
 use Rattle.rw_interleave.specs.Interleave.{packs_kept_back}

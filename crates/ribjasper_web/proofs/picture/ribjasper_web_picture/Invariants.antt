@@ -1,7 +1,6 @@
-use Rattle.std.proofs.Common.{◌≡◌, ◌<◌, ◌+◌, ◌*◌, ◌/◌, ◌%◌, ℕ, length}
+use Rattle.std.proofs.Common.{◌≡◌, ◌<◌, ◌+◌, ◌*◌, ℕ}
 use Rattle.std.specs.Prelude.{slice_index}
 use Rattle.cdg_screen.specs.Memory.{seen}
-use Rattle.cdg_screen.specs.Standing.{screen_pixel}
 use Rattle.ribjasper_web.specs.Shown.{picture_pixel}
 use Rattle.ribjasper_web.proofs.picture.ribjasper_web_picture.Given as goal
 
