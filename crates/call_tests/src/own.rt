@@ -49,12 +49,12 @@ impl Source for Broken {
 
 // A vector, which fails where there is no memory for more.
 #[derive(Drop)]
-struct Kept {
+struct KeptBytes {
     bytes: Vec<u8>,
     faults: u64,
 }
 
-impl Sink for Kept {
+impl Sink for KeptBytes {
     ghost held = { λ s. Some s.bytes.items };
 
     ghost faults = { λ s. s.faults };
@@ -71,7 +71,7 @@ impl Sink for Kept {
 }
 
 // Converts a stream with no lead-in.
-fn convert<S: Source>(alloc: Global, mut first: S, out: &mut Kept) -> Result<Status, AllocError>
+fn convert<S: Source>(alloc: Global, mut first: S, out: &mut KeptBytes) -> Result<Status, AllocError>
 where
     S: Drop,
 {
@@ -93,7 +93,7 @@ where
 #[test]
 fn a_command_runs_over_an_own_source_and_sink(rt: HostRuntime) -> Result<(), Fail> {
     let alloc = rt.alloc();
-    let mut out = Kept {
+    let mut out = KeptBytes {
         bytes: Vec::new(alloc),
         faults: 0,
     };
@@ -106,7 +106,7 @@ fn a_command_runs_over_an_own_source_and_sink(rt: HostRuntime) -> Result<(), Fai
 #[test]
 fn an_own_source_that_fails_is_a_read_fault(rt: HostRuntime) -> Result<(), Fail> {
     let alloc = rt.alloc();
-    let mut out = Kept {
+    let mut out = KeptBytes {
         bytes: Vec::new(alloc),
         faults: 0,
     };

@@ -12,7 +12,8 @@ impl PlainScreen {
     /// Writes the numbers of the colours of a row of the screen's pixels. `y` is below 216.
     pub fn write_row(&self, y: usize, row: &mut [u8; SCREEN_WIDTH])
         requires { y < screen_height }
-        ensures pixels { (x : ℕ) → x < screen_width → slice_index row.new x ≡ screen_pixel (seen self.now) x y }
+        ensures pixels { (x : ℕ) → x < screen_width
+            → slice_index row.new x ≡ screen_pixel (seen self.now) x y }
         ensures range { (x : ℕ) → slice_index row.new x < colour_count }
     {
         fill_row(row, self.border);

@@ -4,18 +4,18 @@ use Rattle.rw_code.specs.Codeword.{differences, Reads}
 use Rattle.ribjasper_web.specs.declared.taking.WebPack.{WebPack}
 
 -- a word is told by the codeword near it and how many of its symbols are wrong, or as it is and by -1
-abbrev pub IsReadAs : List ℕ → List ℕ → ℤ → Type 0
-IsReadAs word symbols (pos wrong) = Reads word symbols × (wrong ≡ differences word symbols)
-IsReadAs word symbols (negsuc k) = ((codeword : List ℕ) → ¬ Reads word codeword) × (k ≡ 0)
+abbrev pub IsTakenAs : List ℕ → List ℕ → ℤ → Type 0
+IsTakenAs word symbols (pos wrong) = Reads word symbols × (wrong ≡ differences word symbols)
+IsTakenAs word symbols (negsuc k) = ((codeword : List ℕ) → ¬ Reads word codeword) × (k ≡ 0)
     × (symbols ≡ word)
 
 -- in place of a pack that is not there
-abbrev pub no_pack : WebPack
-no_pack = record { symbols = []; wrong = pos 0 }
+abbrev pub absent_pack : WebPack
+absent_pack = record { symbols = []; wrong = pos 0 }
 
 -- The words are told in this order. The packs behind them are left as they were.
-pub record AreReadAs (words : List (List ℕ)) (old new : List WebPack) : Type 0 where
+pub record AreTakenAs (words : List (List ℕ)) (old new : List WebPack) : Type 0 where
   pub told : (i : ℕ) → i < length words
-      → IsReadAs (slice_index_or words i []) (slice_index_or new i no_pack).symbols
-      (slice_index_or new i no_pack).wrong
+      → IsTakenAs (slice_index_or words i []) (slice_index_or new i absent_pack).symbols
+      (slice_index_or new i absent_pack).wrong
   pub rest : drop (length words) new ≡ drop (length words) old

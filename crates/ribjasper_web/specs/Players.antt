@@ -1,5 +1,5 @@
 -- The player that a page keeps as plain numbers.
-use Rattle.std.specs.Prelude.{◌≡◌, ◌==◌, ◌-◌, ◌++◌, if◌then◌else◌, ℕ, List, [], ◌∷◌}
+use Rattle.std.specs.Prelude.{◌==◌, ◌-◌, ◌++◌, if◌then◌else◌, ℕ, List, [], ◌∷◌}
 use Rattle.raw_subcode.specs.declared.form.Form.{Form}
 use Rattle.raw_subcode.specs.declared.form.Form.TheVariants.{Raw, Cooked, Sector}
 use Rattle.rw_interleave.specs.Interleave.{packs_kept_back}
@@ -12,13 +12,13 @@ use Rattle.ribjasper_web.specs.declared.state.PlainWords.{PlainWords}
 use Rattle.ribjasper_web.specs.declared.state.WebPlayer.{WebPlayer}
 
 -- the form that a number means: 0 a raw stream, 1 one of packs, else one of sectors
-abbrev pub form_of : ℕ → Form
-form_of n = if n == 0 then Raw else (if n == 1 then Cooked else Sector)
+abbrev pub numbered_form : ℕ → Form
+numbered_form n = if n == 0 then Raw else (if n == 1 then Cooked else Sector)
 
 -- the gatherer that these numbers are
-abbrev pub words_of : PlainWords → BlockWords
-words_of w = record {
-  form = form_of w.form;
+abbrev pub gatherer_of : PlainWords → BlockWords
+gatherer_of w = record {
+  form = numbered_form w.form;
   lead_in = w.lead_in;
   gather = slots_in (w.early ++ w.late) (packs_kept_back - w.count) w.count;
 }
@@ -26,7 +26,7 @@ words_of w = record {
 -- the player that these numbers are
 abbrev pub player_of : WebPlayer → LivePlayer
 player_of p = record {
-  words = words_of p.words;
+  words = gatherer_of p.words;
   screen = p.screen;
   lead_in = p.lead_in;
   blocks = p.blocks;

@@ -10,8 +10,8 @@ opaque colour =
     17 * (colour / 256) + 256 * (17 * (colour / 16 % 16)) + 65536 * (17 * (colour % 16)) + 4278190080
 
 -- pixel n of the picture, of the pixels row by row
-abbrev pub picture_pixel : Standing → ℕ → ℕ
-picture_pixel now n =
+abbrev pub opaque_pixel : Standing → ℕ → ℕ
+opaque_pixel now n =
     opaque (slice_index now.colours (screen_pixel now (n % screen_width) (n / screen_width)))
 
 -- border, offsets, colours and levels of what stands

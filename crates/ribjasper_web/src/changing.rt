@@ -5,7 +5,7 @@ ghost use Rattle.cdg_screen.specs.Standing.{standing_after};
 ghost use Rattle.cdg_screen.specs.Touched.{touched_by};
 ghost use Rattle.live_player.specs.Lives.{instruction_of, standing_on};
 ghost use Rattle.ribjasper_web.specs.Players.{player_of};
-ghost use Rattle.ribjasper_web.specs.Touches.{touched_number};
+ghost use Rattle.ribjasper_web.specs.Touches.{number_touched};
 
 use crate::state::WebPlayer;
 use cdg_instructions::{Instr, SCREEN_COLUMNS, read_word};
@@ -37,14 +37,14 @@ pub(crate) fn read_pack(pack: &[u8; SYMBOLS]) -> Instr
 /// its column, below 900; 900 nothing; 901 the whole memory and the offsets; 902 the border; 903 colours; 904 levels.
 #[unsafe(no_mangle)]
 pub extern "C" fn ribjasper_web_touches(pack: &[u8; SYMBOLS]) -> u32
-    ensures { result ≡ touched_number (touched_by (instruction_of pack.now)) }
+    ensures { result ≡ number_touched (touched_by (instruction_of pack.now)) }
 {
     number(touches(&read_pack(pack)))
 }
 
 // What is touched, as a number.
 fn number(touched: Touched) -> u32
-    ensures { result ≡ touched_number touched }
+    ensures { result ≡ number_touched touched }
 {
     match touched {
         Touched::Nothing => 900,

@@ -5,7 +5,7 @@ ghost use Rattle.cdg_screen.specs.Memory.{seen};
 ghost use Rattle.cdg_screen.specs.Standing.{screen_pixel};
 ghost use Rattle.live_player.specs.Lives.{standing_on};
 ghost use Rattle.ribjasper_web.specs.Players.{player_of};
-ghost use Rattle.ribjasper_web.specs.Shown.{IsShown, opaque, picture_pixel};
+ghost use Rattle.ribjasper_web.specs.Shown.{IsShown, opaque, opaque_pixel};
 
 use crate::showing::WebShown;
 use crate::state::WebPlayer;
@@ -16,7 +16,7 @@ use cdg_screen::PlainScreen;
 #[unsafe(no_mangle)]
 pub extern "C" fn ribjasper_web_picture(player: &WebPlayer, pixels: &mut [u32; SCREEN_PIXELS])
     ensures { (n : ℕ) → n < screen_pixels
-        → slice_index pixels.new n ≡ picture_pixel (standing_on (player_of player.now)) n }
+        → slice_index pixels.new n ≡ opaque_pixel (standing_on (player_of player.now)) n }
 {
     let screen = &player.screen;
     let table = opaque_colours(screen);

@@ -10,7 +10,7 @@ ghost use Rattle.raw_subcode.specs.Channels.{blocks_of, unit_size};
 ghost use Rattle.raw_subcode.specs.Sizes.{block_bytes};
 ghost use Rattle.raw_subcode.specs.declared.form.Form.{Form};
 ghost use Rattle.stream_stages.specs.Steps.{words_give};
-ghost use Rattle.ribjasper_web.specs.Players.{and_fed, form_of, player_of};
+ghost use Rattle.ribjasper_web.specs.Players.{and_fed, numbered_form, player_of};
 
 use crate::changing::read_pack;
 use crate::state::{PlainWords, WebPlayer};
@@ -41,7 +41,7 @@ impl WebPlayer {
 /// a block. 0, or -1 where a number is out of its range, and then nothing is changed.
 #[unsafe(no_mangle)]
 pub extern "C" fn ribjasper_web_begin(player: &mut WebPlayer, form: u32, lead_in: u32) -> i32
-    ensures begun { result ≡ pos 0 → HasPlayed (form_of form) lead_in [] (player_of player.new) }
+    ensures begun { result ≡ pos 0 → HasPlayed (numbered_form form) lead_in [] (player_of player.new) }
     ensures answer { result ≡ (if nat_lt form 2 && nat_le lead_in most_lead_in then pos 0 else negsuc 0) }
     ensures refused { result ≡ negsuc 0 → player.new ≡ player.old }
 {
@@ -75,9 +75,9 @@ pub extern "C" fn ribjasper_web_feed(player: &mut WebPlayer, block: &[u8; BLOCK_
 pub extern "C" fn ribjasper_web_feed_all(player: &mut WebPlayer, form: u32, stream: &[u8]) -> u64
     ensures fed { (begun : Form) (lead_in : ℕ) (given : List Given)
         → HasPlayed begun lead_in given (player_of player.old)
-        → HasPlayed begun lead_in (and_fed (blocks_of (form_of form) stream.now) given)
+        → HasPlayed begun lead_in (and_fed (blocks_of (numbered_form form) stream.now) given)
         (player_of player.new) }
-    ensures count { result ≡ length stream.now / unit_size (form_of form) }
+    ensures count { result ≡ length stream.now / unit_size (numbered_form form) }
 {
     let form = form_of(form);
     let count = stream.len() / unit_bytes(form);

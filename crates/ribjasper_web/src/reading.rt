@@ -5,7 +5,7 @@ ghost use Rattle.live_player.specs.Lives.Given.{Fed};
 ghost use Rattle.live_player.specs.Steps.{TakesBlock, words_come};
 ghost use Rattle.raw_subcode.specs.declared.form.Form.{Form};
 ghost use Rattle.stream_stages.specs.Steps.{words_give};
-ghost use Rattle.ribjasper_web.specs.Packs.{AreReadAs, IsReadAs};
+ghost use Rattle.ribjasper_web.specs.Packs.{AreTakenAs, IsTakenAs};
 ghost use Rattle.ribjasper_web.specs.Players.{player_of};
 
 use crate::state::WebPlayer;
@@ -26,7 +26,7 @@ pub extern "C" fn ribjasper_web_take(
         → HasPlayed form lead_in given (player_of player.old)
         → HasPlayed form lead_in (Fed block.now ∷ given) (player_of player.new) }
     ensures count { result ≡ pos (length (words_come (words_give (player_of player.old).words block.now))) }
-    ensures packs { AreReadAs (words_come (words_give (player_of player.old).words block.now))
+    ensures packs { AreTakenAs (words_come (words_give (player_of player.old).words block.now))
         packs.old packs.new }
 {
     match player.step(block) {
@@ -39,7 +39,7 @@ pub extern "C" fn ribjasper_web_take(
 fn read_all(words: &[Word], packs: &mut [WebPack; 4]) -> i32
     requires { length words.now ≤ 4 }
     ensures count { result ≡ pos (length words.now) }
-    ensures packs { AreReadAs words.now packs.old packs.new }
+    ensures packs { AreTakenAs words.now packs.old packs.new }
 {
     for i in 0..words.len() {
         packs[i] = read(&words[i]);
@@ -49,7 +49,7 @@ fn read_all(words: &[Word], packs: &mut [WebPack; 4]) -> i32
 
 // A word as the codeword near it, or as it is.
 fn read(word: &Word) -> WebPack
-    ensures { IsReadAs word.now result.symbols result.wrong }
+    ensures { IsTakenAs word.now result.symbols result.wrong }
 {
     match correct(word) {
         Some(fixed) => WebPack {

@@ -3,7 +3,7 @@ ghost use Rattle.std.specs.Prelude.{◌≡◌, ◌≢◌, ◌/◌, ◌++◌, ◌
 ghost use Rattle.block_survey.specs.Rows.{survey_rows};
 ghost use Rattle.disc_time.specs.Counts.{most_lead_in};
 ghost use Rattle.raw_subcode.specs.Channels.{unit_size};
-ghost use Rattle.ribjasper_web.specs.Players.{form_of};
+ghost use Rattle.ribjasper_web.specs.Players.{numbered_form};
 
 use crate::words::form_of;
 use block_survey::{BlockRow, survey, unit_bytes};
@@ -19,10 +19,10 @@ pub extern "C" fn ribjasper_web_survey(
     rows: &mut [BlockRow],
 ) -> i32
     ensures answer { result ≡ (if nat_lt 2 form || nat_lt most_lead_in lead_in then pos 2
-        else (if nat_lt (length rows.old) (length stream.now / unit_size (form_of form)) then pos 6
+        else (if nat_lt (length rows.old) (length stream.now / unit_size (numbered_form form)) then pos 6
         else pos 0)) }
-    ensures rows { result ≡ pos 0 → rows.new ≡ survey_rows (form_of form) lead_in stream.now
-        ++ drop (length stream.now / unit_size (form_of form)) rows.old }
+    ensures rows { result ≡ pos 0 → rows.new ≡ survey_rows (numbered_form form) lead_in stream.now
+        ++ drop (length stream.now / unit_size (numbered_form form)) rows.old }
     ensures untouched { result ≢ pos 0 → rows.new ≡ rows.old }
 {
     if form > 2 || lead_in > MOST_LEAD_IN {

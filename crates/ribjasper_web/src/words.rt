@@ -1,6 +1,6 @@
 // A gatherer of words from its plain numbers, and back.
 ghost use Rattle.std.specs.Prelude.{◌≡◌};
-ghost use Rattle.ribjasper_web.specs.Players.{form_of, words_of};
+ghost use Rattle.ribjasper_web.specs.Players.{numbered_form, gatherer_of};
 
 use crate::state::PlainWords;
 use raw_subcode::Form;
@@ -10,7 +10,7 @@ use stream_stages::BlockWords;
 impl PlainWords {
     /// The numbers of a gatherer.
     pub(crate) fn of(words: &BlockWords) -> PlainWords
-        ensures { words_of result ≡ words.now }
+        ensures { gatherer_of result ≡ words.now }
     {
         let gather = &words.gather;
         PlainWords {
@@ -25,7 +25,7 @@ impl PlainWords {
 
     /// The gatherer that these numbers are.
     pub(crate) fn words(&self) -> BlockWords
-        ensures { result ≡ words_of self.now }
+        ensures { result ≡ gatherer_of self.now }
     {
         let gather = Gather {
             early: self.early,
@@ -43,7 +43,7 @@ impl PlainWords {
 
 /// The form that a number means.
 pub(crate) fn form_of(number: u32) -> Form
-    ensures { result ≡ form_of number }
+    ensures { result ≡ numbered_form number }
 {
     match number {
         0 => Form::Raw,
@@ -54,7 +54,7 @@ pub(crate) fn form_of(number: u32) -> Form
 
 // A number that means a form.
 fn number_of(form: Form) -> u32
-    ensures { form_of result ≡ form }
+    ensures { numbered_form result ≡ form }
 {
     match form {
         Form::Raw => 0,

@@ -28,7 +28,8 @@ loop-word-preserved c =
       drawn =
           word_drawn (seen c.args.screen.now) _ _ (take i items) _ c.loop-word.invariant.drawn
           c.draw_word.ensures.screen
-          ∙ ap (λ (l : List (List ℕ)). standing_after (seen c.args.screen.now) (instructions_of l)) (sym more);
+          ∙ ap (λ (l : List (List ℕ)). standing_after (seen c.args.screen.now) (instructions_of l))
+          (sym more);
       bad =
           word_counted _ _ (take i items) _ c.loop-word.invariant.bad
           (omega (arith, c.loop-word.invariant.bad, none_near, size, taken, few)) c.draw_word.ensures.bad

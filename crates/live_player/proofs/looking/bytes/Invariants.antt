@@ -8,4 +8,5 @@ abbrev pub invariant-loop-y : goal.invariant-loop-y
 invariant-loop-y l = (n : ℕ) → n < 900 * l.y → slice_index l.bytes n ≡ picture_byte (seen l.screen) n
 
 abbrev pub invariant-loop-x : goal.invariant-loop-x
-invariant-loop-x l = (n : ℕ) → n < 3 * (300 * l.y + l.x) → slice_index l.bytes n ≡ picture_byte (seen l.screen) n
+invariant-loop-x l =
+    (n : ℕ) → n < 3 * (300 * l.y + l.x) → slice_index l.bytes n ≡ picture_byte (seen l.screen) n

@@ -8,7 +8,8 @@ abbrev pub invariant-loop-j : goal.invariant-loop-j
 invariant-loop-j l = record {
   size : length l.pixels ≡ length l.initial.pixels;
   pixels : (i j : ℕ) → i < l.part.width → j < l.j
-      → slice_index l.pixels (j * l.stride + i) ≡ screen_pixel (seen l.screen) (l.part.left + i) (l.part.top + j);
+      → slice_index l.pixels (j * l.stride + i)
+      ≡ screen_pixel (seen l.screen) (l.part.left + i) (l.part.top + j);
   others : (n : ℕ) → ((i j : ℕ) → i < l.part.width → j < l.j → ¬ (n ≡ j * l.stride + i))
       → slice_index l.pixels n ≡ slice_index l.initial.pixels n;
 }

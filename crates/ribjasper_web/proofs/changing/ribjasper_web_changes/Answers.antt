@@ -1,4 +1,3 @@
-use Rattle.std.proofs.Common.{◌≡◌}
 use Rattle.ribjasper_web.proofs.changing.ribjasper_web_changes.Goals as goal
 
 pub returns : goal.returns

@@ -1,4 +1,4 @@
-use Rattle.std.proofs.Common.{◌≡◌, [], ◌∷◌, ap, refl, ◌∙◌}
+use Rattle.std.proofs.Common.{[], ◌∷◌, ap, refl, ◌∙◌}
 use Rattle.cdg_screen.specs.Memory.{seen}
 use Rattle.cdg_screen.specs.Standing.{standing_after}
 use Rattle.live_player.proofs.LiveViews.{drawn_more}

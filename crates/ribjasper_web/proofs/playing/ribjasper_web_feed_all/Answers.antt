@@ -1,9 +1,8 @@
-use Rattle.std.proofs.Common.{◌≡◌, ◌<◌, ◌≤◌, ◌/◌, ◌+◌, ◌∷◌, [], ◌++◌, ℕ, List, get_or, length, take, ap, refl, subst, sym, ◌∙◌, arith}
+use Rattle.std.proofs.Common.{◌≡◌, ◌<◌, ◌≤◌, ◌/◌, ◌+◌, ◌∷◌, [], ◌++◌, ℕ, List, length, take, ap, subst, sym, ◌∙◌, arith}
 use Rattle.std.proofs.lemmas.List.{take_all, take_more}
-use Rattle.raw_subcode.specs.Channels.{blocks_of, unit_size}
+use Rattle.raw_subcode.specs.Channels.{blocks_of}
 use Rattle.block_survey.proofs.EndedWords.{length-blocks}
-use Rattle.live_player.specs.Lives.{Given, HasPlayed}
-use Rattle.live_player.specs.Lives.Given.{Fed}
+use Rattle.live_player.specs.Lives.{HasPlayed}
 use Rattle.live_player.proofs.LiveViews.{fed_more}
 use Rattle.ribjasper_web.specs.Players.{and_fed, player_of}
 use Rattle.ribjasper_web.proofs.Fed.{one_more_fed}

@@ -1,5 +1,5 @@
-use Rattle.std.proofs.Common.{◌≡◌, ℕ, List, take, length, ◌/◌}
-use Rattle.raw_subcode.specs.Channels.{blocks_of, unit_size}
+use Rattle.std.proofs.Common.{ℕ, List, take}
+use Rattle.raw_subcode.specs.Channels.{blocks_of}
 use Rattle.raw_subcode.specs.declared.form.Form.{Form}
 use Rattle.live_player.specs.Lives.{Given, HasPlayed}
 use Rattle.ribjasper_web.specs.Players.{and_fed, player_of}

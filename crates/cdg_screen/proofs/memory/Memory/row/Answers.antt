@@ -8,9 +8,11 @@ returns-clause-pixels c x lt =
     let g = c.self.invariant in
     let n = c.args.y + c.self.inside.top in
     let row : get_or c.self.inside.rows (n % 216) [] ≡ get_or c.self.inside.rows (n % 216) [] = refl in
-    let size : length (get_or c.self.inside.rows (n % 216) []) ≡ 300 = ap length row ∙ g.widths (n % 216) (omega arith) in
+    let size : length (get_or c.self.inside.rows (n % 216) []) ≡ 300 =
+    ap length row ∙ g.widths (n % 216) (omega arith) in
     let there =
-    turned_row (get_or c.self.inside.rows (n % 216) []) _ _ c.write_at.new.row c.write_at-2.new.row (replicate 300 0)
+    turned_row (get_or c.self.inside.rows (n % 216) []) _ _ c.write_at.new.row c.write_at-2.new.row
+    (replicate 300 0)
     c.self.inside.left x g.left_below lt size refl refl (c.write_at.ensures x lt)
     (c.write_at-2.ensures x lt) in
     rw (← c.self.view_is)
@@ -21,12 +23,14 @@ returns-clause-range c =
     let g = c.self.invariant in
     let n = c.args.y + c.self.inside.top in
     let row : get_or c.self.inside.rows (n % 216) [] ≡ get_or c.self.inside.rows (n % 216) [] = refl in
-    let size : length (get_or c.self.inside.rows (n % 216) []) ≡ 300 = ap length row ∙ g.widths (n % 216) (omega arith) in
+    let size : length (get_or c.self.inside.rows (n % 216) []) ≡ 300 =
+    ap length row ∙ g.widths (n % 216) (omega arith) in
     small_row c.write_at-2.new.row
     (record { rows = c.self.inside.rows; left = c.self.inside.left; top = c.self.inside.top }) c.args.y
     g c.write_at-2.array_long (λ x lt.
     let there =
-    turned_row (get_or c.self.inside.rows (n % 216) []) _ _ c.write_at.new.row c.write_at-2.new.row (replicate 300 0)
+    turned_row (get_or c.self.inside.rows (n % 216) []) _ _ c.write_at.new.row c.write_at-2.new.row
+    (replicate 300 0)
     c.self.inside.left x g.left_below lt size refl refl (c.write_at.ensures x lt)
     (c.write_at-2.ensures x lt) in
     rw (at_is c.self.inside.rows c.self.inside.left c.self.inside.top x c.args.y, ← row) there)

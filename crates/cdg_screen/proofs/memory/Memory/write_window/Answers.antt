@@ -10,15 +10,18 @@ returns-clause-pixels c x lt =
     let g = c.self.invariant in
     let n = c.args.y + c.self.inside.top in
     let row : get_or c.self.inside.rows (n % 216) [] ≡ get_or c.self.inside.rows (n % 216) [] = refl in
-    let size : length (get_or c.self.inside.rows (n % 216) []) ≡ 300 = ap length row ∙ g.widths (n % 216) (omega arith) in
+    let size : length (get_or c.self.inside.rows (n % 216) []) ≡ 300 =
+    ap length row ∙ g.widths (n % 216) (omega arith) in
     let first : ℕ = (6 + c.args.h + c.self.inside.left) % 300 in
     let count : ℕ = c.min-count.result in
     let fits : first + count ≤ 300 = omega (arith, c.min-count.ensures) in
     let most : count ≤ 288 = omega (arith, c.min-count.ensures) in
     let there =
-    window_of_row (get_or c.self.inside.rows (n % 216) []) c.args.row.now _ _ c.write_at.new.row c.write_at-2.new.row c.args.h
+    window_of_row (get_or c.self.inside.rows (n % 216) []) c.args.row.now _ _ c.write_at.new.row
+    c.write_at-2.new.row c.args.h
     c.self.inside.left count x
-    (pieces (get_or c.self.inside.rows (n % 216) []) first count (first + count - first) size fits most (omega arith))
+    (pieces (get_or c.self.inside.rows (n % 216) []) first count (first + count - first) size fits most
+    (omega arith))
     g.left_below c.requires.moved lt fits most (λ less. omega (arith, less, c.min-count.ensures))
     (c.write_at.ensures x lt) (c.write_at-2.ensures x lt) in
     rw (← c.self.view_is) (rw
@@ -33,15 +36,18 @@ returns-clause-range c x = elim (cases_lt x 300) [
       let row : get_or c.self.inside.rows (n % 216) [] ≡ get_or c.self.inside.rows (n % 216) [] = refl in
       let small : (i : ℕ) → get_or (get_or c.self.inside.rows (n % 216) []) i 0 < 16 =
       λ i. subst (λ l. get_or l i 0 < 16) (sym row) (g.colours (n % 216) i) in
-      let size : length (get_or c.self.inside.rows (n % 216) []) ≡ 300 = ap length row ∙ g.widths (n % 216) (omega arith) in
+      let size : length (get_or c.self.inside.rows (n % 216) []) ≡ 300 =
+      ap length row ∙ g.widths (n % 216) (omega arith) in
       let first : ℕ = (6 + c.args.h + c.self.inside.left) % 300 in
       let count : ℕ = c.min-count.result in
       let fits : first + count ≤ 300 = omega (arith, c.min-count.ensures) in
       let most : count ≤ 288 = omega (arith, c.min-count.ensures) in
       let there =
-      window_of_row (get_or c.self.inside.rows (n % 216) []) c.args.row.now _ _ c.write_at.new.row c.write_at-2.new.row
+      window_of_row (get_or c.self.inside.rows (n % 216) []) c.args.row.now _ _ c.write_at.new.row
+      c.write_at-2.new.row
       c.args.h c.self.inside.left count x
-      (pieces (get_or c.self.inside.rows (n % 216) []) first count (first + count - first) size fits most (omega arith))
+      (pieces (get_or c.self.inside.rows (n % 216) []) first count (first + count - first) size fits most
+      (omega arith))
       g.left_below c.requires.moved lt fits most (λ less. omega (arith, less, c.min-count.ensures))
       (c.write_at.ensures x lt) (c.write_at-2.ensures x lt) in
       small_between _ _ _ 6 294 x there (small ((x + c.args.h + c.self.inside.left) % 300))

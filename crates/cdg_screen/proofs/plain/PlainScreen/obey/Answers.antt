@@ -36,7 +36,8 @@ returns-in-Clear c =
       v = c.self.inside.v;
     } in
     obeyed_by (seen c.args.self.now) c.args.instr.now (Clear c.in-Clear.colour) old
-    (record old { memory = c.clear.new.self }) (ap seen c.self.view_is) (sym c.effect.ensures.effect ∙ c.in-Clear.is)
+    (record old { memory = c.clear.new.self }) (ap seen c.self.view_is)
+    (sym c.effect.ensures.effect ∙ c.in-Clear.is)
     c.self.invariant.colours_count c.self.invariant.levels_count (record {
       memory = c.clear.ensures;
       border = refl;
@@ -57,7 +58,8 @@ returns-in-Border c =
       v = c.self.inside.v;
     } in
     obeyed_by (seen c.args.self.now) c.args.instr.now (Border c.in-Border.colour) old
-    (record old { border = c.in-Border.colour }) (ap seen c.self.view_is) (sym c.effect.ensures.effect ∙ c.in-Border.is)
+    (record old { border = c.in-Border.colour }) (ap seen c.self.view_is)
+    (sym c.effect.ensures.effect ∙ c.in-Border.is)
     c.self.invariant.colours_count c.self.invariant.levels_count (record {
       memory = λ x y _ _. refl;
       border = refl;
@@ -78,7 +80,8 @@ returns-in-Draw c =
       v = c.self.inside.v;
     } in
     obeyed_by (seen c.args.self.now) c.args.instr.now (Draw c.in-Draw.tile) old
-    (record old { memory = c.draw_tile.new.self }) (ap seen c.self.view_is) (sym c.effect.ensures.effect ∙ c.in-Draw.is)
+    (record old { memory = c.draw_tile.new.self }) (ap seen c.self.view_is)
+    (sym c.effect.ensures.effect ∙ c.in-Draw.is)
     c.self.invariant.colours_count c.self.invariant.levels_count (record {
       memory = c.draw_tile.ensures;
       border = refl;
@@ -121,7 +124,8 @@ returns-in-Levels c =
       v = c.self.inside.v;
     } in
     obeyed_by (seen c.args.self.now) c.args.instr.now (Levels c.in-Levels.levels) old
-    (record old { levels = c.in-Levels.levels }) (ap seen c.self.view_is) (sym c.effect.ensures.effect ∙ c.in-Levels.is)
+    (record old { levels = c.in-Levels.levels }) (ap seen c.self.view_is)
+    (sym c.effect.ensures.effect ∙ c.in-Levels.is)
     c.self.invariant.colours_count (search rules) (record {
       memory = λ x y _ _. refl;
       border = refl;

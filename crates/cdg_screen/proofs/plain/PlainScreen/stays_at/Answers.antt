@@ -42,7 +42,8 @@ returns-in-Clear c =
       h = c.self.inside.h;
       v = c.self.inside.v;
     } in
-    stays_by (IsTrue c.is_filled.result) (seen c.args.self.now) c.args.instr.now (Clear c.in-Clear.colour) kept
+    stays_by (IsTrue c.is_filled.result) (seen c.args.self.now) c.args.instr.now (Clear c.in-Clear.colour)
+    kept
     (ap seen c.self.view_is) (sym c.effect.ensures.effect ∙ c.in-Clear.is)
     c.self.invariant.colours_count c.self.invariant.levels_count (
       (λ holds. record {
@@ -115,9 +116,12 @@ returns-then-has_offsets c =
       v = c.self.inside.v;
     } in
     let same = c.has_offsets.ensures.0 c.if-has_offsets.true in
-    let h : c.self.inside.h ≡ c.in-Scroll.scroll.h = ap (λ (now : Standing). now.h) (ap seen c.self.view_is) ∙ same.0 in
-    let v : c.self.inside.v ≡ c.in-Scroll.scroll.v = ap (λ (now : Standing). now.v) (ap seen c.self.view_is) ∙ same.1 in
-    stays_by (IsTrue c.keeps_scrolled.result) (seen c.args.self.now) c.args.instr.now (Scroll c.in-Scroll.scroll)
+    let h : c.self.inside.h ≡ c.in-Scroll.scroll.h =
+    ap (λ (now : Standing). now.h) (ap seen c.self.view_is) ∙ same.0 in
+    let v : c.self.inside.v ≡ c.in-Scroll.scroll.v =
+    ap (λ (now : Standing). now.v) (ap seen c.self.view_is) ∙ same.1 in
+    stays_by (IsTrue c.keeps_scrolled.result) (seen c.args.self.now) c.args.instr.now
+    (Scroll c.in-Scroll.scroll)
     kept (ap seen c.self.view_is) (sym c.effect.ensures.effect ∙ c.in-Scroll.is)
     c.self.invariant.colours_count c.self.invariant.levels_count (
       (λ holds. record {
@@ -143,7 +147,8 @@ returns-in-Levels c =
     } in
     let view : c.self.inside.levels ≡ c.args.self.now.levels =
     ap (λ (now : Standing). now.levels) (ap seen c.self.view_is) in
-    stays_by (IsTrue c.has_levels.result) (seen c.args.self.now) c.args.instr.now (Levels c.in-Levels.levels) kept
+    stays_by (IsTrue c.has_levels.result) (seen c.args.self.now) c.args.instr.now (Levels c.in-Levels.levels)
+    kept
     (ap seen c.self.view_is) (sym c.effect.ensures.effect ∙ c.in-Levels.is)
     c.self.invariant.colours_count c.self.invariant.levels_count (
       (λ holds. record {

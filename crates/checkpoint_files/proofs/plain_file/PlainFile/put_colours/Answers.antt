@@ -20,7 +20,8 @@ loop-k-preserved c = record {
     c.loop-k.invariant.size,
   );
   part = λ counts slots.
-      field_put c.args.self.now _ _ _ (kept counts slots (seen c.args.screen.now)) Colours c.loop-k.k c.put.ensures
+      field_put c.args.self.now _ _ _ (kept counts slots (seen c.args.screen.now)) Colours c.loop-k.k
+      c.put.ensures
       (c.loop-k.invariant.part counts slots)
       (two_bytes _ _ (sym c.colour.ensures.colour) ∙ sym c.to_be_bytes.ensures);
 }

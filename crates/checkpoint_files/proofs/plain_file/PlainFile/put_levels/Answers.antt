@@ -20,7 +20,8 @@ loop-k-preserved c = record {
     c.loop-k.invariant.size,
   );
   part = λ counts slots.
-      field_put c.args.self.now _ _ _ (kept counts slots (seen c.args.screen.now)) Levels c.loop-k.k c.put.ensures
+      field_put c.args.self.now _ _ _ (kept counts slots (seen c.args.screen.now)) Levels c.loop-k.k
+      c.put.ensures
       (c.loop-k.invariant.part counts slots)
       (written_byte _ _ (sym c.level.ensures.level) (omega (arith, c.level.ensures.range)));
 }
