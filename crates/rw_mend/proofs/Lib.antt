@@ -1,3 +1,15 @@
-pub mod Mending
+pub mod Agreeing
+pub mod Clean
+pub mod Coming
+pub mod Counting
+pub mod Givens
+pub mod Heaps
+pub mod Hearing
+pub mod Kept
+pub mod Missing
+pub mod Once
+pub mod Pairs
+pub mod Reading
 pub mod Running
-pub mod Keeping
+pub mod Same
+pub mod Telling
