@@ -20,15 +20,15 @@ use Rattle.rw_mend.proofs.Same.{same_is}
 
 -- ---- Tests.
 
-first_holds : (a b : Bool) → a ≡ true → (a || b) ≡ true
+pub first_holds : (a b : Bool) → a ≡ true → (a || b) ≡ true
 first_holds true b is = refl
 first_holds false b is = absurd (false≢true is)
 
-second_holds : (a b : Bool) → b ≡ true → (a || b) ≡ true
+pub second_holds : (a b : Bool) → b ≡ true → (a || b) ≡ true
 second_holds true b is = refl
 second_holds false b is = is
 
-both_hold : (a b : Bool) → a ≡ true → b ≡ true → (a && b) ≡ true
+pub both_hold : (a b : Bool) → a ≡ true → b ≡ true → (a && b) ≡ true
 both_hold true b is is' = is'
 both_hold false b is is' = is
 
@@ -40,20 +40,20 @@ first_of_both : (a b : Bool) → (a && b) ≡ true → a ≡ true
 first_of_both true b is = refl
 first_of_both false b is = is
 
-test_same : (a b : ℕ) → a ≡ b → (a == b) ≡ true
+pub test_same : (a b : ℕ) → a ≡ b → (a == b) ≡ true
 test_same a b same = elim (eqb_tells a b) [ inl is ↦ is.0 | inr other ↦ absurd (other.1 same) ]
 
-same_test : (a b : ℕ) → (a == b) ≡ true → a ≡ b
+pub same_test : (a b : ℕ) → (a == b) ≡ true → a ≡ b
 same_test a b is = elim (eqb_tells a b) [ inl same ↦ same.1 | inr other ↦ absurd (false≢true (sym other.0 ∙ is)) ]
 
-less : (a b : ℕ) → a < b → nat_lt a b ≡ true
+pub less : (a b : ℕ) → a < b → nat_lt a b ≡ true
 less a b lt = elim (leb_tells (suc a) b) [ inl is ↦ is.0 | inr other ↦ absurd (omega (arith, lt, other.1)) ]
 
 not_less : (a b : ℕ) → b ≤ a → nat_lt a b ≡ false
 not_less a b le = elim (leb_tells (suc a) b) [ inl is ↦ absurd (omega (arith, le, is.1)) | inr other ↦ other.0 ]
 
 -- the first number at which a test holds
-least : (p : ℕ → Bool) (n : ℕ)
+pub least : (p : ℕ → Bool) (n : ℕ)
     → ((k : ℕ) × (k < n) × (p k ≡ true) × ((j : ℕ) → j < k → p j ≡ false)) ⊎ ((j : ℕ) → j < n → p j ≡ false)
 least p zero = inr (λ j lt. absurd (omega (arith, lt)))
 least p (suc n) =
@@ -115,7 +115,7 @@ best_is_clean voices pack doubts r codeword best within is =
     (first_of_both (doubts == 0) _
     (second_of (nat_lt doubts 0) _ beside (not_less doubts 0 (omega arith))))
 
-has_first : (voices : List Voice) (r : ℕ) → r < length voices
+pub has_first : (voices : List Voice) (r : ℕ) → r < length voices
     → is_best voices (voice_of_reading voices r) ≡ true → (k : ℕ) × IsFirstBest voices k
 has_first voices r within best =
     elim (least (λ k. is_best voices (voice_of_reading voices k)) (length voices)) [
@@ -123,7 +123,7 @@ has_first voices r within best =
       | inr none ↦ absurd (false≢true (sym (none r within) ∙ best))
     ]
 
-is_of_near : (voice : Voice) (pack : List ℕ) (doubts : ℕ) → voice ≡ Near pack doubts → IsOf pack voice
+pub is_of_near : (voice : Voice) (pack : List ℕ) (doubts : ℕ) → voice ≡ Near pack doubts → IsOf pack voice
 is_of_near voice pack doubts is = subst (IsOf pack) (sym is) refl
 
 pub pack_of : (voice : Voice) (pack codeword : List ℕ) (doubts : ℕ) → voice ≡ Near pack doubts → IsOf codeword voice

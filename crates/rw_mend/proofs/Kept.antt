@@ -25,7 +25,7 @@ use Rattle.rw_mend.proofs.Missing.{told}
 
 -- ---- Graphics and idle packs.
 
-idle_is : is_idle_pack idle_pack ≡ true
+pub idle_is : is_idle_pack idle_pack ≡ true
 idle_is = ap (λ n. n == 0) (differences_self idle_pack)
 
 not_true : (b : Bool) → not b ≡ true → b ≡ false
@@ -37,7 +37,7 @@ both_of true b is = (refl, is)
 both_of false b is = absurd (false≢true is)
 
 -- graphics are a clean codeword that is not idle
-graphics_are : (voice : Voice) → is_graphics voice ≡ true
+pub graphics_are : (voice : Voice) → is_graphics voice ≡ true
     → (pack : List ℕ) × (voice ≡ Near pack 0) × (is_idle_pack pack ≡ false)
 graphics_are Silent is = absurd (false≢true is)
 graphics_are (Lost word) is = absurd (false≢true is)
@@ -59,7 +59,7 @@ said_cases : (words : ℕ) (programs : List (List ℕ)) (n r : ℕ) (voice : Voi
 said_cases words programs n r voice pack (inl (dropped, silent)) is = cc
 said_cases words programs n r voice pack (inr (kept, given)) is = (kept, sym given ∙ is)
 
-said_kept : (words : ℕ) (programs : List (List ℕ)) (n r : ℕ) (voice : Voice)
+pub said_kept : (words : ℕ) (programs : List (List ℕ)) (n r : ℕ) (voice : Voice)
     → IsSaid words programs n r voice → ¬ IsDropped words programs r n → voice ≡ given_at programs r n
 said_kept words programs n r voice (inl (dropped, silent)) kept = absurd (kept dropped)
 said_kept words programs n r voice (inr (kept', given)) kept = given
@@ -138,7 +138,7 @@ clean_word words programs r n voices found is lt said mended =
     mended
     ∙ ap given_bytes (sym (is.clean n lt))
 
-flat_joined : {X : Type 0} (f : X → List ℕ) (xs : List X) → flat_map f xs ≡ concat (map f xs)
+pub flat_joined : {X : Type 0} (f : X → List ℕ) (xs : List X) → flat_map f xs ≡ concat (map f xs)
 flat_joined f [] = refl
 flat_joined f (x ∷ xs) = ap (λ l. f x ++ l) (flat_joined f xs)
 

@@ -32,7 +32,7 @@ either_true true b is fails = cc
 either_true false b is fails = is
 
 -- some element passes
-some_passes : {X : Type 0} (p : X → Bool) (xs : List X) (d : X) → list_any p xs ≡ true
+pub some_passes : {X : Type 0} (p : X → Bool) (xs : List X) (d : X) → list_any p xs ≡ true
     → (k : ℕ) × (k < length xs) × (p (get_or xs k d) ≡ true)
 some_passes p [] d is = absurd (false≢true is)
 some_passes p (x ∷ xs) d is =

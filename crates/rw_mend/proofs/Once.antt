@@ -29,11 +29,11 @@ one_first voices r k one other =
           ]
     ]
 
-best_counts : (voices : List Voice) (r : ℕ) → IsFirstBest voices r
+pub best_counts : (voices : List Voice) (r : ℕ) → IsFirstBest voices r
     → (pack : List ℕ) × (doubts : ℕ) × (voice_of_reading voices r ≡ Near pack doubts)
 best_counts voices r first = best_is_near voices (voice_of_reading voices r) first.best
 
-not_agreed : (voices : List Voice) (r : ℕ) (codeword : List ℕ) → IsFirstBest voices r
+pub not_agreed : (voices : List Voice) (r : ℕ) (codeword : List ℕ) → IsFirstBest voices r
     → ¬ IsMendedBy Agreed voices codeword
 not_agreed voices r codeword first agreed =
     let near = best_counts voices r first in

@@ -1,8 +1,9 @@
 // What follows from the definitions.
 ghost use Rattle.std.specs.Prelude.{◌≡◌, ◌<◌, List, ℕ, length};
+ghost use Rattle.std.specs.List.{concat};
 ghost use Rattle.std.specs.declared.option.Option.{Option};
 ghost use Rattle.rw_mend.specs.Choice.{IsMending, voice_of_reading};
-ghost use Rattle.rw_mend.specs.Laws.{IsCleanBeside, given_text};
+ghost use Rattle.rw_mend.specs.Laws.{AllGive, AreEnough, IsCleanBeside, given_text};
 ghost use Rattle.rw_mend.specs.Streams.{AreMended, mended_bytes, mended_text};
 ghost use Rattle.rw_mend.specs.declared.choice.Mended.{Mended};
 ghost use Rattle.rw_mend.specs.declared.voices.Voice.{Voice};
@@ -33,4 +34,23 @@ pub fn one_codeword_is_mended()
     ensures stream { (words : ℕ) (programs : List (List ℕ)) (said others : List (List Voice))
         (found other : List (Option Mended)) → AreMended words programs said found
         → AreMended words programs others other → found ≡ other }
+{}
+
+/// A law: a codeword that counts is mended where no other counts, however many symbols stand against it.
+pub fn a_codeword_that_counts_alone_is_mended()
+    ensures { (voices : List Voice) (codeword : List ℕ) (r doubts : ℕ) (found : Option Mended) → r < length voices
+        → voice_of_reading voices r ≡ TheVariants.Near codeword doubts
+        → ((s : ℕ) (other : List ℕ) (more : ℕ) → s < length voices
+        → voice_of_reading voices s ≡ TheVariants.Near other more → other ≡ codeword)
+        → IsMending voices found → mended_bytes found ≡ codeword }
+{}
+
+/// A law: the packs of a stream come back from readings of which, for each word, one gives the pack, and none gives
+/// another codeword that counts. So it is where each reading gives each pack, in whichever two symbols it is damaged.
+pub fn packs_come_back()
+    ensures enough { (words : ℕ) (programs packs : List (List ℕ)) (said : List (List Voice))
+        (found : List (Option Mended)) → AreEnough words programs packs → AreMended words programs said found
+        → mended_text found ≡ concat packs }
+    ensures damage { (words : ℕ) (programs packs : List (List ℕ)) → AllGive words programs packs
+        → AreEnough words programs packs }
 {}

@@ -15,7 +15,10 @@ mod voices;
 mod ways;
 
 pub use choice::{MOST_READINGS, Mended, Source, mend};
-pub use laws::{a_clean_codeword_is_mended, a_clean_reading_comes_out, one_codeword_is_mended};
+pub use laws::{
+    a_clean_codeword_is_mended, a_clean_reading_comes_out, a_codeword_that_counts_alone_is_mended,
+    one_codeword_is_mended, packs_come_back,
+};
 pub use many::mend_readings;
 pub use streams::{MendCounts, mend_streams};
 pub use tallies::{AGREED, NO_READING, Tallies};
