@@ -371,12 +371,28 @@ typedef struct ribjasper_converted {
 RIBJASPER_NODISCARD int32_t ribjasper_convert(const uint8_t *stream, size_t length, uint32_t form, uint32_t lead_in, uint8_t *packs,
                           size_t room, ribjasper_converted *told);
 
-/* Two readings of one disc, of which one may be noise. */
+/* Readings of one disc, mended: word by word the best of them. A word has 24 symbols, and those of word n stand in the
+   blocks n / 4 to (n + 7) / 4 of the program. A block is empty where its 96 symbols are 0 and its Q channel is no frame.
+
+   A reading of a word gives the codeword that differs from it in two symbols at most, unless all blocks under the word are
+   empty: then it was not read. So many symbols stand against the codeword; three, where it is the idle pack (24 zeros) and
+   one of the blocks under the word is empty. A reading misses graphics at a word where it gives the idle pack and another
+   reading gives, with no wrong symbol, a codeword that is not idle; an idle pack of a reading that misses graphics at this
+   word or at one of seven words to each side counts for nothing.
+
+   Of the codewords that count the one is taken against which the fewest symbols stand; of several with as few the one that
+   most readings give; where that is undecided there is none. Where nothing counts it is the codeword on which two of the
+   readings agree that were read there and give none (twice the symbols that both have equally wrong and those in which they
+   differ are at most four), if no other two agree on another.
+
+   So a reading without a wrong symbol comes out whole beside any others which, where a word of theirs has no wrong symbol,
+   give the same codeword or the idle pack, as noise, scratches and readings without channels R to W do. Where a reading
+   gives a codeword with one or two wrong symbols, another one may have it less wrong, and then that one is taken. */
 
 /* What is told of two readings that were mended: the bytes written, the blocks of the program, and how many words have
-   the codeword that is near both readings, that of the first alone, that of the second alone, or the one on which both
-   agree where neither alone gives it; and how many have none, for which 24 zeros are written. The five add up to the
-   words, which are bytes / 24. */
+   the codeword that both readings give, that of the first alone, that of the second alone, or the one on which both
+   agree where none counts; and how many have none, for which 24 zeros are written. The five add up to the words, which
+   are bytes / 24. */
 typedef struct ribjasper_mended {
     uint64_t bytes;
     uint32_t blocks;
@@ -388,19 +404,42 @@ typedef struct ribjasper_mended {
 } ribjasper_mended;
 
 /* Mends two readings of one stream of raw blocks, whose first `lead_in` blocks are passed over: writes 24 bytes for each
-   word to the front of the `room` bytes at `packs`, 4 B - 7 of B blocks of the program (none of one or none). A reading
-   gives the codeword that differs from it in two symbols at most. Where one reading of a word alone gives one, or both
-   give the same, it is that one; where each gives another and one of both has an empty block under this word, that of
-   the other; else the one on which both agree (twice the symbols that both have equally wrong and those in which they
-   differ are at most four). The symbols of word n stand in the blocks n / 4 to (n + 7) / 4 of the program. A block is
-   empty where its 96 symbols are 0 and its Q channel is no frame; a word all of whose blocks are empty was not read, and
-   gives nothing. So nothing that one reading gives is lost by another that is noise, and what both miss may come back.
+   word to the front of the `room` bytes at `packs`, 4 B - 7 of B blocks of the program (none of one or none).
    Answers RIBJASPER_CONVERTED, or RIBJASPER_DAMAGED where words have no codeword; or else, whichever holds first:
    RIBJASPER_USAGE where `lead_in` is above 450,000; RIBJASPER_TORN where the lengths differ, or are no whole blocks or
-   more than 1,000,000; RIBJASPER_NO_ROOM. Then nothing is written. It asks for no memory. The readings may be the same
-   bytes. */
+   more than 1,000,000; RIBJASPER_NO_ROOM. Then nothing is written. It asks malloc for nothing, and takes about 70 kB of
+   the stack. The readings may be the same bytes. */
 int32_t ribjasper_mend(const uint8_t *first, size_t first_length, const uint8_t *second, size_t second_length,
                        uint32_t lead_in, uint8_t *packs, size_t room, ribjasper_mended *told);
+
+#define RIBJASPER_READINGS 254   /* the most readings that are mended at once */
+#define RIBJASPER_AGREED 254     /* in place of the number of a reading: two readings agree on the codeword */
+#define RIBJASPER_NO_READING 255 /* there is no codeword */
+
+/* What is told of any number of readings that were mended, which are numbered from 0. Places of more readings than there
+   are hold 0. The tallies of `of_reading`, `agreed` and `none` add up to the words, which are bytes / 24. */
+typedef struct ribjasper_mended_readings {
+    uint64_t bytes;    /* that were written at packs */
+    uint32_t blocks;   /* of the program */
+    uint32_t agreed;   /* words whose codeword is the one on which two readings agree */
+    uint32_t none;     /* words with no codeword, for which 24 zeros are written */
+    uint32_t reserved; /* 0 */
+    uint32_t of_reading[RIBJASPER_READINGS]; /* words whose codeword is that of the reading, and of none before it that
+                                                gives it with as few wrong symbols */
+    uint32_t dropped[RIBJASPER_READINGS];    /* words at which the idle pack of the reading counts for nothing */
+} ribjasper_mended_readings;
+
+/* Mends `count` readings, 1 to 254, of one stream of raw blocks. The `length` bytes at `readings` are all of them, one
+   behind another and each as long. Writes the packs as the call above, and, unless `words` is 0, a byte for each word to
+   the front of the `words` bytes at `sources`: the number of the reading whose codeword it is, RIBJASPER_AGREED or
+   RIBJASPER_NO_READING. Where `words` is 0 nothing is read or written at `sources`, and it may be null.
+   Answers RIBJASPER_CONVERTED, or RIBJASPER_DAMAGED where words have no codeword; or else, whichever holds first:
+   RIBJASPER_USAGE where `lead_in` is above 450,000 or `count` is 0 or above 254; RIBJASPER_TORN where the readings are not
+   whole blocks of equal length, or more than 1,000,000 each; RIBJASPER_NO_ROOM where there is room for fewer packs, or
+   `words` is neither 0 nor as many as the words. Then nothing is written. It takes memory as the call above. */
+int32_t ribjasper_mend_readings(const uint8_t *readings, size_t length, uint32_t count, uint32_t lead_in,
+                                uint8_t *packs, size_t room, uint8_t *sources, size_t words,
+                                ribjasper_mended_readings *told);
 
 /* A picture of a script in a plan. Times are blocks of the program, 75 a second, from the absolute time 00:00:00; packs
    are numbered from 0. */

@@ -1,14 +1,14 @@
-// The packs of two readings of one stream in memory, each mended by the other.
+// The packs of readings of one stream in memory, each mended by the others.
 ghost use Rattle.std.specs.Prelude.{◌≡◌, ◌==◌, ◌≤◌, if◌then◌else◌, IfSome, None, length, pos};
 ghost use Rattle.disc_time.specs.Counts.{most_lead_in};
-ghost use Rattle.ribjasper_c.specs.Mending.{refusal_of, AreMendedInto};
+ghost use Rattle.ribjasper_c.specs.Mending.{refusal_of, readings_refusal, AreMendedInto, AreReadingsMended};
 
 use crate::answers::{DAMAGED, DONE, REFUSED, USAGE, WRITE_FAULT};
 use disc_time::MOST_LEAD_IN;
 use raw_subcode::{BLOCK_BYTES, MOST_UNITS, SLOTS_A_BLOCK};
 use rw_code::SYMBOLS;
 use rw_interleave::PACKS_KEPT_BACK;
-use rw_mend::{MendCounts, mend_streams};
+use rw_mend::{MOST_READINGS, MendCounts, Tallies, mend_readings, mend_streams};
 
 /// What is told of two readings that were mended.
 #[repr(C)]
@@ -58,4 +58,58 @@ pub extern "C" fn ribjasper_mend(
         words,
     };
     if words.none == 0 { DONE } else { DAMAGED }
+}
+
+/// What is told of any number of readings that were mended.
+#[repr(C)]
+#[derive(Clone, Copy)]
+pub struct MendedReadings {
+    /// The bytes that were written.
+    pub bytes: u64,
+    /// The blocks of the program.
+    pub blocks: u32,
+    /// Its words by the reading that each is of, and what counts for nothing.
+    pub words: Tallies,
+}
+
+/// Mends readings of a stream of raw blocks, which lie one behind another, into the front of a buffer, names the source
+/// of each word where there is room for any, and answers by an exit number of the program.
+#[unsafe(no_mangle)]
+pub extern "C" fn ribjasper_mend_readings(
+    readings: &[u8],
+    count: u32,
+    lead_in: u32,
+    packs: &mut [u8],
+    sources: &mut [u8],
+    told: &mut MendedReadings,
+) -> i32
+    ensures mended { readings_refusal (length readings.now) count lead_in (length packs.old) (length sources.old) ≡ None
+        → AreReadingsMended count lead_in readings.now packs.old packs.new sources.old sources.new told.new
+        × (result ≡ (if told.new.words.none == 0 then pos 0 else pos 1)) }
+    ensures refused { IfSome (readings_refusal (length readings.now) count lead_in (length packs.old) (length sources.old))
+        (λ number. (result ≡ pos number) × (packs.new ≡ packs.old) × (sources.new ≡ sources.old)
+        × (told.new ≡ told.old)) }
+{
+    if lead_in > MOST_LEAD_IN || count == 0 || count > MOST_READINGS as u32 {
+        return USAGE;
+    }
+    let size = readings.len() / count as usize;
+    if readings.len() % count as usize != 0
+        || size % BLOCK_BYTES != 0
+        || size > BLOCK_BYTES * MOST_UNITS as usize
+    {
+        return REFUSED;
+    }
+    let blocks = (size / BLOCK_BYTES).saturating_sub(lead_in as usize);
+    let words = (SLOTS_A_BLOCK * blocks).saturating_sub(PACKS_KEPT_BACK);
+    if packs.len() < SYMBOLS * words || 0 < sources.len() && sources.len() < words {
+        return WRITE_FAULT;
+    }
+    let tallies = mend_readings(readings, count as usize, lead_in, packs, sources);
+    *told = MendedReadings {
+        bytes: (SYMBOLS * words) as u64,
+        blocks: blocks as u32,
+        words: tallies,
+    };
+    if tallies.none == 0 { DONE } else { DAMAGED }
 }

@@ -1,4 +1,14 @@
-pub mod Mending
+pub mod Agreements
+pub mod Choice
+pub mod Drops
+pub mod Laws
+pub mod Many
+pub mod Mender
+pub mod Readings
+pub mod Rows
+pub mod Steps
 pub mod Streams
+pub mod Tallies
 pub mod Trails
-pub mod Noise
+pub mod Voices
+pub mod Words

@@ -1,54 +1,26 @@
--- Two readings of a stream, mended word by word.
-use Rattle.std.specs.Prelude.{◌≡◌, ◌==◌, ◌&&◌, ℕ, ◌+◌, ◌-◌, ◌*◌, ◌/◌, ◌<◌, Bool, true, false, not, if◌then◌else◌, List, ◌++◌, length, map, drop, flat_map, count_by, slice_range, slice_index_or, is_none, is_ok, Option, Some, None}
-use Rattle.std.specs.List.{list_all, list_any, range_with_len}
-use Rattle.raw_subcode.specs.Channels.{q_bits, symbols_of}
-use Rattle.q_channel.specs.ReadingOf.{reading_of}
-use Rattle.rw_interleave.specs.Interleave.{word_of, whole_packs}
-use Rattle.rw_mend.specs.Mending.{IsMending}
-use Rattle.rw_mend.specs.declared.words.Coverage.{Coverage}
-use Rattle.rw_mend.specs.declared.words.Coverage.TheVariants.{Whole, Partly, Unread}
-use Rattle.rw_mend.specs.declared.words.WordReading.{WordReading}
-use Rattle.rw_mend.specs.declared.words.Way.{Way}
-use Rattle.rw_mend.specs.declared.words.Way.TheVariants.{Both, First, Second, Agreed}
-use Rattle.rw_mend.specs.declared.words.Mended.{Mended}
-use Rattle.rw_mend.specs.declared.streams.MendCounts.{MendCounts}
+-- Readings of a stream, mended word by word.
+use Rattle.std.specs.Prelude.{◌≡◌, ◌==◌, ℕ, ◌-◌, ◌*◌, ◌/◌, ◌<◌, Bool, true, false, if◌then◌else◌, List, [], ◌∷◌, ◌++◌, length, drop, flat_map, count_by, slice_index_or, is_none, Option, Some, None}
 use Rattle.raw_subcode.specs.Sizes.{block_bytes, symbols_a_slot}
 use Rattle.rw_code.specs.Packs.{idle_pack}
+use Rattle.rw_interleave.specs.Interleave.{whole_packs}
+use Rattle.rw_mend.specs.Choice.{IsMending, votes}
+use Rattle.rw_mend.specs.Drops.{AreVoices}
+use Rattle.rw_mend.specs.Words.{program_of}
+use Rattle.rw_mend.specs.declared.choice.Mended.{Mended}
+use Rattle.rw_mend.specs.declared.choice.Source.{Source}
+use Rattle.rw_mend.specs.declared.choice.Source.TheVariants.{Reading, Agreed}
+use Rattle.rw_mend.specs.declared.streams.MendCounts.{MendCounts}
+use Rattle.rw_mend.specs.declared.voices.Voice.{Voice}
+use Rattle.rw_mend.specs.declared.ways.Way.{Way}
+use Rattle.rw_mend.specs.declared.ways.Way.TheVariants.{Both, First, Second, Together}
 
--- the bytes of the program blocks of a raw stream
-abbrev pub program_of : ℕ → List ℕ → List ℕ
-program_of lead_in bytes = drop (block_bytes * lead_in) bytes
-
--- a block of the program
-abbrev pub block_at : List ℕ → ℕ → List ℕ
-block_at program b = slice_range program (block_bytes * b) (block_bytes * b + block_bytes)
-
--- whether a block is empty: its symbols are 0, and its Q channel is no frame
-unfoldable pub is_empty_block : List ℕ → Bool
-is_empty_block block =
-    list_all (λ symbol. symbol == 0) (symbols_of block) && not (is_ok (reading_of (q_bits block)))
-
--- the blocks in which the symbols of word n stand, which are those of eight slots
-abbrev pub blocks_under : List ℕ → ℕ → List (List ℕ)
-blocks_under program n = map (block_at program) (range_with_len (n / 4) ((n + 7) / 4 - n / 4 + 1))
-
--- how much of some blocks was read
-abbrev pub coverage_of : List (List ℕ) → Coverage
-coverage_of blocks = if list_all is_empty_block blocks then Unread
-    else (if list_any is_empty_block blocks then Partly else Whole)
-
--- the reading of word n of a program
-unfoldable pub reading_at : List ℕ → ℕ → WordReading
-reading_at program n = record {
-  word = word_of (symbols_of program) n;
-  coverage = coverage_of (blocks_under program n);
-}
-
--- what is found for each word of two readings of so many program blocks
-pub record AreMended (blocks : ℕ) (first second : List ℕ) (found : List (Option Mended)) : Type 0 where
-  pub count : length found ≡ whole_packs blocks
-  pub each : (n : ℕ) → n < whole_packs blocks
-      → IsMending (reading_at first n) (reading_at second n) (slice_index_or found n None)
+-- what the readings say at each word of some programs, and what is found for it
+pub record AreMended (words : ℕ) (programs : List (List ℕ)) (said : List (List Voice))
+    (found : List (Option Mended)) : Type 0 where
+  pub said_count : length said ≡ words
+  pub count : length found ≡ words
+  pub voices : (n : ℕ) → n < words → AreVoices words programs n (slice_index_or said n [])
+  pub each : (n : ℕ) → n < words → IsMending (slice_index_or said n []) (slice_index_or found n None)
 
 -- the symbols of a mended codeword, or zeros where there is none
 abbrev pub mended_bytes : Option Mended → List ℕ
@@ -59,32 +31,49 @@ mended_bytes None = idle_pack
 abbrev pub mended_text : List (Option Mended) → List ℕ
 mended_text found = flat_map mended_bytes found
 
--- whether two ways are the same
+-- ---- Two readings.
+
+-- the way in which a codeword of two readings is mended: both voices are it, or one alone, or both agree on it
+abbrev pub way_by : Source → List Voice → List ℕ → Way
+way_by (Reading r) voices codeword = if votes voices codeword == 2 then Both
+    else (if r == 0 then First else Second)
+way_by Agreed voices codeword = Together
+
+abbrev pub way_of : List Voice → Option Mended → Option Way
+way_of voices (Some mended) = Some (way_by mended.source voices mended.pack)
+way_of voices None = None
+
+-- the ways of all words
+abbrev pub ways_of : List (List Voice) → List (Option Mended) → List (Option Way)
+ways_of (voices ∷ said) (found ∷ rest) = way_of voices found ∷ ways_of said rest
+ways_of said found = []
+
+-- whether a word is mended in this way
 abbrev pub is_way : Way → Way → Bool
 is_way Both Both = true
 is_way First First = true
 is_way Second Second = true
-is_way Agreed Agreed = true
+is_way Together Together = true
 is_way way other = false
 
--- whether a codeword is mended in this way
-abbrev pub is_mended_by : Way → Option Mended → Bool
-is_mended_by way (Some mended) = is_way way mended.way
+abbrev pub is_mended_by : Way → Option Way → Bool
+is_mended_by way (Some own) = is_way way own
 is_mended_by way None = false
 
 -- how many words are mended in each way, and how many are not
-pub record AreCounts (found : List (Option Mended)) (counts : MendCounts) : Type 0 where
-  pub both : counts.both ≡ count_by (is_mended_by Both) found
-  pub of_first : counts.of_first ≡ count_by (is_mended_by First) found
-  pub of_second : counts.of_second ≡ count_by (is_mended_by Second) found
-  pub agreed : counts.agreed ≡ count_by (is_mended_by Agreed) found
-  pub none : counts.none ≡ count_by is_none found
+pub record AreCounts (ways : List (Option Way)) (counts : MendCounts) : Type 0 where
+  pub both : counts.both ≡ count_by (is_mended_by Both) ways
+  pub of_first : counts.of_first ≡ count_by (is_mended_by First) ways
+  pub of_second : counts.of_second ≡ count_by (is_mended_by Second) ways
+  pub agreed : counts.agreed ≡ count_by (is_mended_by Together) ways
+  pub none : counts.none ≡ count_by is_none ways
 
 -- The words of both readings are mended, and their text stands at the front of a buffer; what is behind it stays.
 pub record IsMendedInto (lead_in : ℕ) (first second old new : List ℕ) (counts : MendCounts) : Type 0 where
+  pub said : List (List Voice)
   pub found : List (Option Mended)
-  pub mended : AreMended (length first / block_bytes - lead_in) (program_of lead_in first)
-      (program_of lead_in second) found
-  pub counts_are : AreCounts found counts
+  pub mended : AreMended (whole_packs (length first / block_bytes - lead_in))
+      (program_of lead_in first ∷ program_of lead_in second ∷ []) said found
+  pub counts_are : AreCounts (ways_of said found) counts
   pub size : length (mended_text found) ≡ symbols_a_slot * whole_packs (length first / block_bytes - lead_in)
   pub text : new ≡ mended_text found ++ drop (length (mended_text found)) old

@@ -1,6 +1,6 @@
 -- What is known of the blocks under a word while a stream is mended.
 use Rattle.std.specs.Prelude.{◌≡◌, ◌≢◌, ℕ, ◌+◌, ◌/◌, ◌%◌, List}
-use Rattle.rw_mend.specs.Streams.{block_at, is_empty_block}
+use Rattle.rw_mend.specs.Words.{block_at, is_empty_block}
 use Rattle.rw_mend.specs.declared.cover.Trail.{Trail}
 
 -- whether the two or three blocks under word n are empty

@@ -1,7 +1,7 @@
 // Which blocks under a word are empty.
 ghost use Rattle.std.specs.Prelude.{◌≡◌, ◌==◌, ◌≤◌, ◌<◌, ◌+◌, ◌-◌, ◌*◌, ◌/◌, ◌%◌, ◌^◌, List, ℕ, length, if◌then◌else◌};
 ghost use Rattle.std.specs.List.{list_all};
-ghost use Rattle.rw_mend.specs.Streams.{block_at, blocks_under, coverage_of, is_empty_block};
+ghost use Rattle.rw_mend.specs.Words.{block_at, blocks_under, coverage_of, is_empty_block};
 ghost use Rattle.rw_mend.specs.Trails.{IsTrail};
 ghost use Rattle.raw_subcode.specs.Sizes.{block_bytes};
 

@@ -1,11 +1,25 @@
-//! Two readings of one disc, mended: nothing that one reading gives is lost by another that is noise.
+//! Readings of one disc, mended word by word.
 #![tactic(auto)]
 
+mod agreements;
+mod choice;
 mod cover;
 mod laws;
+mod many;
+mod mender;
+mod readings;
+mod rows;
 mod streams;
-mod words;
+mod tallies;
+mod voices;
+mod ways;
 
-pub use laws::{one_codeword_is_mended, packs_come_back, what_one_reading_gives_is_kept};
+pub use choice::{MOST_READINGS, Mended, Source, mend};
+pub use laws::{
+    a_clean_codeword_is_mended, a_clean_reading_comes_out, a_codeword_that_counts_alone_is_mended,
+    one_codeword_is_mended, packs_come_back,
+};
+pub use many::mend_readings;
 pub use streams::{MendCounts, mend_streams};
-pub use words::{Coverage, Mended, Way, WordReading, mend};
+pub use tallies::{AGREED, NO_READING, Tallies};
+pub use voices::{Coverage, Voice, WordReading, hear};

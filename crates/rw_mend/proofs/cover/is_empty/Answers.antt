@@ -5,7 +5,7 @@ use Rattle.std.proofs.lemmas.List.Folds.{list_all-map}
 use Rattle.bit_lists.specs.Bits.{bits_of_bytes}
 use Rattle.raw_subcode.specs.Channels.{q_bits}
 use Rattle.q_channel.specs.ReadingOf.{reading_of}
-use Rattle.rw_mend.specs.Streams.{is_empty_block}
+use Rattle.rw_mend.specs.Words.{is_empty_block}
 use Rattle.rw_mend.proofs.cover.is_empty.Goals as goal
 
 empty_is : (block : List ℕ)

@@ -1,9 +1,9 @@
-use Rattle.rw_mend.proofs.Keeping.{one_list}
-use Rattle.rw_mend.proofs.Mending.{one_mending}
+use Rattle.rw_mend.proofs.Once.{one_found, one_list}
 use Rattle.rw_mend.proofs.laws.one_codeword_is_mended.Goals as goal
 
 pub returns-clause-word : goal.returns-clause-word
-returns-clause-word c = one_mending
+returns-clause-word c voices found other = one_found voices found other
 
 pub returns-clause-stream : goal.returns-clause-stream
-returns-clause-stream c = one_list
+returns-clause-stream c words programs said others found other =
+    one_list words programs said others found other

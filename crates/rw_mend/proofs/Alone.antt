@@ -1,0 +1,190 @@
+-- A codeword that alone counts comes out, and so do packs of which readings have enough.
+use Rattle.std.proofs.Common.{◌≡◌, ◌==◌, ℕ, suc, ◌<◌, ◌≤◌, Bool, true, false, List, [], length, get_or, map, refl, sym, ap, ◌∙◌, inl, inr, arith, Some, None}
+use Rattle.std.specs.Prelude.{nat_lt}
+use Rattle.std.specs.List.{concat, list_any}
+use Rattle.std.specs.declared.option.Option.{Option}
+use Rattle.std.proofs.lemmas.Bool.{cases_eq, false≢true}
+use Rattle.std.proofs.lemmas.Bool.Decides.{leb_tells}
+use Rattle.std.proofs.lemmas.List.{ext_get_or, get_or-map, get_or_default, length-map}
+use Rattle.std.proofs.lemmas.List.Folds.{list_any_at}
+use Rattle.std.proofs.lemmas.List.Sums.{list_all-from_AllPass}
+use Rattle.rw_code.specs.Codeword.{differences}
+use Rattle.rw_mend.specs.Choice.{IsFirstBest, IsMending, IsMendedBy, is_best, stands, voice_of_reading}
+use Rattle.rw_mend.specs.Drops.{IsDropped, IsSaid}
+use Rattle.rw_mend.specs.Laws.{AllGive, AreEnough}
+use Rattle.rw_mend.specs.Streams.{AreMended, mended_bytes, mended_text}
+use Rattle.rw_mend.specs.Voices.{is_idle, is_idle_pack}
+use Rattle.rw_mend.specs.Words.{given_at}
+use Rattle.rw_mend.specs.declared.choice.Mended.{Mended}
+use Rattle.rw_mend.specs.declared.choice.Source.{Source}
+use Rattle.rw_mend.specs.declared.choice.Source.TheVariants.{Reading, Agreed}
+use Rattle.rw_mend.specs.declared.voices.Voice.{Voice}
+use Rattle.rw_mend.specs.declared.voices.Voice.TheVariants.{Silent, Lost, Near}
+use Rattle.rw_mend.proofs.Clean.{both_hold, first_holds, has_first, is_of_near, least, less, pack_of, same_test, second_holds, test_same}
+use Rattle.rw_mend.proofs.Kept.{flat_joined, graphics_are, said_kept}
+use Rattle.rw_mend.proofs.Missing.{some_passes}
+use Rattle.rw_mend.proofs.Once.{best_counts, not_agreed}
+use Rattle.rw_mend.proofs.Same.{same_is}
+
+-- whether so many symbols stand against a voice
+has_doubts : ℕ → Voice → Bool
+has_doubts d (Near pack doubts) = doubts == d
+has_doubts d voice = false
+
+has_is : (d : ℕ) (voice : Voice) → has_doubts d voice ≡ true → (pack : List ℕ) × (voice ≡ Near pack d)
+unfolding has_doubts
+has_is d Silent is = absurd (false≢true is)
+has_is d (Lost word) is = absurd (false≢true is)
+has_is d (Near pack doubts) is = (pack, ap (Near pack) (same_test doubts d is))
+
+has_own : (pack : List ℕ) (d : ℕ) → has_doubts d (Near pack d) ≡ true
+unfolding has_doubts
+has_own pack d = test_same d d refl
+
+stands_alone : (voices : List Voice) (pack : List ℕ) (d : ℕ) (voice : Voice)
+    → ((other : List ℕ) (more : ℕ) → voice ≡ Near other more → (other ≡ pack) × (d ≤ more))
+    → stands voices pack d voice ≡ true
+stands_alone voices pack d Silent only = refl
+stands_alone voices pack d (Lost word) only = refl
+stands_alone voices pack d (Near other more) only =
+    let is = only other more refl in
+    elim (cases_eq d more) [
+      | inl same ↦
+          second_holds (nat_lt d more) _ (both_hold (d == more) _ (test_same d more same)
+          (first_holds (differences pack other == 0) _ (sym (same_is pack other (sym is.0)))))
+      | inr differs ↦ first_holds (nat_lt d more) _ (less d more (omega (arith, is.1, differs)))
+    ]
+
+fewest : (voices : List Voice) (d s : ℕ) (other : List ℕ) (more : ℕ) → s < length voices
+    → voice_of_reading voices s ≡ Near other more
+    → ((j : ℕ) → j < d → list_any (has_doubts j) voices ≡ false) → d ≤ more
+fewest voices d s other more lt is none =
+    elim (leb_tells d more) [
+      | inl fits ↦ fits.1
+      | inr fewer ↦
+          absurd (false≢true (sym (none more fewer.1)
+          ∙ list_any_at (has_doubts more) voices s Silent lt (ap (has_doubts more) is ∙ has_own other more)))
+    ]
+
+has_best : (voices : List Voice) (r : ℕ) (codeword : List ℕ) (doubts : ℕ) → r < length voices
+    → voice_of_reading voices r ≡ Near codeword doubts
+    → ((s : ℕ) (other : List ℕ) (more : ℕ) → s < length voices → voice_of_reading voices s ≡ Near other more
+    → other ≡ codeword)
+    → (k : ℕ) × (k < length voices) × (is_best voices (voice_of_reading voices k) ≡ true)
+has_best voices r codeword doubts within is only =
+    let some : (d : ℕ) → Bool = λ (d : ℕ). list_any (has_doubts d) voices in
+    let here : some doubts ≡ true =
+    list_any_at (has_doubts doubts) voices r Silent within
+    (ap (has_doubts doubts) is ∙ has_own codeword doubts) in
+    elim (least some (suc doubts)) [
+      | inr none ↦ absurd (false≢true (sym (none doubts (omega arith)) ∙ here))
+      | inl found ↦
+          let at = some_passes (has_doubts found.0) voices Silent found.2 in
+          let near = has_is found.0 (voice_of_reading voices at.0) at.2 in
+          let own : near.0 ≡ codeword = only at.0 near.0 found.0 at.1 near.1 in (
+            at.0,
+            at.1,
+            ap (is_best voices) near.1
+                ∙ list_all-from_AllPass (stands voices near.0 found.0) voices (λ s d lt.
+                stands_alone voices near.0 found.0 (get_or voices s d) (λ other more there.
+                let voice_is : voice_of_reading voices s ≡ Near other more =
+                get_or_default voices s Silent d lt ∙ there in (
+                  only s other more lt voice_is ∙ sym own,
+                  fewest voices found.0 s other more lt voice_is found.3,
+                ))),
+          )
+    ]
+
+of_source : (voices : List Voice) (codeword : List ℕ) (source : Source) (found : List ℕ) (r : ℕ)
+    → IsFirstBest voices r
+    → ((s : ℕ) (other : List ℕ) (more : ℕ) → s < length voices → voice_of_reading voices s ≡ Near other more
+    → other ≡ codeword)
+    → IsMendedBy source voices found → found ≡ codeword
+of_source voices codeword (Reading k) found r first only by =
+    let near = best_counts voices k by.0 in
+    sym (pack_of (voice_of_reading voices k) near.0 found near.1 near.2 by.1)
+    ∙ only k near.0 near.1 by.0.within near.2
+of_source voices codeword Agreed found r first only by = absurd (not_agreed voices r found first by)
+
+-- a codeword that counts comes out where no other counts
+pub mended_alone : (voices : List Voice) (codeword : List ℕ) (r : ℕ) (doubts : ℕ) (found : Option Mended)
+    → r < length voices
+    → voice_of_reading voices r ≡ Near codeword doubts
+    → ((s : ℕ) (other : List ℕ) (more : ℕ) → s < length voices → voice_of_reading voices s ≡ Near other more
+    → other ≡ codeword)
+    → IsMending voices found → mended_bytes found ≡ codeword
+mended_alone voices codeword r doubts None within is only none =
+    let best = has_best voices r codeword doubts within is only in
+    let first = has_first voices best.0 best.1 best.2 in
+    let near = best_counts voices first.0 first.1 in
+    absurd
+    (none (Reading first.0) near.0 (first.1, is_of_near (voice_of_reading voices first.0) near.0 near.1 near.2))
+mended_alone voices codeword r doubts (Some mended) within is only by =
+    let best = has_best voices r codeword doubts within is only in
+    let first = has_first voices best.0 best.1 best.2 in
+    of_source voices codeword mended.source mended.pack first.0 first.1 only by
+
+-- ---- Whole streams.
+
+one_near : (pack other : List ℕ) (d e : ℕ) → Near pack d ≡ Near other e → pack ≡ other
+one_near pack other d e same = cc
+
+counted : (words : ℕ) (programs : List (List ℕ)) (n s : ℕ) (voice : Voice) (pack : List ℕ) (doubts : ℕ)
+    → IsSaid words programs n s voice → voice ≡ Near pack doubts
+    → (¬ IsDropped words programs s n) × (given_at programs s n ≡ Near pack doubts)
+counted words programs n s voice pack doubts (inl (dropped, silent)) is = cc
+counted words programs n s voice pack doubts (inr (kept, given)) is = (kept, sym given ∙ is)
+
+pub enough_text : (words : ℕ) (programs packs : List (List ℕ)) (said : List (List Voice))
+    (found : List (Option Mended)) → AreEnough words programs packs → AreMended words programs said found
+    → mended_text found ≡ concat packs
+enough_text words programs packs said found is mended =
+    let same : map mended_bytes found ≡ packs =
+    ext_get_or [] (map mended_bytes found) packs
+    (length-map found mended_bytes ∙ mended.count ∙ sym is.count) (λ n lt.
+    let within : n < words = omega (arith, lt, length-map found mended_bytes, mended.count) in
+    let voices : List Voice = get_or said n [] in
+    let are = mended.voices n within in
+    let r : ℕ = is.reading n in
+    let here : voice_of_reading voices r ≡ Near (get_or packs n []) (is.doubts n) =
+    said_kept words programs n r (voice_of_reading voices r) (are.each r (is.within n within)) (is.counts n within)
+    ∙ is.gives n within in
+    get_or-map mended_bytes found n None [] (omega (arith, within, mended.count))
+    ∙ mended_alone voices (get_or packs n []) r (is.doubts n) (get_or found n None)
+    (omega (arith, is.within n within, are.count)) here
+    (λ s other more inside there.
+    let reading : s < length programs = omega (arith, inside, are.count) in
+    let given = counted words programs n s (voice_of_reading voices s) other more (are.each s reading) there in
+    is.alone n s other more within reading given.0 given.1)
+    (mended.each n within)) in
+    flat_joined mended_bytes found ∙ ap concat same
+
+-- no reading drops where all give the same
+none_drops : (words : ℕ) (programs packs : List (List ℕ)) (r n : ℕ) → AllGive words programs packs
+    → r < length programs
+    → ¬ IsDropped words programs r n
+none_drops words programs packs r n is within dropped =
+    let m : ℕ = dropped.drops.word in
+    let lt : m < words = dropped.drops.within in
+    let misses = dropped.drops.misses in
+    let s : ℕ = misses.graphics.reading in
+    let busy = graphics_are (given_at programs s m) misses.graphics.graphics in
+    let there = is.gives m s lt misses.graphics.within in
+    let same : busy.0 ≡ get_or packs m [] = one_near busy.0 (get_or packs m []) 0 (is.doubts m s) (sym busy.1 ∙ there) in
+    let idle : is_idle_pack (get_or packs m []) ≡ true =
+    ap is_idle (sym (is.gives m r lt within)) ∙ misses.idle in
+    false≢true (sym busy.2 ∙ ap is_idle_pack same ∙ idle)
+
+pub all_enough : (words : ℕ) (programs packs : List (List ℕ)) → AllGive words programs packs
+    → AreEnough words programs packs
+all_enough words programs packs is = record {
+  reading = λ n. 0;
+  doubts = λ n. is.doubts n 0;
+  count = is.count;
+  within = λ n lt. is.some;
+  counts = λ n lt. none_drops words programs packs 0 n is is.some;
+  gives = λ n lt. is.gives n 0 lt is.some;
+  alone =
+      λ n s other more lt within kept given.
+      one_near other (get_or packs n []) more (is.doubts n s) (sym given ∙ is.gives n s lt within);
+}

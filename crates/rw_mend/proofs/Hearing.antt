@@ -1,0 +1,42 @@
+-- What a reading of a word gives, by cases.
+use Rattle.std.proofs.Common.{◌≡◌, ◌≢◌, ℕ, List, refl, ap, ◌∙◌, Some, None}
+use Rattle.rw_code.specs.Codeword.{IsWord, Reads}
+use Rattle.rw_code.specs.Finding.{finding}
+use Rattle.rw_code.proofs.Finding.{only_finding}
+use Rattle.rw_mend.specs.Voices.{doubts_of, voice_covered, voice_found, voice_of}
+use Rattle.rw_mend.specs.declared.voices.Coverage.{Coverage}
+use Rattle.rw_mend.specs.declared.voices.Coverage.TheVariants.{Whole, Partly, Unread}
+use Rattle.rw_mend.specs.declared.voices.WordReading.{WordReading}
+use Rattle.rw_mend.specs.declared.voices.Voice.TheVariants.{Silent, Lost, Near}
+
+unread_silent : (coverage : Coverage) (reading : WordReading) → coverage ≡ Unread
+    → Silent ≡ voice_covered coverage reading
+unread_silent Whole reading is = cc
+unread_silent Partly reading is = cc
+unread_silent Unread reading is = refl
+
+read_found : (coverage : Coverage) (reading : WordReading) → coverage ≢ Unread
+    → voice_found reading (finding reading.word) ≡ voice_covered coverage reading
+read_found Whole reading is_read = refl
+read_found Partly reading is_read = refl
+read_found Unread reading is_read = absurd (is_read refl)
+
+pub silent_is : (reading : WordReading) → reading.coverage ≡ Unread → Silent ≡ voice_of reading
+unfolding voice_of
+silent_is reading is = unread_silent reading.coverage reading is
+
+pub near_is : (reading : WordReading) (codeword : List ℕ) (doubts : ℕ) → reading.coverage ≢ Unread
+    → IsWord reading.word → Reads reading.word codeword
+    → doubts ≡ doubts_of reading.coverage reading.word codeword → Near codeword doubts ≡ voice_of reading
+unfolding voice_of
+near_is reading codeword doubts is_read word reads doubts_are =
+    ap (Near codeword) doubts_are
+    ∙ ap (voice_found reading) (only_finding reading.word word (Some codeword) reads)
+    ∙ read_found reading.coverage reading is_read
+
+pub lost_is : (reading : WordReading) → reading.coverage ≢ Unread → IsWord reading.word
+    → ((codeword : List ℕ) → ¬ Reads reading.word codeword) → Lost reading.word ≡ voice_of reading
+unfolding voice_of
+lost_is reading is_read word none =
+    ap (voice_found reading) (only_finding reading.word word None none)
+    ∙ read_found reading.coverage reading is_read

@@ -1,0 +1,167 @@
+-- A reading without a wrong symbol comes out whole.
+use Rattle.std.proofs.Common.{◌≡◌, ◌==◌, ◌&&◌, ℕ, ◌<◌, Bool, true, false, not, List, [], ◌∷◌, ◌++◌, length, get_or, map, refl, sym, ap, ◌∙◌, inl, inr, arith, None}
+use Rattle.std.specs.List.{concat, flat_map}
+use Rattle.std.specs.declared.option.Option.{Option}
+use Rattle.std.proofs.lemmas.Bool.{false≢true}
+use Rattle.std.proofs.lemmas.Bool.Decides.{eqb_tells}
+use Rattle.std.proofs.lemmas.List.{ext_get_or, get_or-map, length-map}
+use Rattle.std.proofs.lemmas.List.FromFn.{get_or-map-range_with_len, length-map-range_with_len}
+use Rattle.bit_lists.specs.Counting.{below}
+use Rattle.rw_code.specs.Codeword.{IsCodeword, differences}
+use Rattle.rw_code.specs.Packs.{idle_pack}
+use Rattle.rw_code.proofs.Differing.{differences_none, differences_self}
+use Rattle.rw_mend.specs.Choice.{IsMending, voice_of_reading}
+use Rattle.rw_mend.specs.Drops.{AreVoices, IsDropped, IsSaid}
+use Rattle.rw_mend.specs.Laws.{IsCleanBeside, given_bytes, given_text}
+use Rattle.rw_mend.specs.Streams.{AreMended, mended_bytes, mended_text}
+use Rattle.rw_mend.specs.Voices.{is_graphics, is_idle, is_idle_pack}
+use Rattle.rw_mend.specs.Words.{given_at}
+use Rattle.rw_mend.specs.declared.choice.Mended.{Mended}
+use Rattle.rw_mend.specs.declared.voices.Voice.{Voice}
+use Rattle.rw_mend.specs.declared.voices.Voice.TheVariants.{Silent, Lost, Near}
+use Rattle.rw_mend.proofs.Clean.{clean_wins}
+use Rattle.rw_mend.proofs.Givens.{given_codeword}
+use Rattle.rw_mend.proofs.Missing.{told}
+
+-- ---- Graphics and idle packs.
+
+pub idle_is : is_idle_pack idle_pack ≡ true
+idle_is = ap (λ n. n == 0) (differences_self idle_pack)
+
+not_true : (b : Bool) → not b ≡ true → b ≡ false
+not_true true is = absurd (false≢true is)
+not_true false is = refl
+
+both_of : (a b : Bool) → (a && b) ≡ true → (a ≡ true) × (b ≡ true)
+both_of true b is = (refl, is)
+both_of false b is = absurd (false≢true is)
+
+-- graphics are a clean codeword that is not idle
+pub graphics_are : (voice : Voice) → is_graphics voice ≡ true
+    → (pack : List ℕ) × (voice ≡ Near pack 0) × (is_idle_pack pack ≡ false)
+graphics_are Silent is = absurd (false≢true is)
+graphics_are (Lost word) is = absurd (false≢true is)
+graphics_are (Near pack doubts) is =
+    let tests = both_of (doubts == 0) (not (is_idle_pack pack)) is in
+    elim (eqb_tells doubts 0) [
+      | inl none ↦ (pack, ap (Near pack) none.1, not_true (is_idle_pack pack) tests.1)
+      | inr some ↦ absurd (false≢true (sym some.0 ∙ tests.0))
+    ]
+
+clean_graphics : (pack : List ℕ) → is_idle_pack pack ≡ false → is_graphics (Near pack 0) ≡ true
+clean_graphics pack other = ap not other
+
+-- ---- What is said.
+
+said_cases : (words : ℕ) (programs : List (List ℕ)) (n r : ℕ) (voice : Voice) (pack : List ℕ)
+    → IsSaid words programs n r voice → voice ≡ Near pack 0
+    → (¬ IsDropped words programs r n) × (given_at programs r n ≡ Near pack 0)
+said_cases words programs n r voice pack (inl (dropped, silent)) is = cc
+said_cases words programs n r voice pack (inr (kept, given)) is = (kept, sym given ∙ is)
+
+pub said_kept : (words : ℕ) (programs : List (List ℕ)) (n r : ℕ) (voice : Voice)
+    → IsSaid words programs n r voice → ¬ IsDropped words programs r n → voice ≡ given_at programs r n
+said_kept words programs n r voice (inl (dropped, silent)) kept = absurd (kept dropped)
+said_kept words programs n r voice (inr (kept', given)) kept = given
+
+-- the clean reading drops nowhere
+clean_kept : (words : ℕ) (programs : List (List ℕ)) (r n : ℕ) → IsCleanBeside words programs r
+    → ¬ IsDropped words programs r n
+clean_kept words programs r n is dropped =
+    let m : ℕ = dropped.drops.word in
+    let misses = dropped.drops.misses in
+    let s : ℕ = misses.graphics.reading in
+    let found = graphics_are (given_at programs s m) misses.graphics.graphics in
+    let idle : is_idle_pack (is.codeword m) ≡ true =
+    ap is_idle (sym (is.clean m dropped.drops.within)) ∙ misses.idle in
+    elim (is.others m s found.0 dropped.drops.within misses.graphics.within found.1) [
+      | inl same ↦ false≢true (sym found.2 ∙ ap is_idle_pack same ∙ idle)
+      | inr zeros ↦ false≢true (sym found.2 ∙ ap is_idle_pack zeros ∙ idle_is)
+    ]
+
+zeros_are : (pack : List ℕ) → IsCodeword pack → is_idle_pack pack ≡ true → pack ≡ idle_pack
+zeros_are pack codeword is =
+    elim (eqb_tells (differences pack idle_pack) 0) [
+      | inl none ↦ differences_none pack idle_pack codeword.is_word.size none.1
+      | inr some ↦ absurd (false≢true (sym some.0 ∙ is))
+    ]
+
+-- another clean codeword that is said is the same
+only_clean : (words : ℕ) (programs : List (List ℕ)) (r n s : ℕ) (voice : Voice) (other : List ℕ)
+    (is : IsCleanBeside words programs r) → n < words → s < length programs → IsSaid words programs n s voice
+    → voice ≡ Near other 0 → other ≡ is.codeword n
+only_clean words programs r n s voice other is lt within said near =
+    let given = said_cases words programs n s voice other said near in
+    elim (is.others n s other lt within given.1) [
+      | inl same ↦ same
+      | inr zeros ↦
+          elim (told (is_idle_pack (is.codeword n))) [
+            | inl idle ↦
+                zeros
+                ∙ sym
+                (zeros_are (is.codeword n) (given_codeword programs r n (is.codeword n) 0 (is.clean n lt)) idle)
+            | inr busy ↦
+                absurd
+                (given.0 (record {
+                  idle = ap is_idle given.1 ∙ ap is_idle_pack zeros ∙ idle_is;
+                  drops = record {
+                    word = n;
+                    within = lt;
+                    after = omega arith;
+                    before = omega arith;
+                    misses = record {
+                      idle = ap is_idle given.1 ∙ ap is_idle_pack zeros ∙ idle_is;
+                      graphics = record {
+                        reading = r;
+                        within = is.within;
+                        graphics = ap is_graphics (is.clean n lt) ∙ clean_graphics (is.codeword n) busy;
+                      };
+                    };
+                  };
+                }))
+          ]
+    ]
+
+-- ---- Whole streams.
+
+clean_word : (words : ℕ) (programs : List (List ℕ)) (r n : ℕ) (voices : List Voice) (found : Option Mended)
+    (is : IsCleanBeside words programs r) → n < words → AreVoices words programs n voices
+    → IsMending voices found → mended_bytes found ≡ given_bytes (given_at programs r n)
+clean_word words programs r n voices found is lt said mended =
+    let here : voice_of_reading voices r ≡ Near (is.codeword n) 0 =
+    said_kept words programs n r (voice_of_reading voices r) (said.each r is.within)
+    (clean_kept words programs r n is) ∙ is.clean n lt in
+    clean_wins voices r (is.codeword n) found (omega (arith, is.within, said.count)) here
+    (λ s other inside near.
+    let within : s < length programs = omega (arith, inside, said.count) in
+    only_clean words programs r n s (voice_of_reading voices s) other is lt within (said.each s within) near)
+    mended
+    ∙ ap given_bytes (sym (is.clean n lt))
+
+pub flat_joined : {X : Type 0} (f : X → List ℕ) (xs : List X) → flat_map f xs ≡ concat (map f xs)
+flat_joined f [] = refl
+flat_joined f (x ∷ xs) = ap (λ l. f x ++ l) (flat_joined f xs)
+
+-- a list of texts, one for each word
+pub each_text : (words : ℕ) (programs : List (List ℕ)) (r : ℕ) (found : List (Option Mended))
+    → length found ≡ words
+    → ((n : ℕ) → n < words → mended_bytes (get_or found n None) ≡ given_bytes (given_at programs r n))
+    → mended_text found ≡ given_text words programs r
+each_text words programs r found size each =
+    let given : ℕ → List ℕ = λ (n : ℕ). given_bytes (given_at programs r n) in
+    let same : map mended_bytes found ≡ map given (below words) =
+    ext_get_or [] (map mended_bytes found) (map given (below words))
+    (length-map found mended_bytes ∙ size ∙ sym (length-map-range_with_len given 0 words)) (λ n lt.
+    let within : n < words = omega (arith, lt, length-map found mended_bytes, size) in
+    get_or-map mended_bytes found n None [] (omega (arith, within, size))
+    ∙ each n within
+    ∙ sym (get_or-map-range_with_len given 0 words n n [] within (omega arith))) in
+    flat_joined mended_bytes found ∙ ap concat same ∙ sym (flat_joined given (below words))
+
+pub clean_text : (words : ℕ) (programs : List (List ℕ)) (r : ℕ) (said : List (List Voice))
+    (found : List (Option Mended)) → IsCleanBeside words programs r → AreMended words programs said found
+    → mended_text found ≡ given_text words programs r
+clean_text words programs r said found is mended =
+    each_text words programs r found mended.count (λ n lt.
+    clean_word words programs r n (get_or said n []) (get_or found n None) is lt (mended.voices n lt)
+    (mended.each n lt))

@@ -1,0 +1,29 @@
+use Rattle.std.proofs.Common.{◌≡◌, ◌∙◌, ◌<◌, ap, arith, length, get_or, below_more}
+use Rattle.std.proofs.Math.ListN.{set, length-set}
+use Rattle.std.proofs.lemmas.List.{get_or_default, get_or-set_other, get_or-set_same}
+use Rattle.rw_mend.specs.Choice.{voice_of_reading}
+use Rattle.rw_mend.specs.Rows.{said_by}
+use Rattle.rw_mend.specs.declared.voices.Voice.TheVariants.{Silent}
+use Rattle.rw_mend.proofs.rows.say_all.Goals as goal
+
+pub loop-r-preserved : goal.loop-r-preserved
+loop-r-preserved c =
+    let r = c.loop-r.r in
+    let said = c.loop-r.said in
+    let new = c.say.result in
+    let row = c.args.row.now in
+    let missed = c.args.missed.now in
+    let long : r < length said =
+    omega (arith, c.loop-r.invariant.size, c.loop-r-test.true, c.requires.said) in
+    let here : c.index-row-r.result ≡ voice_of_reading row r =
+    c.index-row-r.is ∙ get_or_default row r c.index-row-r.result Silent c.loop-r-test.true in
+    record {
+      size = length-set said r new ∙ c.loop-r.invariant.size;
+      each = below_more
+          (λ k. voice_of_reading (set said r new) k
+          ≡ said_by (get_or missed k 0) c.args.n (voice_of_reading row k)) r
+          (λ k lt. get_or-set_other said r k new Silent (λ e. omega (arith, e, lt))
+          ∙ c.loop-r.invariant.each k lt)
+          (get_or-set_same said r new Silent long ∙ c.say.ensures
+          ∙ ap (said_by (get_or missed r 0) c.args.n) here);
+    }

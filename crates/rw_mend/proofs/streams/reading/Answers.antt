@@ -1,6 +1,0 @@
-use Rattle.rw_mend.specs.Streams.{reading_at}
-use Rattle.rw_mend.proofs.streams.reading.Goals as goal
-
-pub returns : goal.returns
-unfolding reading_at
-returns c = cc (c.word_at.ensures, c.coverage.ensures c.args.program.now c.requires.trail)

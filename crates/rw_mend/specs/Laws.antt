@@ -1,0 +1,48 @@
+-- What readings have to be for the laws of mending.
+use Rattle.std.specs.Prelude.{◌≡◌, ◌⊎◌, ℕ, ◌<◌, List, [], length, slice_index_or}
+use Rattle.std.specs.List.{flat_map}
+use Rattle.bit_lists.specs.Counting.{below}
+use Rattle.rw_code.specs.Packs.{idle_pack}
+use Rattle.rw_mend.specs.Drops.{IsDropped}
+use Rattle.rw_mend.specs.Words.{given_at}
+use Rattle.rw_mend.specs.declared.voices.Voice.{Voice}
+use Rattle.rw_mend.specs.declared.voices.Voice.TheVariants.{Near}
+
+-- the symbols of the codeword that is given, or zeros
+abbrev pub given_bytes : Voice → List ℕ
+given_bytes (Near pack doubts) = pack
+given_bytes voice = idle_pack
+
+-- what reading r gives by itself for each word, as text
+abbrev pub given_text : ℕ → List (List ℕ) → ℕ → List ℕ
+given_text words programs r = flat_map (λ n. given_bytes (given_at programs r n)) (below words)
+
+-- Reading r is without a wrong symbol, and whatever another gives without a wrong symbol is the same codeword or the idle
+-- pack: so it is with noise, with scratches, and with readings without channels R to W.
+pub record IsCleanBeside (words : ℕ) (programs : List (List ℕ)) (r : ℕ) : Type 0 where
+  pub within : r < length programs
+  pub codeword : ℕ → List ℕ
+  pub clean : (n : ℕ) → n < words → given_at programs r n ≡ Near (codeword n) 0
+  pub others : (n s : ℕ) (other : List ℕ) → n < words → s < length programs
+      → given_at programs s n ≡ Near other 0 → (other ≡ codeword n) ⊎ (other ≡ idle_pack)
+
+-- For each word one reading gives its pack, and that counts, and no reading gives another codeword that counts.
+pub record AreEnough (words : ℕ) (programs packs : List (List ℕ)) : Type 0 where
+  pub reading : ℕ → ℕ
+  pub doubts : ℕ → ℕ
+  pub count : length packs ≡ words
+  pub within : (n : ℕ) → n < words → reading n < length programs
+  pub counts : (n : ℕ) → n < words → ¬ IsDropped words programs (reading n) n
+  pub gives : (n : ℕ) → n < words
+      → given_at programs (reading n) n ≡ Near (slice_index_or packs n []) (doubts n)
+  pub alone : (n s : ℕ) (other : List ℕ) (more : ℕ) → n < words → s < length programs
+      → ¬ IsDropped words programs s n → given_at programs s n ≡ Near other more
+      → other ≡ slice_index_or packs n []
+
+-- Each reading gives the pack of each word, whichever of its symbols are wrong: it is damaged in two at most.
+pub record AllGive (words : ℕ) (programs packs : List (List ℕ)) : Type 0 where
+  pub some : 0 < length programs
+  pub count : length packs ≡ words
+  pub doubts : ℕ → ℕ → ℕ
+  pub gives : (n r : ℕ) → n < words → r < length programs
+      → given_at programs r n ≡ Near (slice_index_or packs n []) (doubts n r)

@@ -1,0 +1,45 @@
+-- The words of a program, as they were read.
+use Rattle.std.specs.Prelude.{◌==◌, ◌&&◌, ℕ, ◌+◌, ◌-◌, ◌*◌, ◌/◌, Bool, not, if◌then◌else◌, List, [], map, drop, slice_range, slice_index_or, is_ok}
+use Rattle.std.specs.List.{list_all, list_any, range_with_len}
+use Rattle.raw_subcode.specs.Channels.{q_bits, symbols_of}
+use Rattle.raw_subcode.specs.Sizes.{block_bytes}
+use Rattle.q_channel.specs.ReadingOf.{reading_of}
+use Rattle.rw_interleave.specs.Interleave.{word_of}
+use Rattle.rw_mend.specs.Voices.{voice_of}
+use Rattle.rw_mend.specs.declared.voices.Coverage.{Coverage}
+use Rattle.rw_mend.specs.declared.voices.Coverage.TheVariants.{Whole, Partly, Unread}
+use Rattle.rw_mend.specs.declared.voices.WordReading.{WordReading}
+use Rattle.rw_mend.specs.declared.voices.Voice.{Voice}
+
+-- the bytes of the program blocks of a raw stream
+abbrev pub program_of : ℕ → List ℕ → List ℕ
+program_of lead_in bytes = drop (block_bytes * lead_in) bytes
+
+-- a block of the program
+abbrev pub block_at : List ℕ → ℕ → List ℕ
+block_at program b = slice_range program (block_bytes * b) (block_bytes * b + block_bytes)
+
+-- whether a block is empty: its symbols are 0, and its Q channel is no frame
+unfoldable pub is_empty_block : List ℕ → Bool
+is_empty_block block =
+    list_all (λ symbol. symbol == 0) (symbols_of block) && not (is_ok (reading_of (q_bits block)))
+
+-- the blocks in which the symbols of word n stand, which are those of eight slots
+abbrev pub blocks_under : List ℕ → ℕ → List (List ℕ)
+blocks_under program n = map (block_at program) (range_with_len (n / 4) ((n + 7) / 4 - n / 4 + 1))
+
+-- how much of some blocks was read
+abbrev pub coverage_of : List (List ℕ) → Coverage
+coverage_of blocks = if list_all is_empty_block blocks then Unread
+    else (if list_any is_empty_block blocks then Partly else Whole)
+
+-- the reading of word n of a program
+unfoldable pub reading_at : List ℕ → ℕ → WordReading
+reading_at program n = record {
+  word = word_of (symbols_of program) n;
+  coverage = coverage_of (blocks_under program n);
+}
+
+-- what reading r of some programs gives for word n by itself
+abbrev pub given_at : List (List ℕ) → ℕ → ℕ → Voice
+given_at programs r n = voice_of (reading_at (slice_index_or programs r []) n)

@@ -1,0 +1,99 @@
+// The codeword on which two of several readings agree.
+ghost use Rattle.std.specs.Prelude.{◌≡◌, ◌≢◌, ◌+◌, ◌<◌, ◌≤◌, List, ℕ, length, MatchOption};
+ghost use Rattle.rw_code.specs.Codeword.{IsWord};
+ghost use Rattle.rw_merge.specs.Agreement.{IsAgreed};
+ghost use Rattle.rw_mend.specs.Choice.{AreAgreed, IsAgreedAlone, IsPairAgreed, voice_of_reading};
+ghost use Rattle.rw_mend.specs.Agreements.{AreAgreements};
+ghost use Rattle.rw_mend.specs.declared.voices.Voice.{Voice};
+ghost use Rattle.rw_mend.specs.declared.voices.Voice.TheVariants;
+
+use crate::Voice;
+use crate::choice::is_same;
+use rw_code::{Pack, Word};
+use rw_merge::agree;
+
+// The codewords on which some pairs agree.
+#[derive(Clone, Copy)]
+pub(crate) enum Agreements {
+    // None.
+    Nothing,
+    // One.
+    Alone { pack: Pack },
+    // More than one.
+    Several,
+}
+
+/// The codeword on which two of the readings agree that are near none, where all that agree agree on the same.
+pub(crate) fn agreed(voices: &[Voice]) -> Option<Pack>
+    ensures { MatchOption result
+        ((codeword : List ℕ) → ¬ IsAgreedAlone voices.now codeword)
+        (λ pack. IsAgreedAlone voices.now pack) }
+{
+    let mut found = Agreements::Nothing;
+    for j in 0..voices.len() {
+        for i in 0..j {
+            found.add(voices, i, j);
+        }
+    }
+    match found {
+        Agreements::Alone { pack } => Some(pack),
+        _ => None,
+    }
+}
+
+impl Agreements {
+    // Looks at one pair more.
+    fn add(&mut self, voices: &[Voice], i: usize, j: usize)
+        requires before { i < j }
+        requires within { j < length voices.now }
+        ensures { AreAgreements voices.now i j self.old → AreAgreements voices.now (i + 1) j self.new }
+    {
+        if let Some(pack) = of_pair(&voices[i], &voices[j]) {
+            *self = self.and(&pack);
+        }
+    }
+
+    // With the codeword on which one pair more agrees.
+    fn and(&self, pack: &Pack) -> Agreements
+        ensures { (voices : List Voice) (i j : ℕ) → IsPairAgreed voices i j pack.now
+            → ((another : List ℕ) → IsPairAgreed voices i j another → another ≡ pack.now)
+            → AreAgreements voices i j self.now → AreAgreements voices (i + 1) j result }
+    {
+        match self {
+            Agreements::Nothing => Agreements::Alone { pack: *pack },
+            Agreements::Alone { pack: own } => {
+                if is_same(own, pack) {
+                    Agreements::Alone { pack: *own }
+                } else {
+                    Agreements::Several
+                }
+            }
+            Agreements::Several => Agreements::Several,
+        }
+    }
+}
+
+// The codeword on which two words agree that were read and are near none.
+fn of_pair(one: &Voice, other: &Voice) -> Option<Pack>
+    ensures { MatchOption result
+        ((codeword : List ℕ) → ¬ AreAgreed one.now other.now codeword)
+        (λ pack. AreAgreed one.now other.now pack
+        × ((another : List ℕ) → AreAgreed one.now other.now another → another ≡ pack)) }
+{
+    match one {
+        Voice::Lost { word } => with_word(word, other),
+        _ => None,
+    }
+}
+
+fn with_word(word: &Word, other: &Voice) -> Option<Pack>
+    ensures { MatchOption result
+        ((codeword : List ℕ) → ¬ AreAgreed (TheVariants.Lost word.now) other.now codeword)
+        (λ pack. AreAgreed (TheVariants.Lost word.now) other.now pack
+        × ((another : List ℕ) → AreAgreed (TheVariants.Lost word.now) other.now another → another ≡ pack)) }
+{
+    match other {
+        Voice::Lost { word: second } => agree(word, second),
+        _ => None,
+    }
+}

@@ -1,0 +1,98 @@
+// Any number of readings of a stream in memory.
+ghost use Rattle.std.specs.Prelude.{◌≡◌, ◌≤◌, ◌<◌, ◌+◌, ◌-◌, ◌*◌, ◌/◌, ◌%◌, ◌++◌, List, ℕ, length};
+ghost use Rattle.raw_subcode.specs.Sizes.{block_bytes, most_units, symbols_a_slot};
+ghost use Rattle.rw_interleave.specs.Interleave.{whole_packs};
+ghost use Rattle.rw_mend.specs.Drops.{AreDropCounts};
+ghost use Rattle.rw_mend.specs.Many.{AreMendedInto};
+ghost use Rattle.rw_mend.specs.Readings.{AreReadings, programs_in, size_in};
+ghost use Rattle.rw_mend.specs.Steps.{AreTold, IsMendedTo};
+
+use crate::mend;
+use crate::mender::Mender;
+use crate::readings::Readings;
+use crate::streams::put;
+use crate::tallies::{Tallies, put_source};
+use raw_subcode::BLOCK_BYTES;
+
+/// Mends readings of a raw stream, 1 to 254 of equal length that lie one behind another, word by word: writes 24 bytes
+/// for each word of the program, which are the blocks after the lead-in, to the front of a buffer: the symbols of its
+/// codeword, or zeros where there is none; and, where there is room for any, a byte for each word that names its source.
+pub fn mend_readings(
+    readings: &[u8],
+    count: usize,
+    lead_in: u32,
+    packs: &mut [u8],
+    sources: &mut [u8],
+) -> Tallies
+    requires some { 0 < count }
+    requires few { count ≤ 254 }
+    requires equal { length readings.now ≡ count * (length readings.now / count) }
+    requires whole { (length readings.now / count) % block_bytes ≡ 0 }
+    requires short { length readings.now / count ≤ block_bytes * most_units }
+    requires room { symbols_a_slot * whole_packs
+        (length readings.now / count / block_bytes - lead_in) ≤ length packs.old }
+    ensures { AreMendedInto count lead_in readings.now packs.old packs.new sources.old sources.new result }
+{
+    let size = readings.len() / count;
+    mend_split(
+        &readings[..size],
+        &readings[size..],
+        count,
+        lead_in,
+        packs,
+        sources,
+    )
+}
+
+// The same where the first reading stands by itself.
+fn mend_split(
+    first: &[u8],
+    others: &[u8],
+    count: usize,
+    lead_in: u32,
+    packs: &mut [u8],
+    sources: &mut [u8],
+) -> Tallies
+    requires some { 0 < count }
+    requires few { count ≤ 254 }
+    requires equal { length others.now ≡ length first.now * (count - 1) }
+    requires whole { length first.now % block_bytes ≡ 0 }
+    requires short { length first.now ≤ block_bytes * most_units }
+    requires room { symbols_a_slot * whole_packs (length first.now / block_bytes - lead_in) ≤ length packs.old }
+    ensures { (readings : List ℕ) → length readings / count ≡ length first.now
+        → readings ≡ first.now ++ others.now
+        → AreMendedInto count lead_in readings packs.old packs.new sources.old sources.new result }
+{
+    let all = Readings {
+        first,
+        others,
+        count,
+        start: (BLOCK_BYTES * lead_in as usize).min(first.len()),
+    };
+    mend_all(&all, packs, sources)
+}
+
+// The same of readings in a struct.
+fn mend_all(readings: &Readings, packs: &mut [u8], sources: &mut [u8]) -> Tallies
+    requires readings { AreReadings readings.now }
+    requires few { size_in readings.now ≤ block_bytes * most_units }
+    requires room { symbols_a_slot * whole_packs (size_in readings.now / block_bytes) ≤ length packs.old }
+    ensures mended { IsMendedTo readings.now (whole_packs (size_in readings.now / block_bytes))
+        (whole_packs (size_in readings.now / block_bytes)) packs.old packs.new
+        (AreTold sources.old (whole_packs (size_in readings.now / block_bytes)) sources.new result) }
+    ensures dropped { AreDropCounts (whole_packs (size_in readings.now / block_bytes)) (programs_in readings.now)
+        (whole_packs (size_in readings.now / block_bytes)) result.dropped }
+{
+    let mut mender = Mender::new(readings);
+    let mut tallies = Tallies::new();
+    for n in 0..mender.words() {
+        mender.come_to(readings, n);
+        let voices = mender.voices(readings.count);
+        let found = mend(voices);
+        put(packs, n, &found);
+        put_source(sources, n, &found);
+        tallies.add(&found);
+    }
+    tallies.dropped = mender.dropped();
+    tallies
+}

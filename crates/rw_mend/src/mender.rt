@@ -1,0 +1,162 @@
+// The words of some readings in turn.
+ghost use Rattle.std.specs.Prelude.{◌≡◌, ◌<◌, ◌≤◌, ◌+◌, ◌-◌, ◌*◌, ◌/◌, ◌%◌, ℕ, length, take, slice_index_or, slice_set, if◌then◌else◌};
+ghost use Rattle.raw_subcode.specs.Sizes.{block_bytes, most_units};
+ghost use Rattle.rw_mend.specs.Choice.{voice_of_reading};
+ghost use Rattle.rw_mend.specs.Mender.{IsAt, IsHearing, no_row};
+ghost use Rattle.rw_mend.specs.Readings.{AreReadings, programs_in, size_in};
+ghost use Rattle.rw_mend.specs.Rows.{AreLastMissed, AreTrails, IsRow, is_left, said_by};
+ghost use Rattle.rw_mend.specs.declared.rows.Row.{Row};
+
+use crate::Voice;
+use crate::choice::MOST_READINGS;
+use crate::cover::Trail;
+use crate::readings::Readings;
+use crate::rows::{Row, count_left, hear_all, note_missed, say_all};
+use raw_subcode::{BLOCK_BYTES, SLOTS_A_BLOCK};
+use rw_interleave::PACKS_KEPT_BACK;
+
+// How many words are kept: one, and those after it that tell whether its idle packs count.
+const KEPT: usize = 8;
+
+/// Comes to the words of some readings in turn.
+#[derive(Drop)]
+pub(crate) struct Mender {
+    words: usize,
+    // How many words were heard.
+    heard: usize,
+    trails: [Trail; MOST_READINGS],
+    // 1 more than the last word at which a reading misses graphics, or 0.
+    missed: [usize; MOST_READINGS],
+    // What the readings give for word n by themselves, at n modulo 8.
+    rows: [Row; KEPT],
+    said: [Voice; MOST_READINGS],
+    // At how many words what a reading gives counts for nothing.
+    dropped: [u32; MOST_READINGS],
+}
+
+impl Mender {
+    /// Before the first word.
+    pub(crate) fn new(readings: &Readings) -> Mender
+        requires readings { AreReadings readings.now }
+        requires few { size_in readings.now ≤ block_bytes * most_units }
+        ensures { IsHearing readings.now 0 result }
+    {
+        let size = readings.first.len() - readings.start;
+        Mender {
+            words: (SLOTS_A_BLOCK * (size / BLOCK_BYTES)).saturating_sub(PACKS_KEPT_BACK),
+            heard: 0,
+            trails: [Trail::new(); MOST_READINGS],
+            missed: [0; MOST_READINGS],
+            rows: [Row::new(); KEPT],
+            said: [Voice::Silent; MOST_READINGS],
+            dropped: [0; MOST_READINGS],
+        }
+    }
+
+    /// How many words there are.
+    pub(crate) fn words(&self) -> usize
+        ensures { result ≡ self.now.words }
+    {
+        self.words
+    }
+
+    /// Comes to word n from the word before it.
+    pub(crate) fn come_to(&mut self, readings: &Readings, n: usize)
+        requires within { n < self.old.words }
+        requires hearing { IsHearing readings.now n self.old }
+        ensures at { IsAt readings.now n self.new }
+        ensures words { self.new.words ≡ self.old.words }
+    {
+        for m in self.heard..(n + KEPT).min(self.words) {
+            hear_next(
+                readings,
+                m,
+                &mut self.trails,
+                &mut self.missed,
+                &mut self.rows,
+            );
+            self.heard = m + 1;
+        }
+        say_next(
+            &self.rows,
+            readings.count,
+            n,
+            &self.missed,
+            &mut self.said,
+            &mut self.dropped,
+        );
+    }
+
+    /// What the readings say at the word to which it has come.
+    pub(crate) fn voices(&self, count: usize) -> &[Voice]
+        requires { count ≤ 254 }
+        ensures voices { result.now ≡ take count self.now.said }
+        ensures count { length result.now ≡ count }
+    {
+        &self.said[..count]
+    }
+
+    /// At how many words before the one that follows the idle pack of each reading counts for nothing.
+    pub(crate) fn dropped(&self) -> [u32; MOST_READINGS]
+        ensures { result ≡ self.now.dropped }
+    {
+        self.dropped
+    }
+}
+
+// Hears word m, and keeps what the readings give for it.
+fn hear_next(
+    readings: &Readings,
+    m: usize,
+    trails: &mut [Trail],
+    missed: &mut [usize],
+    rows: &mut [Row],
+)
+    requires readings { AreReadings readings.now }
+    requires within { block_bytes * ((m + 7) / 4) + block_bytes ≤ size_in readings.now }
+    requires trails_size { length trails.old ≡ 254 }
+    requires missed_size { length missed.old ≡ 254 }
+    requires rows_size { length rows.old ≡ 8 }
+    requires trails { 0 < m → AreTrails (programs_in readings.now) (m - 1) trails.old }
+    requires missed { AreLastMissed (programs_in readings.now) m missed.old }
+    requires few { m < 4000000 }
+    ensures trails_size { length trails.new ≡ length trails.old }
+    ensures missed_size { length missed.new ≡ length missed.old }
+    ensures trails { AreTrails (programs_in readings.now) m trails.new }
+    ensures missed { AreLastMissed (programs_in readings.now) (m + 1) missed.new }
+    ensures rows { (row : Row) × IsRow (programs_in readings.now) m (row.voices)
+        × (rows.new ≡ slice_set rows.old (m % 8) row) }
+{
+    let row = &mut rows[m % KEPT];
+    hear_all(readings, m, trails, row);
+    note_missed(row.voices(readings.count), m, missed);
+}
+
+// Says what the readings say at word n, and counts what counts for nothing.
+fn say_next(
+    rows: &[Row],
+    count: usize,
+    n: usize,
+    missed: &[usize],
+    said: &mut [Voice],
+    dropped: &mut [u32],
+)
+    requires rows { length rows.now ≡ 8 }
+    requires count { count ≤ 254 }
+    requires missed_size { length missed.now ≡ 254 }
+    requires said_size { length said.old ≡ 254 }
+    requires dropped_size { length dropped.old ≡ 254 }
+    requires few { (r : ℕ) → r < count → slice_index_or dropped.old r 0 < 4000000 }
+    ensures said_size { length said.new ≡ length said.old }
+    ensures dropped_size { length dropped.new ≡ length dropped.old }
+    ensures said { (r : ℕ) → r < count → voice_of_reading said.new r
+        ≡ said_by (slice_index_or missed.now r 0) n
+        (voice_of_reading (take count ((slice_index_or rows.now (n % 8) no_row).voices)) r) }
+    ensures dropped { (r : ℕ) → r < count → slice_index_or dropped.new r 0
+        ≡ slice_index_or dropped.old r 0 + (if is_left (slice_index_or missed.now r 0) n
+        (voice_of_reading (take count ((slice_index_or rows.now (n % 8) no_row).voices)) r) then 1 else 0) }
+{
+    let given = rows[n % KEPT].voices(count);
+    say_all(given, missed, n, said);
+    count_left(given, missed, n, dropped);
+}

@@ -1,0 +1,105 @@
+// What a reading of a word gives.
+ghost use Rattle.std.specs.Prelude.{◌≡◌, List, ℕ};
+ghost use Rattle.rw_code.specs.Codeword.{differences};
+ghost use Rattle.rw_mend.specs.Voices.{doubts_of, is_graphics, is_idle, is_idle_pack, voice_of};
+
+use rw_code::{Fixed, Pack, Word, correct};
+
+/// How much of a word a drive has read.
+#[derive(Clone, Copy, Debug, PartialEq, Eq)]
+pub enum Coverage {
+    /// Each block under it.
+    Whole,
+    /// Some of its blocks, but not all.
+    Partly,
+    /// None of them.
+    Unread,
+}
+
+/// A reading of a word.
+#[derive(Clone, Copy)]
+pub struct WordReading {
+    /// The symbols as they were read.
+    pub word: Word,
+    /// How much of it was read.
+    pub coverage: Coverage,
+}
+
+/// What a reading of a word gives.
+#[derive(Clone, Copy)]
+pub enum Voice {
+    /// Nothing: it was not read, or its idle pack counts for nothing.
+    Silent,
+    /// It was read, and no codeword is near it.
+    Lost {
+        /// The symbols as they were read.
+        word: Word,
+    },
+    /// A codeword is near it.
+    Near {
+        /// The codeword.
+        pack: Pack,
+        /// How many symbols stand against it.
+        doubts: u8,
+    },
+}
+
+// More than stands against any other codeword.
+const IDLE_DOUBTS: u8 = 3;
+
+/// What a reading of a word gives by itself.
+pub fn hear(reading: &WordReading) -> Voice
+    ensures { result ≡ voice_of reading.now }
+{
+    if reading.coverage == Coverage::Unread {
+        return Voice::Silent;
+    }
+    match correct(&reading.word) {
+        Some(fixed) => Voice::Near {
+            pack: fixed.pack,
+            doubts: doubts(reading.coverage, &fixed),
+        },
+        None => Voice::Lost { word: reading.word },
+    }
+}
+
+// How many symbols stand against a codeword.
+fn doubts(coverage: Coverage, fixed: &Fixed) -> u8
+    ensures { (word : List ℕ) → fixed.now.wrong ≡ differences word fixed.now.pack
+        → result ≡ doubts_of coverage word fixed.now.pack }
+{
+    if coverage == Coverage::Partly && is_idle_pack(&fixed.pack) {
+        return IDLE_DOUBTS;
+    }
+    fixed.wrong
+}
+
+// Whether a codeword is the idle pack.
+#[inline]
+fn is_idle_pack(pack: &Pack) -> bool
+    ensures { result ≡ is_idle_pack pack.now }
+{
+    pack.word().weight() == 0
+}
+
+impl Voice {
+    /// Whether it is near the idle pack.
+    pub(crate) fn is_idle(&self) -> bool
+        ensures { result ≡ is_idle self.now }
+    {
+        match self {
+            Voice::Near { pack, .. } => is_idle_pack(pack),
+            _ => false,
+        }
+    }
+
+    /// Whether it is another codeword, and no symbol is wrong.
+    pub(crate) fn is_graphics(&self) -> bool
+        ensures { result ≡ is_graphics self.now }
+    {
+        match self {
+            Voice::Near { pack, doubts: 0 } => !is_idle_pack(pack),
+            _ => false,
+        }
+    }
+}
