@@ -71,7 +71,11 @@ impl Sink for KeptBytes {
 }
 
 // Converts a stream with no lead-in.
-fn convert<S: Source>(alloc: Global, mut first: S, out: &mut KeptBytes) -> Result<Status, AllocError>
+fn convert<S: Source>(
+    alloc: Global,
+    mut first: S,
+    out: &mut KeptBytes,
+) -> Result<Status, AllocError>
 where
     S: Drop,
 {

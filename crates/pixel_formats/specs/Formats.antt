@@ -47,8 +47,8 @@ shown_bytes format now x y =
     pixel_bytes format number (slice_index now.colours number) (slice_index now.levels number)
 
 -- so many bytes have room for the rows of a part, each `stride` bytes after the one before
-abbrev pub HasRoom : PixelFormat → ScreenPart → ℕ → ℕ → Type 0
-HasRoom format part stride room =
+abbrev pub HasPixelRoom : PixelFormat → ScreenPart → ℕ → ℕ → Type 0
+HasPixelRoom format part stride room =
     (j : ℕ) → j < part.height → j * stride + pixel_size format * part.width ≤ room
 
 -- The pixels of a part are written in a format, row by row, each row `stride` bytes after the one before, and in a row one

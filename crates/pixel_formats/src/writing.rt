@@ -4,7 +4,7 @@ ghost use Rattle.cdg_instructions.specs.Sizes.{screen_height};
 ghost use Rattle.cdg_screen.specs.Memory.{seen};
 ghost use Rattle.live_player.specs.Lives.{picture_byte, picture_bytes};
 ghost use Rattle.live_player.specs.Parts.{IsOnScreen};
-ghost use Rattle.pixel_formats.specs.Formats.{line_bytes, pixel_bytes, pixel_size, shown_bytes, HasRoom, ShowsPixels};
+ghost use Rattle.pixel_formats.specs.Formats.{line_bytes, pixel_bytes, pixel_size, shown_bytes, HasPixelRoom, ShowsPixels};
 
 use crate::format::PixelFormat;
 use crate::line::{LINE, write_line};
@@ -24,7 +24,7 @@ pub fn write_pixels(
 )
     requires part { IsOnScreen part.now }
     requires apart { pixel_size format * part.now.width ≤ stride }
-    requires room { HasRoom format part.now stride (length out.old) }
+    requires room { HasPixelRoom format part.now stride (length out.old) }
     ensures { ShowsPixels format (seen screen.now) part.now stride out.old out.new }
 {
     let table = table_of(screen, format);

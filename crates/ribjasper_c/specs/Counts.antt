@@ -13,8 +13,8 @@ form_number Cooked = 1
 form_number Sector = 2
 
 -- what a player counts; the words are those of the blocks that came behind its lead-in
-abbrev pub counts_of : LivePlayer → PlayerCounts
-counts_of player = record {
+abbrev pub told_counts : LivePlayer → PlayerCounts
+told_counts player = record {
   words = word_count player.words.form (player.blocks - player.lead_in);
   form = form_number player.words.form;
   lead_in = player.lead_in;

@@ -3,7 +3,7 @@ ghost use Rattle.std.specs.Prelude.{◌≡◌, ◌^◌, ◌-◌, if◌then◌els
 ghost use Rattle.live_player.specs.Lives.{Given, bad_words_in, blocks_in};
 ghost use Rattle.live_player.specs.declared.live.LivePlayer.{LivePlayer};
 ghost use Rattle.raw_subcode.specs.declared.form.Form.{Form};
-ghost use Rattle.ribjasper_c.specs.Counts.{counts_of, form_number};
+ghost use Rattle.ribjasper_c.specs.Counts.{told_counts, form_number};
 ghost use Rattle.ribjasper_c.specs.Handles.{IsPlaying};
 ghost use Rattle.rw_interleave.specs.Stream.{word_count};
 
@@ -33,7 +33,7 @@ pub struct PlayerCounts {
 #[unsafe(no_mangle)]
 pub extern "C" fn ribjasper_player_counts(player: &mut Playing, counts: &mut PlayerCounts) -> i32
     ensures counts { result ≡ pos 0 → (live : LivePlayer) → player.old.handle.players ≡ live ∷ []
-        → counts.new ≡ counts_of live }
+        → counts.new ≡ told_counts live }
     // Where it is known what it was given.
     ensures blocks { result ≡ pos 0 → (form : Form) (lead_in : ℕ) (given : List Given)
         → IsPlaying form lead_in given player.old.handle.players
@@ -57,7 +57,7 @@ pub extern "C" fn ribjasper_player_counts(player: &mut Playing, counts: &mut Pla
 
 // What a player counts.
 fn counted(live: &LivePlayer) -> PlayerCounts
-    ensures { result ≡ counts_of live.now }
+    ensures { result ≡ told_counts live.now }
 {
     PlayerCounts {
         words: words_of(live.words.form, live.blocks.saturating_sub(live.lead_in)),

@@ -1,7 +1,7 @@
 // A part of what a player shows, in the format that a display takes.
 ghost use Rattle.std.specs.Prelude.{◌≡◌, ◌<◌, ◌≤◌, ◌+◌, ◌*◌, ◌∷◌, [], ◌↔◌, ◌⊎◌, ℕ, IsTrue, length, pos, negsuc, true};
 ghost use Rattle.live_player.specs.Parts.{IsOnScreen};
-ghost use Rattle.pixel_formats.specs.Formats.{pixel_size, HasRoom, ShowsPixels};
+ghost use Rattle.pixel_formats.specs.Formats.{pixel_size, HasPixelRoom, ShowsPixels};
 ghost use Rattle.ribjasper_c.specs.Handles.{PlayersShow};
 ghost use Rattle.ribjasper_c.specs.Pixels.{pixel_format};
 ghost use Rattle.ribjasper_c.specs.Rects.{shown_rect};
@@ -31,7 +31,7 @@ pub extern "C" fn ribjasper_player_pixels(
     ensures done { (result ≡ pos 0) ↔ (player.old.is_open ≡ true) × (format ≤ 6)
         × IsOnScreen (shown_rect x y width height)
         × (pixel_size (pixel_format format) * width ≤ stride)
-        × HasRoom (pixel_format format) (shown_rect x y width height) stride (length out.old) }
+        × HasPixelRoom (pixel_format format) (shown_rect x y width height) stride (length out.old) }
     ensures answer { (result ≡ pos 0) ⊎ (result ≡ negsuc 0) }
     ensures stays { player.new.is_open ≡ player.old.is_open }
     ensures same { player.new.handle.players ≡ player.old.handle.players }
@@ -86,7 +86,7 @@ fn shown_pixels(
 )
     requires part { IsOnScreen part.now }
     requires apart { pixel_size format * part.now.width ≤ stride }
-    requires room { HasRoom format part.now stride (length out.old) }
+    requires room { HasPixelRoom format part.now stride (length out.old) }
     ensures { PlayersShow (live.now ∷ []) (λ now. ShowsPixels format now part.now stride out.old out.new) }
 {
     // Two laws, for the clause.

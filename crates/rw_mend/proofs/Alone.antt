@@ -13,11 +13,11 @@ use Rattle.rw_mend.specs.Choice.{IsFirstBest, IsMending, IsMendedBy, is_best, st
 use Rattle.rw_mend.specs.Drops.{IsDropped, IsSaid}
 use Rattle.rw_mend.specs.Laws.{AllGive, AreEnough}
 use Rattle.rw_mend.specs.Streams.{AreMended, mended_bytes, mended_text}
-use Rattle.rw_mend.specs.Voices.{is_idle, is_idle_pack}
+use Rattle.rw_mend.specs.Voices.{speaks_idle, is_idle_pack}
 use Rattle.rw_mend.specs.Words.{given_at}
 use Rattle.rw_mend.specs.declared.choice.Mended.{Mended}
-use Rattle.rw_mend.specs.declared.choice.Source.{Source}
-use Rattle.rw_mend.specs.declared.choice.Source.TheVariants.{Reading, Agreed}
+use Rattle.rw_mend.specs.declared.choice.WordSource.{WordSource}
+use Rattle.rw_mend.specs.declared.choice.WordSource.TheVariants.{Reading, Agreed}
 use Rattle.rw_mend.specs.declared.voices.Voice.{Voice}
 use Rattle.rw_mend.specs.declared.voices.Voice.TheVariants.{Silent, Lost, Near}
 use Rattle.rw_mend.proofs.Clean.{both_hold, first_holds, has_first, is_of_near, least, less, pack_of, same_test, second_holds, test_same}
@@ -95,7 +95,7 @@ has_best voices r codeword doubts within is only =
           )
     ]
 
-of_source : (voices : List Voice) (codeword : List ℕ) (source : Source) (found : List ℕ) (r : ℕ)
+of_source : (voices : List Voice) (codeword : List ℕ) (source : WordSource) (found : List ℕ) (r : ℕ)
     → IsFirstBest voices r
     → ((s : ℕ) (other : List ℕ) (more : ℕ) → s < length voices → voice_of_reading voices s ≡ Near other more
     → other ≡ codeword)
@@ -118,7 +118,8 @@ mended_alone voices codeword r doubts None within is only none =
     let first = has_first voices best.0 best.1 best.2 in
     let near = best_counts voices first.0 first.1 in
     absurd
-    (none (Reading first.0) near.0 (first.1, is_of_near (voice_of_reading voices first.0) near.0 near.1 near.2))
+    (none (Reading first.0) near.0
+    (first.1, is_of_near (voice_of_reading voices first.0) near.0 near.1 near.2))
 mended_alone voices codeword r doubts (Some mended) within is only by =
     let best = has_best voices r codeword doubts within is only in
     let first = has_first voices best.0 best.1 best.2 in
@@ -147,14 +148,16 @@ enough_text words programs packs said found is mended =
     let are = mended.voices n within in
     let r : ℕ = is.reading n in
     let here : voice_of_reading voices r ≡ Near (get_or packs n []) (is.doubts n) =
-    said_kept words programs n r (voice_of_reading voices r) (are.each r (is.within n within)) (is.counts n within)
+    said_kept words programs n r (voice_of_reading voices r) (are.each r (is.within n within))
+    (is.counts n within)
     ∙ is.gives n within in
     get_or-map mended_bytes found n None [] (omega (arith, within, mended.count))
     ∙ mended_alone voices (get_or packs n []) r (is.doubts n) (get_or found n None)
     (omega (arith, is.within n within, are.count)) here
     (λ s other more inside there.
     let reading : s < length programs = omega (arith, inside, are.count) in
-    let given = counted words programs n s (voice_of_reading voices s) other more (are.each s reading) there in
+    let given =
+    counted words programs n s (voice_of_reading voices s) other more (are.each s reading) there in
     is.alone n s other more within reading given.0 given.1)
     (mended.each n within)) in
     flat_joined mended_bytes found ∙ ap concat same
@@ -170,9 +173,10 @@ none_drops words programs packs r n is within dropped =
     let s : ℕ = misses.graphics.reading in
     let busy = graphics_are (given_at programs s m) misses.graphics.graphics in
     let there = is.gives m s lt misses.graphics.within in
-    let same : busy.0 ≡ get_or packs m [] = one_near busy.0 (get_or packs m []) 0 (is.doubts m s) (sym busy.1 ∙ there) in
+    let same : busy.0 ≡ get_or packs m [] =
+    one_near busy.0 (get_or packs m []) 0 (is.doubts m s) (sym busy.1 ∙ there) in
     let idle : is_idle_pack (get_or packs m []) ≡ true =
-    ap is_idle (sym (is.gives m r lt within)) ∙ misses.idle in
+    ap speaks_idle (sym (is.gives m r lt within)) ∙ misses.idle in
     false≢true (sym busy.2 ∙ ap is_idle_pack same ∙ idle)
 
 pub all_enough : (words : ℕ) (programs packs : List (List ℕ)) → AllGive words programs packs

@@ -11,8 +11,8 @@ use Rattle.rw_code.specs.Codeword.{differences}
 use Rattle.rw_mend.specs.Choice.{IsFirstBest, IsMending, IsMendedBy, IsOf, is_best, is_near, stands, voice_of_reading}
 use Rattle.rw_mend.specs.Streams.{mended_bytes}
 use Rattle.rw_mend.specs.declared.choice.Mended.{Mended}
-use Rattle.rw_mend.specs.declared.choice.Source.{Source}
-use Rattle.rw_mend.specs.declared.choice.Source.TheVariants.{Reading, Agreed}
+use Rattle.rw_mend.specs.declared.choice.WordSource.{WordSource}
+use Rattle.rw_mend.specs.declared.choice.WordSource.TheVariants.{Reading, Agreed}
 use Rattle.rw_mend.specs.declared.voices.Voice.{Voice}
 use Rattle.rw_mend.specs.declared.voices.Voice.TheVariants.{Silent, Lost, Near}
 use Rattle.rw_mend.proofs.Missing.{told}
@@ -44,13 +44,15 @@ pub test_same : (a b : ℕ) → a ≡ b → (a == b) ≡ true
 test_same a b same = elim (eqb_tells a b) [ inl is ↦ is.0 | inr other ↦ absurd (other.1 same) ]
 
 pub same_test : (a b : ℕ) → (a == b) ≡ true → a ≡ b
-same_test a b is = elim (eqb_tells a b) [ inl same ↦ same.1 | inr other ↦ absurd (false≢true (sym other.0 ∙ is)) ]
+same_test a b is =
+    elim (eqb_tells a b) [ inl same ↦ same.1 | inr other ↦ absurd (false≢true (sym other.0 ∙ is)) ]
 
 pub less : (a b : ℕ) → a < b → nat_lt a b ≡ true
 less a b lt = elim (leb_tells (suc a) b) [ inl is ↦ is.0 | inr other ↦ absurd (omega (arith, lt, other.1)) ]
 
 not_less : (a b : ℕ) → b ≤ a → nat_lt a b ≡ false
-not_less a b le = elim (leb_tells (suc a) b) [ inl is ↦ absurd (omega (arith, le, is.1)) | inr other ↦ other.0 ]
+not_less a b le =
+    elim (leb_tells (suc a) b) [ inl is ↦ absurd (omega (arith, le, is.1)) | inr other ↦ other.0 ]
 
 -- the first number at which a test holds
 pub least : (p : ℕ → Bool) (n : ℕ)
@@ -126,11 +128,12 @@ has_first voices r within best =
 pub is_of_near : (voice : Voice) (pack : List ℕ) (doubts : ℕ) → voice ≡ Near pack doubts → IsOf pack voice
 is_of_near voice pack doubts is = subst (IsOf pack) (sym is) refl
 
-pub pack_of : (voice : Voice) (pack codeword : List ℕ) (doubts : ℕ) → voice ≡ Near pack doubts → IsOf codeword voice
+pub pack_of : (voice : Voice) (pack codeword : List ℕ) (doubts : ℕ) → voice ≡ Near pack doubts
+    → IsOf codeword voice
     → pack ≡ codeword
 pack_of voice pack codeword doubts is of = subst (IsOf codeword) is of
 
-mended_is : (voices : List Voice) (r : ℕ) (codeword : List ℕ) (source : Source) (found : List ℕ)
+mended_is : (voices : List Voice) (r : ℕ) (codeword : List ℕ) (source : WordSource) (found : List ℕ)
     → r < length voices
     → voice_of_reading voices r ≡ Near codeword 0
     → ((s : ℕ) (other : List ℕ) → s < length voices → voice_of_reading voices s ≡ Near other 0
@@ -160,6 +163,7 @@ clean_wins voices r codeword None within is only none =
     let first = has_first voices r within best in
     let near = best_is_near voices (voice_of_reading voices first.0) first.1.best in
     absurd
-    (none (Reading first.0) near.0 (first.1, is_of_near (voice_of_reading voices first.0) near.0 near.1 near.2))
+    (none (Reading first.0) near.0
+    (first.1, is_of_near (voice_of_reading voices first.0) near.0 near.1 near.2))
 clean_wins voices r codeword (Some mended) within is only by =
     mended_is voices r codeword mended.source mended.pack within is only by

@@ -6,7 +6,7 @@ use Rattle.std.proofs.lemmas.List.{drop-drop, ext_get_or, get_or-map, length-map
 use Rattle.bit_lists.specs.Counting.{parts}
 use Rattle.rw_interleave.specs.Interleave.{whole_packs}
 use Rattle.rw_mend.specs.Drops.{AreDropCounts, AreVoices}
-use Rattle.rw_mend.specs.Many.{AreMendedInto, words_of}
+use Rattle.rw_mend.specs.Many.{AreMendedInto, words_heard}
 use Rattle.rw_mend.specs.Readings.{program_in, programs_in, size_in}
 use Rattle.rw_mend.specs.Steps.{AreTold, IsMendedTo}
 use Rattle.rw_mend.specs.Streams.{mended_text}
@@ -37,7 +37,13 @@ fits size r count lt = omega (arith, mul-le-mul_left size lt)
 part_size : (count size : ℕ) (bytes : List ℕ) (r : ℕ) → r < count → length bytes ≡ count * size
     → length (take size (drop (size * r) bytes)) ≡ size
 part_size count size bytes r lt long =
-    omega (arith, length-take size (drop (size * r) bytes), length-drop (size * r) bytes, fits size r count lt, long)
+    omega (
+      arith,
+      length-take size (drop (size * r) bytes),
+      length-drop (size * r) bytes,
+      fits size r count lt,
+      long,
+    )
 
 program_is : (readings : Readings) (count size lead_in : ℕ) (bytes : List ℕ) → length bytes ≡ count * size
     → readings.first.now ≡ take size bytes → readings.others.now ≡ drop size bytes
@@ -93,7 +99,7 @@ many_mended readings count lead_in bytes old new old_sources new_sources tallies
     first_size start done dropped =
     let size : ℕ = length bytes / count in
     let programs = many_programs readings count size lead_in bytes same long first others first_size start in
-    let words : whole_packs (size_in readings / 96) ≡ words_of count lead_in bytes =
+    let words : whole_packs (size_in readings / 96) ≡ words_heard count lead_in bytes =
     ap (λ n. whole_packs ((n - readings.start) / 96)) first_size
     ∙ ap whole_packs (blocks_left size lead_in readings.start whole start) in
     record {

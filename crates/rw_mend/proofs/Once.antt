@@ -9,8 +9,8 @@ use Rattle.rw_mend.specs.Choice.{IsFirstBest, IsMendedBy, IsMending, is_near, vo
 use Rattle.rw_mend.specs.Drops.{AreVoices, IsSaid}
 use Rattle.rw_mend.specs.Streams.{AreMended}
 use Rattle.rw_mend.specs.declared.choice.Mended.{Mended}
-use Rattle.rw_mend.specs.declared.choice.Source.{Source}
-use Rattle.rw_mend.specs.declared.choice.Source.TheVariants.{Reading, Agreed}
+use Rattle.rw_mend.specs.declared.choice.WordSource.{WordSource}
+use Rattle.rw_mend.specs.declared.choice.WordSource.TheVariants.{Reading, Agreed}
 use Rattle.rw_mend.specs.declared.voices.Voice.{Voice}
 use Rattle.rw_mend.specs.declared.voices.Voice.TheVariants.{Silent, Near}
 use Rattle.rw_mend.proofs.Clean.{best_is_near, pack_of}
@@ -39,7 +39,7 @@ not_agreed voices r codeword first agreed =
     let near = best_counts voices r first in
     false≢true (sym agreed.0 ∙ list_any_at is_near voices r Silent first.within (ap is_near near.2))
 
-one_source : (voices : List Voice) (source source' : Source) (codeword codeword' : List ℕ)
+one_source : (voices : List Voice) (source source' : WordSource) (codeword codeword' : List ℕ)
     → IsMendedBy source voices codeword
     → IsMendedBy source' voices codeword' → (source ≡ source') × (codeword ≡ codeword')
 one_source voices (Reading r) (Reading k) codeword codeword' one other =
@@ -69,7 +69,7 @@ one_found voices None (Some mended) one two = absurd (one mended.source mended.p
 one_found voices (Some mended) None one two = absurd (two mended.source mended.pack one)
 one_found voices (Some mended) (Some another) one two =
     let same = one_source voices mended.source another.source mended.pack another.pack one two in
-    ap₂ (λ (p : List ℕ) (s : Source). Some (record { pack = p; source = s })) same.1 same.0
+    ap₂ (λ (p : List ℕ) (s : WordSource). Some (record { pack = p; source = s })) same.1 same.0
 
 one_said : (words : ℕ) (programs : List (List ℕ)) (n r : ℕ) (voice other : Voice)
     → IsSaid words programs n r voice → IsSaid words programs n r other → voice ≡ other

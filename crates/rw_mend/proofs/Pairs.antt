@@ -23,7 +23,8 @@ same_drop lead_in start bytes is = ap (λ n. drop n bytes) is ∙ drop_min (96 *
 two_programs : (readings : Readings) (lead_in : ℕ) → readings.count ≡ 2
     → readings.start ≡ min (96 * lead_in) (length readings.first.now)
     → length readings.first.now ≡ length readings.others.now
-    → programs_in readings ≡ program_of lead_in readings.first.now ∷ program_of lead_in readings.others.now ∷ []
+    → programs_in readings
+    ≡ program_of lead_in readings.first.now ∷ program_of lead_in readings.others.now ∷ []
 two_programs readings lead_in two start same =
     let first : program_in readings 0 ≡ program_of lead_in readings.first.now =
     same_drop lead_in readings.start readings.first.now start in
@@ -55,7 +56,9 @@ two_mended readings lead_in old new counts two start same whole done =
       mended = record {
         said_count = done.said_count ∙ words;
         count = done.count ∙ words;
-        voices = λ n lt. subst₂ (λ w p. AreVoices w p n (get_or done.said n [])) words programs (done.voices n (omega (arith, lt, words)));
+        voices =
+            λ n lt. subst₂ (λ w p. AreVoices w p n (get_or done.said n [])) words programs
+            (done.voices n (omega (arith, lt, words)));
         each = λ n lt. done.each n (omega (arith, lt, words));
       };
       counts_are = done.has_it;

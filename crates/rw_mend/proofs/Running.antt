@@ -54,7 +54,8 @@ mended_next readings words n before packs new has has' voices f done said is lon
     let all : List (List Voice) = done.said ++ voices ∷ [] in
     let all_found : List (Option Mended) = found ++ f ∷ [] in
     let said_before : (k : ℕ) → k < n → get_or done.said k [] ≡ get_or all k [] =
-    λ (k : ℕ) (lt : k < n). sym (get_or_append_left done.said (voices ∷ []) [] k (omega (arith, lt, done.said_count))) in
+    λ (k : ℕ) (lt : k < n).
+    sym (get_or_append_left done.said (voices ∷ []) [] k (omega (arith, lt, done.said_count))) in
     let found_before : (k : ℕ) → k < n → get_or found k None ≡ get_or all_found k None =
     λ (k : ℕ) (lt : k < n). sym (get_or_append_left found (f ∷ []) None k (omega (arith, lt, done.count))) in
     let said_here = sym (at_end done.said voices [] n done.said_count) in
@@ -86,7 +87,8 @@ mended_next readings words n before packs new has has' voices f done said is lon
 
 -- ---- Two readings.
 
-ways_more : (said : List (List Voice)) (found : List (Option Mended)) (voices : List Voice) (f : Option Mended)
+ways_more : (said : List (List Voice)) (found : List (Option Mended)) (voices : List Voice)
+    (f : Option Mended)
     → length said ≡ length found
     → ways_of (said ++ voices ∷ []) (found ++ f ∷ []) ≡ ways_of said found ++ way_of voices f ∷ []
 ways_more [] [] voices f same = refl

@@ -23,7 +23,8 @@ other_is one other word word' differ =
 pub told_same : (one other bytes bytes' : List ℕ) (told : Bool) → bytes ≡ one → bytes' ≡ other
     → told ≡ pointwise nat_eq bytes bytes' → told ≡ true
     → one ≡ other
-told_same one other bytes bytes' told is is' tells same = sym is ∙ same_text bytes bytes' (sym same ∙ tells) ∙ is'
+told_same one other bytes bytes' told is is' tells same =
+    sym is ∙ same_text bytes bytes' (sym same ∙ tells) ∙ is'
 
 -- or not
 pub told_other : (one other bytes bytes' : List ℕ) (told : Bool) → bytes ≡ one → bytes' ≡ other

@@ -11,8 +11,8 @@ use Rattle.std.proofs.lemmas.Slice.{drop-append-drop}
 use Rattle.rw_mend.specs.Steps.{AreTold}
 use Rattle.rw_mend.specs.Choice.{IsMendedBy, IsMending}
 use Rattle.rw_mend.specs.Tallies.{AreTallies, HasSource, source_byte}
-use Rattle.rw_mend.specs.declared.choice.Source.{Source}
-use Rattle.rw_mend.specs.declared.choice.Source.TheVariants.{Reading, Agreed}
+use Rattle.rw_mend.specs.declared.choice.WordSource.{WordSource}
+use Rattle.rw_mend.specs.declared.choice.WordSource.TheVariants.{Reading, Agreed}
 use Rattle.rw_mend.specs.declared.choice.Mended.{Mended}
 use Rattle.rw_mend.specs.declared.tallies.Tallies.{Tallies}
 use Rattle.rw_mend.specs.declared.voices.Voice.{Voice}
@@ -38,7 +38,8 @@ tally_reading all f old new r within is reading agreed none reserved was = recor
         | inl same ↦
             ap (λ l. get_or l k 0) reading
             ∙ ap (λ j. get_or (set old.of_reading r (get_or old.of_reading r 0 + 1)) j 0) same
-            ∙ get_or-set_same old.of_reading r (get_or old.of_reading r 0 + 1) 0 (omega (arith, within, was.kept))
+            ∙ get_or-set_same old.of_reading r (get_or old.of_reading r 0 + 1) 0
+            (omega (arith, within, was.kept))
             ∙ ap (λ j. get_or old.of_reading j 0 + 1) (sym same)
             ∙ ap (λ n. n + 1) (was.of_reading k lt)
             ∙ sym (count_yes test all f (test_yes (source_byte f) k (is ∙ sym same)))
@@ -71,29 +72,31 @@ pub told_more : (before : List ℕ) (words n : ℕ) (sources new : List ℕ) (ol
     → (said : List (List Voice)) (found : List (Option Mended)) → length said ≡ n → length found ≡ n
     → AreTold before words sources old said found
     → AreTold before words new more (said ++ voices ∷ []) (found ++ f ∷ [])
-told_more before words n sources new old more voices f lt same put counted said found said_size size was = record {
-  tallies_are = counted found was.tallies_are;
-  size = same ∙ was.size;
-  put =
-      λ room.
-      let text : List ℕ = map source_byte found in
-      let text_size : length text ≡ n = length-map found source_byte ∙ size in
-      let is : sources ≡ text ++ drop n before =
-      was.put room ∙ ap (λ m. text ++ drop m before) size in
-      let front : take n sources ≡ text =
-      ap (take n) is ∙ take-append-le n text (drop n before) (omega (arith, text_size))
-      ∙ take_all n text (omega (arith, text_size)) in
-      let back : drop (n + 1) sources ≡ drop (n + 1) before =
-      ap (drop (n + 1)) is ∙ drop-append-drop n before text (n + 1) (omega arith) text_size in
-      put (omega (arith, lt, room, was.size))
-      ∙ ap₂ (λ (a b : List ℕ). a ++ source_byte f ∷ b) front back
-      ∙ joined text (source_byte f) (drop (n + 1) before)
-      ∙ ap₂ (λ (a b : List ℕ). a ++ b) (sym (map-append source_byte found (f ∷ [])))
-      (ap (λ m. drop m before) (sym (length-append found (f ∷ []) ∙ omega (arith, size))));
-}
+told_more before words n sources new old more voices f lt same put counted said found said_size size
+    was = record {
+      tallies_are = counted found was.tallies_are;
+      size = same ∙ was.size;
+      put =
+          λ room.
+          let text : List ℕ = map source_byte found in
+          let text_size : length text ≡ n = length-map found source_byte ∙ size in
+          let is : sources ≡ text ++ drop n before =
+          was.put room ∙ ap (λ m. text ++ drop m before) size in
+          let front : take n sources ≡ text =
+          ap (take n) is ∙ take-append-le n text (drop n before) (omega (arith, text_size))
+          ∙ take_all n text (omega (arith, text_size)) in
+          let back : drop (n + 1) sources ≡ drop (n + 1) before =
+          ap (drop (n + 1)) is ∙ drop-append-drop n before text (n + 1) (omega arith) text_size in
+          put (omega (arith, lt, room, was.size))
+          ∙ ap₂ (λ (a b : List ℕ). a ++ source_byte f ∷ b) front back
+          ∙ joined text (source_byte f) (drop (n + 1) before)
+          ∙ ap₂ (λ (a b : List ℕ). a ++ b) (sym (map-append source_byte found (f ∷ [])))
+          (ap (λ m. drop m before) (sym (length-append found (f ∷ []) ∙ omega (arith, size))));
+    }
 
 -- no tally is higher than the words
-pub tally_few : (before : List ℕ) (words n : ℕ) (sources : List ℕ) (tallies : Tallies) (said : List (List Voice))
+pub tally_few : (before : List ℕ) (words n : ℕ) (sources : List ℕ) (tallies : Tallies)
+    (said : List (List Voice))
     (found : List (Option Mended)) → length found ≡ n → AreTold before words sources tallies said found
     → (tallies.agreed ≤ n) × (tallies.none ≤ n) × ((r : ℕ) → r < 254 → get_or tallies.of_reading r 0 ≤ n)
 tally_few before words n sources tallies said found size told =
@@ -101,8 +104,12 @@ tally_few before words n sources tallies said found size told =
       omega (arith, size, are.agreed, count_by-le-length (λ (g : Option Mended). source_byte g == 254) found),
       omega (arith, size, are.none, count_by-le-length (λ (g : Option Mended). source_byte g == 255) found),
       λ r lt.
-          omega
-          (arith, size, are.of_reading r lt, count_by-le-length (λ (g : Option Mended). source_byte g == r) found),
+          omega (
+            arith,
+            size,
+            are.of_reading r lt,
+            count_by-le-length (λ (g : Option Mended). source_byte g == r) found,
+          ),
     )
 
 pub no_tallies : (counts : Tallies) → counts.agreed ≡ 0 → counts.none ≡ 0 → counts.reserved ≡ 0
@@ -127,7 +134,7 @@ with_dropped found old new agreed none reserved reading are = record {
   kept = ap length reading ∙ are.kept;
 }
 
-source_of : (voices : List Voice) (source : Source) (codeword : List ℕ) → length voices ≤ 254
+source_of : (voices : List Voice) (source : WordSource) (codeword : List ℕ) → length voices ≤ 254
     → IsMendedBy source voices codeword → HasSource source
 source_of voices (Reading r) codeword few is = omega (arith, is.0.within, few)
 source_of voices Agreed codeword few is = tt

@@ -30,8 +30,8 @@ pub record IsAloneBefore (voices : List Voice) (one other : ℕ) (codeword : Lis
       → another ≡ codeword
 
 -- what is known after the pairs before these two
-abbrev pub AreAgreements : List Voice → ℕ → ℕ → Agreements → Type 0
-AreAgreements voices one other Nothing = (i j : ℕ) (codeword : List ℕ) → IsEarlier one other i j
+abbrev pub AreMendAgreements : List Voice → ℕ → ℕ → Agreements → Type 0
+AreMendAgreements voices one other Nothing = (i j : ℕ) (codeword : List ℕ) → IsEarlier one other i j
     → ¬ IsPairAgreed voices i j codeword
-AreAgreements voices one other (Alone pack) = IsAloneBefore voices one other pack
-AreAgreements voices one other Several = DiffersSomewhere voices
+AreMendAgreements voices one other (Alone pack) = IsAloneBefore voices one other pack
+AreMendAgreements voices one other Several = DiffersSomewhere voices

@@ -3,8 +3,8 @@ use Rattle.std.specs.Prelude.{◌≡◌, ℕ, ◌==◌, ◌&&◌, ◌||◌, ◌<
 use Rattle.std.specs.List.{list_all, list_any}
 use Rattle.rw_code.specs.Codeword.{differences}
 use Rattle.rw_merge.specs.Agreement.{IsAgreed}
-use Rattle.rw_mend.specs.declared.choice.Source.{Source}
-use Rattle.rw_mend.specs.declared.choice.Source.TheVariants.{Reading, Agreed}
+use Rattle.rw_mend.specs.declared.choice.WordSource.{WordSource}
+use Rattle.rw_mend.specs.declared.choice.WordSource.TheVariants.{Reading, Agreed}
 use Rattle.rw_mend.specs.declared.choice.Mended.{Mended}
 use Rattle.rw_mend.specs.declared.voices.Voice.{Voice}
 use Rattle.rw_mend.specs.declared.voices.Voice.TheVariants.{Silent, Lost, Near}
@@ -27,7 +27,8 @@ votes voices codeword = count_by (is_of codeword) voices
 -- stand against it; or as many, and it is the same codeword, or one that fewer voices are.
 abbrev pub stands : List Voice → List ℕ → ℕ → Voice → Bool
 stands voices pack doubts (Near other more) = nat_lt doubts more
-    || ((doubts == more) && ((differences pack other == 0) || nat_lt (votes voices other) (votes voices pack)))
+    || ((doubts == more) && ((differences pack other == 0)
+    || nat_lt (votes voices other) (votes voices pack)))
 stands voices pack doubts voice = true
 
 -- whether a voice is a codeword that stands beside each of the voices
@@ -70,7 +71,7 @@ IsOf codeword voice = ⊥
 
 -- The codeword is that of the best voice, named by the first reading that has it; or, where no voice is a codeword, the
 -- one on which two readings agree.
-abbrev pub IsMendedBy : Source → List Voice → List ℕ → Type 0
+abbrev pub IsMendedBy : WordSource → List Voice → List ℕ → Type 0
 IsMendedBy (Reading r) voices codeword = IsFirstBest voices r
     × IsOf codeword (voice_of_reading voices r)
 IsMendedBy Agreed voices codeword = (list_any is_near voices ≡ false) × IsAgreedAlone voices codeword
@@ -78,4 +79,4 @@ IsMendedBy Agreed voices codeword = (list_any is_near voices ≡ false) × IsAgr
 -- what is found for the voices of a word: the mended codeword and its source, or nothing where there is none
 abbrev pub IsMending : List Voice → Option Mended → Type 0
 IsMending voices (Some mended) = IsMendedBy mended.source voices mended.pack
-IsMending voices None = (source : Source) (codeword : List ℕ) → ¬ IsMendedBy source voices codeword
+IsMending voices None = (source : WordSource) (codeword : List ℕ) → ¬ IsMendedBy source voices codeword

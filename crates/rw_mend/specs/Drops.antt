@@ -1,7 +1,7 @@
 -- Where a reading carries no graphics though another does: its idle packs count for nothing there.
 use Rattle.std.specs.Prelude.{◌≡◌, ◌⊎◌, ℕ, ◌+◌, ◌<◌, ◌≤◌, Bool, true, false, MatchBool, List, length, count_by, slice_index_or}
 use Rattle.rw_mend.specs.Choice.{voice_of_reading}
-use Rattle.rw_mend.specs.Voices.{is_graphics, is_idle}
+use Rattle.rw_mend.specs.Voices.{speaks_graphics, speaks_idle}
 use Rattle.rw_mend.specs.Words.{given_at}
 use Rattle.rw_mend.specs.declared.voices.Voice.{Voice}
 use Rattle.rw_mend.specs.declared.voices.Voice.TheVariants.{Silent}
@@ -14,11 +14,11 @@ reach = 7
 pub record HasGraphics (programs : List (List ℕ)) (m : ℕ) : Type 0 where
   pub reading : ℕ
   pub within : reading < length programs
-  pub graphics : is_graphics (given_at programs reading m) ≡ true
+  pub graphics : speaks_graphics (given_at programs reading m) ≡ true
 
 -- Reading r misses graphics at word m: it gives the idle pack where another gives graphics.
 pub record Misses (programs : List (List ℕ)) (r m : ℕ) : Type 0 where
-  pub idle : is_idle (given_at programs r m) ≡ true
+  pub idle : speaks_idle (given_at programs r m) ≡ true
   pub graphics : HasGraphics programs m
 
 -- Reading r drops at word n of so many: it misses graphics within seven words.
@@ -31,7 +31,7 @@ pub record Drops (words : ℕ) (programs : List (List ℕ)) (r n : ℕ) : Type 0
 
 -- Its idle pack counts for nothing there.
 pub record IsDropped (words : ℕ) (programs : List (List ℕ)) (r n : ℕ) : Type 0 where
-  pub idle : is_idle (given_at programs r n) ≡ true
+  pub idle : speaks_idle (given_at programs r n) ≡ true
   pub drops : Drops words programs r n
 
 -- what reading r says at word n: nothing where its idle pack counts for nothing, or else what it gives
@@ -49,7 +49,8 @@ pub record IsDropCount (words : ℕ) (programs : List (List ℕ)) (r n count : �
   pub marks : List Bool
   pub size : length marks ≡ n
   pub each : (k : ℕ) → k < n
-      → MatchBool (slice_index_or marks k false) (IsDropped words programs r k) (¬ IsDropped words programs r k)
+      → MatchBool (slice_index_or marks k false) (IsDropped words programs r k)
+      (¬ IsDropped words programs r k)
   pub is : count ≡ count_by (λ mark. mark) marks
 
 -- the same of each reading

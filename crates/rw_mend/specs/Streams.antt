@@ -7,8 +7,8 @@ use Rattle.rw_mend.specs.Choice.{IsMending, votes}
 use Rattle.rw_mend.specs.Drops.{AreVoices}
 use Rattle.rw_mend.specs.Words.{program_of}
 use Rattle.rw_mend.specs.declared.choice.Mended.{Mended}
-use Rattle.rw_mend.specs.declared.choice.Source.{Source}
-use Rattle.rw_mend.specs.declared.choice.Source.TheVariants.{Reading, Agreed}
+use Rattle.rw_mend.specs.declared.choice.WordSource.{WordSource}
+use Rattle.rw_mend.specs.declared.choice.WordSource.TheVariants.{Reading, Agreed}
 use Rattle.rw_mend.specs.declared.streams.MendCounts.{MendCounts}
 use Rattle.rw_mend.specs.declared.voices.Voice.{Voice}
 use Rattle.rw_mend.specs.declared.ways.Way.{Way}
@@ -34,7 +34,7 @@ mended_text found = flat_map mended_bytes found
 -- ---- Two readings.
 
 -- the way in which a codeword of two readings is mended: both voices are it, or one alone, or both agree on it
-abbrev pub way_by : Source → List Voice → List ℕ → Way
+abbrev pub way_by : WordSource → List Voice → List ℕ → Way
 way_by (Reading r) voices codeword = if votes voices codeword == 2 then Both
     else (if r == 0 then First else Second)
 way_by Agreed voices codeword = Together

@@ -1,12 +1,12 @@
 -- What is told of readings that were mended, and where each codeword comes from.
 use Rattle.std.specs.Prelude.{⊤, ◌≡◌, ◌==◌, ℕ, ◌<◌, List, length, count_by, slice_index_or, Option, Some, None}
 use Rattle.rw_mend.specs.declared.choice.Mended.{Mended}
-use Rattle.rw_mend.specs.declared.choice.Source.{Source}
-use Rattle.rw_mend.specs.declared.choice.Source.TheVariants.{Reading, Agreed}
+use Rattle.rw_mend.specs.declared.choice.WordSource.{WordSource}
+use Rattle.rw_mend.specs.declared.choice.WordSource.TheVariants.{Reading, Agreed}
 use Rattle.rw_mend.specs.declared.tallies.Tallies.{Tallies}
 
 -- the byte that names where a codeword comes from: the number of a reading, 254 where two agree, 255 where there is none
-abbrev pub source_number : Source → ℕ
+abbrev pub source_number : WordSource → ℕ
 source_number (Reading r) = r
 source_number Agreed = 254
 
@@ -15,7 +15,7 @@ source_byte (Some mended) = source_number mended.source
 source_byte None = 255
 
 -- a source that can be counted
-abbrev pub HasSource : Source → Type 0
+abbrev pub HasSource : WordSource → Type 0
 HasSource (Reading r) = r < 254
 HasSource Agreed = ⊤
 

@@ -11,7 +11,7 @@ use rw_code::Pack;
 
 /// Where a mended codeword comes from.
 #[derive(Clone, Copy, Debug, PartialEq, Eq)]
-pub enum Source {
+pub enum WordSource {
     /// The reading with this number gives it.
     Reading(u8),
     /// Two readings agree on it.
@@ -24,7 +24,7 @@ pub struct Mended {
     /// The codeword.
     pub pack: Pack,
     /// Where it comes from.
-    pub source: Source,
+    pub source: WordSource,
 }
 
 /// The most readings that are mended at once.
@@ -58,7 +58,7 @@ fn of_reading(voices: &[Voice], r: usize) -> Option<Mended>
     match voices[r] {
         Voice::Near { pack, .. } => Some(Mended {
             pack,
-            source: Source::Reading(r as u8),
+            source: WordSource::Reading(r as u8),
         }),
         _ => None,
     }
@@ -73,7 +73,7 @@ fn of_two(voices: &[Voice]) -> Option<Mended>
     match agreed(voices) {
         Some(pack) => Some(Mended {
             pack,
-            source: Source::Agreed,
+            source: WordSource::Agreed,
         }),
         None => None,
     }

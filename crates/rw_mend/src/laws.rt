@@ -22,7 +22,8 @@ pub fn a_clean_codeword_is_mended()
 /// A law: a reading without a wrong symbol comes out whole, as if it were alone, beside any readings which, where no
 /// symbol of a word of theirs is wrong, give the same codeword or the idle pack: noise, scratches, no channels R to W.
 pub fn a_clean_reading_comes_out()
-    ensures { (words r : ℕ) (programs : List (List ℕ)) (said : List (List Voice)) (found : List (Option Mended))
+    ensures { (words r : ℕ) (programs : List (List ℕ)) (said : List (List Voice)) (found : List
+        (Option Mended))
         → IsCleanBeside words programs r → AreMended words programs said found
         → mended_text found ≡ given_text words programs r }
 {}
@@ -38,7 +39,8 @@ pub fn one_codeword_is_mended()
 
 /// A law: a codeword that counts is mended where no other counts, however many symbols stand against it.
 pub fn a_codeword_that_counts_alone_is_mended()
-    ensures { (voices : List Voice) (codeword : List ℕ) (r doubts : ℕ) (found : Option Mended) → r < length voices
+    ensures { (voices : List Voice) (codeword : List ℕ) (r doubts : ℕ) (found : Option Mended)
+        → r < length voices
         → voice_of_reading voices r ≡ TheVariants.Near codeword doubts
         → ((s : ℕ) (other : List ℕ) (more : ℕ) → s < length voices
         → voice_of_reading voices s ≡ TheVariants.Near other more → other ≡ codeword)

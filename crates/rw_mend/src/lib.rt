@@ -14,7 +14,7 @@ mod tallies;
 mod voices;
 mod ways;
 
-pub use choice::{MOST_READINGS, Mended, Source, mend};
+pub use choice::{MOST_READINGS, Mended, WordSource, mend};
 pub use laws::{
     a_clean_codeword_is_mended, a_clean_reading_comes_out, a_codeword_that_counts_alone_is_mended,
     one_codeword_is_mended, packs_come_back,

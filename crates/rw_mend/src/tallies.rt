@@ -5,7 +5,7 @@ ghost use Rattle.rw_mend.specs.declared.choice.Mended.{Mended};
 ghost use Rattle.rw_mend.specs.Tallies.{AreTallies, HasSource, source_byte};
 
 use crate::choice::MOST_READINGS;
-use crate::{Mended, Source};
+use crate::{Mended, WordSource};
 
 /// How many words of some readings are mended in each way, and how often an idle pack counts for nothing.
 #[repr(C)]
@@ -49,13 +49,14 @@ impl Tallies {
         requires agreed { self.old.agreed < 4000000 }
         requires none { self.old.none < 4000000 }
         requires of_reading { (r : ℕ) → r < 254 → slice_index_or self.old.of_reading r 0 < 4000000 }
-        ensures { (all : List (Option Mended)) → AreTallies all self.old → AreTallies (all ++ found.now ∷ []) self.new }
+        ensures { (all : List (Option Mended)) → AreTallies all self.old
+            → AreTallies (all ++ found.now ∷ []) self.new }
     {
         match found {
             None => self.none += 1,
             Some(mended) => match mended.source {
-                Source::Reading(r) => self.add_reading(r as usize),
-                Source::Agreed => self.agreed += 1,
+                WordSource::Reading(r) => self.add_reading(r as usize),
+                WordSource::Agreed => self.agreed += 1,
             },
         }
     }
@@ -94,8 +95,8 @@ fn source_byte(found: &Option<Mended>) -> u8
     match found {
         None => NO_READING,
         Some(mended) => match mended.source {
-            Source::Reading(r) => r,
-            Source::Agreed => AGREED,
+            WordSource::Reading(r) => r,
+            WordSource::Agreed => AGREED,
         },
     }
 }

@@ -3,7 +3,7 @@ ghost use Rattle.std.specs.Prelude.{◌≡◌, ◌≤◌, length};
 ghost use Rattle.rw_mend.specs.Streams.{way_by, way_of};
 
 use crate::choice::votes;
-use crate::{Mended, Source, Voice};
+use crate::{Mended, Voice, WordSource};
 
 /// Where the codeword of a word of two readings comes from.
 #[derive(Clone, Copy, Debug, PartialEq, Eq)]
@@ -34,7 +34,7 @@ fn way_by(voices: &[Voice], mended: &Mended) -> Way
     ensures { result ≡ way_by mended.now.source voices.now mended.now.pack }
 {
     match mended.source {
-        Source::Reading(r) => {
+        WordSource::Reading(r) => {
             if votes(voices, &mended.pack) == 2 {
                 Way::Both
             } else if r == 0 {
@@ -43,6 +43,6 @@ fn way_by(voices: &[Voice], mended: &Mended) -> Way
                 Way::Second
             }
         }
-        Source::Agreed => Way::Together,
+        WordSource::Agreed => Way::Together,
     }
 }

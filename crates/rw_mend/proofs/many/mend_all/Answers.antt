@@ -49,7 +49,8 @@ loop-n-preserved c =
     (AreTold c.args.sources.now all c.put_source.new.sources c.add.new.self) c.voices-voices.result.now
     c.mend-found.result
     c.loop-n.invariant.done said c.mend-found.ensures c.put.ensures.size c.put.ensures.packs
-    (told_more c.args.sources.now all n c.loop-n.sources c.put_source.new.sources c.loop-n.tallies c.add.new.self
+    (told_more c.args.sources.now all n c.loop-n.sources c.put_source.new.sources c.loop-n.tallies
+    c.add.new.self
     c.voices-voices.result.now c.mend-found.result within c.put_source.ensures.size c.put_source.ensures.put
     c.add.ensures) in
     record {

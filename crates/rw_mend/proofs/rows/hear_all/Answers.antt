@@ -25,7 +25,8 @@ returns-clause-trails c =
       each =
           λ r lt.
           let within : r < readings.count = omega (arith, lt, count_is readings) in
-          subst (λ p. IsTrail p c.args.n (get_or c.loop-r.trails r no_trail)) (sym (program_at readings r within))
+          subst (λ p. IsTrail p c.args.n (get_or c.loop-r.trails r no_trail))
+          (sym (program_at readings r within))
           (c.loop-r.invariant.trails r (omega (arith, within, c.loop-r-test.false)));
     }
 

@@ -9,5 +9,6 @@ returns c =
       others = c.args.second;
       count = 2;
       start = c.min.result;
-    }) c.args.lead_in c.args.packs.now c.mend_two.new.packs c.mend_two.result refl c.min.ensures c.requires.equal
+    }) c.args.lead_in c.args.packs.now c.mend_two.new.packs c.mend_two.result refl c.min.ensures
+    c.requires.equal
     c.requires.whole c.mend_two.ensures

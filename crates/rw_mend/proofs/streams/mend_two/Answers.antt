@@ -17,7 +17,8 @@ loop-n-init c = record {
 pub add-requires : goal.add-requires
 add-requires c =
     let few =
-    are_few c.args.readings.now c.loop-n.mender.words c.loop-n.n c.args.packs.now c.loop-n.packs c.loop-n.counts
+    are_few c.args.readings.now c.loop-n.mender.words c.loop-n.n c.args.packs.now c.loop-n.packs
+    c.loop-n.counts
     c.loop-n.invariant.done in
     let within : c.loop-n.n < 4000000 =
     omega (arith, c.loop-n-test.true, c.words-n-end.ensures, c.new-mender.ensures.few) in
@@ -43,7 +44,8 @@ loop-n-preserved c =
     (AreCounted c.loop-n.counts) (AreCounted c.add.new.self) c.voices-voices.result.now c.mend-found.result
     c.loop-n.invariant.done said c.mend-found.ensures c.put.ensures.size c.put.ensures.packs
     (counted_more c.loop-n.counts c.add.new.self c.voices-voices.result.now c.mend-found.result n
-    (λ all are. subst (λ f. AreCounts (all ++ f ∷ []) c.add.new.self) c.found_by.ensures (c.add.ensures all are))) in
+    (λ all are.
+    subst (λ f. AreCounts (all ++ f ∷ []) c.add.new.self) c.found_by.ensures (c.add.ensures all are))) in
     record {
       hearing = c.come_to.ensures.at.hearing;
       words = words ∙ c.loop-n.invariant.words;

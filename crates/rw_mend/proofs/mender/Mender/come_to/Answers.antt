@@ -1,9 +1,9 @@
 use Rattle.std.proofs.Common.{◌≡◌, ◌⊎◌, ◌≤◌, ◌+◌, ◌%◌, List, ℕ, take, get_or, min, refl, sym, subst, arith, inl, inr}
 use Rattle.std.proofs.lemmas.Bool.Decides.{leb_tells}
-use Rattle.rw_mend.specs.Mender.{IsHearing, no_row}
+use Rattle.rw_mend.specs.Mender.{IsHearing, no_voice_row}
 use Rattle.rw_mend.specs.Readings.{programs_in}
 use Rattle.rw_mend.specs.Rows.{AreLastMissed}
-use Rattle.rw_mend.specs.declared.rows.Row.{Row}
+use Rattle.rw_mend.specs.declared.rows.VoiceRow.{VoiceRow}
 use Rattle.rw_mend.proofs.Coming.{at_word, heard_more}
 use Rattle.rw_mend.proofs.Missing.{few_dropped}
 use Rattle.rw_mend.proofs.Reading.{count_is}
@@ -11,7 +11,8 @@ use Rattle.rw_mend.proofs.mender.Mender.come_to.Goals as goal
 
 pub hear_next-requires-clause-missed : goal.hear_next-requires-clause-missed
 hear_next-requires-clause-missed c =
-    subst (λ k. AreLastMissed (programs_in c.args.readings.now) k c.loop-m.self.missed) c.loop-m.invariant.heard
+    subst (λ k. AreLastMissed (programs_in c.args.readings.now) k c.loop-m.self.missed)
+    c.loop-m.invariant.heard
     c.loop-m.invariant.hearing.missed
 
 pub loop-m-preserved : goal.loop-m-preserved
@@ -24,13 +25,14 @@ loop-m-preserved c =
     let row = c.hear_next.ensures.rows.0 in
     let hearing =
     heard_more readings c.args.n m mender new.trails row new.missed was
-    c.loop-m.invariant.heard (omega (arith, c.loop-m-test.true, c.min-m-end.ensures, c.loop-m.invariant.words))
+    c.loop-m.invariant.heard
+    (omega (arith, c.loop-m-test.true, c.min-m-end.ensures, c.loop-m.invariant.words))
     (omega (arith, c.loop-m-test.true, c.min-m-end.ensures)) c.hear_next.ensures.trails_size
     c.hear_next.ensures.missed_size c.hear_next.ensures.trails c.hear_next.ensures.rows.1
     c.hear_next.ensures.missed in
     record {
       hearing = subst
-          (λ (rows : List Row). IsHearing readings c.args.n (record {
+          (λ (rows : List VoiceRow). IsHearing readings c.args.n (record {
             words = mender.words;
             heard = m + 1;
             trails = new.trails;
@@ -72,7 +74,7 @@ returns-clause-at c =
     let mender = c.loop-m.self in
     let n = c.args.n in
     let was = c.loop-m.invariant.hearing in
-    at_word readings n mender (take readings.count ((get_or mender.rows (n % 8) no_row).voices))
+    at_word readings n mender (take readings.count ((get_or mender.rows (n % 8) no_voice_row).voices))
     c.say_next.new.said c.say_next.new.dropped was
     (omega (arith, c.requires.within, c.loop-m.invariant.words))
     (enough mender.words c.args.self.now.words mender.heard n c.min-m-end.result c.loop-m.m
