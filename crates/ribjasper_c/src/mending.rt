@@ -87,7 +87,8 @@ pub extern "C" fn ribjasper_mend_readings(
         (length sources.old) ≡ None
         → AreReadingsMended count lead_in readings.now packs.old packs.new sources.old sources.new told.new
         × (result ≡ (if told.new.words.none == 0 then pos 0 else pos 1)) }
-    ensures refused { IfSome (readings_refusal (length readings.now) count lead_in (length packs.old) (length sources.old))
+    ensures refused { IfSome (readings_refusal (length readings.now) count lead_in (length packs.old)
+        (length sources.old))
         (λ number. (result ≡ pos number) × (packs.new ≡ packs.old) × (sources.new ≡ sources.old)
         × (told.new ≡ told.old)) }
 {

@@ -82,7 +82,8 @@ fn mend_all(readings: &Readings, packs: &mut [u8], sources: &mut [u8]) -> Tallie
         (whole_packs (size_in readings.now / block_bytes)) packs.old packs.new
         (AreTold sources.old (whole_packs
         (size_in readings.now / block_bytes)) sources.new result) }
-    ensures dropped { AreDropCounts (whole_packs (size_in readings.now / block_bytes)) (programs_in readings.now)
+    ensures dropped { AreDropCounts (whole_packs (size_in readings.now / block_bytes))
+        (programs_in readings.now)
         (whole_packs (size_in readings.now / block_bytes)) result.dropped }
 {
     let mut mender = Mender::new(readings);
