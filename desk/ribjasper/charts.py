@@ -1,8 +1,8 @@
 """A chart of a plan: over time, the packs that each picture needs and those that are free for it."""
 import math
-from pathlib import Path
+from typing import Any
 
-from .output import package, write_png
+from .output import package
 from .planning import Plan, Row
 
 # The chart in pixels; and what stands around the bars.
@@ -64,10 +64,11 @@ class Chart:
                 self.pen.rectangle((left, self.up(packs), right, foot), colour)
 
 
-def draw_plan(plan: Plan, path: Path) -> None:
+def draw_plan(plan: Plan) -> Any:
+    """The chart, a picture of Pillow."""
     chart = Chart(plan)
     chart.axes()
     chart.legend()
     for row in plan.rows:
         chart.bar(row)
-    write_png(chart.image, path)
+    return chart.image

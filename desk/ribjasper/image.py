@@ -4,10 +4,10 @@ import os
 from pathlib import Path
 from typing import Iterator
 
-from . import audio, latin1
+from . import audio, kinds, latin1
 from .discs import COPY, FOUR_CHANNELS, PRE_EMPHASIS, Disc, Track, read_disc
 from .library import BLOCK, PACK, PACKS_A_BLOCK, RAW, SECTOR, Player, convert
-from .output import LATE, Refusal, beside, read_file, tell, write_file
+from .output import LATE, Outputs, Refusal, add_force, read_file, tell
 from .program import author
 from .sheets import COMMANDS, FLAGS, quoted
 from .streams import open_stream
@@ -33,6 +33,7 @@ def add_parser(commands) -> None:
                         help="author the stream anew from its script, with a black picture held through the pause")
     parser.add_argument("--latin-1", action="store_true", help="write the texts in Latin-1, as players read them")
     parser.add_argument("-o", "--output", type=Path, required=True, metavar="DISC", help="the name without an ending")
+    add_force(parser)
     parser.set_defaults(run=run)
 
 
@@ -169,18 +170,14 @@ def warn(arguments: argparse.Namespace, disc: Disc, program: bytes) -> None:
             tell(f"{arguments.sheet}: track {track.number} is shorter than four seconds; burners may refuse it")
 
 
-def outputs(arguments: argparse.Namespace) -> list[str]:
-    """The names of the three files, none of which is one that is read."""
-    names = [f"{os.fspath(arguments.output)}{ending}" for ending in (".bin", ".toc", ".cue")]
-    read = [arguments.sheet, arguments.stream, arguments.audio]
-    for name in names:
-        if os.path.exists(name) and any(path.exists() and os.path.samefile(name, path) for path in read):
-            raise Refusal(name, "is read here and would be overwritten; -o takes another name")
-    return names
-
-
 def run(arguments: argparse.Namespace) -> int:
-    binary, toc, cue = outputs(arguments)
+    reads = [arguments.sheet, arguments.stream, arguments.audio, arguments.hold_through_pause]
+    names = [f"{os.fspath(arguments.output)}{ending}" for ending in (".bin", ".toc", ".cue")]
+    with Outputs(reads, zip(names, (kinds.IMAGE, kinds.TOC, kinds.CUE)), arguments.force) as outputs:
+        return write_image(arguments, outputs, *names)
+
+
+def write_image(arguments: argparse.Namespace, outputs: Outputs, binary: str, toc: str, cue: str) -> int:
     sheet = read_file(arguments.sheet)
     if arguments.latin_1:
         sheet = latin1.as_latin_1(arguments.sheet, sheet)
@@ -196,10 +193,10 @@ def run(arguments: argparse.Namespace) -> int:
             return LATE
     warn(arguments, disc, program)
     name = os.path.basename(binary)
-    with beside(binary) as out:
-        for sector in sectors(disc, program, arguments.audio):
-            out.write(sector)
-    write_file(toc, toc_of(disc, name).encode())
-    write_file(cue, cue_of(disc, name))
+    out = outputs.open(binary)
+    for sector in sectors(disc, program, arguments.audio):
+        out.write(sector)
+    outputs.write(toc, toc_of(disc, name).encode())
+    outputs.write(cue, cue_of(disc, name))
     tell(f"{disc.blocks - PAUSE} sectors, {clock(disc.blocks - PAUSE)}; `cdrdao write --swap {toc}` burns them")
     return 0

@@ -2,9 +2,9 @@
 import argparse
 from pathlib import Path
 
-from . import audio, times
+from . import audio, kinds, times
 from .lettering import Font, Letters, Setter, wrapped
-from .output import Refusal, shown, tell, write_file
+from .output import Outputs, Refusal, add_force, shown, tell
 from .pages import LINES, STYLES, SUNG, Draw, Light, Placed, Show, Step, Style, pages_of
 from .picture import ONE_TRACK, PLAIN, number_in, whole
 from .planning import MOST_PICTURES, plan
@@ -48,6 +48,7 @@ def add_parser(commands) -> None:
     parser.add_argument("--sweep", action="store_true", help="light a word little by little while it is sung")
     parser.add_argument("--audio", type=Path, metavar="WAV", help="the audio, which the script must not outlast")
     parser.add_argument("-o", "--output", type=Path, required=True, metavar="FILE", help="the script")
+    add_force(parser)
     parser.set_defaults(run=run)
 
 
@@ -242,15 +243,17 @@ def best(song: Song, arguments: argparse.Namespace, end: int | None) -> tuple[Ma
 
 
 def run(arguments: argparse.Namespace) -> int:
-    song = read_song(arguments.song)
-    for line in song.left_out:
-        tell(line)
-    end = times.PAUSE + audio.length(arguments.audio) if arguments.audio else None
-    maker, lines, told = best(song, arguments, end)
-    if maker.title_is_left_out:
-        tell(maker.title_is_left_out)
-    tell_late(arguments.song, told)
-    write_file(arguments.output, "".join(f"{line}\n" for line in lines).encode())
+    reads = [arguments.song, arguments.title, arguments.font, arguments.audio]
+    with Outputs(reads, [(arguments.output, kinds.SCRIPT)], arguments.force) as outputs:
+        song = read_song(arguments.song)
+        for line in song.left_out:
+            tell(line)
+        end = times.PAUSE + audio.length(arguments.audio) if arguments.audio else None
+        maker, lines, told = best(song, arguments, end)
+        if maker.title_is_left_out:
+            tell(maker.title_is_left_out)
+        tell_late(arguments.song, told)
+        outputs.write(arguments.output, "".join(f"{line}\n" for line in lines).encode())
     words = sum(len(due.steps) for due in maker.dues)
     pictures = sum(line.startswith("show") for line in lines)
     plain = "plain " * maker.font.is_plain

@@ -5,9 +5,11 @@ from pathlib import Path
 from typing import Iterator, NamedTuple, Sequence
 
 from . import colours as colouring
+from . import kinds
 from .colours import Colour
 from .library import BLOCKS_A_SECOND
-from .output import Refusal, cause, package, tell, write_file
+from .failures import reading
+from .output import DASH, Outputs, add_force, package, tell
 from .planning import plan
 from .raster import COLOURS, COLUMNS, HEIGHT, ROWS, TILE_HEIGHT, TILE_WIDTH, WIDTH, Raster, Span, joined, lines_between
 
@@ -28,12 +30,9 @@ def image_package():
 
 def read(path: Path):
     """The image of a file, in red, green and blue, on black where it is transparent."""
-    try:
-        image = image_package().open(path).convert("RGBA")
-    except image_package().UnidentifiedImageError:
-        raise Refusal(path, "is no image that can be read") from None
-    except OSError as error:
-        raise Refusal(path, cause(error)) from None
+    pictures = image_package()
+    with reading(path):
+        image = pictures.open(path).convert("RGBA")
     ground = image_package().new("RGBA", image.size, (0, 0, 0, 255))
     return image_package().alpha_composite(ground, image).convert("RGB")
 
@@ -230,6 +229,7 @@ def add_parser(commands) -> None:
                         help="how much a tile may change to need fewer packs (2; 0 keeps all, 40 is coarse)")
     parser.add_argument("--dither", action="store_true", help="mix colours by dots, which needs many packs")
     parser.add_argument("-o", "--output", type=Path, metavar="FILE", help="the file (standard output)")
+    add_force(parser)
     parser.set_defaults(run=run)
 
 
@@ -258,12 +258,10 @@ def packs_of(lines: list[str]) -> int:
 
 
 def run(arguments: argparse.Namespace) -> int:
-    lines = lines_of(arguments)
-    text = "".join(f"{line}\n" for line in lines)
-    if arguments.output:
-        write_file(arguments.output, text.encode())
-    else:
-        print(text, end="")
+    out = arguments.output or DASH
+    with Outputs([arguments.image], [(out, kinds.SCRIPT)], arguments.force) as outputs:
+        lines = lines_of(arguments)
+        outputs.write(out, "".join(f"{line}\n" for line in lines).encode())
     packs = packs_of(lines)
     tell(f"as a first picture it needs {packs} packs, {packs / 300:.1f} seconds")
     return 0
