@@ -4,10 +4,14 @@ import functools
 import os
 from ctypes import POINTER, Structure, c_bool, c_int32, c_size_t, c_uint8, c_uint16, c_uint32, c_uint64, c_void_p
 from pathlib import Path
+from types import TracebackType
+from typing import Any, Iterator
 
-from .output import Missing
+from .failures import Missing
 
+# The checkout, and the folder of libraries where the desk was installed as share/ribjasper-desk.
 TOP = Path(__file__).resolve().parent.parent.parent
+INSTALLED = TOP.parent / "lib"
 NAME = "libribjasper.so.0"
 
 # The numbers of include/ribjasper.h.
@@ -137,20 +141,33 @@ CALLS = {
 }
 
 
+def candidates() -> Iterator[str]:
+    """Where the shared library may be: as RIBJASPER_LIBRARY names it; in the checkout whose desk this is; below the
+    folder that the desk was installed to; and where the system has its libraries."""
+    if named := os.environ.get("RIBJASPER_LIBRARY"):
+        yield named
+        return
+    yield from (os.fspath(path) for path in (checkout("lib", NAME), INSTALLED / NAME) if path and path.exists())
+    yield NAME
+
+
+def checkout(*names: str) -> Path | None:
+    """A file of the checkout whose desk this is, if it is one of a checkout."""
+    return TOP.joinpath(*names) if (TOP / "crates.txt").exists() else None
+
+
 @functools.lru_cache(maxsize=None)
 def loaded() -> ctypes.CDLL:
-    """The shared library: that which RIBJASPER_LIBRARY names, or that of the checkout, or an installed one."""
-    named = os.environ.get("RIBJASPER_LIBRARY")
-    built = TOP / "lib" / NAME
+    """The shared library."""
     try:
-        return ctypes.CDLL(named or (str(built) if built.exists() else NAME))
+        return ctypes.CDLL(next(candidates()))
     except OSError as error:
         raise Missing(f"the library cannot be loaded; 'make library' builds it: {error}") from None
 
 
 @functools.lru_cache(maxsize=None)
-def call(name: str):
-    """A call of the library, by its name in the header."""
+def call(name: str) -> Any:
+    """A call of the library, by its name in the header; it takes and answers what CALLS says."""
     try:
         function = getattr(loaded(), name)
     except AttributeError:
@@ -160,7 +177,7 @@ def call(name: str):
 
 
 def version() -> str:
-    number = call("ribjasper_version")()
+    number: int = call("ribjasper_version")()
     return f"{number >> 16}.{number >> 8 & 255}.{number & 255}"
 
 
@@ -179,7 +196,7 @@ class Player:
             raise NoMemory
         return self
 
-    def __exit__(self, *_) -> None:
+    def __exit__(self, kind: type[BaseException] | None, error: BaseException | None, _: TracebackType | None) -> None:
         call("ribjasper_player_close")(self._handle)
 
     def draw(self, packs: bytes) -> None:

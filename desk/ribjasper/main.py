@@ -21,8 +21,8 @@ COMMANDS = ("identify", "damage", "mend", "report", "sheets", "texts", "plan", "
 class Version(argparse.Action):
     """Prints the version of the library that is at hand."""
 
-    def __init__(self, *args: Any, **options: Any) -> None:
-        super().__init__(*args, **{**options, "nargs": 0})
+    def __init__(self, option_strings: Sequence[str], dest: str, **options: Any) -> None:
+        super().__init__(option_strings, dest, nargs=0, help=options.get("help"))
 
     def __call__(self, parser: argparse.ArgumentParser, *_: Any) -> None:
         output.write_text(f"ribjasper-desk {version()}\n")

@@ -2,16 +2,14 @@
 import importlib.util
 import os
 import shutil
-import sys
 import tempfile
 import unittest
 from pathlib import Path
 
+from ribjasper import library, output, program
+
 HERE = Path(__file__).resolve().parent
 TOP = HERE.parent.parent
-sys.path.insert(0, str(HERE.parent))
-
-from ribjasper import library, output, program  # noqa: E402
 
 
 def found_program() -> str | None:
