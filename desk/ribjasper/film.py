@@ -12,7 +12,7 @@ from typing import IO, Any, Iterator, NamedTuple
 from . import kinds
 from .failures import reading
 from .library import HEIGHT, WIDTH
-from .output import Missing, Outputs, Refusal, add_force, package, tell
+from .output import Missing, Commands, Outputs, Refusal, add_force, package, tell
 from .picture import number_in
 from .streams import Stream, open_stream
 
@@ -23,7 +23,7 @@ MOST_STILLS = 1_000
 STILL_WIDTH, STILL_HEIGHT, LABEL, BETWEEN = WIDTH // 2, HEIGHT // 2, 14, 8
 
 
-def add_parser(commands) -> None:
+def add_parser(commands: Commands) -> None:
     parser = commands.add_parser(
         "film", help="make a film of what a stream shows",
         description="Makes a film of the pictures of a raw stream, an image or a .cdg file, in time with its audio, "

@@ -7,7 +7,7 @@ from typing import Iterator
 from . import audio, kinds, latin1
 from .discs import COPY, FOUR_CHANNELS, PRE_EMPHASIS, Disc, Track, read_disc
 from .library import BLOCK, PACK, PACKS_A_BLOCK, RAW, SECTOR, Player, convert
-from .output import LATE, Outputs, Refusal, add_force, read_file, tell
+from .output import LATE, Commands, Outputs, Refusal, add_force, read_file, tell
 from .program import author
 from .sheets import COMMANDS, FLAGS, quoted
 from .streams import open_stream
@@ -21,7 +21,7 @@ P_AND_Q = bytes(byte & 0xC0 for byte in range(256))
 SHORTEST_TRACK = 4 * 75
 
 
-def add_parser(commands) -> None:
+def add_parser(commands: Commands) -> None:
     parser = commands.add_parser(
         "image", help="make a disc image that can be burned",
         description="Makes DISC.bin, sectors of 2,448 bytes with audio and subcode, without the lead-in and the first "

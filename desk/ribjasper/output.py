@@ -1,5 +1,6 @@
 """What the desk writes. There is one way for all commands: `Outputs` takes the files that a call reads and those that it
 is to write, refuses what would cost the user a file, and lets all outputs appear together or none of them."""
+import argparse
 import atexit
 import contextlib
 import errno
@@ -11,7 +12,7 @@ import stat
 import sys
 import tempfile
 from types import TracebackType
-from typing import Any, BinaryIO, Iterable, Iterator, Sequence, TextIO
+from typing import Any, Iterable, Iterator, Sequence, TextIO, TypeAlias
 
 from . import kinds
 from .failures import FOUND as FOUND
@@ -26,6 +27,8 @@ from .failures import cause as cause
 from .failures import shown as shown
 from .kinds import Kind
 
+# What a command adds its parser to.
+Commands: TypeAlias = "argparse._SubParsersAction[argparse.ArgumentParser]"
 # The name that stands for standard output, and how it is called in a line.
 DASH, STANDARD_OUTPUT = "-", "standard output"
 # What is written waits under such a name beside where it is to stand.
@@ -516,7 +519,7 @@ def _keep_folder(folder: str) -> None:
             os.close(number)
 
 
-def add_force(parser: Any) -> None:
+def add_force(parser: argparse.ArgumentParser) -> None:
     """The word that lets outputs replace any file."""
     parser.add_argument("--force", action="store_true",
                         help="let an output replace a file that is there, whatever it is")

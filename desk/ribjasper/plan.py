@@ -4,7 +4,7 @@ from pathlib import Path
 
 from . import audio, kinds, latin1, times
 from .charts import draw_plan
-from .output import LATE, Outputs, Refusal, add_force, read_file, shown, tell
+from .output import LATE, Commands, Outputs, Refusal, add_force, read_file, shown, tell
 from .planning import NoPlan, Plan, least_lead_in, plan
 from .times import clock
 
@@ -19,10 +19,11 @@ def add_length(parser: argparse.ArgumentParser) -> None:
 
 
 def length_of(arguments: argparse.Namespace) -> int:
-    return audio.length(arguments.audio) if arguments.audio else arguments.length
+    told: int = audio.length(arguments.audio) if arguments.audio else arguments.length
+    return told
 
 
-def add_parser(commands) -> None:
+def add_parser(commands: Commands) -> None:
     parser = commands.add_parser(
         "plan", help="tell which pictures of a script are in time",
         description="Tells for each picture of a script what it needs and what is free for it: packs, 300 a second. "

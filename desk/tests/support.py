@@ -5,8 +5,11 @@ import shutil
 import tempfile
 import unittest
 from pathlib import Path
+from typing import Callable, TypeVar
 
 from ribjasper import library, output, program
+
+Test = TypeVar("Test", bound=Callable[..., object])
 
 HERE = Path(__file__).resolve().parent
 TOP = HERE.parent.parent
@@ -28,7 +31,7 @@ def has(*names: str) -> bool:
         return False
 
 
-def needs(module: str, package: str):
+def needs(module: str, package: str) -> Callable[[Test], Test]:
     return unittest.skipUnless(importlib.util.find_spec(module), f"{package} is not installed")
 
 
@@ -39,7 +42,7 @@ needs_program = unittest.skipUnless(found_program(), "the program is not built (
 class FolderTest(unittest.TestCase):
     """A test with a folder of its own."""
 
-    def setUp(self):
+    def setUp(self) -> None:
         self.folder = Path(tempfile.mkdtemp(prefix="ribjasper-test-"))
         self.addCleanup(shutil.rmtree, self.folder)
 

@@ -85,7 +85,7 @@ def chords() -> Iterator[Note]:
         yield Note(bar * BAR, BAR * 0.9, chord[0] - 12, 6_000, 0.5)
 
 
-def mixed(notes: list[Note]) -> array:
+def mixed(notes: list[Note]) -> "array[int]":
     """Left and right, sample by sample."""
     sides = [[0] * (RATE * SECONDS) for _ in range(2)]
     for note in notes:
