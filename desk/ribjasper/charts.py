@@ -3,7 +3,7 @@ import math
 from typing import Any
 
 from .output import package
-from .planning import Plan, Row
+from .planning import Plan, PlannedPicture
 
 # The chart in pixels; and what stands around the bars.
 WIDE, HIGH = 1600, 480
@@ -53,7 +53,7 @@ class Chart:
             self.pen.rectangle((left, 18, left + 14, 32), colour)
             self.pen.text((left + 20, 20), word, INK)
 
-    def bar(self, row: Row) -> None:
+    def bar(self, row: PlannedPicture) -> None:
         """As wide as the time from the first free pack to the ready time."""
         left = self.across(row.first / PACKS_A_BLOCK)
         right = max(left + 1, self.across(row.ready) - 1)

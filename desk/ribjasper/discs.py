@@ -6,7 +6,7 @@ from pathlib import Path
 
 from .library import BLOCK, Q_PROGRAM, Q_TRACK, q_frame
 from .output import Refusal
-from .planning import LENGTH_SHORT, NoPlan, least_lead_in, plan
+from .planning import NoPlan, Why, least_lead_in, plan
 from .program import author, texts
 from .sheets import unescaped
 from .times import PAUSE, clock
@@ -72,7 +72,7 @@ class Asked:
         try:
             plan(b"\n".join(lines), b"", 0)
         except NoPlan as none:
-            return none.number - 1 if none.why == LENGTH_SHORT else None
+            return none.number - 1 if none.why == Why.LENGTH_SHORT else None
         return None
 
     def beginnings(self) -> list[Beginning]:

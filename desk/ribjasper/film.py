@@ -13,8 +13,8 @@ from . import kinds
 from .failures import reading
 from .library import HEIGHT, WIDTH
 from .output import Missing, Commands, Outputs, Refusal, add_force, package, tell
-from .picture import number_in
 from .streams import Stream, open_stream
+from .words import number_in
 
 # A picture that stands so long, in seconds, has a place on a page of stills.
 STANDS = 0.2

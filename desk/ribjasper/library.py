@@ -181,10 +181,6 @@ def version() -> str:
     return f"{number >> 16}.{number >> 8 & 255}.{number & 255}"
 
 
-class NoMemory(MemoryError):
-    """The library was refused memory."""
-
-
 class Player:
     """A player of packs or raw blocks, to be used in a `with`."""
 
@@ -193,7 +189,7 @@ class Player:
 
     def __enter__(self) -> "Player":
         if call("ribjasper_player_open")(self._handle) != DONE:
-            raise NoMemory
+            raise MemoryError
         return self
 
     def __exit__(self, kind: type[BaseException] | None, error: BaseException | None, _: TracebackType | None) -> None:
@@ -240,7 +236,7 @@ def convert(stream: bytes, form: int, lead_in: int) -> tuple[bytes, Converted]:
     packs = ctypes.create_string_buffer(max(1, room))
     status = call("ribjasper_convert")(stream, len(stream), form, lead_in, packs, room, told)
     if status == NO_MEMORY:
-        raise NoMemory
+        raise MemoryError
     if status not in (DONE, DAMAGED):
         raise ValueError(f"ribjasper_convert answers {status}")
     return ctypes.string_at(packs, told.bytes), told
@@ -254,7 +250,7 @@ def texts(stream: bytes, lead_in: int) -> str:
         status = call("ribjasper_texts")(stream, len(stream), RAW, lead_in, lines, room, told)
         room *= 4
     if status == NO_MEMORY:
-        raise NoMemory
+        raise MemoryError
     return ctypes.string_at(lines, told.bytes).decode("ascii") if status == DONE else ""
 
 

@@ -230,6 +230,25 @@ def _standard_output() -> os.stat_result | None:
     return found if stat.S_ISREG(found.st_mode) else None
 
 
+def _inputs(names: list[str]) -> dict[tuple[object, ...], str]:
+    """The files that a call reads. A character device is none that could be lost."""
+    found: dict[tuple[object, ...], str] = {}
+    for name in names:
+        # Whatever is wrong with an input is told when it is read.
+        with contextlib.suppress(Failure, OSError):
+            target = Target(name if name != DASH else f"./{DASH}")
+            if target.found is None or not stat.S_ISCHR(target.found.st_mode):
+                found[target.identity()] = name
+    return found
+
+
+def _against_standard_output(inputs: dict[tuple[object, ...], str]) -> list[Failure]:
+    """A refusal if standard output is written to a file that is read, and which holds something still."""
+    out = _standard_output()
+    read = inputs.get((out.st_dev, out.st_ino)) if out is not None and out.st_size else None
+    return [] if read is None else [Refusal(read, "is read here, and standard output is written to it")]
+
+
 class Output:
     """An output of a call, which waits until all of them are written."""
 
@@ -380,50 +399,34 @@ class Outputs:
                  folders: bool = False) -> None:
         self.folders, self.made = folders, list[str]()
         self.all: dict[str, Output] = {}
-        failures: list[Failure] = []
+        inputs = _inputs([os.fsdecode(name) for name in reads if name is not None])
+        failures: list[Failure] = _against_standard_output(inputs)
         for name, kind in writes:
             if name is not None:
                 try:
                     output = Output(name, kind, force)
+                    self._check_alone(output, inputs)
                     output.check()
-                    self._check_alone(output)
                     self.all[output.target.name] = output
                 except Failure as failure:
                     failures.append(failure)
-        failures += self._against_inputs([os.fsdecode(name) for name in reads if name is not None])
         if failures:
             raise Several(failures) if len(failures) > 1 else failures[0]
 
-    def _check_alone(self, output: Output) -> None:
-        """Refuses a second output in one place."""
-        found = output.target.found
-        if found is not None and stat.S_ISCHR(found.st_mode):
+    def _check_alone(self, output: Output, inputs: dict[tuple[object, ...], str]) -> None:
+        """Refuses an output that is an input, another output, or what standard output is written to."""
+        target = output.target
+        if target.found is not None and stat.S_ISCHR(target.found.st_mode):
             return
-        for other in self.all.values():
-            if other.target.identity() == output.target.identity():
-                raise Refusal(output.name, f"is the same file as another output, {shown(other.name)}")
-        if found is not None and (out := _standard_output()) is not None and os.path.samestat(found, out):
-            raise Refusal(output.name, f"is what standard output is written to; -o {DASH} writes there")
-
-    def _against_inputs(self, names: list[str]) -> list[Failure]:
-        """Refusals of outputs that are inputs too."""
-        inputs: dict[tuple[object, ...], str] = {}
-        for name in names:
-            with contextlib.suppress(Failure, OSError):
-                target = Target(name) if name != DASH else Target(f"./{DASH}")
-                if target.found is None or not stat.S_ISCHR(target.found.st_mode):
-                    inputs[target.identity()] = name
-        found: list[Failure] = []
-        for output in self.all.values():
-            read = None if output.target.is_dash else inputs.get(output.target.identity())
-            if read is not None:
-                same = "" if read == output.target.name else f" as {shown(read)}"
-                found.append(Refusal(output.name, f"is read here{same} and would be overwritten"))
-        out = _standard_output()
-        read = inputs.get((out.st_dev, out.st_ino)) if out is not None and out.st_size else None
+        read = None if target.is_dash else inputs.get(target.identity())
         if read is not None:
-            found.append(Refusal(read, "is read here, and standard output is written to it"))
-        return found
+            same = "" if read == target.name else f" as {shown(read)}"
+            raise Refusal(output.name, f"is read here{same} and would be overwritten")
+        for other in self.all.values():
+            if other.target.identity() == target.identity():
+                raise Refusal(output.name, f"is the same file as another output, {shown(other.name)}")
+        if target.found is not None and (out := _standard_output()) is not None and os.path.samestat(target.found, out):
+            raise Refusal(output.name, f"is what standard output is written to; {DASH} stands for it")
 
     @property
     def table(self) -> TextIO:
