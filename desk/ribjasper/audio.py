@@ -4,7 +4,7 @@ import wave
 from pathlib import Path
 from typing import Iterator
 
-from .output import Refusal, cause
+from .failures import Refusal, reading
 
 RATE, CHANNELS, SAMPLE_BYTES = 44_100, 2, 2
 # The audio of a block.
@@ -16,17 +16,30 @@ REMEDY = ("a disc takes 44,100 Hz, 2 channels, 16 bits, and `ffmpeg -i IN -ar 44
 
 def opened(path: Path) -> wave.Wave_read:
     """A WAV file whose audio a disc can hold as it is."""
-    try:
-        file = wave.open(os.fspath(path), "rb")
-    except OSError as error:
-        raise Refusal(path, cause(error)) from None
-    except (wave.Error, EOFError) as error:
-        raise Refusal(path, f"is no WAV file of plain samples ({error or 'it ends too early'}); {REMEDY}") from None
+    with reading(path):
+        try:
+            file = wave.open(os.fspath(path), "rb")
+        except (wave.Error, EOFError) as error:
+            raise Refusal(path, f"is no WAV file of plain samples ({error or 'it ends too early'}); {REMEDY}") from None
+        try:
+            check(path, file)
+        except BaseException:
+            file.close()
+            raise
+        return file
+
+
+def check(path: Path, file: wave.Wave_read) -> None:
+    """Refuses what a disc cannot hold as it is, and a file whose samples end before its head says."""
     rate, channels, bits = file.getframerate(), file.getnchannels(), 8 * file.getsampwidth()
     if (rate, channels, bits) != (RATE, CHANNELS, 8 * SAMPLE_BYTES):
-        file.close()
         raise Refusal(path, f"has {rate} Hz, {channels} channels, {bits} bits; {REMEDY}")
-    return file
+    count = file.getnframes()
+    if count:
+        file.setpos(count - 1)
+        if len(file.readframes(1)) < CHANNELS * SAMPLE_BYTES:
+            raise Refusal(path, f"is cut off: it has fewer than the {count} samples of which its head tells; {REMEDY}")
+        file.rewind()
 
 
 def length(path: Path) -> int:
@@ -37,6 +50,6 @@ def length(path: Path) -> int:
 
 def sectors(path: Path) -> Iterator[bytes]:
     """The audio of each block, 2,352 bytes, lowest byte first."""
-    with opened(path) as file:
+    with reading(path), opened(path) as file:
         while samples := file.readframes(FRAMES_A_BLOCK):
             yield samples.ljust(SECTOR_AUDIO, b"\0")

@@ -8,6 +8,7 @@ import multiprocessing
 import os
 import re
 import signal
+import site
 import sys
 from concurrent.futures.process import BrokenProcessPool
 from pathlib import Path
@@ -164,8 +165,7 @@ def finder(distributed, folder: str):
 
     class Finder(distributed.WorkerPlugin):
         def setup(self, worker) -> None:
-            if folder not in sys.path:
-                sys.path.insert(0, folder)
+            site.addsitedir(folder)
 
     return Finder()
 
