@@ -34,12 +34,23 @@ def check(path: Path, file: wave.Wave_read) -> None:
     rate, channels, bits = file.getframerate(), file.getnchannels(), 8 * file.getsampwidth()
     if (rate, channels, bits) != (RATE, CHANNELS, 8 * SAMPLE_BYTES):
         raise Refusal(path, f"has {rate} Hz, {channels} channels, {bits} bits; {REMEDY}")
-    count = file.getnframes()
-    if count:
-        file.setpos(count - 1)
-        if len(file.readframes(1)) < CHANNELS * SAMPLE_BYTES:
-            raise Refusal(path, f"is cut off: it has fewer than the {count} samples of which its head tells; {REMEDY}")
-        file.rewind()
+    if not has_all(file):
+        told = file.getnframes()
+        raise Refusal(path, f"is cut off: it has fewer than the {told} samples of which its head tells; {REMEDY}")
+
+
+def has_all(file: wave.Wave_read) -> bool:
+    """Whether the last sample is there of which the head tells."""
+    if not file.getnframes():
+        return True
+    try:
+        file.setpos(file.getnframes() - 1)
+        last = file.readframes(1)
+    except RuntimeError:
+        # The part with the samples ends behind the file that it is a part of.
+        return False
+    file.rewind()
+    return len(last) == CHANNELS * SAMPLE_BYTES
 
 
 def length(path: Path) -> int:

@@ -1,6 +1,7 @@
 """What can go wrong outside, the line that says so, and what the desk then ends with."""
 import contextlib
 import os
+import warnings
 from typing import Iterator, NamedTuple
 
 Name = str | bytes | os.PathLike[str] | os.PathLike[bytes]
@@ -148,7 +149,10 @@ def failure_of(error: BaseException, path: Name, writing: bool = False) -> Failu
 def reading(path: Name) -> Iterator[None]:
     """Whatever goes wrong outside while a file is read is a failure that names it."""
     try:
-        yield
+        with warnings.catch_warnings():
+            # Pillow only warns of a picture that is half as large as what it refuses.
+            warnings.filterwarnings("error", ".*decompression bomb")
+            yield
     except Exception as error:
         raise failure_of(error, path) from None
 
