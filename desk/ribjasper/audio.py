@@ -4,7 +4,7 @@ import wave
 from pathlib import Path
 from typing import Iterator
 
-from .failures import Refusal, reading
+from .output import Refusal, cause
 
 RATE, CHANNELS, SAMPLE_BYTES = 44_100, 2, 2
 # The audio of a block.
@@ -16,41 +16,17 @@ REMEDY = ("a disc takes 44,100 Hz, 2 channels, 16 bits, and `ffmpeg -i IN -ar 44
 
 def opened(path: Path) -> wave.Wave_read:
     """A WAV file whose audio a disc can hold as it is."""
-    with reading(path):
-        try:
-            file = wave.open(os.fspath(path), "rb")
-        except (wave.Error, EOFError) as error:
-            raise Refusal(path, f"is no WAV file of plain samples ({error or 'it ends too early'}); {REMEDY}") from None
-        try:
-            check(path, file)
-        except BaseException:
-            file.close()
-            raise
-        return file
-
-
-def check(path: Path, file: wave.Wave_read) -> None:
-    """Refuses what a disc cannot hold as it is, and a file whose samples end before its head says."""
+    try:
+        file = wave.open(os.fspath(path), "rb")
+    except OSError as error:
+        raise Refusal(path, cause(error)) from None
+    except (wave.Error, EOFError) as error:
+        raise Refusal(path, f"is no WAV file of plain samples ({error or 'it ends too early'}); {REMEDY}") from None
     rate, channels, bits = file.getframerate(), file.getnchannels(), 8 * file.getsampwidth()
     if (rate, channels, bits) != (RATE, CHANNELS, 8 * SAMPLE_BYTES):
+        file.close()
         raise Refusal(path, f"has {rate} Hz, {channels} channels, {bits} bits; {REMEDY}")
-    if not has_all(file):
-        told = file.getnframes()
-        raise Refusal(path, f"is cut off: it has fewer than the {told} samples of which its head tells; {REMEDY}")
-
-
-def has_all(file: wave.Wave_read) -> bool:
-    """Whether the last sample is there of which the head tells."""
-    if not file.getnframes():
-        return True
-    try:
-        file.setpos(file.getnframes() - 1)
-        last = file.readframes(1)
-    except RuntimeError:
-        # The part with the samples ends behind the file that it is a part of.
-        return False
-    file.rewind()
-    return len(last) == CHANNELS * SAMPLE_BYTES
+    return file
 
 
 def length(path: Path) -> int:
@@ -61,6 +37,6 @@ def length(path: Path) -> int:
 
 def sectors(path: Path) -> Iterator[bytes]:
     """The audio of each block, 2,352 bytes, lowest byte first."""
-    with reading(path), opened(path) as file:
+    with opened(path) as file:
         while samples := file.readframes(FRAMES_A_BLOCK):
             yield samples.ljust(SECTOR_AUDIO, b"\0")

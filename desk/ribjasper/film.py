@@ -12,9 +12,9 @@ from typing import IO, Any, Iterator, NamedTuple
 from . import kinds
 from .failures import reading
 from .library import HEIGHT, WIDTH
-from .output import Missing, Commands, Outputs, Refusal, add_force, package, tell
+from .output import Missing, Outputs, Refusal, add_force, package, tell
 from .streams import Stream, open_stream
-from .words import number_in
+from .words import Commands, number_in
 
 # A picture that stands so long, in seconds, has a place on a page of stills.
 STANDS = 0.2

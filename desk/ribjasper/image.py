@@ -7,11 +7,12 @@ from typing import Iterator
 from . import audio, kinds, latin1
 from .discs import COPY, FOUR_CHANNELS, PRE_EMPHASIS, Disc, Track, read_disc
 from .library import BLOCK, PACK, PACKS_A_BLOCK, RAW, SECTOR, Player, convert
-from .output import LATE, Commands, Outputs, Refusal, add_force, read_file, tell
+from .output import LATE, Outputs, Refusal, add_force, read_file, tell
 from .program import author
 from .sheets import COMMANDS, FLAGS, quoted
 from .streams import open_stream
 from .times import PAUSE, clock
+from .words import Commands
 
 # Held through the pause, so that all pictures come with the audio, which alone is on an image.
 HOLD_THROUGH_PAUSE = b"show 00:00:20 00:02:02\n"

@@ -1,6 +1,7 @@
 """The command line of the desk: each command is a module with `add_parser` and `run`."""
 import argparse
 import contextlib
+import functools
 import importlib
 import io
 import os
@@ -41,6 +42,7 @@ class Parser(argparse.ArgumentParser):
                     file.write(message)
 
 
+@functools.lru_cache(maxsize=None)
 def parser() -> argparse.ArgumentParser:
     top = Parser(
         prog="ribjasper-desk",

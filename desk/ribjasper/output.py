@@ -12,7 +12,7 @@ import stat
 import sys
 import tempfile
 from types import TracebackType
-from typing import Any, Iterable, Iterator, Sequence, TextIO, TypeAlias
+from typing import Any, Iterable, Iterator, Sequence, TextIO
 
 from . import kinds
 from .failures import FOUND as FOUND
@@ -27,8 +27,6 @@ from .failures import cause as cause
 from .failures import shown as shown
 from .kinds import Kind
 
-# What a command adds its parser to.
-Commands: TypeAlias = "argparse._SubParsersAction[argparse.ArgumentParser]"
 # The name that stands for standard output, and how it is called in a line.
 DASH, STANDARD_OUTPUT = "-", "standard output"
 # What is written waits under such a name beside where it is to stand.

@@ -4,9 +4,10 @@ from pathlib import Path
 
 from . import audio, kinds, latin1, times
 from .charts import draw_plan
-from .output import LATE, Commands, Outputs, Refusal, add_force, read_file, shown, tell
-from .planning import NoPlan, Plan, least_lead_in, plan
+from .output import LATE, Outputs, Refusal, add_force, read_file, shown, tell
+from .planning import NoPlan, Plan, least_lead_in, plan, refused_lines
 from .times import clock
+from .words import Commands
 
 NAMES = ("picture", "line", "ready", "hold", "need", "free", "first", "late")
 
@@ -44,7 +45,8 @@ def planned(sheet: Path, script: Path, length: int) -> Plan:
     try:
         return plan(sheet_text, script_text, length)
     except NoPlan as none:
-        raise Refusal(script if none.is_of_script() else sheet, none.cause()) from None
+        causes = refused_lines(sheet_text, script_text, length, none)
+        raise Refusal(script if none.is_of_script() else sheet, *causes) from None
 
 
 def run(arguments: argparse.Namespace) -> int:

@@ -128,6 +128,41 @@ def plan(sheet: bytes, script: bytes, audio: int, lead_in: int = LONGEST_LEAD_IN
     return Plan(found, told.blocks)
 
 
+# So many refused lines of a text are told.
+MOST_TOLD = 20
+# What later lines of a sheet depend on: if one of these is refused, what follows cannot be judged.
+NEEDED_LATER = (b"FILE", b"TRACK", b"INDEX")
+
+
+def refused_lines(sheet: bytes, script: bytes, audio: int, first: NoPlan) -> list[str]:
+    """Each line of a sheet or of a script that is refused, the first one before the others: a line that was refused is left
+    empty, and the library is asked again."""
+    causes, none = [first.cause()], first
+    while none.why in (Why.SHEET_REFUSED, Why.SCRIPT_REFUSED) and len(causes) < MOST_TOLD:
+        rest = without_line(script if none.is_of_script() else sheet, none.line)
+        if rest is None:
+            break
+        sheet, script = (sheet, rest) if none.is_of_script() else (rest, script)
+        try:
+            plan(sheet, script, audio)
+            break
+        except NoPlan as other:
+            if other.why != first.why:
+                break
+            none = other
+            causes.append(none.cause())
+    return causes
+
+
+def without_line(text: bytes, number: int) -> bytes | None:
+    """A text with an empty line in place of one on which no other depends."""
+    lines = text.split(b"\n")
+    if number > len(lines) or lines[number - 1].lstrip().upper().startswith(NEEDED_LATER):
+        return None
+    lines[number - 1] = b""
+    return b"\n".join(lines)
+
+
 def least_lead_in(sheet: bytes, audio: int) -> int:
     """How many blocks of lead-in a sheet needs for its table of contents and its texts."""
     try:

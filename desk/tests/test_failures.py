@@ -8,9 +8,9 @@ import wave
 from pathlib import Path
 from unittest import mock
 
-from fixtures import FolderTest, desk, needs_pillow, write_wav
+from fixtures import FolderTest, desk, needs_pillow
 
-from ribjasper import audio, failures, main, output
+from ribjasper import main, output
 from ribjasper.failures import Failure, Fault, Missing, NoMemory, Refusal, Refusals, Several, Unwritten, failure_of, reading
 
 
@@ -131,41 +131,6 @@ class ReadTest(FolderTest):
         with self.assertRaises(Refusal) as caught:
             output.read_file(self.folder / "none")
         self.assertEqual(str(caught.exception), f"{self.folder}/none: no such file or directory")
-
-
-class AudioTest(FolderTest):
-    def refused(self, content: bytes) -> str:
-        path = self.write("a.wav", content)
-        with self.assertRaises(Refusal) as caught:
-            audio.length(path)
-        self.assertEqual(caught.exception.status, failures.REFUSED)
-        return caught.exception.cause
-
-    def whole(self) -> bytes:
-        return write_wav(self.folder / "whole.wav", 588 * 3).read_bytes()
-
-    def test_a_whole_one(self) -> None:
-        path = write_wav(self.folder / "a.wav", 588 * 3 + 1)
-        self.assertEqual(audio.length(path), 4)
-        self.assertEqual([len(sector) for sector in audio.sectors(path)], [2352] * 4)
-        self.assertEqual(audio.length(write_wav(self.folder / "a.wav", 0)), 0)
-
-    def test_one_that_is_cut_off(self) -> None:
-        whole = self.whole()
-        for end in (len(whole) - 1, len(whole) - 4, len(whole) - 2352, 45):
-            self.assertIn("is cut off", self.refused(whole[:end]), end)
-        for end in (0, 1, 11, 20, 30):
-            self.assertIn("is no WAV file", self.refused(whole[:end]), end)
-
-    def test_one_that_was_written_into_a_pipe(self) -> None:
-        """Its head tells of as many samples as there can be."""
-        whole = bytearray(self.whole())
-        whole[40:44] = b"\xff\xff\xff\xff"
-        self.assertIn("is cut off", self.refused(bytes(whole)))
-
-    def test_no_audio(self) -> None:
-        self.assertIn("is no WAV file", self.refused(b"RIFX" + bytes(100)))
-        self.assertIn("is no WAV file", self.refused(bytes(100)))
 
 
 if __name__ == "__main__":
