@@ -33,8 +33,10 @@ def entry_points() -> str:
 
 
 def modules() -> Iterator[tuple[str, bytes]]:
-    for path in sorted((DESK / "ribjasper").glob("**/*.py")):
-        yield path.relative_to(DESK).as_posix(), path.read_bytes()
+    """The modules, and the files that they read."""
+    for path in sorted((DESK / "ribjasper").iterdir()):
+        if path.is_file():
+            yield path.relative_to(DESK).as_posix(), path.read_bytes()
 
 
 def information() -> Iterator[tuple[str, bytes]]:

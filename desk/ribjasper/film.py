@@ -50,7 +50,8 @@ def audio_seconds(path: Path | None) -> float:
     with reading(path), open(path, "rb") as file:
         try:
             with wave.open(file) as audio:
-                return audio.getnframes() / audio.getframerate()
+                seconds: float = audio.getnframes() / audio.getframerate()
+                return seconds
         except (wave.Error, EOFError, ZeroDivisionError):
             return 0
 

@@ -57,7 +57,7 @@ class PackageTest(FolderTest):
         link = self.folder / "usr" / "bin" / "ribjasper-desk"
         self.assertEqual(os.readlink(link), "../share/ribjasper-desk/ribjasper-desk")
         self.check(link)
-        modules = sorted(path.name for path in (TOP / "desk" / "ribjasper").glob("*.py"))
+        modules = sorted(path.name for path in (TOP / "desk" / "ribjasper").iterdir() if path.is_file())
         self.assertEqual(sorted(path.name for path in (self.folder / "usr/share/ribjasper-desk/ribjasper").iterdir()), modules)
 
     def test_the_library_below_the_same_prefix(self) -> None:
