@@ -32,8 +32,12 @@ def entry_points() -> str:
     return "[console_scripts]\n" + "".join(scripts)
 
 
+# Modules, styles and the parts of the page that plays a song.
+SHIPPED = (".py", ".toml", ".html", ".js")
+
+
 def modules() -> Iterator[tuple[str, bytes]]:
-    for path in sorted((DESK / "ribjasper").glob("**/*.py")):
+    for path in sorted(path for path in (DESK / "ribjasper").glob("**/*") if path.suffix in SHIPPED):
         yield path.relative_to(DESK).as_posix(), path.read_bytes()
 
 

@@ -72,3 +72,7 @@ FILM = Kind("a film", _is_film)
 TABLE = Kind("a table of a report", begins(b"file\tstatus\t"))
 ROWS = Kind("the rows of a report", begins(b'{"file": '))
 PAGE = Kind("a page", begins(b"<!DOCTYPE html>"))
+ALBUM = Kind("a list of songs", lines_like(rb"#.*|\[\[track\]\]|[a-z]+[ \t]*=.*"), (".toml",))
+ZIP = Kind("a ZIP file", begins(b"PK\3\4"))
+# A sound that is there already may be the only one of its kind.
+SOUND = Kind("a sound of this song")
