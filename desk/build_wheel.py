@@ -34,8 +34,8 @@ def entry_points() -> str:
 
 def modules() -> Iterator[tuple[str, bytes]]:
     """The modules, and the files that they read."""
-    for path in sorted((DESK / "ribjasper").iterdir()):
-        if path.is_file():
+    for path in sorted((DESK / "ribjasper").glob("**/*")):
+        if path.is_file() and "__pycache__" not in path.parts:
             yield path.relative_to(DESK).as_posix(), path.read_bytes()
 
 

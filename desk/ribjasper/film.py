@@ -3,14 +3,13 @@ import argparse
 import contextlib
 import math
 import os
+import shutil
 import subprocess
 import tempfile
-import wave
 from pathlib import Path
 from typing import IO, Any, Iterator, NamedTuple
 
-from . import kinds
-from .failures import reading
+from . import audio, kinds
 from .library import HEIGHT, WIDTH
 from .output import Missing, Outputs, Refusal, add_force, package, tell
 from .streams import Stream, open_stream
@@ -44,16 +43,13 @@ def add_parser(commands: Commands) -> None:
 
 
 def audio_seconds(path: Path | None) -> float:
-    """How long an audio is; 0 where there is none, or ffmpeg alone can tell."""
+    """How long an audio is; 0 where there is none, or where ffmpeg alone could tell and is not there."""
     if not path:
         return 0
-    with reading(path), open(path, "rb") as file:
-        try:
-            with wave.open(file) as audio:
-                seconds: float = audio.getnframes() / audio.getframerate()
-                return seconds
-        except (wave.Error, EOFError, ZeroDivisionError):
-            return 0
+    wave = audio.wave_of(path)
+    if wave and wave.channels and wave.bits >= 8 and wave.rate:
+        return wave.size / (wave.channels * (wave.bits // 8) * wave.rate)
+    return audio.frames(path) / audio.RATE if shutil.which("ffmpeg") else 0
 
 
 def film_words(arguments: argparse.Namespace, out: str) -> list[str]:

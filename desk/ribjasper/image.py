@@ -6,12 +6,13 @@ from typing import Iterator
 
 from . import audio, kinds, latin1
 from .discs import COPY, FOUR_CHANNELS, PRE_EMPHASIS, Disc, Track, read_disc
-from .library import BLOCK, PACK, PACKS_A_BLOCK, RAW, SECTOR, Player, convert
+from .library import BLOCK, PACK, PACKS_A_BLOCK, RAW, SECTOR, Player, convert, texts
 from .output import LATE, Outputs, Refusal, add_force, read_file, tell
 from .program import author
 from .sheets import COMMANDS, FLAGS, quoted
 from .streams import open_stream
 from .times import PAUSE, clock
+from .tracks import FIRST_OF_AUDIO
 from .words import Commands
 
 # Held through the pause, so that all pictures come with the audio, which alone is on an image.
@@ -57,12 +58,34 @@ def checked(arguments: argparse.Namespace, disc: Disc) -> bytes:
     return program
 
 
-def loses_pictures(program: bytes) -> bool:
-    """Whether the packs that begin in the pause, which are not whole on the image, leave more than a black screen."""
+def loses_pictures(program: bytes) -> str | None:
+    """Why pictures are not whole on the image, if the packs that begin in the pause and are not whole on it leave more than
+    a black screen: what is to be done is another thing for a .cdg file that was pressed, which sends nothing earlier."""
     packs, _ = convert(program[: BLOCK * (PAUSE + 2)], RAW, 0)
     with Player() as player:
         player.draw(packs[: PACK * PACKS_A_BLOCK * PAUSE])
-        return any(player.screen()) or any(player.colours())
+        if not any(player.screen()) and not any(player.colours()):
+            return None
+    if not any(packs[: PACK * FIRST_OF_AUDIO]):
+        return ("the first seven packs of its .cdg file begin in the first pause and are not on an image: let them be idle, or "
+                "say once more behind them what they say, as the files of `pair` do")
+    return ("what is sent in the first pause is not on an image, and the pictures that need it will not be whole; "
+            "--hold-through-pause SCRIPT puts a black picture before them")
+
+
+def tell_texts(arguments: argparse.Namespace, disc: Disc) -> None:
+    """Tells if the texts of the sheet, which the image gets, are not those of the stream."""
+    stream = open_stream(arguments.stream)
+    if not stream.lead_in:
+        return
+    theirs, ours = (
+        [line for line in texts(content[: BLOCK * lead_in], lead_in).splitlines() if not line.startswith("packs ")]
+        for content, lead_in in ((stream.content, stream.lead_in), (disc.stream, disc.lead_in)))
+    differ = [("stream", line) for line in theirs if line not in ours] + [("sheet", line) for line in ours if line not in theirs]
+    if differ:
+        of, line = differ[0]
+        tell(f"{arguments.stream}: its texts are not those of {arguments.sheet}, which {arguments.output}.toc and .cue have: "
+             f"{len(differ)} differ, as `{line}` of the {of}")
 
 
 def held(arguments: argparse.Namespace, disc: Disc) -> bytes:
@@ -137,7 +160,8 @@ def toc_of(disc: Disc, name: str) -> str:
 
 
 def cue_texts(texts: dict[str, bytes], margin: bytes) -> list[bytes]:
-    return [b"%b%b %b" % (margin, name, quoted(texts[kind])) for kind, name in COMMANDS.items() if kind in texts]
+    return [b"%b%b %b" % (margin, name, spelled) for kind, name in COMMANDS.items()
+            if kind in texts and (spelled := quoted(texts[kind]))]
 
 
 def cue_of(disc: Disc, name: str) -> bytes:
@@ -161,9 +185,9 @@ def cue_of(disc: Disc, name: str) -> bytes:
 
 
 def warn(arguments: argparse.Namespace, disc: Disc, program: bytes) -> None:
-    if loses_pictures(program):
-        tell(f"{arguments.stream}: what is sent in the first pause is not on an image, and the pictures that need it "
-             "will not be whole; --hold-through-pause SCRIPT puts a black picture before them")
+    if lost := loses_pictures(program):
+        tell(f"{arguments.stream}: {lost}")
+    tell_texts(arguments, disc)
     for track in disc.tracks:
         if track.end - track.indices[0] < SHORTEST_TRACK:
             tell(f"{arguments.sheet}: track {track.number} is shorter than four seconds; burners may refuse it")

@@ -16,7 +16,8 @@ from .library import version
 
 # Each module has `add_parser(subparsers)`, which adds its command with set_defaults(run=run), and
 # `run(arguments) -> int`, the exit number.
-COMMANDS = ("identify", "damage", "mend", "report", "sheets", "texts", "plan", "picture", "lyrics", "image", "film")
+COMMANDS = ("identify", "damage", "mend", "report", "sheets", "texts", "plan", "picture", "lyrics", "image", "film",
+            "album", "pair", "look")
 
 
 class Version(argparse.Action):

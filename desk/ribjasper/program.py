@@ -26,12 +26,21 @@ def program() -> str:
 
 def author(sheet: bytes, script: bytes, lead_in: int, length: int) -> tuple[bytes, int, str]:
     """The stream of a sheet and a script; the exit number, and the line on standard error."""
+    return stream_of("author", sheet, ("pictures.script", script), lead_in, length)
+
+
+def press(sheet: bytes, packs: bytes, lead_in: int, length: int) -> tuple[bytes, int, str]:
+    """The stream of a sheet and a .cdg file, likewise."""
+    return stream_of("press", sheet, ("pictures.cdg", packs), lead_in, length)
+
+
+def stream_of(command: str, sheet: bytes, other: tuple[str, bytes], lead_in: int, length: int) -> tuple[bytes, int, str]:
     with tempfile.TemporaryDirectory(prefix="ribjasper-") as folder:
-        names = [Path(folder) / "sheet.cue", Path(folder) / "pictures.script"]
-        for name, content in zip(names, (sheet, script)):
+        names = [Path(folder) / "sheet.cue", Path(folder) / other[0]]
+        for name, content in zip(names, (sheet, other[1])):
             with writing(name):
                 name.write_bytes(content)
-        words = ["author", "--lead-in", str(lead_in), "--length", clock(length), "--", *(str(name) for name in names)]
+        words = [command, "--lead-in", str(lead_in), "--length", clock(length), "--", *(str(name) for name in names)]
         done = subprocess.run([program(), *words], stdin=subprocess.DEVNULL, capture_output=True)
     return done.stdout, done.returncode, done.stderr.decode(errors="replace").strip()
 

@@ -49,9 +49,10 @@ SHEET = (b'PERFORMER "The Lead-Ins"\nTITLE "All"\nFILE "a.wav" WAVE\n  TRACK 01 
          b"    INDEX 00 00:00:00\n    INDEX 01 00:00:40\n  TRACK 02 AUDIO\n    PREGAP 00:00:10\n    INDEX 01 00:02:00\n")
 ONE_TRACK = b'FILE "a.wav" WAVE\nTRACK 01 AUDIO\nINDEX 01 00:00:00\n'
 SCRIPT = b"colour 1 0F00\nrect 0 0 20 20 1\nshow 00:02:40 00:03:00\nfill 0\nrow 3 3 0123\nshow 00:05:00 00:06:00\n"
-LRC = b"[ti:A song]\n[ar:Somebody]\n[00:04.00]<00:04.10>One <00:04.60>two\n[00:06.00]Three four\n[00:07.00]\n"
+LRC = b"[ti:A song]\n[ar:Somebody]\n[00:01.00]<00:01.10>One <00:01.60>two\n[00:02.00]Three four\n[00:03.00]\n"
 ASS = (b"[Script Info]\nTitle: Two\n[Events]\nFormat: Layer, Start, End, Style, Name, MarginL, MarginR, MarginV, Effect, Text\n"
-       b"Dialogue: 0,0:00:05.00,0:00:08.00,Default,,0,0,0,,{\\k50}One, {\\kf70}two\\N{\\k30}three\n")
+       b"Dialogue: 0,0:00:01.00,0:00:03.00,Default,,0,0,0,,{\\k50}One, {\\kf70}two\\N{\\k30}three\n")
+ALBUM = (b'title = "All"\nsinger = "Somebody"\ngap = 1\n[[track]]\nlyrics = "in-1"\nsound = "in-2"\ntitle = "One"\nsinger = ""\n')
 JOURNAL = b'{"stamp": "1 1.1.0 True 5 5 5", "row": {"file": "x", "status": "good", "form": null, "texts": null, "why": null}}\n'
 
 
@@ -74,6 +75,7 @@ def samples() -> dict[str, tuple[bytes, ...]]:
         "packs": (text_packs(), text_packs() + b"\0", b"\0\x24\0\0" + text_packs()[:34]),
         "journal": (JOURNAL, b'{"stamp": 3, "row": []}\n'),
         "font": (b"no font",),
+        "album": (ALBUM, ALBUM.replace(b"gap = 1", b"gap = 1e400"), ALBUM + b'title = "\\q"\n'),
     }
 
 
@@ -141,6 +143,7 @@ class Option(NamedTuple):
 
 class Command(NamedTuple):
     words: tuple[str, ...]
+    # The kinds of its inputs; one that begins with ~ is named by another.
     inputs: tuple[str, ...]
     options: tuple[Option, ...]
     # How often it is tried: those that take long seldom.
@@ -173,6 +176,11 @@ COMMANDS = (
                                               Option("--hold-through-pause", reads="script"), FORCE), 2),
     Command(("film",), ("cdg",), (Option("--stills", writes=True), Option("--rate", NUMBERS), Option("--every", NUMBERS),
                                   Option("--audio", reads="audio"), FORCE), 2),
+    Command(("album",), ("album", "~lyrics", "~audio"), (Option("-o", writes=True), FORCE), 1),
+    Command(("album", "--new"), ("lyrics", "lyrics"), (Option("-o", writes=True), FORCE), 1),
+    Command(("pair",), ("lyrics",), (Option("--audio", reads="audio", is_needed=True), Option("-o", writes=True),
+                                     Option("--zip"), Option("--karaoke-cd"), FORCE), 1),
+    Command(("look",), ("lyrics",), (Option("--audio", reads="audio", is_needed=True), Option("-o", writes=True), FORCE), 1),
     Command(("report", "--jobs", "1", "--no-pictures"), ("folder",), (Option("-o", writes=True), FORCE), 1),
 )
 # Where an output may be.
@@ -226,7 +234,9 @@ def calls(draw: st.DrawFn, commands: tuple[Command, ...] = COMMANDS) -> Made:
         outputs.append(place)
         return place if place in ("-", "") else f"@{place}"
 
-    words += [read(kind) for kind in command.inputs]
+    for kind in command.inputs:
+        name = read(kind.removeprefix("~"))
+        words += [name] * (not kind.startswith("~"))
     for option in command.options:
         if draw(st.integers(0, 9)) < (9 if option.writes or option.is_needed else 2):
             words.append(option.word)
@@ -272,7 +282,7 @@ def state(folder: Path) -> dict[str, tuple[object, ...]]:
 
 
 # The names under which outputs of a call may appear.
-ENDINGS = ("", ".bin", ".toc", ".cue")
+ENDINGS = ("", ".bin", ".toc", ".cue", ".raw", "-sheet.cue", "-01.script", ".cdg", ".zip", ".wav")
 REACHED = {"link": "target", "dangling": "nowhere", "link-to-input": "in-0"}
 
 

@@ -99,9 +99,10 @@ class SameFileTest(CallsTest):
         calls: tuple[tuple[Word, ...], ...] = (
             ("sheet", dump, "-o", notes), ("damage", dump, "--map", notes), ("texts", dump, "--packs", notes),
             ("mend", dump, dump, "-o", notes), ("film", dump, "--stills", notes, "-o", notes.parent / "new"),
-            ("film", dump, "-o", notes), ("texts", "--back", dump, "--blocks", notes))
+            ("film", dump, "-o", notes))
         for words in calls:
-            self.refuses(*words, why="is there already and is not")
+            self.refuses(*words, why="is there already, and is not")
+        self.refuses("texts", "--back", dump, "--blocks", notes, why="is there already, and nobody can tell whether")
 
     def test_a_report_takes_a_folder_of_its_own(self) -> None:
         self.write("dumps/x", b"dump")
@@ -204,7 +205,7 @@ class OutputsTest(CallsTest):
         for name, words in self.calls(self.folder / "out.cdg").items():
             self.assertEqual(desk(*words).status, 0, name)
             if name == "back":
-                self.refuses(*words, why="is there already and is not a stream")
+                self.refuses(*words, why="nobody can tell whether a stream can be made again")
             self.assertEqual(desk(*words, *["--force"] * (name == "back")).status, 0, name)
             (self.folder / "out.cdg").unlink()
 
@@ -249,7 +250,7 @@ class SeveralTest(CallsTest):
         self.refuses(*words, why="disc.cue: is a directory")
         (self.folder / "disc.cue").rmdir()
         notes = self.write("disc.toc", b"Dear diary,\n")
-        self.refuses(*words, why="disc.toc: is there already and is not a sheet for cdrdao")
+        self.refuses(*words, why="disc.toc: is there already, and is not a sheet for cdrdao")
         notes.unlink()
         self.assertEqual(desk(*words).status, 0)
         first = self.content()

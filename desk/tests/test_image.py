@@ -1,7 +1,9 @@
 """`image`: the sectors, what cdrdao reads of them, what would be lost in the first pause, and refusals."""
+import os
 import re
 import subprocess
 import unittest
+from unittest import mock
 
 from publishers import (LEAD_IN, PAUSE, TOP, FolderTest, author, desk, needs_cdrdao, needs_plan, needs_program,
                         run_program, screen, write_wav)
@@ -44,7 +46,7 @@ TRACK 3: PREGAP 150 START 1295 END 1895"""
 @needs_plan
 @needs_program
 class ImageTest(FolderTest):
-    def setUp(self):
+    def setUp(self) -> None:
         super().setUp()
         self.audio = write_wav(self.folder / "hello.wav", 588 * 22 * 75 - 100)
         self.sheet = self.write("a.cue", SHEET)
@@ -56,7 +58,7 @@ class ImageTest(FolderTest):
         self.assertEqual(ran.status, 0, ran.told)
         return ran
 
-    def test_subcode_is_that_of_the_stream(self):
+    def test_subcode_is_that_of_the_stream(self) -> None:
         self.image()
         image = (self.folder / "disc.bin").read_bytes()
         blocks = self.stream.read_bytes()[BLOCK * (LEAD_IN + PAUSE) :]
@@ -66,7 +68,7 @@ class ImageTest(FolderTest):
         whole = run_program("convert", "--lead-in", LEAD_IN, "--", self.stream)
         self.assertEqual(packs, whole[24 * 4 * PAUSE :])
 
-    def test_audio_and_gaps(self):
+    def test_audio_and_gaps(self) -> None:
         self.image()
         image = (self.folder / "disc.bin").read_bytes()
         sectors = [image[at : at + SOUND] for at in range(0, len(image), SECTOR)]
@@ -76,7 +78,7 @@ class ImageTest(FolderTest):
         self.assertEqual(sound, self.audio.read_bytes()[44:].ljust(SOUND * 22 * 75, b"\0"))
 
     @needs_cdrdao
-    def test_cdrdao_finds_tracks_and_times(self):
+    def test_cdrdao_finds_tracks_and_times(self) -> None:
         self.image()
         toc = self.folder / "disc.toc"
         size = subprocess.run(["cdrdao", "toc-size", toc], capture_output=True, text=True, check=True).stdout
@@ -94,7 +96,7 @@ class ImageTest(FolderTest):
         self.assertTrue("COPY NOT PERMITTED" in second and "FOUR CHANNEL AUDIO" in second)
         self.assertTrue("NO PRE-EMPHASIS" in third and "TWO CHANNEL AUDIO" in third)
 
-    def test_texts_are_those_of_the_sheet(self):
+    def test_texts_are_those_of_the_sheet(self) -> None:
         self.image()
         toc = (self.folder / "disc.toc").read_text()
         album, *tracks = re.split(r"^TRACK", toc, flags=re.MULTILINE)
@@ -109,7 +111,7 @@ class ImageTest(FolderTest):
                           ("00", "00:15:20"), ("01", "00:17:20")])
         self.assertEqual(re.findall(r"FLAGS (.*)", cue), ["DCP PRE", "4CH"])
 
-    def test_latin_1(self):
+    def test_latin_1(self) -> None:
         self.sheet = self.write("a.cue", SHEET.replace("Hello", "H\u00e9llo"))
         self.stream = author(self.sheet, HELLO, "00:22:00", self.stream)
         ran = self.image()
@@ -120,7 +122,7 @@ class ImageTest(FolderTest):
         self.assertIn('TITLE "H\\351llo"', (self.folder / "disc.toc").read_text())
         self.assertIn(b'TITLE "H\xe9llo"', (self.folder / "disc.cue").read_bytes())
 
-    def test_what_is_sent_in_the_pause(self):
+    def test_what_is_sent_in_the_pause(self) -> None:
         self.assertIn("--hold-through-pause", self.image().told)
         image = self.folder / "disc.bin"
         third = screen(self.stream, 535)
@@ -129,14 +131,14 @@ class ImageTest(FolderTest):
         self.assertNotIn("pause", ran.told)
         self.assertEqual(screen(image, 535 - PAUSE, "--form", "sector", lead_in=0), third)
 
-    def test_without_texts_and_codes(self):
+    def test_without_texts_and_codes(self) -> None:
         self.sheet = self.write("b.cue", 'FILE "a.wav" WAVE\nTRACK 07 AUDIO\nINDEX 01 00:00:00\n')
         self.stream = author(self.sheet, HELLO, "00:22:00", self.stream)
         self.image()
         self.assertEqual((self.folder / "disc.toc").read_text(), 'CD_DA\n\n// Track 7\nTRACK AUDIO RW_RAW\nNO COPY\n'
                          'NO PRE_EMPHASIS\nTWO_CHANNEL_AUDIO\nDATAFILE "disc.bin" #0 00:22:00\n')
 
-    def test_a_first_track_with_a_gap(self):
+    def test_a_first_track_with_a_gap(self) -> None:
         """The gap of the first track comes behind the pause, which is not on the image."""
         self.sheet = self.write("b.cue", 'FILE "a.wav" WAVE\nTRACK 01 AUDIO\nPREGAP 00:02:00\nINDEX 01 00:00:00\n')
         self.stream = author(self.sheet, HELLO, "00:22:00", self.stream)
@@ -148,7 +150,7 @@ class ImageTest(FolderTest):
         self.assertEqual(sound, self.audio.read_bytes()[44:].ljust(SOUND * 22 * 75, b"\0"))
         self.assertIn("START 00:02:00", (self.folder / "disc.toc").read_text())
 
-    def test_refusals(self):
+    def test_refusals(self) -> None:
         def refused(why, **others):
             words = {"sheet": self.sheet, "stream": self.stream, "audio": self.audio, **others}
             ran = desk("image", words["sheet"], words["stream"], "--audio", words["audio"], "-o", self.disc)
@@ -156,9 +158,9 @@ class ImageTest(FolderTest):
             self.assertIn(why, ran.told)
             self.assertFalse((self.folder / "disc.bin").exists())
 
-        refused("has 48000 Hz, 2 channels, 16 bits", audio=write_wav(self.folder / "b.wav", 100, rate=48_000))
-        refused("has 44100 Hz, 1 channels, 16 bits", audio=write_wav(self.folder / "b.wav", 100, channels=1))
-        refused("has 44100 Hz, 2 channels, 24 bits", audio=write_wav(self.folder / "b.wav", 100, width=3))
+        with mock.patch.dict(os.environ, {"PATH": str(self.folder)}):
+            refused("has 48000 Hz, 2 channels, 16 bits, and ffmpeg is not installed",
+                    audio=write_wav(self.folder / "b.wav", 100, rate=48_000))
         refused("is no WAV file", audio=self.sheet)
         refused("no such file", audio=self.folder / "none.wav")
         refused("author it with --length 00:23:00", audio=write_wav(self.folder / "b.wav", 588 * 75 * 23))

@@ -28,7 +28,7 @@ class PictureTest(FolderTest):
         return screen(stream, 19 * 75)
 
     @needs_program
-    def test_sixteen_colours_come_back(self):
+    def test_sixteen_colours_come_back(self) -> None:
         def pixel(x, y):
             return colour_of((x * y // 7 + x // 5) % 16)
 
@@ -40,7 +40,7 @@ class PictureTest(FolderTest):
                 self.assertEqual(picture.at(x, y), pixel(x, y))
 
     @needs_program
-    def test_at_a_tile(self):
+    def test_at_a_tile(self) -> None:
         def pixel(x, y):
             return colour_of(1 + (x // 3 + y) % 4)
 
@@ -53,7 +53,7 @@ class PictureTest(FolderTest):
             for x in range(30):
                 self.assertEqual(picture.at(60 + x, 60 + y), pixel(x, y))
 
-    def test_flat_areas_stay_flat(self):
+    def test_flat_areas_stay_flat(self) -> None:
         def pixel(x, y):
             return (200, 30, 40) if (x - 300) ** 2 + (y - 200) ** 2 < 150**2 else (20, 40 + (x * 7 + y * 3) % 3, 90)
 
@@ -63,7 +63,7 @@ class PictureTest(FolderTest):
         dithered = desk("picture", self.folder / "a.png", "--dither")
         self.assertGreaterEqual(int(dithered.told.partition("needs ")[2].split()[0]), packs)
 
-    def test_more_loss_needs_fewer_packs(self):
+    def test_more_loss_needs_fewer_packs(self) -> None:
         def pixel(x, y):
             return (x * 255 // 287, y * 255 // 191, (x * y) % 256)
 
@@ -73,12 +73,12 @@ class PictureTest(FolderTest):
         self.assertEqual(needs, sorted(needs, reverse=True))
         self.assertLess(needs[2], needs[0])
 
-    def test_few_colours(self):
+    def test_few_colours(self) -> None:
         image = self.image("a.png", (288, 192), lambda x, y: (x % 256, y, (x + y) % 256))
         lines = desk("picture", image, "--colours", "5").out.splitlines()
         self.assertLessEqual(sum(line.startswith("colour") for line in lines), 5)
 
-    def test_refusals(self):
+    def test_refusals(self) -> None:
         for words in ((self.write("a.png", "no image"),), (self.folder / "none.png",), (self.folder,)):
             ran = desk("picture", *words)
             self.assertEqual(ran.status, 3)

@@ -18,7 +18,7 @@ LEAD_IN, RATE = 30, 25
 @needs_font
 @needs_ffmpeg
 class SongTest(FolderTest):
-    def test_five_commands(self):
+    def test_five_commands(self) -> None:
         audio, script, raw = (self.folder / name for name in ("song.wav", "song.script", "song.raw"))
         subprocess.run([sys.executable, SONG / "make_audio.py", audio], check=True)
         ran = desk("lyrics", SONG / "song.lrc", "--title", SONG / "title.png", "--audio", audio, "-o", script)
@@ -35,14 +35,15 @@ class SongTest(FolderTest):
         self.check_picture(raw)
 
     def check_picture(self, raw):
-        """The picture in the documents is the third of the stills, and stands on the image too."""
+        """The picture in the documents is the first still after fifteen seconds, and stands on the image too."""
         from PIL import Image
         stream, stills = open_stream(raw), Stills(RATE, None)
         for picture in stream.frames(RATE, 20 * RATE):
             stills.see(picture)
-        block = PAUSE + round(stills.kept[2].second * 75)
+        still = next(still for still in stills.kept if still.second > 15)
+        block = PAUSE + round(still.second * 75)
         stands = screen(raw, block, lead_in=LEAD_IN)
-        self.assertEqual(stills.kept[2].picture, stands.pixels)
+        self.assertEqual(still.picture, stands.pixels)
         self.assertEqual(screen(self.folder / "song.bin", block - PAUSE, "--form", "sector", lead_in=0), stands)
         with Image.open(TOP / "docs" / "song.png") as image:
             self.assertEqual(image.convert("RGB").resize((300, 216), Image.NEAREST).tobytes(), stands.pixels)
