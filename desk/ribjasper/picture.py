@@ -9,14 +9,13 @@ from . import colours as colouring
 from . import kinds
 from .colours import Colour
 from .failures import reading
-from .library import BLOCKS_A_SECOND
+from .library import BLOCKS_A_SECOND, tile_weight
 from .output import DASH, Outputs, Refusal, add_force, package, tell
 from .planning import plan
 from .raster import COLOURS, COLUMNS, HEIGHT, ROWS, TILE_HEIGHT, TILE_WIDTH, WIDTH, Raster, Span, joined, lines_between
 from .words import Commands, number_in
 
 Grid = list[bytearray]
-Tile = tuple[int, ...]
 # The pixels of the largest image that is read, and from which distance on a colour is not near another.
 MOST_PIXELS = 64_000_000
 FAR = 60
@@ -166,18 +165,6 @@ def simplify(flat: Flat, most_error: float) -> None:
         put(flat.rows, left, top, bytes(change))
 
 
-def rank(tile: Tile) -> int:
-    """How many packs a tile of these colour numbers takes: one, and more where their differences need it."""
-    found: list[int] = []
-    for number in tile[1:]:
-        difference = number ^ tile[0]
-        for one in found:
-            difference = min(difference, difference ^ one)
-        if difference:
-            found.append(difference)
-    return max(1, len(found))
-
-
 def numbered(flat: Flat, free: Sequence[int]) -> list[int]:
     """A number for each colour, of those that are free, so that the tiles of three and more colours take few packs."""
     sets = Counter(tuple(sorted(set(pixels_of(flat.rows, left, top)))) for left, top in tiles_of(flat.rows))
@@ -185,7 +172,7 @@ def numbered(flat: Flat, free: Sequence[int]) -> list[int]:
     numbers = list(free)
 
     def cost() -> int:
-        return sum(count * rank(tuple(numbers[place] for place in colours)) for colours, count in many.items())
+        return sum(count * tile_weight(frozenset(numbers[place] for place in colours)) for colours, count in many.items())
 
     least, is_better = cost(), bool(many)
     while is_better:

@@ -306,7 +306,9 @@ def check(call: Made) -> int:
         lay(folder, call)
         before = state(folder)
         words = [f"{folder}/{word[1:]}" if word.startswith("@") else word for word in call.words]
-        ran = desk(*words)
+        # What a name without a folder makes is seen too.
+        with contextlib.chdir(folder):
+            ran = desk(*words)
         after = state(folder)
     said = f"{words}\nended with {ran.status}\n{ran.told}"
     assert ran.status in STATUSES, said
