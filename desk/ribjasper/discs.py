@@ -84,16 +84,21 @@ def tracks_of(rows: list[SheetRow]) -> list[Track]:
     disc."""
     tracks: list[Track] = []
     gaps = 0
-    for number, lines in itertools.groupby(rows, key=lambda row: row.track):
+    for _, lines in itertools.groupby(rows, key=track_of):
         first, *others = lines
         here = PAUSE + gaps + first.pregap
         times = sorted({here + row.time for row in (first, *others) if row.index})
-        track = Track(number, PAUSE + gaps + first.time if tracks else 0, times, 0, first.pregap, first.postgap, first.control)
+        track = Track(first.track, PAUSE + gaps + first.time if tracks else 0, times, 0, first.pregap, first.postgap, first.control)
         if first.has_isrc:
             track.texts["code"] = bytes(first.isrc)
         tracks.append(track)
         gaps += first.pregap + first.postgap
     return tracks
+
+
+def track_of(row: SheetRow) -> int:
+    number: int = row.track
+    return number
 
 
 def texts_of(sheet: bytes, place: int, code: bytes) -> dict[str, bytes]:

@@ -1,4 +1,5 @@
 """What a cue sheet says of its disc: tracks by the index lines, and texts and codes of a whole sheet."""
+import ctypes
 import unittest
 
 from fixtures import FolderTest, has, needs_program
@@ -13,7 +14,7 @@ needs_sheet = unittest.skipUnless(has("ribjasper_sheet"), "lib/ is not built, or
 
 
 def row(track: int, index: int, time: int, pregap: int = 0, postgap: int = 0, control: int = 0, code: bytes = b"") -> SheetRow:
-    return SheetRow(time, pregap, postgap, track, index, control, bool(code), (library.c_uint8 * 12)(*code))
+    return SheetRow(time, pregap, postgap, track, index, control, bool(code), (ctypes.c_uint8 * 12)(*code))
 
 
 class TracksTest(unittest.TestCase):
