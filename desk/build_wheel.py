@@ -32,13 +32,11 @@ def entry_points() -> str:
     return "[console_scripts]\n" + "".join(scripts)
 
 
-# Modules, styles and the parts of the page that plays a song.
-SHIPPED = (".py", ".toml", ".html", ".js")
-
-
 def modules() -> Iterator[tuple[str, bytes]]:
-    for path in sorted(path for path in (DESK / "ribjasper").glob("**/*") if path.suffix in SHIPPED):
-        yield path.relative_to(DESK).as_posix(), path.read_bytes()
+    """The modules, and the files that they read."""
+    for path in sorted((DESK / "ribjasper").glob("**/*")):
+        if path.is_file() and "__pycache__" not in path.parts:
+            yield path.relative_to(DESK).as_posix(), path.read_bytes()
 
 
 def information() -> Iterator[tuple[str, bytes]]:

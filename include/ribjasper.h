@@ -1,12 +1,23 @@
 /* The proved player of CD subcode graphics, for programs in C and C++.
 
-   Link with -lribjasper. No state is global: players stand side by side. Any thread may call, one call at a time for each
-   player; no call is for a signal handler. A call that takes a const player leaves it as it is, whatever it answers, but
-   it has to be the only call of that player too: while it looks, it takes the player out of what you hold. Where a
-   pointer stands, so many bytes or structs must stand as its type says, or as its line says; none may be null, for the
-   library cannot tell a null pointer and reads it. What two arguments point to may not overlap; what is only read (const)
-   must not change during the call. Numbers may be any: one out of its range is refused. Memory is asked of malloc when a player is opened that is closed, 65,112 bytes in two requests, and
-   within a call whose lines say so, which frees it before it returns. */
+   Link with -lribjasper (pkg-config --cflags --libs ribjasper tells the rest).
+
+   Players. No state is global: players stand side by side. A player may be moved byte for byte while no call has it, if
+   what is left behind is used no more; to have two that show the same, copy it by ribjasper_player_copy.
+
+   Threads. Any thread may call, one call at a time for each player. A call that takes a const player leaves it as it is,
+   whatever it answers, but it has to be the only call of that player too: while it looks, it takes the player out of what
+   you hold, and two threads that only look at one player at the same time spoil it. Give each thread a copy, or take
+   turns. No call is for a signal handler. A process that is forked has players of its own, as it has all memory; if the
+   process had more than one thread, its child makes no call that asks for memory or frees it.
+
+   Pointers. So many bytes or structs must stand where a pointer points as its type says, or as its line says. Beside a
+   length or a count of 0 a pointer may be null; no other may, for the library cannot tell a null pointer and reads it.
+   What two arguments point to may not overlap, but where a line says so; what is only read (const) must not change during
+   the call. Numbers may be any: one out of its range is refused.
+
+   Memory is asked of malloc when a player is opened that is closed, 65,112 bytes in two requests, and within a call whose
+   lines say so, which frees it before it returns. A call takes at most 16,384 bytes of the stack. */
 #ifndef RIBJASPER_H
 #define RIBJASPER_H
 
@@ -18,8 +29,20 @@
 extern "C" {
 #endif
 
+/* The compiler warns where the answer of a call that may fail for want of memory, or for what it was given, is passed
+   over. */
+#if defined __cplusplus && __cplusplus >= 201703L
+#define RIBJASPER_NODISCARD [[nodiscard]]
+#elif defined __STDC_VERSION__ && __STDC_VERSION__ >= 202311L
+#define RIBJASPER_NODISCARD [[nodiscard]]
+#elif defined __GNUC__
+#define RIBJASPER_NODISCARD __attribute__((warn_unused_result))
+#else
+#define RIBJASPER_NODISCARD
+#endif
+
 #define RIBJASPER_VERSION_MAJOR 1
-#define RIBJASPER_VERSION_MINOR 1
+#define RIBJASPER_VERSION_MINOR 2
 #define RIBJASPER_VERSION_PATCH 0
 
 /* The version of this header as one number. */
@@ -28,10 +51,31 @@ extern "C" {
 /* The version of the library that is linked, as the same number. */
 uint32_t ribjasper_version(void);
 
-/* What calls answer: it was done; or the player is closed, a number is out of its range, or (open) there is no memory.
-   Where it was not done, nothing that a pointer points to is written. */
+/* What calls answer. A number means the same in all calls, but for those of ribjasper_q_decode, and the older names below
+   have the same numbers. Where it was not done, nothing that a pointer points to is written, but for what a line says is
+   told then: `byte` of ribjasper_player_load, `bit` of ribjasper_q_decode, `bytes` of ribjasper_sheet_text, and `told` of
+   ribjasper_plan, ribjasper_texts and ribjasper_sheet. */
+typedef enum ribjasper_answer {
+    RIBJASPER_ANSWER_REFUSED = -1,       /* a player is closed, a number is out of its range, or (open) there is no memory */
+    RIBJASPER_ANSWER_DONE = 0,           /* it was done */
+    RIBJASPER_ANSWER_DAMAGED = 1,        /* it was done, but packs are damaged */
+    RIBJASPER_ANSWER_USAGE = 2,          /* a number is out of its range: of the calls on whole streams and texts */
+    RIBJASPER_ANSWER_BAD_INPUT = 3,      /* the stream, the file or the text that was given is refused */
+    RIBJASPER_ANSWER_LATE = 4,           /* it was done, but pictures are late */
+    RIBJASPER_ANSWER_NO_ROOM = 6,        /* there is too little room for what would be written */
+    RIBJASPER_ANSWER_NO_MEMORY = 7,      /* malloc refused */
+    RIBJASPER_ANSWER_TEXT_MISSING = 8,   /* a CD-TEXT pack is missing */
+    RIBJASPER_ANSWER_TEXT_NO_SIZE = 9,   /* a CD-TEXT pack with the sizes is missing */
+    RIBJASPER_ANSWER_TEXT_MALFORMED = 10 /* a byte of a CD-TEXT pack cannot be */
+} ribjasper_answer;
+
 #define RIBJASPER_DONE 0
 #define RIBJASPER_REFUSED (-1)
+
+#define RIBJASPER_ANSWER_TEXT 64 /* bytes of an answer in words, with a zero behind it */
+
+/* Writes what an answer of a call means, in English, to print it: at most 63 characters, and zeros behind them. */
+void ribjasper_answer_text(int32_t answer, char text[RIBJASPER_ANSWER_TEXT]);
 
 #define RIBJASPER_BLOCK 96     /* bytes of a raw block: a byte for each symbol, bit 7 channel P to bit 0 channel W */
 #define RIBJASPER_WIDTH 300    /* pixels of the screen across */
@@ -39,6 +83,35 @@ uint32_t ribjasper_version(void);
 #define RIBJASPER_PIXELS 64800 /* all of them, row by row from the top, each row from the left */
 #define RIBJASPER_COLOURS 16   /* colours of the table */
 #define RIBJASPER_PICTURE 194400 /* bytes of a picture: red, green and blue of each pixel, 17 times their four bits */
+#define RIBJASPER_WINDOW_LEFT 6     /* the window, which shows the memory: its first pixel from the left, */
+#define RIBJASPER_WINDOW_TOP 12     /* its first row from the top, */
+#define RIBJASPER_WINDOW_WIDTH 288  /* and its pixels across */
+#define RIBJASPER_WINDOW_HEIGHT 192 /* and down; around it lies the border */
+#define RIBJASPER_TILE_WIDTH 6      /* pixels of a tile across */
+#define RIBJASPER_TILE_HEIGHT 12    /* and down */
+#define RIBJASPER_TILE_COLUMNS 50   /* tiles of the memory across */
+#define RIBJASPER_TILE_ROWS 18      /* and down */
+
+#define RIBJASPER_PACK 24               /* bytes of a pack */
+#define RIBJASPER_SECTOR 2448           /* bytes of a sector: audio and a raw block */
+#define RIBJASPER_PACKS_A_BLOCK 4       /* packs that come with a block */
+#define RIBJASPER_BLOCKS_A_SECOND 75    /* blocks of a second */
+#define RIBJASPER_PACKS_A_SECOND 300    /* and packs */
+#define RIBJASPER_PACKS_BEHIND 7        /* packs of the last blocks that are not whole yet: the picture is so far behind */
+#define RIBJASPER_MOST_LEAD_IN 450000   /* blocks of a lead-in */
+#define RIBJASPER_MOST_AUDIO 449999     /* blocks of the audio of a plan */
+#define RIBJASPER_MOST_BLOCKS 1000000   /* blocks of a whole stream */
+#define RIBJASPER_MOST_TEXT 67108864    /* bytes of a sheet or a script */
+#define RIBJASPER_MOST_SHEET_ROWS 9900  /* index lines of a sheet */
+#define RIBJASPER_MOST_TEXTS 1048576    /* bytes of the texts of a lead-in */
+
+/* How many blocks and packs are whole after so many milliseconds, from the first block on. */
+uint32_t ribjasper_blocks_after(uint32_t milliseconds);
+uint32_t ribjasper_packs_after(uint32_t milliseconds);
+
+/* The fewest milliseconds after which so many blocks or packs are whole. */
+uint64_t ribjasper_time_of_blocks(uint32_t blocks);
+uint64_t ribjasper_time_of_packs(uint32_t packs);
 
 /* The forms of a stream: raw blocks; packs of 24 bytes that are gathered already, four a block of 96; or, of a whole
    stream alone, sectors of 2,448 bytes, each 2,352 bytes of audio and a raw block. */
@@ -46,8 +119,8 @@ uint32_t ribjasper_version(void);
 #define RIBJASPER_PACKS 1
 #define RIBJASPER_SECTORS 2
 
-/* A player. Begin with RIBJASPER_CLOSED, or with memory of zeros, which is a closed player too; never copy an open one, nor
-   change it but by these calls. */
+/* A player. Begin with RIBJASPER_CLOSED, or with memory of zeros, as that of a static variable, which is a closed player
+   too; never use two copies of an open one, nor change it but by these calls. */
 typedef struct ribjasper_player {
     struct {
         void *at;
@@ -55,11 +128,18 @@ typedef struct ribjasper_player {
     bool is_open;
 } ribjasper_player;
 
+/* A closed player, to begin with: `ribjasper_player player = RIBJASPER_CLOSED;`, also of a static one. The second is a value
+   in C, which can be assigned to one that is closed: `player = RIBJASPER_CLOSED_PLAYER;`. */
 #define RIBJASPER_CLOSED { { NULL }, false }
+#ifndef __cplusplus
+#define RIBJASPER_CLOSED_PLAYER ((ribjasper_player) RIBJASPER_CLOSED)
+#else
+#define RIBJASPER_CLOSED_PLAYER (ribjasper_player RIBJASPER_CLOSED)
+#endif
 
 /* Opens a player of a raw stream with no lead-in; refused where memory is short, and for nothing else. One that is open
    already keeps its memory and begins anew, and is never refused. */
-int32_t ribjasper_player_open(ribjasper_player *player);
+RIBJASPER_NODISCARD int32_t ribjasper_player_open(ribjasper_player *player);
 
 /* Closes a player and frees what it holds; a closed one stays closed. Each open player must be closed once at last. */
 void ribjasper_player_close(ribjasper_player *player);
@@ -69,11 +149,13 @@ void ribjasper_player_close(ribjasper_player *player);
 int32_t ribjasper_player_begin(ribjasper_player *player, uint32_t form, uint32_t lead_in);
 
 /* Feeds an open player the next block of the stream, 96 bytes, and draws the packs that came with it, each read as the
-   codeword near it. A player draws for as long as it is fed. */
+   codeword near it; one with no codeword near draws nothing. The symbols of a pack lie in three blocks, so the last seven
+   packs of the blocks that were fed (RIBJASPER_PACKS_BEHIND) are not drawn yet: the picture is 23 milliseconds behind. Of
+   RIBJASPER_PACKS none is held back. A player draws for as long as it is fed. */
 int32_t ribjasper_player_feed(ribjasper_player *player, const uint8_t block[RIBJASPER_BLOCK]);
 
 /* A pack as it was read: its 24 symbols (6 bits each), and how many of them were wrong and were corrected, 0 to 2; or
-   -1 where no codeword is near, and the symbols are as they were read. */
+   -1 where no codeword is near, and the symbols are as they were read: such a pack draws nothing. */
 typedef struct ribjasper_pack {
     uint8_t symbols[24];
     int32_t wrong;
@@ -88,6 +170,38 @@ int32_t ribjasper_player_take(ribjasper_player *player, const uint8_t block[RIBJ
    has no part in it. Blocks and packs may come in any order: what stands is what all of them draw, in turn, since begin.
    The stream of blocks goes on as if the pack were not there. */
 int32_t ribjasper_player_draw(ribjasper_player *player, const uint8_t pack[24]);
+
+/* What of the screen may have changed: the pixels from `left` to `right` - 1 of the rows `top` to `bottom` - 1, none where
+   `left` is 300; and whether colours of the table or levels may have changed (1 or 0), by which any pixel may look
+   otherwise, though its number is the same. Nothing else changed. */
+typedef struct ribjasper_change {
+    uint32_t left;
+    uint32_t top;
+    uint32_t right;
+    uint32_t bottom;
+    uint8_t colours;
+    uint8_t levels;
+} ribjasper_change;
+
+/* Feeds an open player `count` blocks, one after another at `blocks`, and writes what of the screen may have changed: the
+   least rectangle that holds the tiles that were drawn, the window where the memory was cleared or moved, and the border
+   where it was set. */
+int32_t ribjasper_player_feed_all(ribjasper_player *player, const uint8_t *blocks, size_t count, ribjasper_change *change);
+
+/* Draws `count` packs of 24 bytes, one after another at `packs`, and writes what may have changed, as the call above. */
+int32_t ribjasper_player_draw_all(ribjasper_player *player, const uint8_t *packs, size_t count, ribjasper_change *change);
+
+/* What a player counts since it began, or since the checkpoint that it was brought to: the packs that came (`words`), its
+   form and lead-in, the blocks that came, and how many of the packs have no codeword near. Packs that are drawn are not
+   counted. Blocks and bad packs stay at 4,294,967,295. */
+typedef struct ribjasper_counts {
+    uint64_t words;
+    uint32_t form;
+    uint32_t lead_in;
+    uint32_t blocks;
+    uint32_t bad;
+} ribjasper_counts;
+int32_t ribjasper_player_counts(const ribjasper_player *player, ribjasper_counts *counts);
 
 /* Writes the number of the colour, 0 to 15, of the pixel `x` from the left (0 to 299), `y` from the top (0 to 215). */
 int32_t ribjasper_player_pixel(const ribjasper_player *player, uint32_t x, uint32_t y, uint8_t *pixel);
@@ -104,6 +218,23 @@ int32_t ribjasper_player_rect(const ribjasper_player *player, uint32_t x, uint32
 
 /* Writes red, green and blue of all pixels of the screen; those of pixel (x, y) begin at byte 3 (300 y + x). */
 int32_t ribjasper_player_picture(const ribjasper_player *player, uint8_t bytes[RIBJASPER_PICTURE]);
+
+/* How a pixel is written by the call below, by bytes from the first. Opacity is 255 - (4 L + L / 16) of the level L of the
+   pixel's colour: level 0 is opaque (255), level 63 clear (0). */
+#define RIBJASPER_INDEXED 0     /* 1 byte: the number of its colour */
+#define RIBJASPER_RGB 1         /* 3 bytes: red, green, blue, each 17 times four bits */
+#define RIBJASPER_RGBA 2        /* 4 bytes: red, green, blue, 255 */
+#define RIBJASPER_BGRA 3        /* 4 bytes: blue, green, red, 255 */
+#define RIBJASPER_RGBA_LEVELS 4 /* 4 bytes: red, green, blue, opacity */
+#define RIBJASPER_BGRA_LEVELS 5 /* 4 bytes: blue, green, red, opacity */
+#define RIBJASPER_RGB565 6      /* 2 bytes, the low one first: the highest 5 bits of red, 6 of green, 5 of blue */
+
+/* Writes the `width` pixels from `x` and the `height` rows from `y` of the screen, in one of these formats, into the `room`
+   bytes at `out`: row j begins `stride` times j bytes from the front, and what is between the rows is left as it was.
+   Refused where there is no such format, x + width is above 300, y + height above 216, `stride` below the bytes of a row,
+   or where the last row ends past the room. */
+int32_t ribjasper_player_pixels(const ribjasper_player *player, uint32_t format, uint32_t x, uint32_t y, uint32_t width,
+                                uint32_t height, uint8_t *out, size_t room, uint32_t stride);
 
 /* Writes colour `k` of the table, 0 to 15, as 0xRGB: four bits each of red, green and blue. */
 int32_t ribjasper_player_colour(const ribjasper_player *player, uint8_t k, uint16_t *colour);
@@ -128,16 +259,16 @@ int32_t ribjasper_player_offsets(const ribjasper_player *player, uint8_t *across
    what stands. Refused where the form is RIBJASPER_PACKS, or more than 1,000,000 blocks came since it began; packs that
    were drawn are not counted. It asks malloc for 65,046 bytes, and answers RIBJASPER_NO_MEMORY where it is refused
    them; it frees them before it returns. Where it is not done nothing is written. */
-int32_t ribjasper_player_save(const ribjasper_player *player, uint8_t file[RIBJASPER_CHECKPOINT]);
+RIBJASPER_NODISCARD int32_t ribjasper_player_save(const ribjasper_player *player, uint8_t file[RIBJASPER_CHECKPOINT]);
 
 /* Brings an open player to where a file was saved, in a stream of the form RIBJASPER_RAW: blocks that come from now on
    go on from there, and show what they would show after the player that was saved. Where the bytes are no checkpoint's
    it answers RIBJASPER_NO_CHECKPOINT, and writes the first byte of the first field that is out of its range. It asks for
    memory as the call above. Where it is not done the player stays as it is. */
-int32_t ribjasper_player_load(ribjasper_player *player, const uint8_t file[RIBJASPER_CHECKPOINT], uint32_t *byte);
+RIBJASPER_NODISCARD int32_t ribjasper_player_load(ribjasper_player *player, const uint8_t file[RIBJASPER_CHECKPOINT], uint32_t *byte);
 
 /* Makes an open player show and gather from now on what another open player does, in any form and after any number of
-   blocks. The other stays as it is. It asks for no memory. */
+   blocks. The other stays as it is. It asks for no memory. Refused where both are one player, which stays as it is. */
 int32_t ribjasper_player_copy(const ribjasper_player *from, ribjasper_player *to);
 
 /* What the instruction of a pack of 24 bytes touches, whatever stands: 50 times the row and the column of a tile of the
@@ -151,6 +282,17 @@ int32_t ribjasper_player_copy(const ribjasper_player *from, ribjasper_player *to
 #define RIBJASPER_TOUCHES_COLOURS 903 /* colours of the table */
 #define RIBJASPER_TOUCHES_LEVELS 904
 int32_t ribjasper_pack_touches(const uint8_t pack[24]);
+
+/* Writes what may change on the screen where a pack of 24 bytes is drawn while the offsets are `across` and `down`, as
+   ribjasper_player_offsets gives them. A tile at row r and column c is shown from x = max(6, 6 c - across) to
+   min(293, 6 c + 5 - across), and from y = max(12, 12 r - down) to min(203, 12 r + 11 - down). Refused where `across` is
+   above 5 or `down` above 11. */
+int32_t ribjasper_pack_change(const uint8_t pack[24], uint8_t across, uint8_t down, ribjasper_change *change);
+
+/* The fewest packs that draw a tile of these numbers of colours, row by row, whatever it showed before (and none is needed
+   where it is of one colour and shows that already): 1 to 4. -1 where a number is above 15. Which colours stand in the
+   tile decides, and not where. */
+int32_t ribjasper_tile_weight(const uint8_t pixels[72]);
 
 /* A word of 24 symbols, the low six bits of the bytes: writes the codeword near it and returns how many symbols are
    wrong (0 to 2), or returns -1 and writes nothing where none is near. */
@@ -193,10 +335,10 @@ typedef struct ribjasper_q_frame {
 /* Reads the twelve bytes of a frame: writes it and returns RIBJASPER_DONE; or returns RIBJASPER_BAD_CHECK where the last
    sixteen bits are not the check of the others; or else writes the first bit (0 to 95) of the first field that is out
    of its range, and returns RIBJASPER_BAD_FIELD. */
-int32_t ribjasper_q_decode(const uint8_t bytes[12], ribjasper_q_frame *frame, uint8_t *bit);
+RIBJASPER_NODISCARD int32_t ribjasper_q_decode(const uint8_t bytes[12], ribjasper_q_frame *frame, uint8_t *bit);
 
 /* Writes the twelve bytes of a frame, or returns RIBJASPER_REFUSED where a field has a value that it cannot have. */
-int32_t ribjasper_q_encode(const ribjasper_q_frame *frame, uint8_t bytes[12]);
+RIBJASPER_NODISCARD int32_t ribjasper_q_encode(const ribjasper_q_frame *frame, uint8_t bytes[12]);
 
 /* Writes the planar form of a raw block: twelve bytes for each channel from P to W, the first bit the highest. Channel Q
    is bytes 12 to 23, as ribjasper_q_decode takes them. */
@@ -226,7 +368,7 @@ typedef struct ribjasper_converted {
    are RIBJASPER_PACKS. The first of the answers above that fits is given: the numbers are judged before the stream's
    length, and this before the room, so 0 and 1 are answered of whole units alone. Where it answers neither 0 nor 1
    nothing is written. It asks for no memory. */
-int32_t ribjasper_convert(const uint8_t *stream, size_t length, uint32_t form, uint32_t lead_in, uint8_t *packs,
+RIBJASPER_NODISCARD int32_t ribjasper_convert(const uint8_t *stream, size_t length, uint32_t form, uint32_t lead_in, uint8_t *packs,
                           size_t room, ribjasper_converted *told);
 
 /* Two readings of one disc, of which one may be noise. */
@@ -307,9 +449,49 @@ typedef struct ribjasper_planned {
    disc has the cue sheet and the script of these bytes, a lead-in of `lead_in` blocks and an audio of `audio` blocks. A
    row speaks of its picture alone, whether those before it are late or not; the first one that is late is what `author`
    tells. Memory is asked of malloc, and freed before the call returns. */
-int32_t ribjasper_plan(const uint8_t *sheet, size_t sheet_length, const uint8_t *script, size_t script_length,
+RIBJASPER_NODISCARD int32_t ribjasper_plan(const uint8_t *sheet, size_t sheet_length, const uint8_t *script, size_t script_length,
                        uint32_t lead_in, uint32_t audio, ribjasper_plan_row *rows, size_t room,
                        ribjasper_planned *told);
+
+/* An index line of a cue sheet, with what the sheet says of its track. Times are blocks, 75 a second, below 450,000. */
+typedef struct ribjasper_sheet_row {
+    uint32_t time;    /* its time in the file */
+    uint32_t pregap;  /* the silence before its track */
+    uint32_t postgap; /* the silence behind its track */
+    uint8_t track;    /* the number of its track, 1 to 99 */
+    uint8_t index;    /* its number, 0 to 99 */
+    uint8_t control;  /* of its track: 8 four channels, 2 copying permitted, 1 pre-emphasis */
+    uint8_t has_isrc; /* 1 where its track has a recording code, or 0 */
+    uint8_t isrc[12]; /* the code, or zeros */
+} ribjasper_sheet_row;
+
+/* What is told of a cue sheet; where it is refused, its first line that is, and all else is 0. */
+typedef struct ribjasper_sheet_told {
+    uint32_t rows;         /* how many index lines it has, at most 9,900 */
+    uint32_t tracks;       /* how many tracks it has, 1 to 99 */
+    uint32_t line;         /* the line that is refused, from 1, the end as the line after the last; or 0 */
+    uint32_t why;          /* the reason, by the numbers at RIBJASPER_SHEET_REFUSED; or 0 */
+    uint8_t has_catalogue; /* 1 where it has a catalogue number, or 0 */
+    uint8_t catalogue[13]; /* its digits in ASCII, or zeros */
+} ribjasper_sheet_told;
+
+/* Writes a row for each index line of the cue sheet of `length` bytes, in its order, to the front of the `room` rows at
+   `rows`. Answers RIBJASPER_CONVERTED; RIBJASPER_USAGE where the sheet has more than 67,108,864 bytes; RIBJASPER_TORN
+   where a line is refused: `told` says which; RIBJASPER_NO_ROOM where there are fewer rows than index lines: `told` says
+   how many there are, and all else; or RIBJASPER_NO_MEMORY. Memory is asked of malloc, and freed before it returns. */
+RIBJASPER_NODISCARD int32_t ribjasper_sheet(const uint8_t *sheet, size_t length, ribjasper_sheet_row *rows, size_t room,
+                                            ribjasper_sheet_told *told);
+
+/* The kinds of texts of a cue sheet. */
+#define RIBJASPER_TITLE 0
+#define RIBJASPER_PERFORMER 1
+#define RIBJASPER_SONGWRITER 2
+
+/* Writes a text of a cue sheet to the front of the `room` bytes at `out`, and its length, which is 0 where none is given:
+   at place 0 that of the album, at place k that of the k-th track. Answers as the call above; RIBJASPER_USAGE also where
+   there is no such kind or place; and RIBJASPER_NO_ROOM where the text is longer than the room: then `bytes` is written. */
+RIBJASPER_NODISCARD int32_t ribjasper_sheet_text(const uint8_t *sheet, size_t length, uint32_t kind, uint32_t place,
+                                                 uint8_t *out, size_t room, uint32_t *bytes);
 
 /* What stands in each block of a stream, and what a lead-in holds. */
 
@@ -346,7 +528,7 @@ typedef struct ribjasper_surveyed {
    the front of the `room` rows at `rows`. It asks for no memory. Answers RIBJASPER_CONVERTED, or else, whichever holds
    first: RIBJASPER_USAGE; RIBJASPER_TORN, here only where there are more than 1,000,000 whole blocks;
    RIBJASPER_NO_ROOM where there are more blocks than rows. Then nothing is written. */
-int32_t ribjasper_survey(const uint8_t *stream, size_t length, uint32_t form, uint32_t lead_in, ribjasper_row *rows,
+RIBJASPER_NODISCARD int32_t ribjasper_survey(const uint8_t *stream, size_t length, uint32_t form, uint32_t lead_in, ribjasper_row *rows,
                          size_t room, ribjasper_surveyed *told);
 
 /* Writes the four CD-TEXT packs of a block of the lead-in, eighteen bytes each, one after another: the six bits of its
@@ -371,7 +553,7 @@ typedef struct ribjasper_listed {
    RIBJASPER_TORN; RIBJASPER_NO_ROOM; RIBJASPER_NO_MEMORY (it asks for the room of the texts and a mebibyte for their
    lines, and frees all of it); or one of the three above. `out` is written where it answers RIBJASPER_CONVERTED, and
    `told` there and where the texts are refused; else nothing is. */
-int32_t ribjasper_texts(const uint8_t *stream, size_t length, uint32_t form, uint32_t lead_in, uint8_t *out, size_t room,
+RIBJASPER_NODISCARD int32_t ribjasper_texts(const uint8_t *stream, size_t length, uint32_t form, uint32_t lead_in, uint8_t *out, size_t room,
                         ribjasper_listed *told);
 
 #ifdef __cplusplus

@@ -13,8 +13,8 @@ trap 'rm -rf "$work"' EXIT
 make --no-print-directory -s install DESTDIR="$work/all" PREFIX=/usr LIBDIR=/usr/lib
 
 # package NAME SUMMARY DEPENDS FILE..: moves these files of what was installed into a package. `built_for` is what runs
-# it, and `recommends` what it can do without.
-built_for=$architecture recommends=
+# it, `recommends` what it can do without, and `warrant` what it can be trusted for.
+built_for=$architecture recommends= warrant="Its functions are proved."
 package() {
     name=$1 summary=$2 depends=$3
     shift 3
@@ -35,7 +35,7 @@ package() {
         [ -z "$recommends" ] || echo "Recommends: $recommends"
         echo "Installed-Size: $(du -sk "$room" | cut -f1)"
         echo "Description: $summary"
-        echo " Ribjasper works on the subcode channels P to W of the Compact Disc. Its functions are proved."
+        echo " Ribjasper works on the subcode channels P to W of the Compact Disc. $warrant"
     } >"$room/DEBIAN/control"
     mkdir -p deb
     dpkg-deb --root-owner-group --build "$room" "deb/${name}_${version}_$built_for.deb" >/dev/null
@@ -57,6 +57,7 @@ if [ -e "$work/all/usr/lib/libribjasper.so.0" ]; then
         >"$work/ribjasper-desk/DEBIAN/postinst"
     printf '#!/bin/sh\nset -e\npy3clean -p ribjasper-desk\n' >"$work/ribjasper-desk/DEBIAN/prerm"
     chmod 755 "$work/ribjasper-desk/DEBIAN/postinst" "$work/ribjasper-desk/DEBIAN/prerm"
+    warrant="Its desk is tested; what it says of subcode comes of proved functions."
     built_for=all recommends="ribjasper, python3-pil, python3-tqdm, python3-distributed, ffmpeg, fonts-dejavu-core"
     package ribjasper-desk "whole jobs over dumps and songs of the subcode of Compact Discs" \
         "libribjasper0 (= $version), python3 (>= 3.11)" \

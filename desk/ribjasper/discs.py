@@ -46,6 +46,13 @@ class Disc:
     def blocks(self) -> int:
         return len(self.stream) // BLOCK - self.lead_in
 
+    def silence(self) -> set[int]:
+        """The blocks whose sound no file has: before each track that has a pregap, of the first one behind the pause, and
+        behind each that has a postgap."""
+        befores = (range(max(track.begin, PAUSE), max(track.begin, PAUSE) + track.pregap) for track in self.tracks)
+        behinds = (range(track.end - track.postgap, track.end) for track in self.tracks)
+        return {block for gap in (*befores, *behinds) for block in gap}
+
     def block(self, number: int) -> bytes:
         at = BLOCK * (self.lead_in + number)
         return self.stream[at : at + BLOCK]

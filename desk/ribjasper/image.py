@@ -107,9 +107,7 @@ class Late(Exception):
 
 def sectors(disc: Disc, program: bytes, path: Path) -> Iterator[bytes]:
     """The sectors of the image: audio, or silence where the sheet has a gap, and the block."""
-    silent = {block for track in disc.tracks
-              for block in [*range(track.begin, track.begin + track.pregap),
-                            *range(track.end - track.postgap, track.end)]}
+    silent = disc.silence()
     samples = audio.sectors(path)
     silence = bytes(audio.SECTOR_AUDIO)
     for number in range(PAUSE, disc.blocks):

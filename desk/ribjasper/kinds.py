@@ -6,6 +6,8 @@ from typing import Callable, NamedTuple
 # So many of a file's first bytes are looked at.
 LOOKED_AT = 1 << 16
 PNG_MARK = b"\x89PNG\r\n\x1a\n"
+# What the pages of the desk have near their beginning.
+PAGE_MARK = b'<meta name="generator" content="ribjasper-desk">'
 
 
 class Kind(NamedTuple):
@@ -15,6 +17,10 @@ class Kind(NamedTuple):
     name: str
     looks: Callable[[bytes, int], bool] | None = None
     endings: tuple[str, ...] = ()
+
+    @property
+    def can_be_known(self) -> bool:
+        return self.looks is not None or bool(self.endings)
 
     def has(self, path: str) -> bool:
         """Whether a file is of this kind, or holds nothing."""
@@ -71,7 +77,7 @@ TEXT_PACKS = Kind("a file of text packs", _is_text_packs)
 FILM = Kind("a film", _is_film)
 TABLE = Kind("a table of a report", begins(b"file\tstatus\t"))
 ROWS = Kind("the rows of a report", begins(b'{"file": '))
-PAGE = Kind("a page", begins(b"<!DOCTYPE html>"))
+PAGE = Kind("a page of the desk", lambda head, _: PAGE_MARK in head[:1000])
 ALBUM = Kind("a list of songs", lines_like(rb"#.*|\[\[track\]\]|[a-z]+[ \t]*=.*"), (".toml",))
 ZIP = Kind("a ZIP file", begins(b"PK\3\4"))
 # A sound that is there already may be the only one of its kind.

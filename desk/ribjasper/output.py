@@ -208,8 +208,10 @@ class Target:
         if not mode & WRITABLE or not os.access(self.path, os.W_OK):
             return "is write-protected; --force replaces it"
         with reading(self.name):
-            is_kind = kind.has(self.path)
-        return None if is_kind else f"is there already and is not {kind.name}; --force replaces it"
+            if kind.has(self.path):
+                return None
+        why = f"is not {kind.name}" if kind.can_be_known else f"nobody can tell whether {kind.name} can be made again"
+        return f"is there already, and {why}; --force replaces it"
 
 
 def _found(path: str) -> os.stat_result | None:

@@ -117,7 +117,7 @@ def program(*words: Word, stdin: bytes = b"", statuses: tuple[int, ...] = (0,)) 
     assert PROGRAM is not None
     ran = subprocess.run([PROGRAM, *map(str, words)], input=stdin, capture_output=True)
     if ran.returncode not in statuses:
-        raise AssertionError(f"{words}: {ran.returncode} {ran.stderr.decode()}")
+        raise subprocess.CalledProcessError(ran.returncode, ran.args, ran.stdout, ran.stderr)
     return ran.stdout
 
 

@@ -49,9 +49,10 @@ SHEET = (b'PERFORMER "The Lead-Ins"\nTITLE "All"\nFILE "a.wav" WAVE\n  TRACK 01 
          b"    INDEX 00 00:00:00\n    INDEX 01 00:00:40\n  TRACK 02 AUDIO\n    PREGAP 00:00:10\n    INDEX 01 00:02:00\n")
 ONE_TRACK = b'FILE "a.wav" WAVE\nTRACK 01 AUDIO\nINDEX 01 00:00:00\n'
 SCRIPT = b"colour 1 0F00\nrect 0 0 20 20 1\nshow 00:02:40 00:03:00\nfill 0\nrow 3 3 0123\nshow 00:05:00 00:06:00\n"
-LRC = b"[ti:A song]\n[ar:Somebody]\n[00:04.00]<00:04.10>One <00:04.60>two\n[00:06.00]Three four\n[00:07.00]\n"
+LRC = b"[ti:A song]\n[ar:Somebody]\n[00:01.00]<00:01.10>One <00:01.60>two\n[00:02.00]Three four\n[00:03.00]\n"
 ASS = (b"[Script Info]\nTitle: Two\n[Events]\nFormat: Layer, Start, End, Style, Name, MarginL, MarginR, MarginV, Effect, Text\n"
-       b"Dialogue: 0,0:00:05.00,0:00:08.00,Default,,0,0,0,,{\\k50}One, {\\kf70}two\\N{\\k30}three\n")
+       b"Dialogue: 0,0:00:01.00,0:00:03.00,Default,,0,0,0,,{\\k50}One, {\\kf70}two\\N{\\k30}three\n")
+ALBUM = (b'title = "All"\nsinger = "Somebody"\ngap = 1\n[[track]]\nlyrics = "in-1"\nsound = "in-2"\ntitle = "One"\nsinger = ""\n')
 JOURNAL = b'{"stamp": "1 1.1.0 True 5 5 5", "row": {"file": "x", "status": "good", "form": null, "texts": null, "why": null}}\n'
 
 
@@ -74,6 +75,7 @@ def samples() -> dict[str, tuple[bytes, ...]]:
         "packs": (text_packs(), text_packs() + b"\0", b"\0\x24\0\0" + text_packs()[:34]),
         "journal": (JOURNAL, b'{"stamp": 3, "row": []}\n'),
         "font": (b"no font",),
+        "album": (ALBUM, ALBUM.replace(b"gap = 1", b"gap = 1e400"), ALBUM + b'title = "\\q"\n'),
     }
 
 
@@ -120,32 +122,38 @@ def spoiled(draw: st.DrawFn, content: bytes) -> bytes:
     return content
 
 
-def an_input(draw: st.DrawFn, kind: str) -> bytes:
-    """An input of a kind, sometimes of another."""
+def an_input(draw: st.DrawFn, kind: str, is_careful: bool) -> bytes:
+    """An input of a kind; where nobody takes care it is spoiled, and sometimes of another kind."""
     known = samples()
+    if is_careful:
+        return draw(st.sampled_from((known[kind][0],) * 3 + known[kind]))
     kinds = st.sampled_from(sorted(known)) if draw(st.integers(0, 9)) == 0 else st.just(kind)
     return spoiled(draw, draw(st.sampled_from(known[draw(kinds)])))
 
 
 class Option(NamedTuple):
-    """An option: its word, what its value is, and the kind of a file."""
+    """An option: its word, what its value may be, the right ones first, and the kind of a file."""
 
     word: str
     values: tuple[str, ...] = ()
     reads: str = ""
     writes: bool = False
+    is_needed: bool = False
 
 
 class Command(NamedTuple):
     words: tuple[str, ...]
+    # The kinds of its inputs; one that begins with ~ is named by another.
     inputs: tuple[str, ...]
     options: tuple[Option, ...]
     # How often it is tried: those that take long seldom.
     share: int = 4
 
 
-NUMBERS = ("0", "1", "2", "5", "30", "150", "-1", "", "x", "1.5", "nan", "1e999", "999999999999999999999", "٣")
-TIMES = ("00:04:00", "00:22:00", "00:00:00", "99:59:74", "1:2:3", "00:60:00", "x")
+# Of the values of an option so many are right.
+RIGHT = 2
+NUMBERS = ("5", "12", "0", "1", "2", "30", "150", "-1", "", "x", "1.5", "nan", "1e999", "999999999999999999999", "٣")
+TIMES = ("00:22:00", "00:10:00", "00:04:00", "00:00:00", "99:59:74", "1:2:3", "00:60:00", "x")
 LEAD_IN = Option("--lead-in", NUMBERS)
 FORCE = Option("--force")
 COMMANDS = (
@@ -157,17 +165,22 @@ COMMANDS = (
     Command(("sheet",), ("dump",), (Option("-o", writes=True), LEAD_IN, FORCE)),
     Command(("texts",), ("dump",), (Option("--packs", writes=True), Option("--header"), LEAD_IN, FORCE)),
     Command(("texts", "--back"), ("packs",), (Option("--blocks", writes=True), FORCE)),
-    Command(("plan",), ("sheet", "script"), (Option("--length", TIMES), Option("--chart", writes=True),
+    Command(("plan",), ("sheet", "script"), (Option("--length", TIMES, is_needed=True), Option("--chart", writes=True),
                                              Option("--latin-1", writes=True), Option("--audio", reads="audio"), FORCE)),
     Command(("picture",), ("image",), (Option("-o", writes=True), Option("--colours", NUMBERS), Option("--first", NUMBERS),
-                                       Option("--at", ("0,0", "47,15", "48,0", "x", "1")), Option("--simple", NUMBERS),
+                                       Option("--at", ("0,0", "40,10", "47,15", "48,0", "x", "1")), Option("--simple", NUMBERS),
                                        Option("--dither"), FORCE), 1),
     Command(("lyrics",), ("lyrics",), (Option("-o", writes=True), Option("--size", NUMBERS), Option("--sweep"),
                                        Option("--font", reads="font"), Option("--audio", reads="audio"), FORCE), 1),
-    Command(("image",), ("sheet", "stream"), (Option("--audio", reads="audio"), Option("-o", writes=True), Option("--latin-1"),
+    Command(("image",), ("sheet", "stream"), (Option("--audio", reads="audio", is_needed=True), Option("-o", writes=True), Option("--latin-1"),
                                               Option("--hold-through-pause", reads="script"), FORCE), 2),
     Command(("film",), ("cdg",), (Option("--stills", writes=True), Option("--rate", NUMBERS), Option("--every", NUMBERS),
                                   Option("--audio", reads="audio"), FORCE), 2),
+    Command(("album",), ("album", "~lyrics", "~audio"), (Option("-o", writes=True), FORCE), 1),
+    Command(("album", "--new"), ("lyrics", "lyrics"), (Option("-o", writes=True), FORCE), 1),
+    Command(("pair",), ("lyrics",), (Option("--audio", reads="audio", is_needed=True), Option("-o", writes=True),
+                                     Option("--zip"), Option("--karaoke-cd"), FORCE), 1),
+    Command(("look",), ("lyrics",), (Option("--audio", reads="audio", is_needed=True), Option("-o", writes=True), FORCE), 1),
     Command(("report", "--jobs", "1", "--no-pictures"), ("folder",), (Option("-o", writes=True), FORCE), 1),
 )
 # Where an output may be.
@@ -182,25 +195,38 @@ class Made(NamedTuple):
     inputs: dict[str, bytes]
     outputs: tuple[str, ...]
 
+    def __repr__(self) -> str:
+        """The words, and of each input its length, its checksum and its beginning; KEEP is a folder where they are left."""
+        if keep := os.environ.get("KEEP"):
+            for name, content in self.inputs.items():
+                (Path(keep) / name.replace("/", "-")).write_bytes(content)
+        told = {name: (len(content), zlib.crc32(content), content[:40]) for name, content in self.inputs.items()}
+        return f"{' '.join(self.words)} {told}"
+
 
 @st.composite
 def calls(draw: st.DrawFn, commands: tuple[Command, ...] = COMMANDS) -> Made:
     command = draw(st.sampled_from([one for one in commands for _ in range(one.share)]))
+    # How much of a call is as it should be: all, but for one input or word, or nothing.
+    care = draw(st.sampled_from((9, 9, 7, 0)))
     inputs: dict[str, bytes] = {}
     outputs: list[str] = []
     words = list(command.words)
 
+    def is_careful() -> bool:
+        return draw(st.integers(0, 9)) <= care
+
     def read(kind: str) -> str:
         if kind == "folder":
             for number in range(draw(st.integers(0, 3))):
-                inputs[f"dumps/{number}"] = an_input(draw, draw(st.sampled_from(("dump", "cdg", "journal"))))
+                inputs[f"dumps/{number}"] = an_input(draw, draw(st.sampled_from(("dump", "cdg", "journal"))), is_careful())
             return "@dumps"
         name = f"in-{len(inputs)}"
-        inputs[name] = an_input(draw, kind)
-        return draw(st.sampled_from((f"@{name}",) * 12 + ("@none", "@folder", "@notes", "@null")))
+        inputs[name] = an_input(draw, kind, is_careful())
+        return f"@{name}" if is_careful() else draw(st.sampled_from((f"@{name}",) * 6 + ("@none", "@folder", "@notes", "@null")))
 
     def written() -> str:
-        place = draw(st.sampled_from(PLACES))
+        place = "new" if is_careful() else draw(st.sampled_from(PLACES))
         if place == "input" and inputs:
             place = draw(st.sampled_from(sorted(inputs)))
         elif place == "new":
@@ -208,16 +234,18 @@ def calls(draw: st.DrawFn, commands: tuple[Command, ...] = COMMANDS) -> Made:
         outputs.append(place)
         return place if place in ("-", "") else f"@{place}"
 
-    words += [read(kind) for kind in command.inputs]
+    for kind in command.inputs:
+        name = read(kind.removeprefix("~"))
+        words += [name] * (not kind.startswith("~"))
     for option in command.options:
-        if draw(st.integers(0, 9)) < (9 if option.writes else 3 if option.word != "--length" else 8):
+        if draw(st.integers(0, 9)) < (9 if option.writes or option.is_needed else 2):
             words.append(option.word)
             if option.writes:
                 words.append(written())
             elif option.reads:
                 words.append(read(option.reads))
             elif option.values:
-                words.append(draw(st.sampled_from(option.values)))
+                words.append(draw(st.sampled_from(option.values[:RIGHT] if is_careful() else option.values)))
     return Made(tuple(words), inputs, tuple(outputs))
 
 
@@ -254,7 +282,7 @@ def state(folder: Path) -> dict[str, tuple[object, ...]]:
 
 
 # The names under which outputs of a call may appear.
-ENDINGS = ("", ".bin", ".toc", ".cue")
+ENDINGS = ("", ".bin", ".toc", ".cue", ".raw", "-sheet.cue", "-01.script", ".cdg", ".zip", ".wav")
 REACHED = {"link": "target", "dangling": "nowhere", "link-to-input": "in-0"}
 
 
@@ -283,7 +311,8 @@ def check(call: Made) -> int:
     said = f"{words}\nended with {ran.status}\n{ran.told}"
     assert ran.status in STATUSES, said
     assert "Traceback" not in ran.told, said
-    if ran.status != 2:
+    # A table stands on standard error if standard output is an output.
+    if ran.status != 2 and "-" not in call.outputs:
         assert all(line.startswith(PREFIX) for line in ran.told.splitlines()), said
     if ran.status not in WRITES:
         # A report that was refused may have made its folder and what it read before.

@@ -1,14 +1,15 @@
 """Whatever goes wrong outside is a line that names the file, and a number of its own."""
 import errno
 import os
+import resource
 import struct
 import unittest
 import warnings
 import wave
-from pathlib import Path
+from typing import Callable
 from unittest import mock
 
-from fixtures import FolderTest, desk, needs_pillow
+from fixtures import FolderTest, Word, desk, needs_library, needs_pillow
 
 from ribjasper import main, output
 from ribjasper.failures import Failure, Fault, Missing, NoMemory, Refusal, Refusals, Several, Unwritten, failure_of, reading
@@ -104,6 +105,27 @@ def signal_comes() -> None:
         pass
 
 
+@needs_library
+class MemoryTest(FolderTest):
+    def test_a_process_that_is_given_little(self) -> None:
+        """Dumps of a whole disc, where there is memory for the desk and little more."""
+        dump = self.folder / "dump"
+        with open(dump, "wb") as file:
+            file.truncate(96_000_000)
+
+        def little() -> None:
+            resource.setrlimit(resource.RLIMIT_AS, (150 << 20, 150 << 20))
+
+        calls: tuple[tuple[Word, ...], ...] = (
+            ("identify", dump), ("damage", dump), ("mend", dump, dump, "-o", self.folder / "new.cdg"), ("texts", dump),
+            ("sheet", dump, "-o", self.folder / "new.cue"), ("film", dump, "--stills", self.folder / "new.png"))
+        for words in calls:
+            ran = desk(*words, preexec_fn=little)
+            told = f"ribjasper-desk: {dump}: there is not enough memory for it\n"
+            self.assertEqual((ran.status, ran.told), (7, told), words)
+            self.assertEqual(os.listdir(self.folder), ["dump"])
+
+
 class ReadTest(FolderTest):
     def test_a_file_that_changes_while_it_is_read(self) -> None:
         path = self.write("x", b"before")
@@ -111,7 +133,7 @@ class ReadTest(FolderTest):
 
         def opened(name: str, mode: str) -> object:
             file = real(name, mode)
-            read = file.read
+            read: Callable[[], bytes] = file.read
 
             def late() -> bytes:
                 with real(path, "ab") as other:

@@ -54,7 +54,7 @@ class SameFileTest(CallsTest):
         sheet, script = self.write("s.cue", b"TRACK"), self.write("s.script", b"show")
         wav = write_wav(self.folder / "s.wav", 100)
         toc = self.write("h.toc", b"script")
-        for words in (
+        calls: tuple[tuple[Word, ...], ...] = (
             ("mend", a, b, "-o", a), ("mend", a, b, "-o", b),
             ("sheet", dump, "-o", dump),
             ("damage", dump, "--map", dump),
@@ -70,8 +70,10 @@ class SameFileTest(CallsTest):
             ("image", sheet, a, "--audio", wav, "--hold-through-pause", toc, "-o", self.folder / "h"),
             ("image", sheet, a, "--audio", wav, "-o", self.folder / "s"),
             ("report", self.folder, "-o", self.folder),
-        ):
-            for force in ((), ("--force",)):
+        )
+        for words in calls:
+            forces: tuple[tuple[str, ...], ...] = ((), ("--force",))
+            for force in forces:
                 why = "is read here" if words[0] != "report" else "is the folder that is read"
                 told = self.refuses(*words, *force, why=why).told
                 self.assertEqual(len(told.splitlines()), 1, told)
@@ -94,10 +96,13 @@ class SameFileTest(CallsTest):
 
     def test_what_is_of_another_kind(self) -> None:
         dump, notes = self.write("x", b"dump"), self.write("notes", b"Dear diary,\n")
-        for words in (("sheet", dump, "-o", notes), ("damage", dump, "--map", notes), ("texts", dump, "--packs", notes),
-                      ("mend", dump, dump, "-o", notes), ("film", dump, "--stills", notes, "-o", notes.parent / "new"),
-                      ("film", dump, "-o", notes), ("texts", "--back", dump, "--blocks", notes)):
-            self.refuses(*words, why="is there already and is not")
+        calls: tuple[tuple[Word, ...], ...] = (
+            ("sheet", dump, "-o", notes), ("damage", dump, "--map", notes), ("texts", dump, "--packs", notes),
+            ("mend", dump, dump, "-o", notes), ("film", dump, "--stills", notes, "-o", notes.parent / "new"),
+            ("film", dump, "-o", notes))
+        for words in calls:
+            self.refuses(*words, why="is there already, and is not")
+        self.refuses("texts", "--back", dump, "--blocks", notes, why="is there already, and nobody can tell whether")
 
     def test_a_report_takes_a_folder_of_its_own(self) -> None:
         self.write("dumps/x", b"dump")
@@ -200,15 +205,17 @@ class OutputsTest(CallsTest):
         for name, words in self.calls(self.folder / "out.cdg").items():
             self.assertEqual(desk(*words).status, 0, name)
             if name == "back":
-                self.refuses(*words, why="is there already and is not a stream")
+                self.refuses(*words, why="nobody can tell whether a stream can be made again")
             self.assertEqual(desk(*words, *["--force"] * (name == "back")).status, 0, name)
             (self.folder / "out.cdg").unlink()
 
     def test_standard_output_that_takes_no_more(self) -> None:
         before = self.content()
         with open("/dev/full", "wb") as full:
-            for words in (("identify", self.dump), ("damage", self.dump), ("sheet", self.dump), ("--version",), ("--help",),
-                          ("mend", self.dump, self.dump, "-o", self.folder / "new.cdg")):
+            calls: tuple[tuple[Word, ...], ...] = (
+                ("identify", self.dump), ("damage", self.dump), ("sheet", self.dump), ("--version",), ("--help",),
+                ("mend", self.dump, self.dump, "-o", self.folder / "new.cdg"))
+            for words in calls:
                 ran = self.process(full, *words)
                 self.assertEqual((ran.status, ran.told.splitlines()[-1]),
                                  (6, "ribjasper-desk: standard output: no space left on device"))
@@ -243,7 +250,7 @@ class SeveralTest(CallsTest):
         self.refuses(*words, why="disc.cue: is a directory")
         (self.folder / "disc.cue").rmdir()
         notes = self.write("disc.toc", b"Dear diary,\n")
-        self.refuses(*words, why="disc.toc: is there already and is not a sheet for cdrdao")
+        self.refuses(*words, why="disc.toc: is there already, and is not a sheet for cdrdao")
         notes.unlink()
         self.assertEqual(desk(*words).status, 0)
         first = self.content()
@@ -263,7 +270,8 @@ class DrawnTest(CallsTest):
     @needs_font
     def test_lyrics_and_picture(self) -> None:
         lrc, image = self.write("s.lrc", LRC), self.write("l.png", png())
-        for words in (("lyrics", lrc), ("picture", image)):
+        calls: tuple[tuple[Word, ...], ...] = (("lyrics", lrc), ("picture", image))
+        for words in calls:
             out = self.folder / "out.script"
             self.assertEqual(desk(*words, "-o", out).status, 0)
             made = out.read_bytes()

@@ -3,7 +3,7 @@ import unittest
 
 from fixtures import needs, needs_library, needs_plan
 
-CASES = 2500
+CASES = 2000
 
 
 @needs_library

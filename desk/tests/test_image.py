@@ -158,6 +158,18 @@ class ImageTest(FolderTest):
         self.assertEqual((self.folder / "disc.toc").read_text(), 'CD_DA\n\n// Track 7\nTRACK AUDIO RW_RAW\nNO COPY\n'
                          'NO PRE_EMPHASIS\nTWO_CHANNEL_AUDIO\nDATAFILE "disc.bin" #0 00:22:00\n')
 
+    def test_a_first_track_with_a_gap(self) -> None:
+        """The gap of the first track comes behind the pause, which is not on the image."""
+        self.sheet = self.write("b.cue", 'FILE "a.wav" WAVE\nTRACK 01 AUDIO\nPREGAP 00:02:00\nINDEX 01 00:00:00\n')
+        self.stream = author(self.sheet, HELLO, "00:22:00", self.stream)
+        self.image()
+        image = (self.folder / "disc.bin").read_bytes()
+        sectors = [image[at : at + SOUND] for at in range(0, len(image), SECTOR)]
+        self.assertEqual(sectors[:PAUSE], [bytes(SOUND)] * PAUSE)
+        sound = b"".join(sectors[PAUSE:])
+        self.assertEqual(sound, self.audio.read_bytes()[44:].ljust(SOUND * 22 * 75, b"\0"))
+        self.assertIn("START 00:02:00", (self.folder / "disc.toc").read_text())
+
     def test_refusals(self) -> None:
         def refused(why: str, **others: Path) -> None:
             words = {"sheet": self.sheet, "stream": self.stream, "audio": self.audio, **others}

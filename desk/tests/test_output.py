@@ -90,12 +90,12 @@ class OutputTest(FolderTest):
     def test_a_file_of_another_kind(self) -> None:
         for name, content in (("s.script", b"show 00:00:01 00:00:02\n"), ("notes.png", b"not a picture"), ("x.cdg", b"any")):
             path = self.write(name, content)
-            self.refused("is there already and is not a PNG picture; --force replaces it", [], [(path, kinds.PNG)])
+            self.refused("is there already, and is not a PNG picture; --force replaces it", [], [(path, kinds.PNG)])
             write_file(path, PNG, kinds.PNG, force=True)
             write_file(path, PNG + b"again", kinds.PNG)
             self.assertEqual(path.read_bytes(), PNG + b"again")
         write_file(self.write("nothing", b""), PNG, kinds.PNG)
-        self.refused("is not a stream", [], [(self.write("a.raw", bytes(96)), kinds.STREAM)])
+        self.refused("nobody can tell whether a stream can be made again; --force replaces it", [], [(self.write("a.raw", bytes(96)), kinds.STREAM)])
 
     def test_a_file_that_is_protected(self) -> None:
         path = self.write("a", "old")
@@ -337,6 +337,8 @@ class KindTest(FolderTest):
         self.assertTrue(self.is_kind(kinds.TEXT_PACKS, b"\0\x14\0\0\x80" + bytes(17)))
         self.assertTrue(self.is_kind(kinds.TEXT_PACKS, b"\x80" + bytes(17)))
         self.assertFalse(self.is_kind(kinds.TEXT_PACKS, bytes(18)))
+        self.assertTrue(self.is_kind(kinds.PAGE, (TOP / "desk" / "ribjasper" / "look.html").read_bytes()))
+        self.assertFalse(self.is_kind(kinds.PAGE, b"<!DOCTYPE html>\n<html><head><title>My garden</title></head></html>"))
 
     def test_by_ending(self) -> None:
         self.assertTrue(self.is_kind(kinds.CDG, b"anything", "A.CDG"))

@@ -13,6 +13,12 @@ from ribjasper import library
 VERSION = (TOP / "VERSION").read_text().strip()
 
 
+def files_below(folder: Path) -> list[str]:
+    """The modules of a package and what they read."""
+    return sorted(str(path.relative_to(folder)) for path in folder.glob("**/*")
+                  if path.is_file() and "__pycache__" not in path.parts)
+
+
 class PackageTest(FolderTest):
     def run_well(self, *words: str | Path, **environment: str) -> str:
         """What a program prints, which has to end well and say nothing on standard error."""
@@ -36,6 +42,8 @@ class PackageTest(FolderTest):
             self.skipTest("python3-venv is not installed")
         self.run_well(room / "bin" / "pip", "install", "-q", "--no-index", "--disable-pip-version-check", TOP / "desk")
         self.check(room / "bin" / "ribjasper-desk")
+        (installed,) = room.glob("lib/python*/site-packages/ribjasper")
+        self.assertEqual(files_below(installed), files_below(TOP / "desk" / "ribjasper"))
         self.assertIn(".SH COMMANDS", (room / "share" / "man" / "man1" / "ribjasper-desk.1").read_text())
         shown = self.run_well(room / "bin" / "pip", "show", "--disable-pip-version-check", "ribjasper-desk")
         self.assertIn(f"Version: {VERSION}\n", shown)
@@ -57,8 +65,7 @@ class PackageTest(FolderTest):
         link = self.folder / "usr" / "bin" / "ribjasper-desk"
         self.assertEqual(os.readlink(link), "../share/ribjasper-desk/ribjasper-desk")
         self.check(link)
-        modules = sorted(path.name for path in (TOP / "desk" / "ribjasper").glob("*.py"))
-        self.assertEqual(sorted(path.name for path in (self.folder / "usr/share/ribjasper-desk/ribjasper").iterdir()), modules)
+        self.assertEqual(files_below(self.folder / "usr/share/ribjasper-desk/ribjasper"), files_below(TOP / "desk/ribjasper"))
 
     def test_the_library_below_the_same_prefix(self) -> None:
         """What `make install PREFIX=..` puts into lib/ is found, where the system does not look."""

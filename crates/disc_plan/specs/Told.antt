@@ -1,7 +1,6 @@
 -- What is told of a plan, and where there is none why.
 use Rattle.std.specs.Prelude.{ℕ}
-use Rattle.cue_sheet.specs.declared.fault.CueWhy.{CueWhy}
-use Rattle.cue_sheet.specs.declared.fault.CueWhy.TheVariants.{UnknownCommand as cue_unknown, SecondFile, Misplaced, BadArgument as cue_argument, Repeated, NoIndex, NotAudio, NumberOrder, IndexOrder, TimeOrder as cue_times, NoFile, NoTrack}
+use Rattle.sheet_rows.specs.Reasons.{cue_number}
 use Rattle.picture_script.specs.declared.reasons.ScriptWhy.{ScriptWhy}
 use Rattle.picture_script.specs.declared.reasons.ScriptWhy.TheVariants.{UnknownCommand, BadArgument, OutOfRange, TimeOrder, TooMany}
 use Rattle.subcode_author.specs.declared.stops.AuthorStop.{AuthorStop}
@@ -26,21 +25,6 @@ told_plan disc = record {
 abbrev pub refusal : ℕ → ℕ → ℕ → ToldPlan
 refusal why line number =
     record { pictures = 0; blocks = 0; late = 0; why = why; line = line; number = number }
-
--- the number of the reason for which a line of a sheet is refused
-abbrev pub cue_number : CueWhy → ℕ
-cue_number cue_unknown = 1
-cue_number SecondFile = 2
-cue_number Misplaced = 3
-cue_number cue_argument = 4
-cue_number Repeated = 5
-cue_number NoIndex = 6
-cue_number NotAudio = 7
-cue_number NumberOrder = 8
-cue_number IndexOrder = 9
-cue_number cue_times = 10
-cue_number NoFile = 11
-cue_number NoTrack = 12
 
 -- the number of the reason for which a line of a script is refused
 abbrev pub script_number : ScriptWhy → ℕ

@@ -1,11 +1,11 @@
 // What is told of a plan, as programs in C hold it.
 ghost use Rattle.std.specs.Prelude.{◌≡◌};
-ghost use Rattle.disc_plan.specs.Told.{told_plan, told_stop, refusal, cue_number, script_number, disc_refusal};
+ghost use Rattle.disc_plan.specs.Told.{told_plan, told_stop, refusal, script_number, disc_refusal};
 
 use crate::disc::PlannedDisc;
 use crate::stops::PlanStop;
-use cue_sheet::CueWhy;
 use picture_script::ScriptWhy;
+use sheet_rows::cue_number;
 use subcode_author::AuthorStop;
 
 /// What is told of a plan.
@@ -85,26 +85,6 @@ fn disc_refusal(stop: AuthorStop) -> ToldPlan
         AuthorStop::TextTooLong { packs } => refusal(7, 0, packs),
         AuthorStop::LeadInShort { need } => refusal(8, 0, need),
         AuthorStop::Late { .. } | AuthorStop::WriteFault | AuthorStop::NoMemory => refusal(0, 0, 0),
-    }
-}
-
-// The number of a reason why a line of a sheet is refused.
-fn cue_number(why: CueWhy) -> u32
-    ensures { result ≡ cue_number why }
-{
-    match why {
-        CueWhy::UnknownCommand => 1,
-        CueWhy::SecondFile => 2,
-        CueWhy::Misplaced => 3,
-        CueWhy::BadArgument => 4,
-        CueWhy::Repeated => 5,
-        CueWhy::NoIndex => 6,
-        CueWhy::NotAudio => 7,
-        CueWhy::NumberOrder => 8,
-        CueWhy::IndexOrder => 9,
-        CueWhy::TimeOrder => 10,
-        CueWhy::NoFile => 11,
-        CueWhy::NoTrack => 12,
     }
 }
 

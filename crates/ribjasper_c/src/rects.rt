@@ -43,8 +43,8 @@ pub extern "C" fn ribjasper_player_rect(
     DONE
 }
 
-// A part, where it is all on the screen.
-fn part_of(x: u32, y: u32, width: u32, height: u32) -> Option<ScreenPart>
+/// A part, where it is all on the screen.
+pub(crate) fn part_of(x: u32, y: u32, width: u32, height: u32) -> Option<ScreenPart>
     ensures { MatchOption result (¬ IsOnScreen (shown_rect x y width height))
         (λ part. (part ≡ shown_rect x y width height) × IsOnScreen (shown_rect x y width height)) }
 {

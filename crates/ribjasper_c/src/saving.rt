@@ -138,13 +138,29 @@ pub extern "C" fn ribjasper_player_copy(from: &mut Playing, to: &mut Playing) ->
     ensures same { from.new.handle.players ≡ from.old.handle.players }
     ensures refused { result ≡ negsuc 0 → to.new.handle.players ≡ to.old.handle.players }
 {
-    if !from.is_open || !to.is_open {
+    if !from.is_open {
         return NOT_DONE;
     }
+    // While it is out `from` is closed: so is `to` then, if a program gives one player twice.
     let other = from.take_out();
-    let mut live = to.take_out();
-    live.copy_from(&other);
+    let answer = go_on_as(&other, to);
     from.put_back(other);
+    answer
+}
+
+// Makes an open player show and gather from here on what another does.
+#[inline(never)]
+fn go_on_as(other: &LivePlayer, to: &mut Playing) -> i32
+    ensures copied { result ≡ pos 0 → to.new.handle.players ≡ other.now ∷ [] }
+    ensures answer { result ≡ (if to.old.is_open then pos 0 else negsuc 0) }
+    ensures stays { to.new.is_open ≡ to.old.is_open }
+    ensures refused { result ≡ negsuc 0 → to.new.handle.players ≡ to.old.handle.players }
+{
+    if !to.is_open {
+        return NOT_DONE;
+    }
+    let mut live = to.take_out();
+    live.copy_from(other);
     to.put_back(live);
     DONE
 }

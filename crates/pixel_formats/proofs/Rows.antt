@@ -1,0 +1,127 @@
+-- Pixels in rows, and rows in a room.
+use Rattle.std.proofs.Common.{◌≡◌, ◌≢◌, ◌+◌, ◌-◌, ◌*◌, ◌<◌, ◌≤◌, ◌&&◌, ℕ, suc, if◌then◌else◌, List, [], length, get_or, take, drop, sym, ap, ◌∙◌, inl, inr, arith}
+use Rattle.std.specs.Prelude.{nat_le, nat_lt, slice_index}
+use Rattle.std.proofs.Math.Nat.{mul-le-mul_left}
+use Rattle.std.proofs.lemmas.Bool.{cases_lt}
+use Rattle.std.proofs.lemmas.Bool.Decides.{nat_tests}
+use Rattle.std.proofs.lemmas.List.{get_or-take}
+use Rattle.cdg_screen.specs.Standing.{Standing, screen_pixel}
+use Rattle.cdg_screen.proofs.WholeRows.{else_before, else_behind, then_within}
+use Rattle.pixel_formats.specs.Formats.{pixel_bytes, pixel_size, shown_bytes}
+use Rattle.pixel_formats.specs.declared.format.PixelFormat.{PixelFormat}
+
+-- ---- pixels in a row
+
+-- the place of byte k of pixel i, in a row of so many pixels
+pub in_row : (size i k width : ℕ) → i < width → k < size → size * i + k < size * width
+in_row size i k width i_lt k_lt =
+    let next : size * suc i ≤ size * width = mul-le-mul_left size (omega (arith, i_lt)) in
+    omega (arith, next, k_lt)
+
+-- a row of so many pixels fits into the longest
+pub line_fits : (size width : ℕ) → size ≤ 4 → width ≤ 300 → size * width ≤ 1200
+line_fits size width size_le width_le =
+    let most : width * size ≤ width * 4 = mul-le-mul_left width size_le in
+    omega (arith, most, width_le)
+
+from_there : (at n a b : ℕ) → at ≤ n → (if nat_le at n then a else b) ≡ a
+from_there at n a b from = grind (arith, nat_tests)
+
+before_there : (at n a b : ℕ) → n < at → (if nat_le at n then a else b) ≡ b
+before_there at n a b lt = grind (arith, nat_tests)
+
+-- four bytes of pixel i were written behind those before it
+pub pixel_more : (old new four : List ℕ) (byte : ℕ → ℕ → ℕ) (size i : ℕ) → size ≤ 4
+    → ((k : ℕ) → get_or four k 0 ≡ byte i k)
+    → ((n : ℕ) → n < size * i + 4
+    → get_or new n 0 ≡ (if nat_le (size * i) n then get_or four (n - size * i) 0 else get_or old n 0))
+    → ((m k : ℕ) → m < i → k < size → get_or old (size * m + k) 0 ≡ byte m k)
+    → (m k : ℕ) → m < i + 1 → k < size → get_or new (size * m + k) 0 ≡ byte m k
+pixel_more old new four byte size i size_le is written before m k m_lt k_lt = elim (cases_lt m i) [
+  | inl early ↦
+      let place : size * m + k < size * i = in_row size m k i early k_lt in
+      written (size * m + k) (omega (arith, place))
+      ∙ before_there (size * i) (size * m + k) _ _ place
+      ∙ before m k early k_lt
+  | inr late ↦
+      let same : m ≡ i = omega (arith, late, m_lt) in
+      ap (λ j. get_or new (size * j + k) 0) same
+      ∙ written (size * i + k) (omega (arith, k_lt, size_le))
+      ∙ from_there (size * i) (size * i + k) _ _ (omega arith)
+      ∙ ap (λ n. get_or four n 0) (omega arith)
+      ∙ is k
+      ∙ ap (λ j. byte j k) (sym same)
+]
+
+-- ---- rows in a room
+
+-- a row of a part was written behind those before it: byte k of pixel i of row j is told by `byte`
+module _ (byte : ℕ → ℕ → ℕ → ℕ) (piece old new first : List ℕ) (size width stride j : ℕ)
+    (long : length piece ≡ size * width) (apart : size * width ≤ stride)
+    (shown : (i k : ℕ) → i < width → k < size → get_or piece (size * i + k) 0 ≡ byte i j k)
+    (written : (n : ℕ)
+    → get_or new n 0
+    ≡ (if nat_le (stride * j) n && nat_lt n (stride * j + length piece)
+    then get_or piece (n - stride * j) 0
+    else get_or old n 0)) where
+  earlier : (i k m : ℕ) → i < width → k < size → m < j → m * stride + (size * i + k) < stride * j
+  earlier i k m i_lt k_lt m_lt =
+      let below : stride * suc m ≤ stride * j = mul-le-mul_left stride (omega (arith, m_lt)) in
+      let within : size * i + k < size * width = in_row size i k width i_lt k_lt in
+      omega (arith, below, within, apart)
+
+  pub row_pixels
+      : ((i m k : ℕ) → i < width → m < j → k < size
+      → get_or old (m * stride + (size * i + k)) 0 ≡ byte i m k)
+      → (i m k : ℕ) → i < width → m < j + 1 → k < size
+      → get_or new (m * stride + (size * i + k)) 0 ≡ byte i m k
+  row_pixels before i m k i_lt m_lt k_lt = elim (cases_lt m j) [
+    | inl early ↦
+        written (m * stride + (size * i + k))
+        ∙ else_before (stride * j) (stride * j + length piece) (m * stride + (size * i + k)) _ _
+        (earlier i k m i_lt k_lt early)
+        ∙ before i m k i_lt early k_lt
+    | inr late ↦
+        let same : m ≡ j = omega (arith, late, m_lt) in
+        let place : m * stride + (size * i + k) ≡ stride * j + (size * i + k) =
+        ap (λ r. r * stride + (size * i + k)) same ∙ omega arith in
+        let within : size * i + k < size * width = in_row size i k width i_lt k_lt in
+        ap (λ n. get_or new n 0) place
+        ∙ written (stride * j + (size * i + k))
+        ∙ then_within (stride * j) (stride * j + length piece) (stride * j + (size * i + k)) _ _ (omega arith)
+        (omega (arith, within, long))
+        ∙ ap (λ n. get_or piece n 0) (omega arith)
+        ∙ shown i k i_lt k_lt
+        ∙ ap (λ r. byte i r k) (sym same)
+  ]
+
+  pub row_others
+      : ((n : ℕ) → ((i m : ℕ) → i < size * width → m < j → n ≢ m * stride + i)
+      → get_or old n 0 ≡ get_or first n 0)
+      → (n : ℕ) → ((i m : ℕ) → i < size * width → m < j + 1 → n ≢ m * stride + i)
+      → get_or new n 0 ≡ get_or first n 0
+  row_others before n out =
+      let kept : get_or old n 0 ≡ get_or first n 0 =
+      before n (λ i m i_lt m_lt. out i m i_lt (omega (arith, m_lt))) in
+      elim (cases_lt n (stride * j)) [
+        | inl early ↦ written n ∙ else_before (stride * j) (stride * j + length piece) n _ _ early ∙ kept
+        | inr from ↦ elim (cases_lt n (stride * j + length piece)) [
+          | inl within ↦
+              absurd
+              (out (n - stride * j) j (omega (arith, from, within, long)) (omega arith) (omega (arith, from)))
+          | inr past ↦ written n ∙ else_behind (stride * j) (stride * j + length piece) n _ _ past ∙ kept
+        ]
+      ]
+
+-- ---- the bytes of a pixel
+
+pub shown_pixel : (format : PixelFormat) (now : Standing) (table : List (List ℕ)) (x y number k : ℕ)
+    → number ≡ screen_pixel now x y → number < 16 → k < pixel_size format
+    → ((p : ℕ) → p < 16 → take (pixel_size format) (get_or table p [])
+    ≡ pixel_bytes format p (slice_index now.colours p) (slice_index now.levels p))
+    → get_or (get_or table number []) k 0 ≡ get_or (shown_bytes format now x y) k 0
+unfolding shown_bytes
+shown_pixel format now table x y number k is small k_lt bytes =
+    sym (get_or-take (pixel_size format) (get_or table number []) k 0 k_lt)
+    ∙ ap (λ (l : List ℕ). get_or l k 0) (bytes number small)
+    ∙ ap (λ p. get_or (pixel_bytes format p (slice_index now.colours p) (slice_index now.levels p)) k 0) is

@@ -1,0 +1,13 @@
+use Rattle.std.proofs.Common.{◌≡◌, ◌<◌, ℕ, [], length, take, get_or}
+use Rattle.std.specs.Prelude.{slice_index}
+use Rattle.pixel_formats.specs.Formats.{pixel_bytes, pixel_size}
+use Rattle.pixel_formats.proofs.table.table_of.Given as goal
+
+abbrev pub invariant-loop-p : goal.invariant-loop-p
+invariant-loop-p l = record {
+  size : length l.table ≡ 16;
+  sizes : (n : ℕ) → n < 16 → length (get_or l.table n []) ≡ 4;
+  bytes : (n : ℕ) → n < l.p
+      → take (pixel_size l.format) (get_or l.table n [])
+      ≡ pixel_bytes l.format n (slice_index l.screen.colours n) (slice_index l.screen.levels n);
+}

@@ -1,0 +1,91 @@
+// What a player counts.
+ghost use Rattle.std.specs.Prelude.{◌≡◌, ◌^◌, ◌-◌, if◌then◌else◌, ◌∷◌, [], List, ℕ, length, min, pos, negsuc};
+ghost use Rattle.live_player.specs.Lives.{Given, bad_words_in, blocks_in};
+ghost use Rattle.live_player.specs.declared.live.LivePlayer.{LivePlayer};
+ghost use Rattle.raw_subcode.specs.declared.form.Form.{Form};
+ghost use Rattle.ribjasper_c.specs.Counts.{counts_of, form_number};
+ghost use Rattle.ribjasper_c.specs.Handles.{IsPlaying};
+ghost use Rattle.rw_interleave.specs.Stream.{word_count};
+
+use crate::Playing;
+use crate::answers::{DONE, NOT_DONE};
+use live_player::LivePlayer;
+use raw_subcode::{Form, SLOTS_A_BLOCK};
+use rw_interleave::PACKS_KEPT_BACK;
+
+/// What a player counts since it began.
+#[repr(C)]
+#[derive(Clone, Copy)]
+pub struct PlayerCounts {
+    /// The words that came, each a pack.
+    pub words: u64,
+    /// The form of its blocks: 0 raw, 1 packs.
+    pub form: u32,
+    /// The blocks of its lead-in, those that came and those still to come.
+    pub lead_in: u32,
+    /// The blocks that came.
+    pub blocks: u32,
+    /// The words with no codeword near.
+    pub bad: u32,
+}
+
+/// Writes what a player counts. 0, or -1 where it is closed.
+#[unsafe(no_mangle)]
+pub extern "C" fn ribjasper_player_counts(player: &mut Playing, counts: &mut PlayerCounts) -> i32
+    ensures counts { result ≡ pos 0 → (live : LivePlayer) → player.old.handle.players ≡ live ∷ []
+        → counts.new ≡ counts_of live }
+    // Where it is known what it was given.
+    ensures blocks { result ≡ pos 0 → (form : Form) (lead_in : ℕ) (given : List Given)
+        → IsPlaying form lead_in given player.old.handle.players
+        → counts.new.blocks ≡ min (length (blocks_in given)) (2 ^ 32 - 1) }
+    ensures bad { result ≡ pos 0 → (form : Form) (lead_in : ℕ) (given : List Given)
+        → IsPlaying form lead_in given player.old.handle.players
+        → counts.new.bad ≡ min (bad_words_in form lead_in (blocks_in given)) (2 ^ 32 - 1) }
+    ensures answer { result ≡ (if player.old.is_open then pos 0 else negsuc 0) }
+    ensures stays { player.new.is_open ≡ player.old.is_open }
+    ensures same { player.new.handle.players ≡ player.old.handle.players }
+    ensures refused { result ≡ negsuc 0 → counts.new ≡ counts.old }
+{
+    if !player.is_open {
+        return NOT_DONE;
+    }
+    let live = player.take_out();
+    *counts = counted(&live);
+    player.put_back(live);
+    DONE
+}
+
+// What a player counts.
+fn counted(live: &LivePlayer) -> PlayerCounts
+    ensures { result ≡ counts_of live.now }
+{
+    PlayerCounts {
+        words: words_of(live.words.form, live.blocks.saturating_sub(live.lead_in)),
+        form: form_number(live.words.form),
+        lead_in: live.lead_in,
+        blocks: live.blocks,
+        bad: live.bad,
+    }
+}
+
+// How many words so many blocks of the program bring.
+fn words_of(form: Form, blocks: u32) -> u64
+    ensures { result ≡ word_count form blocks }
+{
+    let slots = SLOTS_A_BLOCK as u64 * u64::from(blocks);
+    match form {
+        Form::Raw | Form::Sector => slots.saturating_sub(PACKS_KEPT_BACK as u64),
+        Form::Cooked => slots,
+    }
+}
+
+// The number of a form.
+fn form_number(form: Form) -> u32
+    ensures { result ≡ form_number form }
+{
+    match form {
+        Form::Raw => 0,
+        Form::Cooked => 1,
+        Form::Sector => 2,
+    }
+}

@@ -1,0 +1,96 @@
+// A part of what a player shows, in the format that a display takes.
+ghost use Rattle.std.specs.Prelude.{◌≡◌, ◌<◌, ◌≤◌, ◌+◌, ◌*◌, ◌∷◌, [], ◌↔◌, ◌⊎◌, ℕ, IsTrue, length, pos, negsuc, true};
+ghost use Rattle.live_player.specs.Parts.{IsOnScreen};
+ghost use Rattle.pixel_formats.specs.Formats.{pixel_size, HasRoom, ShowsPixels};
+ghost use Rattle.ribjasper_c.specs.Handles.{PlayersShow};
+ghost use Rattle.ribjasper_c.specs.Pixels.{pixel_format};
+ghost use Rattle.ribjasper_c.specs.Rects.{shown_rect};
+
+use crate::Playing;
+use crate::answers::{DONE, NOT_DONE};
+use crate::rects::part_of;
+use live_player::{LivePlayer, ScreenPart};
+use pixel_formats::{PixelFormat, write_pixels};
+
+/// Writes the pixels of a part of the screen, row by row, in a format; row j of it begins `stride` times j bytes from the
+/// front, and what is between the rows is left as it was. 0, or -1 where the player is closed, there is no such format,
+/// the part is not all on the screen, its rows lie over each other or the room is too small for them.
+#[unsafe(no_mangle)]
+pub extern "C" fn ribjasper_player_pixels(
+    player: &mut Playing,
+    format: u32,
+    x: u32,
+    y: u32,
+    width: u32,
+    height: u32,
+    out: &mut [u8],
+    stride: u32,
+) -> i32
+    ensures shows { result ≡ pos 0 → PlayersShow player.old.handle.players
+        (λ now. ShowsPixels (pixel_format format) now (shown_rect x y width height) stride out.old out.new) }
+    ensures done { (result ≡ pos 0) ↔ (player.old.is_open ≡ true) × (format ≤ 6)
+        × IsOnScreen (shown_rect x y width height)
+        × (pixel_size (pixel_format format) * width ≤ stride)
+        × HasRoom (pixel_format format) (shown_rect x y width height) stride (length out.old) }
+    ensures answer { (result ≡ pos 0) ⊎ (result ≡ negsuc 0) }
+    ensures stays { player.new.is_open ≡ player.old.is_open }
+    ensures same { player.new.handle.players ≡ player.old.handle.players }
+    ensures refused { result ≡ negsuc 0 → out.new ≡ out.old }
+{
+    let Some(part) = part_of(x, y, width, height) else {
+        return NOT_DONE;
+    };
+    let pixels = pixel_format(format);
+    let row = pixels.size() * part.width;
+    if !player.is_open || format > 6 || !rows_fit(height, row, stride, out.len()) {
+        return NOT_DONE;
+    }
+    let live = player.take_out();
+    shown_pixels(&live, &part, pixels, out, stride as usize);
+    player.put_back(live);
+    DONE
+}
+
+// The format that a number means.
+fn pixel_format(format: u32) -> PixelFormat
+    ensures { result ≡ pixel_format format }
+{
+    match format {
+        1 => PixelFormat::Rgb,
+        2 => PixelFormat::Rgba,
+        3 => PixelFormat::Bgra,
+        4 => PixelFormat::RgbaLevels,
+        5 => PixelFormat::BgraLevels,
+        6 => PixelFormat::Rgb565,
+        _ => PixelFormat::Indexed,
+    }
+}
+
+// Whether so many rows of so many bytes do not lie over each other and so many bytes have room for them.
+fn rows_fit(height: u32, row: usize, stride: u32, room: usize) -> bool
+    requires { row < 4294967296 }
+    ensures { IsTrue result ↔ (row ≤ stride) × ((j : ℕ) → j < height → j * stride + row ≤ room) }
+{
+    let stride = stride as usize;
+    let height = height as usize;
+    row <= stride && (height == 0 || stride * (height - 1) + row <= room)
+}
+
+// The pixels of a part of the screen, of what the player was given since it began.
+fn shown_pixels(
+    live: &LivePlayer,
+    part: &ScreenPart,
+    format: PixelFormat,
+    out: &mut [u8],
+    stride: usize,
+)
+    requires part { IsOnScreen part.now }
+    requires apart { pixel_size format * part.now.width ≤ stride }
+    requires room { HasRoom format part.now stride (length out.old) }
+    ensures { PlayersShow (live.now ∷ []) (λ now. ShowsPixels format now part.now stride out.old out.new) }
+{
+    // Two laws, for the clause.
+    live.shows_its_blocks();
+    live.shows_its_packs();
+    write_pixels(&live.painting.screen, part, format, out, stride);
+}

@@ -1,0 +1,41 @@
+-- Instructions one after the other.
+use Rattle.std.proofs.Common.{◌≡◌, ℕ, suc, ◌+◌, ◌<◌, List, [], ◌∷◌, ◌++◌, length, get_or, map, take, reverse, refl, sym, ap, ◌∙◌, arith, None, Some}
+use Rattle.std.specs.declared.option.Option.{Option}
+use Rattle.std.proofs.Math.Seq.{take-suc}
+use Rattle.std.proofs.lemmas.List.{map-append, reverse-append}
+use Rattle.cdg_io.specs.Run.{run_state}
+use Rattle.cdg_io.proofs.Runs.{run_state-append}
+use Rattle.cdg_instructions.specs.declared.instr.Instr.{Instr}
+use Rattle.cdg_instructions.specs.Meaning.{meaning}
+use Rattle.rw_code.specs.Finding.{finding}
+use Rattle.arrayvec.specs.ArrayVec.{ArrayVec}
+use Rattle.live_player.specs.Lives.{Given, drawn_for, instructions_of, meant_by}
+use Rattle.live_player.specs.Steps.{words_come}
+use Rattle.screen_changes.specs.Changes.{sees}
+use Rattle.screen_changes.specs.declared.watch.Watch.{Watch}
+
+-- the first elements, and one more
+pub one_more : {X : Type 0} (xs : List X) (i : ℕ) (d : X) → i < length xs
+    → take (i + 1) xs ≡ take i xs ++ get_or xs i d ∷ []
+one_more xs i d lt = let next : i + 1 ≡ suc i = omega arith in ap (λ n. take n xs) next ∙ take-suc xs i d lt
+
+pub meant_append : (xs ys : List (Option (List ℕ))) → meant_by (xs ++ ys) ≡ meant_by xs ++ meant_by ys
+meant_append [] ys = refl
+meant_append (None ∷ xs) ys = meant_append xs ys
+meant_append (Some word ∷ xs) ys = ap (λ (l : List Instr). meaning word ∷ l) (meant_append xs ys)
+
+pub instructions_append : (words others : List (List ℕ))
+    → instructions_of (words ++ others) ≡ instructions_of words ++ instructions_of others
+instructions_append words others =
+    ap meant_by (map-append finding words others) ∙ meant_append (map finding words) (map finding others)
+
+-- what is given in turn, the last one first
+pub given_more : (gives : List ℕ → Given) (xs : List (List ℕ)) (x : List ℕ) (given : List Given)
+    → map gives (reverse (xs ++ x ∷ [])) ++ given ≡ gives x ∷ (map gives (reverse xs) ++ given)
+given_more gives xs x given =
+    ap (λ (l : List (List ℕ)). map gives l ++ given) (reverse-append xs (x ∷ []))
+
+-- what is drawn for a block are the instructions of the words that came with it
+pub drawn_come : (o : Option (ArrayVec (List ℕ))) → drawn_for o ≡ instructions_of (words_come o)
+drawn_come None = refl
+drawn_come (Some words) = refl

@@ -1,0 +1,43 @@
+use Rattle.std.proofs.Common.{◌≡◌, ◌∙◌, ◌+◌, ◌++◌, ◌<◌, [], ◌∷◌, List, ℕ, length, get_or, map, reverse, take, ap, sym, subst, arith}
+use Rattle.std.proofs.lemmas.List.{map-append}
+use Rattle.cdg_io.specs.Run.{run_state}
+use Rattle.cdg_io.proofs.Runs.{run_state-append}
+use Rattle.cdg_instructions.specs.declared.instr.Instr.{Instr}
+use Rattle.cdg_screen.specs.Standing.{Standing, standing_after}
+use Rattle.cdg_screen.proofs.Turns.{in_turn}
+use Rattle.live_player.specs.Lives.{Given, Drawn, HasPlayed, instruction_of, standing_on}
+use Rattle.screen_changes.specs.Changes.{sees, watch_from}
+use Rattle.screen_changes.specs.declared.watch.Watch.{Watch}
+use Rattle.screen_changes.proofs.Seen.{given_more, one_more}
+use Rattle.screen_changes.proofs.feeding.draw_all.Goals as goal
+
+pub loop-pack-preserved : goal.loop-pack-preserved
+loop-pack-preserved c =
+    let packs = c.args.packs.now in
+    let i = c.loop-pack.pack-index in
+    let pack = get_or packs i [] in
+    let start : Standing = standing_on c.args.live.now in
+    let watch : Watch = watch_from start.h start.v in
+    let before = map instruction_of (take i packs) in
+    let lt : i < length packs = omega arith in
+    let more = one_more packs i [] lt in
+    let instrs : before ++ instruction_of pack ∷ [] ≡ map instruction_of (take (i + 1) packs) =
+    sym (map-append instruction_of (take i packs) (pack ∷ [])) ∙ ap (map instruction_of) (sym more) in
+    record {
+      told =
+          c.see_pack.ensures
+          ∙ ap (λ (w : Watch). sees w (instruction_of pack)) c.loop-pack.invariant.told
+          ∙ sym (run_state-append sees watch before (instruction_of pack ∷ []))
+          ∙ ap (run_state sees watch) instrs;
+      stands =
+          c.draw.ensures.draws.draws
+          ∙ ap (λ (s : Standing). standing_after s (instruction_of pack ∷ [])) c.loop-pack.invariant.stands
+          ∙ sym (in_turn start before (instruction_of pack ∷ []))
+          ∙ ap (standing_after start) instrs;
+      drawn =
+          λ form lead_in given played. subst (λ (g : List Given). HasPlayed form lead_in g c.draw.new.self)
+          (sym (ap (λ (l : List (List ℕ)). map Drawn (reverse l) ++ given) more
+          ∙ given_more Drawn (take i packs) pack given))
+          (c.draw.ensures.drawn form lead_in (map Drawn (reverse (take i packs)) ++ given)
+          (c.loop-pack.invariant.drawn form lead_in given played));
+    }

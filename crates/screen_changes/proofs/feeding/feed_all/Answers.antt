@@ -1,0 +1,47 @@
+use Rattle.std.proofs.Common.{◌≡◌, ◌∙◌, ◌++◌, ◌<◌, [], ◌∷◌, List, ℕ, length, get_or, map, reverse, take, ap, sym, subst, arith}
+use Rattle.cdg_io.specs.Run.{run_state}
+use Rattle.cdg_io.proofs.Runs.{run_state-append}
+use Rattle.cdg_instructions.specs.declared.instr.Instr.{Instr}
+use Rattle.cdg_screen.specs.Standing.{Standing, standing_after}
+use Rattle.cdg_screen.proofs.Turns.{in_turn}
+use Rattle.stream_stages.specs.Steps.{words_give}
+use Rattle.live_player.specs.Lives.{Given, Fed, HasPlayed, drawn_for, instructions_of, standing_on}
+use Rattle.live_player.specs.Steps.{words_come}
+use Rattle.screen_changes.specs.Changes.{sees, watch_from}
+use Rattle.screen_changes.specs.declared.watch.Watch.{Watch}
+use Rattle.screen_changes.proofs.Seen.{drawn_come, given_more, one_more}
+use Rattle.screen_changes.proofs.feeding.feed_all.Goals as goal
+
+pub loop-block-preserved : goal.loop-block-preserved
+loop-block-preserved c =
+    let blocks = c.args.blocks.now in
+    let i = c.loop-block.block-index in
+    let block = get_or blocks i [] in
+    let start : Standing = standing_on c.args.live.now in
+    let watch : Watch = watch_from start.h start.v in
+    let before : List Instr = c.loop-block.invariant.told.0 in
+    let gave = words_give c.loop-block.live.words block in
+    let words : List Instr = instructions_of c.take-words.result.items in
+    let come : drawn_for gave ≡ words =
+    drawn_come gave ∙ ap instructions_of (sym c.take-words.ensures.gives) in
+    let lt : i < length blocks = omega arith in
+    let more = one_more blocks i [] lt in
+    record {
+      told = (
+        before ++ words,
+        c.see_words.ensures
+            ∙ ap (λ (ws : List (List ℕ)). run_state sees c.loop-block.watch (instructions_of ws)) c.as_slice.ensures.value
+            ∙ ap (λ (w : Watch). run_state sees w words) c.loop-block.invariant.told.1
+            ∙ sym (run_state-append sees watch before words),
+        c.take-words.ensures.takes.draws
+            ∙ ap (standing_after (standing_on c.loop-block.live)) come
+            ∙ ap (λ (s : Standing). standing_after s words) c.loop-block.invariant.told.2
+            ∙ sym (in_turn start before words),
+      );
+      fed =
+          λ form lead_in given played. subst (λ (g : List Given). HasPlayed form lead_in g c.take-words.new.self)
+          (sym (ap (λ (l : List (List ℕ)). map Fed (reverse l) ++ given) more
+          ∙ given_more Fed (take i blocks) block given))
+          (c.take-words.ensures.fed form lead_in (map Fed (reverse (take i blocks)) ++ given)
+          (c.loop-block.invariant.fed form lead_in given played));
+    }

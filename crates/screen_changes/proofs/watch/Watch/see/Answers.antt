@@ -1,0 +1,23 @@
+use Rattle.std.proofs.Common.{◌≡◌, ◌∙◌, ℕ, [], ◌∷◌, ap}
+use Rattle.cdg_instructions.specs.declared.effect.Effect.{Effect}
+use Rattle.cdg_screen.specs.Standing.{offsets_from}
+use Rattle.cdg_screen.specs.Touched.{touched_by}
+use Rattle.cdg_screen.specs.declared.touching.Touched.{Touched}
+use Rattle.screen_changes.specs.Changes.{change_of, join, offsets_by}
+use Rattle.screen_changes.specs.declared.change.ScreenChange.{ScreenChange}
+use Rattle.screen_changes.proofs.Kept.{offsets_of}
+use Rattle.screen_changes.proofs.watch.Watch.see.Goals as goal
+
+pub returns : goal.returns
+returns c =
+    let watch = c.args.self.now in
+    let instr = c.args.instr.now in
+    let change =
+    c.join.ensures
+    ∙ ap (join watch.change) (c.change_of-change.ensures
+    ∙ ap (λ (t : Touched). change_of t watch.across watch.down) c.touches.ensures) in
+    let offsets =
+    c.offsets_by-across.ensures
+    ∙ ap (λ (e : Effect). offsets_by e (watch.across, watch.down)) c.effect.ensures.effect
+    ∙ offsets_of instr (watch.across, watch.down) in
+    λ i. record { change = change i; across = (offsets i).0; down = (offsets i).1 }

@@ -1,0 +1,2 @@
+mod CodeSizes
+mod Tracks

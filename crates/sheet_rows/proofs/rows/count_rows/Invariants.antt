@@ -1,0 +1,9 @@
+use Rattle.std.proofs.Common.{◌≡◌, ◌≤◌, ◌*◌, length}
+use Rattle.sheet_rows.proofs.Tracks.{rows_before}
+use Rattle.sheet_rows.proofs.rows.count_rows.Given as goal
+
+abbrev pub invariant-loop-k : goal.invariant-loop-k
+invariant-loop-k l = record {
+  count : l.count ≡ length (rows_before l.sheet l.k);
+  few : l.count ≤ 100 * l.k;
+}

@@ -1,0 +1,102 @@
+-- What a cue sheet says, as rows.
+use Rattle.std.specs.Prelude.{◌≡◌, ◌<◌, ◌≤◌, ◌++◌, ℕ, List, map, drop, length, replicate, Option, Some, None, Ok, Err}
+use Rattle.std.specs.List.{flat_map}
+use Rattle.text_lines.specs.Text.{most_text_bytes}
+use Rattle.cue_sheet.specs.CueSheet.{CueSheet, CueTrack, text_at}
+use Rattle.cue_sheet.specs.Grammar.{read_cue}
+use Rattle.cue_sheet.specs.declared.fault.CueText.{CueText}
+use Rattle.cue_sheet.specs.declared.fault.CueWhy.{CueWhy}
+use Rattle.sheet_rows.specs.Reasons.{cue_number}
+use Rattle.sheet_rows.specs.declared.rows.SheetRow.{SheetRow}
+use Rattle.sheet_rows.specs.declared.told.ToldSheet.{ToldSheet}
+use Rattle.sheet_rows.specs.declared.stops.SheetStop.{SheetStop}
+use Rattle.sheet_rows.specs.declared.stops.SheetStop.TheVariants.{TooLong, Fault, NoRoom, NoMemory}
+use Rattle.sheet_rows.specs.declared.stops.TextStop.{TextStop}
+use Rattle.sheet_rows.specs.declared.stops.TextStop.TheVariants.{TooLong as text_too_long, Fault as text_fault, NoTrack, NoRoom as no_room_for, NoMemory as no_memory_for}
+
+-- a code, or so many zeros where there is none
+abbrev pub or_zeros : ℕ → Option (List ℕ) → List ℕ
+or_zeros size (Some code) = code
+or_zeros size None = replicate size 0
+
+-- 1 where there is a code, or else 0
+abbrev pub flag_of : Option (List ℕ) → ℕ
+flag_of (Some code) = 1
+flag_of None = 0
+
+-- the row of an index line, its number and its time, of a track
+abbrev pub sheet_row : CueTrack → ℕ × ℕ → SheetRow
+sheet_row track line = record {
+  time = line.1;
+  pregap = track.pregap;
+  postgap = track.postgap;
+  track = track.number;
+  index = line.0;
+  control = track.control;
+  has_isrc = flag_of track.isrc;
+  isrc = or_zeros 12 track.isrc;
+}
+
+-- the rows of a track, in the order of its index lines
+abbrev pub track_rows : CueTrack → List SheetRow
+track_rows track = map (sheet_row track) track.indices
+
+-- the rows of a sheet, in the order of its tracks
+abbrev pub sheet_rows : CueSheet → List SheetRow
+sheet_rows sheet = flat_map track_rows sheet.tracks
+
+-- what is told of a sheet
+abbrev pub told_sheet : CueSheet → ToldSheet
+told_sheet sheet = record {
+  rows = length (sheet_rows sheet);
+  tracks = length sheet.tracks;
+  line = 0;
+  why = 0;
+  has_catalogue = flag_of sheet.catalogue;
+  catalogue = or_zeros 13 sheet.catalogue;
+}
+
+-- what is told where a line is refused
+abbrev pub told_refusal : ℕ → CueWhy → ToldSheet
+told_refusal line why = record {
+  rows = 0;
+  tracks = 0;
+  line = line;
+  why = cue_number why;
+  has_catalogue = 0;
+  catalogue = replicate 13 0;
+}
+
+-- the text is not too long, and is read as this sheet
+abbrev pub IsTextOfSheet : List ℕ → CueSheet → Type 0
+IsTextOfSheet text sheet = (length text ≤ most_text_bytes) × (read_cue text ≡ Ok sheet)
+
+-- the rows of the text of a sheet stand at the front, and this is told of it
+abbrev pub AreRowsOf : List ℕ → List SheetRow → List SheetRow → ToldSheet → Type 0
+AreRowsOf text old new told = (sheet : CueSheet) × IsTextOfSheet text sheet × (told ≡ told_sheet sheet)
+    × (new ≡ sheet_rows sheet ++ drop (length (sheet_rows sheet)) old)
+
+-- why the text of a sheet gives no rows where there are so many; memory may run out where it is not too long
+abbrev pub IsSheetStop : List ℕ → ℕ → SheetStop → Type 0
+IsSheetStop text room TooLong = most_text_bytes < length text
+IsSheetStop text room (Fault line why) = (length text ≤ most_text_bytes) × (read_cue text ≡ Err (line, why))
+IsSheetStop text room (NoRoom told) = (sheet : CueSheet) × IsTextOfSheet text sheet
+    × (told ≡ told_sheet sheet) × (room < length (sheet_rows sheet))
+IsSheetStop text room NoMemory = length text ≤ most_text_bytes
+
+-- a text of the sheet stands at the front, and has so many bytes
+abbrev pub IsTextOf : CueText → ℕ → List ℕ → List ℕ → List ℕ → ℕ → Type 0
+IsTextOf kind place text old new bytes = (sheet : CueSheet) × IsTextOfSheet text sheet
+    × (place ≤ length sheet.tracks) × (bytes ≡ length (text_at kind sheet place))
+    × (new ≡ text_at kind sheet place ++ drop (length (text_at kind sheet place)) old)
+
+-- why the text of a sheet gives no text at a place, where there is so much room
+abbrev pub IsTextStop : CueText → ℕ → List ℕ → ℕ → TextStop → Type 0
+IsTextStop kind place text room text_too_long = most_text_bytes < length text
+IsTextStop kind place text room (text_fault line why) =
+    (length text ≤ most_text_bytes) × (read_cue text ≡ Err (line, why))
+IsTextStop kind place text room NoTrack = (sheet : CueSheet) × IsTextOfSheet text sheet
+    × (length sheet.tracks < place)
+IsTextStop kind place text room (no_room_for bytes) = (sheet : CueSheet) × IsTextOfSheet text sheet
+    × (place ≤ length sheet.tracks) × (bytes ≡ length (text_at kind sheet place)) × (room < bytes)
+IsTextStop kind place text room no_memory_for = length text ≤ most_text_bytes

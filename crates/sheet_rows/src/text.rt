@@ -1,0 +1,50 @@
+// A text of a sheet.
+ghost use Rattle.std.specs.Prelude.{◌≡◌, ◌≤◌, ◌++◌, IfErr, IfOk, OnErr, drop, length};
+ghost use Rattle.cue_sheet.specs.CueSheet.{text_at};
+ghost use Rattle.sheet_rows.specs.Rows.{IsTextOf, IsTextStop};
+
+use crate::stops::TextStop;
+use cue_sheet::{CueStop, CueText, Sheet};
+use std::alloc::Global;
+use text_lines::MOST_TEXT_BYTES;
+
+/// Writes a text of a cue sheet to the front of some bytes, and answers how many it has: at place 0 that of the album, at
+/// place k that of the k-th track, counted from 1. It is empty where none is given.
+pub fn sheet_text(
+    alloc: Global,
+    text: &[u8],
+    kind: CueText,
+    place: usize,
+    out: &mut [u8],
+) -> Result<u32, TextStop>
+    ensures text { IfOk result (IsTextOf kind place text.now out.old out.new) }
+    ensures stop { IfErr result (IsTextStop kind place text.now (length out.old)) }
+    ensures untouched { OnErr result (out.new ≡ out.old) }
+{
+    if text.len() > MOST_TEXT_BYTES {
+        return Err(TextStop::TooLong);
+    }
+    let sheet = match Sheet::parse(alloc, text) {
+        Ok(sheet) => sheet,
+        Err(CueStop::Fault { line, why }) => return Err(TextStop::Fault { line, why }),
+        Err(CueStop::NoMemory) => return Err(TextStop::NoMemory),
+    };
+    if place > sheet.tracks() {
+        return Err(TextStop::NoTrack);
+    }
+    let found = sheet.text(kind, place);
+    let bytes = found.len() as u32;
+    if found.len() > out.len() {
+        return Err(TextStop::NoRoom { bytes });
+    }
+    put(out, found);
+    Ok(bytes)
+}
+
+// Writes some bytes to the front.
+fn put(out: &mut [u8], bytes: &[u8])
+    requires { length bytes.now ≤ length out.old }
+    ensures { out.new ≡ bytes.now ++ drop (length bytes.now) out.old }
+{
+    out[..bytes.len()].copy_from_slice(bytes);
+}

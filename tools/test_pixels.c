@@ -1,0 +1,368 @@
+/* Pixels in each format, what of the screen may change, many blocks and packs at once, counts, and a player that is copied
+   to itself: against plain C and rows whose values come from docs/FORMATS.md.
+
+   test_pixels [STREAM]   with a raw stream of blocks it also feeds that, at once and block by block */
+#include "ribjasper.h"
+
+#include "testing.h"
+
+static uint32_t seed = 1;
+
+static uint32_t any(uint32_t below)
+{
+    seed = seed * 1664525u + 1013904223u;
+    return (uint32_t)((uint64_t)(seed >> 8) * below >> 24);
+}
+
+/* A pack that means something, most of the time: its two parities have no part in what is drawn. */
+static void any_pack(uint8_t pack[24])
+{
+    static const uint8_t codes[] = { 1, 2, 6, 6, 6, 6, 38, 38, 38, 38, 20, 24, 28, 30, 31, 3 };
+    int i;
+    for (i = 0; i < 24; i++)
+        pack[i] = (uint8_t)any(256);
+    pack[0] = any(20) == 0 ? (uint8_t)any(256) : 9;
+    pack[1] = codes[any(sizeof codes)];
+    if (any(3) > 0) {
+        pack[6] = (uint8_t)any(18);
+        pack[7] = (uint8_t)any(50);
+    }
+}
+
+static void begin_pack(uint8_t pack[24], uint8_t code)
+{
+    memset(pack, 0, 24);
+    pack[0] = 9;
+    pack[1] = code;
+}
+
+static const uint32_t sizes[] = { 1, 3, 4, 4, 4, 4, 2 };
+
+/* The bytes of a pixel as docs/FORMATS.md has them. */
+static void plain_pixel(uint32_t format, uint8_t number, uint16_t colour, uint8_t level, uint8_t bytes[4])
+{
+    uint8_t red = (uint8_t)((colour >> 8) * 0x11), green = (uint8_t)((colour >> 4 & 15) * 0x11),
+            blue = (uint8_t)((colour & 15) * 0x11), opacity = (uint8_t)(~(level << 2 | level >> 4) & 0xff);
+    uint16_t packed = (uint16_t)((red & 0xf8) << 8 | (green & 0xfc) << 3 | blue >> 3);
+    int swapped = format == RIBJASPER_BGRA || format == RIBJASPER_BGRA_LEVELS;
+    bytes[0] = swapped ? blue : red;
+    bytes[1] = green;
+    bytes[2] = swapped ? red : blue;
+    bytes[3] = format == RIBJASPER_RGBA_LEVELS || format == RIBJASPER_BGRA_LEVELS ? opacity : 255;
+    if (format == RIBJASPER_INDEXED)
+        bytes[0] = number;
+    if (format == RIBJASPER_RGB565) {
+        bytes[0] = (uint8_t)(packed & 255);
+        bytes[1] = (uint8_t)(packed >> 8);
+    }
+}
+
+#define ROOM 300000
+static uint8_t out[ROOM], wanted[ROOM], before[RIBJASPER_PIXELS], after[RIBJASPER_PIXELS];
+
+/* One part of the screen, in one format: each byte, and no byte beside. */
+static void check_part(const ribjasper_player *player, uint32_t format, uint32_t x, uint32_t y, uint32_t width,
+                       uint32_t height, uint32_t gap, size_t spare)
+{
+    uint16_t colours[16];
+    uint8_t levels[16];
+    uint32_t i, j, stride = sizes[format] * width + gap;
+    size_t room = height == 0 ? 0 : (size_t)stride * (height - 1) + sizes[format] * width;
+    if (room + spare > ROOM)
+        return;
+    CHECK(ribjasper_player_colours(player, colours) == 0 && ribjasper_player_levels(player, levels) == 0);
+    CHECK(ribjasper_player_screen(player, before) == 0);
+    memset(out, 0xa5, sizeof out);
+    memset(wanted, 0xa5, sizeof wanted);
+    for (j = 0; j < height; j++)
+        for (i = 0; i < width; i++) {
+            uint8_t number = before[300 * (y + j) + x + i], bytes[4];
+            plain_pixel(format, number, colours[number], levels[number], bytes);
+            memcpy(wanted + (size_t)stride * j + sizes[format] * i, bytes, sizes[format]);
+        }
+    CHECK(ribjasper_player_pixels(player, format, x, y, width, height, out, room + spare, stride) == RIBJASPER_DONE);
+    CHECK(memcmp(out, wanted, sizeof out) == 0);
+    /* A byte of room too little, and rows that lie over each other, are refused, and nothing is written. */
+    memset(out, 0xa5, sizeof out);
+    memset(wanted, 0xa5, sizeof wanted);
+    if (height > 0 && width > 0) {
+        CHECK(ribjasper_player_pixels(player, format, x, y, width, height, out, room - 1, stride) == RIBJASPER_REFUSED);
+        CHECK(ribjasper_player_pixels(player, format, x, y, width, height, out, ROOM, sizes[format] * width - 1) ==
+              RIBJASPER_REFUSED);
+    }
+    CHECK(memcmp(out, wanted, sizeof out) == 0);
+}
+
+static void pixels(void)
+{
+    static const uint32_t huge[] = { 301, 0x7fffffffu, 0x80000000u, 0xfffffffeu, 0xffffffffu };
+    ribjasper_player player = RIBJASPER_CLOSED;
+    uint8_t pack[24];
+    uint32_t format, n;
+    CHECK(ribjasper_player_pixels(&player, 0, 0, 0, 0, 0, NULL, 0, 0) == RIBJASPER_REFUSED);
+    if (ribjasper_player_open(&player) != RIBJASPER_DONE)
+        return;
+    /* Colour 1 is 0xF80, its level 63: orange, and clear. */
+    begin_pack(pack, 30);
+    pack[6] = 0x3e;
+    pack[7] = 0x00;
+    CHECK(ribjasper_player_draw(&player, pack) == 0);
+    begin_pack(pack, 28);
+    pack[5] = 63;
+    CHECK(ribjasper_player_draw(&player, pack) == 0);
+    begin_pack(pack, 1);
+    pack[4] = 1;
+    CHECK(ribjasper_player_draw(&player, pack) == 0);
+    CHECK(ribjasper_player_pixels(&player, RIBJASPER_BGRA_LEVELS, 6, 12, 1, 1, out, 4, 4) == 0);
+    CHECK(out[0] == 0 && out[1] == 0x88 && out[2] == 0xff && out[3] == 0);
+    CHECK(ribjasper_player_pixels(&player, RIBJASPER_RGB565, 6, 12, 1, 1, out, 2, 2) == 0);
+    CHECK(out[0] == 0x40 && out[1] == 0xfc);
+    CHECK(ribjasper_player_pixels(&player, RIBJASPER_RGBA_LEVELS, 0, 0, 1, 1, out, 4, 4) == 0);
+    CHECK(out[0] == 0 && out[1] == 0 && out[2] == 0 && out[3] == 255);
+    for (n = 0; n < 4000; n++) {
+        any_pack(pack);
+        CHECK(ribjasper_player_draw(&player, pack) == 0);
+    }
+    for (format = 0; format < 7; format++) {
+        check_part(&player, format, 0, 0, 300, 216, 0, 0);
+        check_part(&player, format, 0, 0, 300, 216, 8, 100);
+        check_part(&player, format, 299, 215, 1, 1, 0, 1);
+        check_part(&player, format, 300, 216, 0, 0, 0, 0);
+        check_part(&player, format, 5, 7, 0, 9, 3, 0);
+        check_part(&player, format, 5, 7, 9, 0, 3, 0);
+        CHECK(ribjasper_player_pixels(&player, format, 0, 0, 0, 0, NULL, 0, 0) == RIBJASPER_DONE);
+    }
+    for (n = 0; n < 700; n++) {
+        uint32_t x = any(301), y = any(217);
+        any_pack(pack);
+        CHECK(ribjasper_player_draw(&player, pack) == 0);
+        check_part(&player, n % 7, x, y, any(301 - x), any(217 - y), any(20), any(30));
+    }
+    for (n = 0; n < 5; n++) {
+        CHECK(ribjasper_player_pixels(&player, 7 + huge[n] % 1000, 0, 0, 1, 1, out, 4, 4) == RIBJASPER_REFUSED);
+        CHECK(ribjasper_player_pixels(&player, huge[n], 0, 0, 1, 1, out, 4, 4) == RIBJASPER_REFUSED);
+        CHECK(ribjasper_player_pixels(&player, 2, huge[n], 0, 1, 1, out, 4, 4) == RIBJASPER_REFUSED);
+        CHECK(ribjasper_player_pixels(&player, 2, 0, huge[n], 1, 1, out, 4, 4) == RIBJASPER_REFUSED);
+        CHECK(ribjasper_player_pixels(&player, 2, 1, 0, huge[n], 1, out, 4, 0xffffffffu) == RIBJASPER_REFUSED);
+        CHECK(ribjasper_player_pixels(&player, 2, 0, 1, 1, huge[n], out, 4, 4) == RIBJASPER_REFUSED);
+        CHECK(ribjasper_player_pixels(&player, 2, 0, 0, 1, 2, out, 8, 0xffffffffu) == RIBJASPER_REFUSED);
+    }
+    CHECK(ribjasper_player_pixels(&player, 2, 0, 0, 1, 1, out, 4, 0xffffffffu) == RIBJASPER_DONE);
+    ribjasper_player_close(&player);
+    CHECK(held == 0);
+}
+
+static int within(const ribjasper_change *change, uint32_t x, uint32_t y)
+{
+    return change->left <= x && x < change->right && change->top <= y && y < change->bottom;
+}
+
+/* Whether no pixel of the screen differs outside of what was told. */
+static int holds_all(const ribjasper_change *change)
+{
+    uint32_t n;
+    for (n = 0; n < RIBJASPER_PIXELS; n++)
+        if (before[n] != after[n] && !within(change, n % 300, n / 300))
+            return 0;
+    return 1;
+}
+
+static int max(int a, int b)
+{
+    return a > b ? a : b;
+}
+
+static int min(int a, int b)
+{
+    return a < b ? a : b;
+}
+
+/* What the header says of a pack. */
+static ribjasper_change told_of(int32_t touched, int across, int down)
+{
+    ribjasper_change change = { 300, 216, 0, 0, 0, 0 };
+    int left = 0, top = 0, right = 0, bottom = 0;
+    if (touched < 900) {
+        int row = touched / 50, column = touched % 50;
+        left = max(6, 6 * column - across);
+        right = min(294, 6 * column + 6 - across);
+        top = max(12, 12 * row - down);
+        bottom = min(204, 12 * row + 12 - down);
+    } else if (touched == RIBJASPER_TOUCHES_ALL) {
+        left = 6, top = 12, right = 294, bottom = 204;
+    } else if (touched == RIBJASPER_TOUCHES_BORDER) {
+        right = 300, bottom = 216;
+    }
+    if (left < right && top < bottom) {
+        change.left = (uint32_t)left, change.top = (uint32_t)top;
+        change.right = (uint32_t)right, change.bottom = (uint32_t)bottom;
+    }
+    change.colours = touched == RIBJASPER_TOUCHES_COLOURS;
+    change.levels = touched == RIBJASPER_TOUCHES_LEVELS;
+    return change;
+}
+
+static void add_change(ribjasper_change *all, const ribjasper_change *one)
+{
+    if (one->left < all->left)
+        all->left = one->left;
+    if (one->top < all->top)
+        all->top = one->top;
+    if (one->right > all->right)
+        all->right = one->right;
+    if (one->bottom > all->bottom)
+        all->bottom = one->bottom;
+    all->colours |= one->colours;
+    all->levels |= one->levels;
+}
+
+static int is_change(const ribjasper_change *one, const ribjasper_change *other)
+{
+    return one->left == other->left && one->top == other->top && one->right == other->right &&
+           one->bottom == other->bottom && one->colours == other->colours && one->levels == other->levels;
+}
+
+/* Packs one by one and many at once: what is told is what the header says, and nothing else changes. */
+static void changes(void)
+{
+    static uint8_t packs[24 * 40];
+    ribjasper_player one = RIBJASPER_CLOSED, all = RIBJASPER_CLOSED;
+    ribjasper_change change, told;
+    uint32_t round, n;
+    memset(&change, 9, sizeof change);
+    told = change;
+    CHECK(ribjasper_player_draw_all(&one, packs, 1, &change) == RIBJASPER_REFUSED);
+    CHECK(ribjasper_player_feed_all(&one, packs, 1, &change) == RIBJASPER_REFUSED && is_change(&change, &told));
+    if (ribjasper_player_open(&one) != RIBJASPER_DONE || ribjasper_player_open(&all) != RIBJASPER_DONE)
+        return;
+    CHECK(ribjasper_pack_change(packs, 6, 0, &change) == RIBJASPER_REFUSED);
+    CHECK(ribjasper_pack_change(packs, 0, 12, &change) == RIBJASPER_REFUSED);
+    CHECK(ribjasper_pack_change(packs, 255, 255, &change) == RIBJASPER_REFUSED && is_change(&change, &told));
+    for (round = 0; round < 1500; round++) {
+        uint32_t count = any(40);
+        ribjasper_change sum = { 300, 216, 0, 0, 0, 0 };
+        uint16_t colours[16], other[16];
+        for (n = 0; n < count; n++) {
+            uint8_t *pack = packs + 24 * n, across, down;
+            any_pack(pack);
+            CHECK(ribjasper_player_offsets(&one, &across, &down) == 0);
+            CHECK(ribjasper_pack_change(pack, across, down, &change) == RIBJASPER_DONE);
+            told = told_of(ribjasper_pack_touches(pack), across, down);
+            CHECK(is_change(&change, &told));
+            add_change(&sum, &told);
+            CHECK(ribjasper_player_draw(&one, pack) == 0);
+        }
+        CHECK(ribjasper_player_screen(&all, before) == 0 && ribjasper_player_colours(&all, colours) == 0);
+        CHECK(ribjasper_player_draw_all(&all, packs, count, &change) == RIBJASPER_DONE);
+        CHECK(is_change(&change, &sum));
+        CHECK(ribjasper_player_screen(&all, after) == 0 && holds_all(&change));
+        CHECK(ribjasper_player_colours(&all, other) == 0);
+        CHECK(change.colours || memcmp(colours, other, sizeof colours) == 0);
+        CHECK(ribjasper_player_screen(&one, before) == 0 && memcmp(before, after, sizeof before) == 0);
+    }
+    CHECK(ribjasper_player_draw_all(&all, NULL, 0, &change) == RIBJASPER_DONE && change.left == 300 && change.right == 0);
+    CHECK(ribjasper_player_feed_all(&all, NULL, 0, &change) == RIBJASPER_DONE && change.top == 216);
+    ribjasper_player_close(&one);
+    ribjasper_player_close(&all);
+    CHECK(held == 0);
+}
+
+/* A stream of blocks, with noise in some: at once it shows what it shows block by block. */
+static void blocks(uint8_t *stream, size_t count)
+{
+    ribjasper_player one = RIBJASPER_CLOSED, all = RIBJASPER_CLOSED;
+    ribjasper_change change;
+    ribjasper_counts counts, other;
+    size_t at = 0, n, bad = 0;
+    for (n = 0; n < count * 20; n++)
+        stream[any((uint32_t)(96 * count))] ^= (uint8_t)(1 + any(63));
+    if (ribjasper_player_open(&one) != RIBJASPER_DONE || ribjasper_player_open(&all) != RIBJASPER_DONE)
+        return;
+    CHECK(ribjasper_player_begin(&one, RIBJASPER_RAW, 30) == 0 && ribjasper_player_begin(&all, RIBJASPER_RAW, 30) == 0);
+    while (at < count) {
+        size_t piece = any(25);
+        if (piece > count - at)
+            piece = count - at;
+        CHECK(ribjasper_player_screen(&all, before) == 0);
+        CHECK(ribjasper_player_feed_all(&all, stream + 96 * at, piece, &change) == RIBJASPER_DONE);
+        CHECK(ribjasper_player_screen(&all, after) == 0 && holds_all(&change));
+        for (n = at; n < at + piece; n++) {
+            ribjasper_pack packs[4];
+            int32_t came = ribjasper_player_take(&one, stream + 96 * n, packs);
+            CHECK(came >= 0);
+            while (came-- > 0)
+                bad += packs[came].wrong < 0;
+        }
+        CHECK(ribjasper_player_screen(&one, before) == 0 && memcmp(before, after, sizeof before) == 0);
+        at += piece;
+    }
+    CHECK(ribjasper_player_counts(&one, &counts) == 0 && ribjasper_player_counts(&all, &other) == 0);
+    CHECK(counts.blocks == count && counts.lead_in == 30 && counts.form == RIBJASPER_RAW);
+    CHECK(counts.words == 4 * (count - 30) - 7 && counts.bad == bad && bad > 0);
+    CHECK(other.blocks == counts.blocks && other.words == counts.words && other.bad == counts.bad);
+    ribjasper_player_close(&one);
+    ribjasper_player_close(&all);
+    CHECK(held == 0);
+}
+
+static void counted(void)
+{
+    static const uint8_t block[96] = { 0 };
+    ribjasper_player player = RIBJASPER_CLOSED;
+    ribjasper_counts counts, kept;
+    int n;
+    memset(&counts, 9, sizeof counts);
+    kept = counts;
+    CHECK(ribjasper_player_counts(&player, &counts) == RIBJASPER_REFUSED && memcmp(&counts, &kept, sizeof counts) == 0);
+    if (ribjasper_player_open(&player) != RIBJASPER_DONE)
+        return;
+    CHECK(ribjasper_player_begin(&player, RIBJASPER_PACKS, 2) == 0);
+    for (n = 0; n < 5; n++)
+        CHECK(ribjasper_player_feed(&player, block) == 0);
+    CHECK(ribjasper_player_counts(&player, &counts) == 0);
+    CHECK(counts.words == 12 && counts.form == RIBJASPER_PACKS && counts.lead_in == 2 && counts.blocks == 5 && counts.bad == 0);
+    ribjasper_player_close(&player);
+}
+
+/* A player that is given twice stays as it is, and one that was moved plays on. */
+static void one_player_twice(void)
+{
+    ribjasper_player player = RIBJASPER_CLOSED, moved;
+    uint8_t pack[24];
+    CHECK(ribjasper_player_copy(&player, &player) == RIBJASPER_REFUSED && !player.is_open);
+    if (ribjasper_player_open(&player) != RIBJASPER_DONE)
+        return;
+    begin_pack(pack, 1);
+    pack[4] = 5;
+    CHECK(ribjasper_player_draw(&player, pack) == 0);
+    CHECK(ribjasper_player_copy(&player, &player) == RIBJASPER_REFUSED);
+    CHECK(player.is_open && ribjasper_player_pixel(&player, 150, 100, out) == 0 && out[0] == 5);
+    memcpy(&moved, &player, sizeof player);
+    memset(&player, 0, sizeof player);
+    pack[4] = 6;
+    CHECK(ribjasper_player_draw(&moved, pack) == 0);
+    CHECK(ribjasper_player_pixel(&moved, 150, 100, out) == 0 && out[0] == 6);
+    ribjasper_player_close(&moved);
+    player = RIBJASPER_CLOSED_PLAYER;
+    CHECK(!player.is_open && held == 0);
+}
+
+int main(int argc, char **argv)
+{
+    static uint8_t stream[96 * 4000];
+    pixels();
+    changes();
+    counted();
+    one_player_twice();
+    if (argc > 1) {
+        FILE *file = fopen(argv[1], "rb");
+        size_t count = file == NULL ? 0 : fread(stream, 96, 4000, file);
+        CHECK(count > 100);
+        blocks(stream, count);
+        if (file != NULL)
+            fclose(file);
+    }
+    if (!failed)
+        printf("test_pixels: pixels, changes, counts and players that are given twice are as stated\n");
+    return failed;
+}
