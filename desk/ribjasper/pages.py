@@ -208,7 +208,8 @@ class Page:
 
 
 def laid_out(groups: list[Group], setter: Setter, style: Style, empty: Raster) -> list[Page]:
-    """Each row at its place, with those places that become empty; and last an empty page."""
+    """Each row at its place, with those places that become empty; and last an empty page, if the song does not end with a
+    page that is not sung."""
     inset = TILE_HEIGHT * max(0, (style.slot_rows - setter.tile_rows + 1) // 2)
     inset = min(inset, TILE_HEIGHT * max(0, style.slot_rows - setter.tile_rows))
     screen, pages = Screen(style, empty), []
@@ -226,7 +227,7 @@ def laid_out(groups: list[Group], setter: Setter, style: Style, empty: Raster) -
         if group.is_counted and group.rows:
             count_in(next(placed for placed in page if placed.letters))
         pages.append(Page(page, group))
-    last = [placed for slot in range(style.rows) for placed in screen.clear(slot)]
+    last = [placed for slot in range(style.rows) for placed in screen.clear(slot)] if groups[-1].is_sung else []
     return [*pages, Page(last, Group())]
 
 

@@ -11,7 +11,7 @@ from .pages import GOES, Draw, Group, Light, Page, Placed, Show, Step, groups_of
 from .picture import ONE_TRACK, PLAIN, fitted, flat_of, raster_of, read, whole
 from .planning import MOST_PICTURES, Plan, plan
 from .raster import COLOURS, HEIGHT, TILE_HEIGHT, WIDTH, Raster, lines_between
-from .songs import BOTH, FIRST, SECOND, Line, Song, Syllable
+from .songs import BOTH, FIRST, SECOND, Line, Song, Syllable, spelled
 from .styles import MOST_ROWS, Style
 from .timeline import Arranger, Due, Picture, Task, Timeline, Told, blocks_for, dues_of, grouped
 from .times import clock
@@ -89,8 +89,12 @@ class Made:
         pictures = sum(line.startswith("show") for line in self.lines)
         pages = sum(page.group.is_sung and bool(page.group.rows) for page in maker.pages)
         plain = "plain " * maker.font.is_plain
-        return (f"{len(maker.song.lines)} lines on {pages} pages in {plain}letters of {maker.font.size} pixels, {words} "
+        return (f"{count_of(len(maker.song.lines), 'line')} on {count_of(pages, 'page')} in {plain}letters of {maker.font.size} pixels, {words} "
                 f"words or parts of words, {pictures} pictures; none is late")
+
+
+def count_of(number: int, what: str) -> str:
+    return f"{number} {what}{'s' * (number != 1)}"
 
 
 def plan_of(lines: list[str], length: int = 400_000) -> Plan:
@@ -378,17 +382,33 @@ def within(pictures: list[Picture], end: int | None) -> list[Picture]:
     return [picture for picture in pictures if end is None or picture.ready <= end or is_needed(picture)]
 
 
+def end_with_sound(song: Song, end: int) -> None:
+    """Names all lines that are sung after the end of the audio; those that are sung until then end a little earlier."""
+    seconds = (end - times.PAUSE) / BLOCKS
+    causes = []
+    for line in song.lines:
+        if line.start >= seconds:
+            what = f"at {line.written} begins after the sound, which ends at {spelled(seconds)}"
+        elif line.syllables[-1].start >= seconds:
+            what = f"at {line.written} is sung until {spelled(line.end)}, and the sound ends at {spelled(seconds)}"
+        else:
+            continue
+        causes.append(f"line {line.number} {what}: {line.text}")
+    if causes:
+        raise Refusal(song.path, *causes)
+    for syllable in (syllable for line in song.lines for syllable in line.syllables):
+        syllable.end = min(syllable.end, max(syllable.start, seconds - STAYS / BLOCKS))
+
+
 def best(song: Song, wishes: Wishes) -> Made:
     """The script in the first font in which hardly a row of the song is late, or else that in which least is."""
     made: list[Made] = []
     notes: list[str] = []
+    if wishes.end:
+        end_with_sound(song, wishes.end)
     for font in fonts_for(song, wishes, notes):
         maker = Maker(song, wishes, font)
         maker.notes = notes + maker.notes
-        last = maker.dues[-1].block
-        if wishes.end and last > wishes.end:
-            sung, ends = clock(last - times.PAUSE), clock(wishes.end - times.PAUSE)
-            raise Refusal(song.path, f"is sung until {sung}, and its audio ends at {ends}")
         lines, told = maker.in_time()
         made.append(Made(lines, maker, told))
         rows = sum(bool(placed.letters) for page in maker.pages for placed in page.placed)

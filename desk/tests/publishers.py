@@ -1,23 +1,10 @@
-"""What the tests of the publishers' commands share beside what all do."""
+"""Streams for the tests of the publishers' commands, with a lead-in that holds any of their texts."""
 from pathlib import Path
 
 import fixtures
-from fixtures import *  # noqa: F401, F403
-from fixtures import Ran, Screen, Word, program
+from fixtures import Screen, Word, program
 
 LEAD_IN = 60
-run_program = program
-
-
-class Table(Ran):
-    """What a command printed, its table as lists of cells."""
-
-    def rows(self) -> list[list[str]]:  # type: ignore[override]
-        return self.cells()
-
-
-def desk(*words: Word) -> Table:
-    return Table(*fixtures.desk(*words))
 
 
 def author(sheet: Path, script: Path, length: str, out: Path) -> Path:

@@ -6,13 +6,17 @@ import re
 import subprocess
 import unittest
 import zipfile
+from pathlib import Path
+from typing import Callable
 
-from publishers import (PAUSE, FolderTest, author, desk, needs_cdrdao, needs_ffmpeg, needs_font, needs_pillow, needs_plan,
-                        needs_program, run_program, write_wav)
+from fixtures import (PAUSE, FolderTest, Ran, Word, desk, needs_cdrdao, needs_ffmpeg, needs_font, needs_pillow, needs_plan,
+                      needs_program, program, write_wav)
+from publishers import author
 
 from ribjasper.library import BLOCK, PACK, RAW, SECTOR, Player, convert
 from ribjasper.planning import least_lead_in
 
+Change = Callable[[str], str]
 # Lengths of the three songs in blocks; the second is no whole number of seconds.
 LENGTHS = (20 * 75, 18 * 75 + 31, 25 * 75)
 GAP = 100
@@ -21,18 +25,18 @@ SHEET = 'FILE "a.wav" WAVE\nTRACK 01 AUDIO\nINDEX 01 00:00:00\n'
 PRESETS = [1, 2, 30, 31]
 
 
-def song(number):
+def song(number: int) -> str:
     """A song of two lines, which ends with letters on the screen."""
     return (f"[ti:Song {number}]\n[ar:Singer {number}]\n"
             f"[00:0{6 + number}.00]<00:0{6 + number}.00>First <00:0{6 + number}.50>line <00:0{7 + number}.00>of {number}\n"
             f"[00:12.00]<00:12.00>Second <00:12.50>line <00:13.00>\u00e9t\u00e9 {number} <00:17.50>\n")
 
 
-def random_packs(seed):
+def random_packs(seed: int) -> bytes:
     """Packs that leave a screen of random pixels, colours and border."""
     dice = random.Random(seed)
 
-    def pack(instruction, symbols):
+    def pack(instruction: int, symbols: list[int]) -> bytes:
         return bytes([9, instruction, 0, 0, *symbols, 0, 0, 0, 0])
 
     tiles = [pack(6, [dice.randrange(16), dice.randrange(16), row, column, *(dice.randrange(64) for _ in range(12))])
@@ -54,7 +58,7 @@ class SongsTest(FolderTest):
 
 
 class AlbumTest(SongsTest):
-    def begun(self, change=lambda text: text):
+    def begun(self, change: Change = str) -> Path:
         """The list of the three songs, as `--new` begins it."""
         path = self.folder / "list.toml"
         ran = desk("album", "--new", *(self.folder / f"{number}.lrc" for number in (1, 2, 3)), "-o", path)
@@ -62,19 +66,19 @@ class AlbumTest(SongsTest):
         path.write_text(change(path.read_text().replace("gap = 2\n", f"gap = {GAP / 75}\n")))
         return path
 
-    def album(self, *words, change=lambda text: text):
+    def album(self, *words: Word, change: Change = str) -> Ran:
         ran = desk("album", self.begun(change), "-o", self.folder / "disc", *words)
         self.assertEqual(ran.status, 0, ran.told)
         return ran
 
-    def program(self):
+    def program(self) -> bytes:
         """The blocks of the stream from the pause on."""
         sheet = (self.folder / "disc-sheet.cue").read_bytes()
         lead_in = least_lead_in(sheet, sum(LENGTHS) + 2 * GAP)
         return (self.folder / "disc.raw").read_bytes()[BLOCK * lead_in :]
 
     @staticmethod
-    def starts():
+    def starts() -> list[int]:
         """Where the indices 01 are, in blocks of the program."""
         return [PAUSE, PAUSE + LENGTHS[0] + GAP, PAUSE + sum(LENGTHS[:2]) + 2 * GAP]
 
@@ -98,7 +102,8 @@ class AlbumTest(SongsTest):
                 whole.draw(packs[: PACK * 4 * start])
                 skipped.draw(random_packs(number))
                 self.assertNotEqual(whole.picture(), skipped.picture())
-                done, seen = 0, set()
+                done = 0
+                seen: set[bytes] = set()
                 # From the third block of the track on, and then each fifth of a second.
                 for until in [12, *range(60, 4 * (length - 2), 60)]:
                     whole.draw(packs[PACK * (4 * start + done) : PACK * (4 * start + until)])
@@ -152,7 +157,7 @@ class AlbumTest(SongsTest):
     @needs_cdrdao
     def test_cdrdao_finds_the_tracks(self) -> None:
         self.album()
-        words = ["cdrdao", "show-toc", self.folder / "disc.toc"]
+        words = ["cdrdao", "show-toc", str(self.folder / "disc.toc")]
         shown = subprocess.run(words, capture_output=True, text=True, check=True).stdout
         found = [[int(at) for at in re.findall(r"(?:PREGAP|START|END) .*\( *(\d+)\)", part)]
                  for part in re.split(r"^TRACK +", shown, flags=re.MULTILINE)[1:]]
@@ -162,7 +167,7 @@ class AlbumTest(SongsTest):
         self.assertEqual([one[0] for one in found[1:]], [GAP, GAP])
 
     def test_texts_and_codes(self) -> None:
-        def change(text):
+        def change(text: str) -> str:
             text = text.replace('title = "Song 2"', 'title = "Songs \u3042 \\"x\\""', 1)
             return text.replace('title = ""\n', 'title = "Caf\u00e9"\ncatalogue = "4006381333931"\n', 1).replace(
                 '# isrc = "GBAAA2600001"', 'isrc = "GB-AAA-26-00001"', 1)
@@ -182,7 +187,7 @@ class AlbumTest(SongsTest):
             self.assertEqual((ran.status, "0 of them late" in ran.told), (0, True), ran.told)
 
     def test_refusals(self) -> None:
-        def refused(why, change):
+        def refused(why: str, change: Change) -> None:
             ran = desk("album", self.begun(change), "-o", self.folder / "none", "--force")
             self.assertEqual((ran.status, why in ran.told), (3, True), ran.told)
             self.assertFalse([name for name in os.listdir(self.folder) if name.startswith("none")])
@@ -199,12 +204,12 @@ class AlbumTest(SongsTest):
 
 
 class PairTest(SongsTest):
-    def pair(self, *words, name="one", song="1.lrc", status=0):
+    def pair(self, *words: Word, name: str = "one", song: str = "1.lrc", status: int = 0) -> Ran:
         ran = desk("pair", self.folder / song, "-o", self.folder / name, *words)
         self.assertEqual(ran.status, status, ran.told)
         return ran
 
-    def instructions(self, packs, *range_):
+    def instructions(self, packs: bytes, *range_: int) -> list[int]:
         return [packs[at + 1] for at in range(0, len(packs), PACK)][slice(*range_)]
 
     def test_the_pair(self) -> None:
@@ -219,7 +224,7 @@ class PairTest(SongsTest):
         script = self.folder / "a.script"
         desk("lyrics", self.folder / "1.lrc", "--audio", self.folder / "1.wav", "-o", script)
         stream = author(self.write("a.cue", SHEET), script, "00:20:00", self.folder / "a.raw")
-        packs = run_program("convert", "--lead-in", 60, "--", stream)[14_232:]
+        packs = program("convert", "--lead-in", 60, "--", stream)[14_232:]
         pair = (self.folder / "one.cdg").read_bytes()
         self.assertEqual(pair[PACK * 12 :], packs[PACK * 12 :])
         self.assertFalse(any(packs[: PACK * 12]))
@@ -248,11 +253,11 @@ class PairTest(SongsTest):
     def test_mp3(self) -> None:
         self.pair("--mp3")
         words = ["ffprobe", "-v", "error", "-show_entries", "format=duration:format_tags=title,artist:stream=codec_name",
-                 "-of", "default=nw=1", self.folder / "one.mp3"]
+                 "-of", "default=nw=1", str(self.folder / "one.mp3")]
         told = subprocess.run(words, capture_output=True, text=True, check=True).stdout
         for word in ("codec_name=mp3", "TAG:title=Song 1", "TAG:artist=Singer 1"):
             self.assertIn(word, told)
-        self.assertAlmostEqual(float(re.search(r"duration=(.*)", told)[1]), 20, delta=0.1)
+        self.assertAlmostEqual(float(told.partition("duration=")[2].split()[0]), 20, delta=0.1)
 
     def test_karaoke_cd(self) -> None:
         self.pair("--karaoke-cd")

@@ -3,9 +3,10 @@ import os
 import struct
 import subprocess
 import unittest
+from pathlib import Path
 from unittest import mock
 
-from publishers import FolderTest, needs_ffmpeg, write_wav
+from fixtures import FolderTest, needs_ffmpeg, write_wav
 
 from ribjasper import audio
 from ribjasper.output import Refusal
@@ -13,11 +14,12 @@ from ribjasper.output import Refusal
 SAMPLES = bytes(range(240)) * 49
 
 
-def chunk(name, content):
+def chunk(name: bytes, content: bytes) -> bytes:
     return name + struct.pack("<I", len(content)) + content + b"\0" * (len(content) & 1)
 
 
-def wav(samples=SAMPLES, form=1, channels=2, rate=44_100, bits=16, size=None, more=b"", rest=b""):
+def wav(samples: bytes = SAMPLES, form: int = 1, channels: int = 2, rate: int = 44_100, bits: int = 16,
+        size: int | None = None, more: bytes = b"", rest: bytes = b"") -> bytes:
     """A WAV file, byte by byte."""
     block = channels * bits // 8
     head = struct.pack("<HHIIHH", form, channels, rate, rate * block, block, bits) + rest
@@ -26,20 +28,20 @@ def wav(samples=SAMPLES, form=1, channels=2, rate=44_100, bits=16, size=None, mo
     return b"RIFF" + struct.pack("<I", len(content)) + content
 
 
-def extensible(form=1, **words):
+def extensible(form: int = 1, bits: int = 16) -> bytes:
     """The longer header, whose form stands in its last sixteen bytes."""
-    tail = struct.pack("<HHIH", 22, words.get("bits", 16), 3, form) + bytes.fromhex("000000001000800000aa00389b71")
-    return wav(form=0xFFFE, rest=tail, **words)
+    tail = struct.pack("<HHIH", 22, bits, 3, form) + bytes.fromhex("000000001000800000aa00389b71")
+    return wav(form=0xFFFE, rest=tail, bits=bits)
 
 
 class AudioTest(FolderTest):
-    def sound(self, content, name="a.wav"):
+    def sound(self, content: bytes, name: str = "a.wav") -> Path:
         return self.write(name, content)
 
-    def samples(self, path):
+    def samples(self, path: Path) -> bytes:
         return b"".join(audio.sectors(path))
 
-    def refused(self, path):
+    def refused(self, path: Path) -> str:
         with self.assertRaises(Refusal) as refused:
             audio.length(path)
         return str(refused.exception)
@@ -86,11 +88,12 @@ class AudioTest(FolderTest):
     @needs_ffmpeg
     def test_other_forms_are_converted(self) -> None:
         source = write_wav(self.folder / "a.wav", 44_100)
-        for name, words, least in (("a.flac", [], 75), ("b.wav", ["-ar", "48000"], 75), ("c.wav", ["-ac", "1"], 75),
-                                   ("d.wav", ["-c:a", "pcm_s24le"], 75), ("a.mp3", [], 75)):
+        forms: dict[str, list[str]] = {"a.flac": [], "b.wav": ["-ar", "48000"], "c.wav": ["-ac", "1"],
+                                       "d.wav": ["-c:a", "pcm_s24le"], "a.mp3": []}
+        for name, words in forms.items():
             path = self.folder / name
-            subprocess.run(["ffmpeg", "-v", "error", "-i", source, *words, path], check=True)
-            self.assertIn(audio.length(path), range(least, least + 5), name)
+            subprocess.run(["ffmpeg", "-v", "error", "-i", str(source), *words, str(path)], check=True)
+            self.assertIn(audio.length(path), range(75, 80), name)
         self.assertEqual(self.samples(self.folder / "a.flac"), self.samples(source))
         self.assertEqual(self.samples(self.folder / "d.wav"), self.samples(source))
 

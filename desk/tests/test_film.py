@@ -4,9 +4,9 @@ import subprocess
 import unittest
 from unittest import mock
 
-from publishers import (LEAD_IN, PAUSE, TOP, FolderTest, author, desk, needs_ffmpeg, needs_pillow, needs_plan,
-                        needs_program, run_program, screen, write_wav)
-
+from fixtures import (PAUSE, TOP, FolderTest, desk, needs_ffmpeg, needs_pillow, needs_plan, needs_program, program,
+                      write_wav)
+from publishers import LEAD_IN, author, screen
 from ribjasper.film import Stills
 from ribjasper.streams import open_stream
 
@@ -21,10 +21,10 @@ class FilmTest(FolderTest):
         super().setUp()
         self.stream = author(*HELLO, "00:22:00", self.folder / "a.raw")
 
-    def packs(self):
-        return run_program("convert", "--lead-in", LEAD_IN, "--", self.stream)
+    def packs(self) -> bytes:
+        return program("convert", "--lead-in", LEAD_IN, "--", self.stream)
 
-    def check(self, frames, numbers=(0, 130, 131, 149, 250, 549)):
+    def check(self, frames: list[bytes], numbers: tuple[int, ...] = (0, 130, 131, 149, 250, 549)) -> None:
         for number in numbers:
             self.assertEqual(frames[number], screen(self.stream, PAUSE + BLOCKS_A_FRAME * number).pixels, number)
 
@@ -52,12 +52,12 @@ class FilmTest(FolderTest):
         audio = write_wav(self.folder / "a.wav", 44_100 * 22)
         ran = desk("film", self.stream, "-o", film, "--lossless", "--scale", "1", "--audio", audio)
         self.assertEqual(ran.status, 0, ran.told)
-        words = ["ffmpeg", "-v", "error", "-i", film, "-f", "rawvideo", "-pix_fmt", "rgb24", "pipe:1"]
+        words = ["ffmpeg", "-v", "error", "-i", str(film), "-f", "rawvideo", "-pix_fmt", "rgb24", "pipe:1"]
         shown = subprocess.run(words, capture_output=True, check=True).stdout
         size = 3 * 300 * 216
         self.assertEqual(len(shown), 550 * size)
         self.check([shown[at : at + size] for at in range(0, len(shown), size)])
-        words = ["ffprobe", "-v", "error", "-show_entries", "stream=codec_type", "-of", "csv=p=0", film]
+        words = ["ffprobe", "-v", "error", "-show_entries", "stream=codec_type", "-of", "csv=p=0", str(film)]
         streams = subprocess.run(words, capture_output=True, text=True, check=True).stdout.split()
         self.assertEqual(streams, ["video", "audio"])
 

@@ -3,11 +3,11 @@ import os
 import re
 import subprocess
 import unittest
+from pathlib import Path
 from unittest import mock
 
-from publishers import (LEAD_IN, PAUSE, TOP, FolderTest, author, desk, needs_cdrdao, needs_plan, needs_program,
-                        run_program, screen, write_wav)
-
+from fixtures import PAUSE, TOP, FolderTest, Ran, Word, desk, needs_cdrdao, needs_plan, needs_program, program, write_wav
+from publishers import LEAD_IN, author, screen
 HELLO = TOP / "examples" / "hello.script"
 BLOCK, SECTOR, SOUND = 96, 2448, 2352
 # Three tracks with every kind of gap; track 2 begins at a block that carries the catalogue number.
@@ -53,7 +53,7 @@ class ImageTest(FolderTest):
         self.stream = author(self.sheet, HELLO, "00:22:00", self.folder / "a.raw")
         self.disc = self.folder / "disc"
 
-    def image(self, *words):
+    def image(self, *words: Word) -> Ran:
         ran = desk("image", self.sheet, self.stream, "--audio", self.audio, "-o", self.disc, *words)
         self.assertEqual(ran.status, 0, ran.told)
         return ran
@@ -64,8 +64,8 @@ class ImageTest(FolderTest):
         blocks = self.stream.read_bytes()[BLOCK * (LEAD_IN + PAUSE) :]
         self.assertEqual(len(image), SECTOR * 1895)
         self.assertEqual(b"".join(image[at + SOUND : at + SECTOR] for at in range(0, len(image), SECTOR)), blocks)
-        packs = run_program("convert", "--lead-in", 0, "--form", "sector", "--", self.folder / "disc.bin")
-        whole = run_program("convert", "--lead-in", LEAD_IN, "--", self.stream)
+        packs = program("convert", "--lead-in", 0, "--form", "sector", "--", self.folder / "disc.bin")
+        whole = program("convert", "--lead-in", LEAD_IN, "--", self.stream)
         self.assertEqual(packs, whole[24 * 4 * PAUSE :])
 
     def test_audio_and_gaps(self) -> None:
@@ -131,6 +131,26 @@ class ImageTest(FolderTest):
         self.assertNotIn("pause", ran.told)
         self.assertEqual(screen(image, 535 - PAUSE, "--form", "sector", lead_in=0), third)
 
+    def test_texts_of_another_sheet_are_told(self) -> None:
+        self.assertNotIn("its texts are not those", self.image().told)
+        self.sheet = self.write("b.cue", SHEET.replace("All the Gaps", "Other Gaps"))
+        told = self.image().told
+        self.assertIn("its texts are not those of", told)
+        self.assertIn("2 differ, as `title 00 All the Gaps` of the stream", told)
+
+    def test_a_pressed_file_is_not_told_to_have_a_script(self) -> None:
+        plain = self.write("b.cue", 'FILE "a.wav" WAVE\nTRACK 01 AUDIO\nINDEX 01 00:00:00\n')
+        packs = program("convert", "--lead-in", LEAD_IN, "--", author(plain, HELLO, "00:22:00", self.folder / "b.raw"))[14_232:]
+        preset, idle = bytes([9, 1, 0, 0, 5]) + bytes(19), bytes(24)
+        for name, first, is_told in (("early", preset + 11 * idle, True), ("late", 11 * idle + preset, False)):
+            pressed = self.write(f"{name}.raw", program(
+                "press", "--lead-in", LEAD_IN, "--length", "00:22:00", "--", plain,
+                self.write(f"{name}.cdg", first + packs[288:])))
+            ran = desk("image", plain, pressed, "--audio", self.audio, "-o", self.folder / name)
+            self.assertEqual(ran.status, 0, ran.told)
+            self.assertNotIn("--hold-through-pause", ran.told)
+            self.assertEqual("the first seven packs of its .cdg file begin in the first pause" in ran.told, is_told, ran.told)
+
     def test_without_texts_and_codes(self) -> None:
         self.sheet = self.write("b.cue", 'FILE "a.wav" WAVE\nTRACK 07 AUDIO\nINDEX 01 00:00:00\n')
         self.stream = author(self.sheet, HELLO, "00:22:00", self.stream)
@@ -151,7 +171,7 @@ class ImageTest(FolderTest):
         self.assertIn("START 00:02:00", (self.folder / "disc.toc").read_text())
 
     def test_refusals(self) -> None:
-        def refused(why, **others):
+        def refused(why: str, **others: Path) -> None:
             words = {"sheet": self.sheet, "stream": self.stream, "audio": self.audio, **others}
             ran = desk("image", words["sheet"], words["stream"], "--audio", words["audio"], "-o", self.disc)
             self.assertEqual(ran.status, 3, ran.told)

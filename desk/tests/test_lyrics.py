@@ -2,18 +2,20 @@
 import argparse
 import unittest
 from pathlib import Path
+from typing import Iterator
 
-from publishers import SONG, FolderTest, author, desk, needs_font, needs_pillow, needs_plan, needs_program, screen
-
-from ribjasper.colours import contrast
+from fixtures import (PAUSE, SONG, TOP, FolderTest, Ran, Word, desk, needs_font, needs_pillow, needs_plan,
+                      needs_program, write_wav)
+from publishers import LEAD_IN, author, screen
+from ribjasper.colours import Colour, contrast
+from ribjasper.library import HEIGHT, PACK, RAW, WIDTH, Player, convert
 from ribjasper.lyrics import add_parser, wishes_of
-from ribjasper.pages import DotOut
+from ribjasper.pages import DotOut, Placed
 from ribjasper.song_files import read_song
 from ribjasper.song_script import Maker, best
-from ribjasper.songs import BOTH, SECOND
 from ribjasper.styles import read_style, shipped
 from ribjasper.timeline import EARLY, blocks_for
-from ribjasper.times import clock
+from ribjasper.times import blocks, clock
 
 SHEET = 'FILE "a.wav" WAVE\nTRACK 01 AUDIO\nINDEX 01 00:00:00\n'
 # The Japanese font of the package fonts-vlgothic, which the desk finds by itself.
@@ -25,8 +27,8 @@ Dialogue: 0,0:00:05.00,0:00:08.00,Default,,0,0,0,,{\\k50}One, {\\kf70}two{\\K30}
 """
 
 
-def rgb(colour):
-    return tuple(17 * part for part in colour)
+def rgb(colour: Colour) -> tuple[int, int, int]:
+    return 17 * colour.red, 17 * colour.green, 17 * colour.blue
 
 
 class StylesTest(FolderTest):
@@ -45,7 +47,7 @@ class StylesTest(FolderTest):
         self.assertAlmostEqual(contrast(black, white), 21, places=6)
         self.assertAlmostEqual(contrast(grey, white), 4.48, places=2)
 
-    def style(self, *lines, voices='[[voice]]\nunsung = "#FFF"\nsung = "#F80"\n'):
+    def style(self, *lines: str, voices: str = '[[voice]]\nunsung = "#FFF"\nsung = "#F80"\n') -> str:
         return str(self.write("a.toml", "".join(f"{line}\n" for line in lines) + voices))
 
     def test_all_keys(self) -> None:
@@ -75,7 +77,7 @@ class StylesTest(FolderTest):
 class ScriptTest(FolderTest):
     """A test that makes scripts."""
 
-    def made(self, song: Path, *words, status=0):
+    def made(self, song: Path, *words: Word, status: int = 0) -> tuple[Ran, Path, Maker]:
         """Runs the command; and makes the pages once more, to know where each word stands."""
         script = self.folder / "a.script"
         ran = desk("lyrics", song, "-o", script, *words)
@@ -85,18 +87,37 @@ class ScriptTest(FolderTest):
         arguments = top.parse_args(["lyrics", str(song), "-o", str(script), *map(str, words)])
         return ran, script, best(read_song(song), wishes_of(arguments, None)).maker
 
-    def stream(self, script):
-        return author(self.write("a.cue", SHEET), script, clock(30_000), self.folder / "a.raw")
+    def stream(self, script: Path) -> Path:
+        """A disc that ends three seconds after the last picture."""
+        last = [line.split()[2] for line in script.read_text().splitlines() if line.startswith("show")][-1]
+        return author(self.write("a.cue", SHEET), script, clock(blocks(last) + 3 * 75), self.folder / "a.raw")
 
-    def is_planned(self, script):
+    def is_planned(self, script: Path) -> None:
         self.assertEqual(desk("plan", self.write("a.cue", SHEET), script, "--length", clock(30_000)).status, 0)
 
-    def pixels(self, placed, light, ink):
-        """The pixels of a part of a line that have a number: 3 is the full colour of the first voice, 7 of the second."""
-        return [(x, placed.top + y) for y, row in enumerate(placed.letters.rows)
-                for x in range(light.left, min(light.right, 288)) if row[x] == ink]
+    @staticmethod
+    def letters(placed: Placed) -> list[bytes]:
+        """The numbers of the pixels of a line; 3 is the full colour of the first voice, 7 of the second."""
+        assert placed.letters
+        return placed.letters.rows
 
-    def check_words(self, script, maker: Maker, step=1):
+    def pixels(self, placed: Placed, left: int, right: int, ink: int) -> list[tuple[int, int]]:
+        """The pixels of a part of a line that have a number."""
+        return [(x, placed.top + y) for y, row in enumerate(self.letters(placed))
+                for x in range(left, min(right, 288)) if row[x] == ink]
+
+    def screens(self, script: Path) -> Iterator[tuple[int, bytes]]:
+        """What stands at each block of the program from the end of the pause on: the numbers of all pixels."""
+        packs, _ = convert(self.stream(script).read_bytes(), RAW, LEAD_IN)
+        with Player() as player:
+            done = 0
+            for block in range(PAUSE, len(packs) // PACK // 4 + 2):
+                # A pack has eight slots, four of them in a block: those that are whole by this block.
+                player.draw(packs[PACK * done : PACK * (4 * block - 7)])
+                done = 4 * block - 7
+                yield block, player.screen()
+
+    def check_words(self, script: Path, maker: Maker, step: int = 1) -> None:
         """That words stand in the one colour before their times, and in the other from them on."""
         stream = self.stream(script)
         style, seen = maker.style, 0
@@ -106,13 +127,13 @@ class ScriptTest(FolderTest):
             early = due.block - EARLY - blocks_for(due.steps) - 1
             before, after = screen(stream, early), screen(stream, due.block)
             for number, ink in enumerate((3, 7)):
-                full = self.pixels(placed, light, ink)
+                full = self.pixels(placed, light.left, light.right, ink)
                 seen += len(full) > 5
                 voice = style.voice(number)
                 if full:
                     self.assertEqual({before.at(*pixel) for pixel in full}, {rgb(voice.unsung)}, placed.text())
                     self.assertEqual({after.at(*pixel) for pixel in full}, {rgb(voice.sung)}, placed.text())
-            box = [(x, placed.top + y) for y in range(len(placed.letters.rows))
+            box = [(x, placed.top + y) for y in range(len(self.letters(placed)))
                    for x in range(light.left, min(light.right, 288))]
             self.assertIn(rgb(style.ground), {after.at(*pixel) for pixel in box})
         self.assertGreater(seen, len(lights[::step]) // 2)
@@ -189,8 +210,7 @@ class LyricsTest(ScriptTest):
         self.assertGreater(len(maker.dues), 15)
         stream = self.stream(script)
         last = maker.dues[-1]
-        full = [(x, last.placed.top + y) for y, row in enumerate(last.placed.letters.rows)
-                for x in range(288) if row[x] == 3]
+        full = self.pixels(last.placed, 0, 288, 3)
         after = screen(stream, last.block + 2)
         self.assertEqual({after.at(*pixel) for pixel in full}, {rgb(read_style("night").voices[0].sung)})
 
@@ -230,16 +250,296 @@ class LyricsTest(ScriptTest):
         song = self.write("a.lrc", "[00:06.00]\u00dcber \u0388\u03bd\u03b1 \u0438 \u0434\u0432\u0430\n"
                                    "[00:09.00]\u05e9\u05dc\u05d5\u05dd \u05e2\u05d5\u05dc\u05dd\n")
         _, _, maker = self.made(song)
-        extents = [placed.letters.extents for placed in maker.pages[0].placed]
+        extents = [placed.letters.extents for placed in maker.pages[0].placed if placed.letters]
         self.assertLess(extents[0][0][0], extents[0][1][0])
         self.assertGreater(extents[1][0][0], extents[1][1][0])
 
     def test_a_song_longer_than_its_audio(self) -> None:
-        from publishers import write_wav
         audio = write_wav(self.folder / "a.wav", 44_100 * 5)
         ran = desk("lyrics", self.write("a.lrc", "[00:06.00]La\n"), "--audio", audio, "-o", self.folder / "a.script")
         self.assertEqual(ran.status, 3)
-        self.assertIn("ends at 00:05:00", ran.told)
+        self.assertIn("which ends at 00:05.00", ran.told)
+
+
+# Lines that follow each other quickly, in the same places.
+QUICK = "".join(f"[00:{8 + 2 * number:02}.00]" + "".join(
+    f"<00:{8 + 2 * number + 0.4 * word:05.2f}>{text} " for word, text in enumerate(("my", "jumping", "kamps", f"{number}ly")))
+    + "\n" for number in range(12))
+DUET = """[ti:Two]
+[singer:Anna]
+[00:10.00]<00:10.00>One <00:10.50>voice <00:11.00>
+[singer:Ben]
+[00:12.00]<00:12.00>other <00:12.50>voice <00:13.00>
+[singer:both]
+[00:14.00]<00:14.00>both <00:14.50>of <00:15.00>them <00:15.50>
+"""
+
+
+@needs_plan
+@needs_program
+@needs_pillow
+@needs_font
+class ReadableTest(ScriptTest):
+    def slots(self, maker: Maker) -> dict[int, list[Placed]]:
+        found: dict[int, list[Placed]] = {}
+        for page in maker.pages:
+            for placed in page.placed:
+                if placed.letters:
+                    found.setdefault(placed.slot, []).append(placed)
+        return found
+
+    def shown(self, pixels: bytes, maker: Maker, slot: int) -> set[tuple[int, int]]:
+        """The pixels in a place of the page that are not of the ground."""
+        top = maker.style.top(slot)
+        rows = range(top, top + 12 * maker.style.slot_rows)
+        return {(x, y) for y in rows for x in range(288) if pixels[WIDTH * (y + 12) + x + 6]}
+
+    def check_clear(self, script: Path, maker: Maker) -> None:
+        """That the pixels that stand in a place of the page are of one line at each block."""
+        inks = {slot: [{(x, placed.top + y) for y, row in enumerate(self.letters(placed)) for x in range(288) if row[x]}
+                       for placed in some] for slot, some in self.slots(maker).items()}
+        seen, before = set(), b""
+        for block, pixels in self.screens(script):
+            if block > PAUSE + 75 * 40:
+                break
+            if pixels == before or block < maker.first - 75:
+                continue
+            before = pixels
+            for slot, lines in inks.items():
+                shown = self.shown(pixels, maker, slot)
+                # A tile that takes two packs may show other pixels between them.
+                fits = [number for number, ink in enumerate(lines)
+                        if len({(x // 6, y // 12) for x, y in shown - ink}) <= 1]
+                self.assertTrue(fits, (block, slot))
+                seen |= {(slot, fits[0])} if shown else set()
+        self.assertEqual(len(seen), sum(len(lines) for lines in inks.values()))
+
+    def test_a_row_is_cleared_before_another_is_drawn_over_it(self) -> None:
+        ran, script, maker = self.made(self.write("a.lrc", QUICK), "--no-rests")
+        self.assertNotIn(": line", ran.told)
+        self.assertGreater(len(self.slots(maker)[0]), 2)
+        self.check_clear(script, maker)
+
+    def test_by_page(self) -> None:
+        style = self.write("a.toml", 'mode = "page"\nrows = 3\n[[voice]]\nunsung = "#FFF"\nsung = "#28F"\n')
+        _, script, maker = self.made(self.write("a.lrc", QUICK), "--no-rests", "--style", style)
+        self.check_clear(script, maker)
+        second = [placed for placed in maker.pages[1].placed if placed.letters]
+        self.assertEqual(len(second), 3)
+        end = PAUSE + round(75 * maker.pages[0].placed[-1].end)
+        for block, pixels in self.screens(script):
+            if block == end:
+                self.assertEqual([bool(self.shown(pixels, maker, slot)) for slot in range(3)], [True] * 3)
+                break
+
+    def test_a_line_with_one_time_is_lit_column_by_column(self) -> None:
+        _, script, maker = self.made(self.write("a.lrc", "[00:10.00]Light goes over this line\n[00:15.00]\n"))
+        placed = next(placed for page in maker.pages for placed in page.placed if placed.letters)
+        columns = [[(x, y) for x, y in self.pixels(placed, left, left + 6, 3)] for left in range(0, 288, 6)]
+        columns = [column for column in columns if column]
+        lit_at: dict[int, int] = {}
+        for block, pixels in self.screens(script):
+            if not PAUSE + 750 <= block <= PAUSE + 1130:
+                continue
+            states = [{pixels[WIDTH * (y + 12) + x + 6] for x, y in column} for column in columns]
+            self.assertLessEqual(sum(len(state) > 1 for state in states), 1, "one column changes at a time")
+            whole = [state == {11} for state in states]
+            self.assertEqual(whole, sorted(whole, reverse=True), "from left to right")
+            for number, is_lit in enumerate(whole):
+                if is_lit:
+                    lit_at.setdefault(number, block)
+        self.assertEqual(len(lit_at), len(columns))
+        # Over the five seconds of the line.
+        self.assertAlmostEqual(lit_at[len(columns) // 2] / 75, 2 + 12.5, delta=0.4)
+        self.assertLess(lit_at[len(columns) - 1], PAUSE + 75 * 15 + 2)
+
+    def test_a_broken_line_stands_on_neighbouring_rows(self) -> None:
+        text = "".join(f"[00:{8 + 4 * number:02}.00]{'A line that is too long for one row of this size' if number % 2 else 'Short'}\n"
+                       for number in range(8))
+        _, _, maker = self.made(self.write("a.lrc", text), "--size", "20", "--no-rests")
+        rows: dict[int, list[tuple[int, int]]] = {}
+        for number, page in enumerate(maker.pages):
+            for placed in page.placed:
+                if placed.letters:
+                    rows.setdefault(placed.letters.line.number, []).append((number, placed.slot))
+        self.assertGreaterEqual(max(len(places) for places in rows.values()), 2)
+        for places in rows.values():
+            self.assertEqual({page for page, _ in places}, {places[0][0]})
+            self.assertEqual([slot for _, slot in places], list(range(places[0][1], places[0][1] + len(places))))
+
+    def test_smaller_letters_where_most_lines_would_be_broken(self) -> None:
+        lines = "".join(f"[00:{10 + 4 * number:02}.00]Nearly thirty letters, line {number}\n" for number in range(6))
+        ran, _, maker = self.made(self.write("a.lrc", lines), "--size", "24")
+        self.assertLess(maker.font.size, 24)
+        self.assertIn("letters of 24 pixels break 6 of 6 lines, and so they have", ran.told)
+        self.assertTrue(all(len({id(placed) for placed in page.placed}) for page in maker.pages))
+        self.assertEqual(sum(bool(placed.letters) for page in maker.pages for placed in page.placed if placed.is_sung), 6)
+
+    def test_titles_wrap(self) -> None:
+        title = "A title that is as long as seventy letters, and that is on every disc"
+        self.assertGreaterEqual(len(title), 69)
+        ran, script, maker = self.made(self.write("a.lrc", f"[ti:{title}]\n[ar:Somebody]\n[00:15.00]La la\n"))
+        self.assertNotIn("title", ran.told)
+        stands = next(pixels for block, pixels in self.screens(script) if block == PAUSE + 75 * 6)
+        rows = [any(pixels) for pixels in (stands[WIDTH * y : WIDTH * (y + 1)] for y in range(HEIGHT))]
+        stretches = sum(after and not before for before, after in zip(rows, rows[1:]))
+        self.assertGreaterEqual(stretches, 4)
+
+    def test_two_voices_and_both(self) -> None:
+        _, script, maker = self.made(self.write("a.lrc", DUET), "--size", "20")
+        self.check_words(script, maker)
+        first, second, both = (placed for page in maker.pages for placed in page.placed if placed.letters and placed.is_sung)
+        numbers = [set(b"".join(self.letters(placed))) for placed in (first, second, both)]
+        # Four levels each, the ground among them.
+        self.assertEqual(numbers, [{0, 1, 2, 3}, {0, 5, 6, 7}, {0, 1, 2, 3, 5, 6, 7}])
+        rows = [{number & 4 for number in row if number} for row in self.letters(both)]
+        self.assertEqual([row for row in rows if row], sorted((row for row in rows if row), key=max))
+        self.assertTrue(all(len(row) < 2 for row in rows))
+
+    def test_a_legend(self) -> None:
+        ran, script, maker = self.made(self.write("a.lrc", DUET), "--legend")
+        self.assertNotIn("legend", ran.told)
+        stands = next(pixels for block, pixels in self.screens(script) if block == PAUSE + 75 * 5)
+        self.assertLessEqual({3, 7, 11}, set(stands))
+        ran, _, _ = self.made(self.write("b.lrc", QUICK), "--legend")
+        self.assertIn("only one voice sings, and so there is no legend", ran.told)
+
+    def dots(self, pixels: bytes, placed: Placed) -> int:
+        """How many of the dots above a line stand."""
+        return sum(pixels[WIDTH * (placed.top - 7 + 12) + left + 3 + 6] == 3 for left in placed.dots)
+
+    def test_a_line_after_a_rest_is_counted_in(self) -> None:
+        text = "[00:08.00]<00:08.00>La <00:09.00>la <00:10.00>\n[00:17.00]<00:17.00>So <00:17.50>on <00:18.00>\n" \
+               "[00:20.00]<00:20.00>and <00:20.50>on <00:21.00>\n"
+        _, script, maker = self.made(self.write("a.lrc", text))
+        lines = [placed for page in maker.pages for placed in page.placed if placed.letters]
+        self.assertEqual([len(placed.dots) for placed in lines], [3, 3, 0])
+        counts = {block: [self.dots(pixels, placed) for placed in lines[:2]] for block, pixels in self.screens(script)}
+        for place, start in ((0, 8), (1, 17)):
+            found = [counts[PAUSE + round(75 * (start - before))][place] for before in (2.5, 1.5, 0.5, -0.1)]
+            self.assertEqual(found, [3, 2, 1, 0])
+
+    def test_a_long_rest_is_told(self) -> None:
+        text = "[00:08.00]<00:08.00>La <00:09.00>la <00:10.00>\n[01:15.00]<01:15.00>So <01:15.50>on <01:16.00>\n"
+        _, script, maker = self.made(self.write("a.lrc", text))
+        rest = next(page.placed[-1] for page in maker.pages if not page.group.is_sung)
+        self.assertEqual(rest.text(), "instrumental 1:05")
+        ink = {(x, rest.top + y) for y, row in enumerate(self.letters(rest)) for x in range(288) if row[x]}
+        stands = {second: self.shown(pixels, maker, rest.slot) for second, pixels in
+                  ((block / 75 - 2, pixels) for block, pixels in self.screens(script)) if second in (11, 16, 60, 72)}
+        self.assertEqual([stands[second] == ink for second in (11, 16, 60, 72)], [False, True, True, False])
+
+    def test_how_long_a_line_stands(self) -> None:
+        text = "[00:20.00]<00:20.00>La <00:21.00>la <00:22.00>\n"
+        _, script, maker = self.made(self.write("a.lrc", text), "--lead", "4")
+        placed = next(placed for page in maker.pages for placed in page.placed if placed.letters)
+        stands = [block for block, pixels in self.screens(script) if self.shown(pixels, maker, placed.slot)]
+        self.assertIn(min(stands), range(PAUSE + 75 * 15, PAUSE + 75 * 16))
+
+    def test_a_last_page(self) -> None:
+        text = "[ti:The title]\n[00:08.00]<00:08.00>La <00:09.00>la <00:10.00>\n"
+        _, script, maker = self.made(self.write("a.lrc", text))
+        self.assertEqual(maker.pages[-2].placed[-1].text(), "The title")
+        *_, (_, last) = self.screens(script)
+        ink = sum(any((number,)) for number in b"".join(self.letters(maker.pages[-2].placed[-1])))
+        self.assertEqual(ink, len(self.shown(last, maker, maker.pages[-2].placed[-1].slot)))
+        short = write_wav(self.folder / "a.wav", 44_100 * 12)
+        ran, script, _ = self.made(self.folder / "a.lrc", "--audio", short)
+        self.is_planned(script)
+
+    def test_a_picture_behind_the_text(self) -> None:
+        from PIL import Image
+        image = Image.new("RGB", (288, 192))
+        image.putdata([(17 * (x // 48), 17 * (y // 48), 102) for y in range(192) for x in range(288)])
+        image.save(self.folder / "b.png")
+        style = self.write("a.toml", 'background = "b.png"\nrows = 3\n[[voice]]\nunsung = "#FFF"\nsung = "#28F"\n')
+        text = "[00:15.00]<00:15.00>La <00:16.00>la <00:17.00>\n[00:18.00]<00:18.00>lo <00:19.00>\n"
+        _, script, maker = self.made(self.write("a.lrc", text), "--style", style)
+        screens = {block: self.window(pixels) for block, pixels in self.screens(script)}
+        ground, numbers = b"".join(maker.ground.rows), set(b"".join(maker.ground.rows))
+        self.assertGreater(len(numbers), 4)
+        self.assertFalse(numbers & {1, 2, 3, 4, 9, 10, 11})
+        # Letters have an outline on it, and when they go the picture is whole again.
+        placed = next(placed for page in maker.pages for placed in page.placed if placed.letters)
+        self.assertIn(4, set(b"".join(self.letters(placed))))
+        differ = {(at % 288, at // 288) for at, (old, new) in enumerate(zip(ground, screens[PAUSE + 75 * 14])) if old != new}
+        inks = {(x, one.top + y) for page in maker.pages for one in page.placed if one.letters
+                for y, row in enumerate(self.letters(one)) for x in range(288) if row[x]}
+        inks |= {(dot + x, placed.top - 9 + y) for dot in placed.dots for x in range(6) for y in range(6)}
+        self.assertLessEqual(differ, inks)
+        self.assertEqual(screens[max(screens)], ground)
+
+    @staticmethod
+    def window(pixels: bytes) -> bytes:
+        return b"".join(pixels[WIDTH * (y + 12) + 6 : WIDTH * (y + 12) + 294] for y in range(192))
+
+    def test_rows_and_sides(self) -> None:
+        for rows in (2, 3, 5, 6):
+            _, _, maker = self.made(self.write("a.lrc", QUICK), "--rows", rows)
+            self.assertEqual(max(len([placed for placed in page.placed if placed.letters]) for page in maker.pages), rows)
+            for page in maker.pages:
+                for placed in page.placed:
+                    if placed.letters:
+                        bottom = placed.top + len(self.letters(placed))
+                        self.assertLessEqual(bottom, maker.style.top(placed.slot) + 12 * maker.style.slot_rows)
+        for side, at in (("left", 6), ("right", 282)):
+            style = self.write("a.toml", f'align = "{side}"\n[[voice]]\nunsung = "#FFF"\nsung = "#28F"\n')
+            _, _, maker = self.made(self.write("a.lrc", QUICK), "--style", style)
+            for page in maker.pages:
+                for placed in page.placed:
+                    if placed.letters:
+                        edges = [extent[side == "right"] for extent in placed.letters.extents]
+                        self.assertAlmostEqual(min(edges) if side == "left" else max(edges), at + 6 * (side == "right"), delta=1)
+
+    def test_an_outline(self) -> None:
+        style = self.write("a.toml", 'outline = "#F00"\n[[voice]]\nunsung = "#FFF"\nsung = "#28F"\n')
+        _, _, maker = self.made(self.write("a.lrc", QUICK), "--style", style)
+        placed = next(placed for page in maker.pages for placed in page.placed if placed.letters)
+        rows = [bytes(288), *self.letters(placed), bytes(288)]
+        for y in range(1, len(rows) - 1):
+            for x in range(1, 287):
+                around = [rows[y + down][x + right] for down in (-1, 0, 1) for right in (-1, 0, 1)]
+                if rows[y][x] & 3:
+                    self.assertNotIn(0, around, (x, y))
+                self.assertEqual(rows[y][x] == 4, not rows[y][x] & 3 and any(number & 3 for number in around))
+
+    @unittest.skipUnless(GOTHIC.exists(), "fonts-vlgothic is not installed")
+    def test_japanese_beside_latin(self) -> None:
+        song = self.write("a.lrc", "[00:10.00]\u65e5\u672c\u8a9e\u306e\u6b4c, and Latin\n[00:16.00]\n")
+        _, _, maker = self.made(song)
+        font = maker.font
+        self.assertEqual([font.paths[number].name for number, _ in font.runs("\u6b4c La")],
+                         ["VL-Gothic-Regular.ttf", "DejaVuSans-Bold.ttf"])
+        ran = desk("lyrics", song, "-o", self.folder / "b.script", "--font", GOTHIC)
+        self.assertEqual(ran.status, 0)
+
+    def test_all_lines_beyond_the_end_are_told(self) -> None:
+        audio = write_wav(self.folder / "a.wav", 44_100 * 9)
+        text = "[00:06.00]La\n[0:10.50]Lo\n[00:12.00]Lu\n[00:13.00]\n"
+        ran = desk("lyrics", self.write("a.lrc", text), "--audio", audio, "-o", self.folder / "a.script")
+        self.assertEqual(ran.status, 3)
+        self.assertIn("line 2 at [0:10.50] begins after the sound, which ends at 00:09.00: Lo", ran.told)
+        self.assertIn("line 3 at [00:12.00] begins after", ran.told)
+
+    def test_words_stand_lit_within_twenty_milliseconds(self) -> None:
+        for song in (SONG / "song.lrc", TOP / "examples" / "album" / "duet.lrc", TOP / "examples" / "album" / "morning.lrc"):
+            _, script, maker = self.made(song)
+            waiting = {}
+            for page in maker.pages:
+                for placed in page.placed:
+                    if placed.is_sung and placed.letters:
+                        for syllable, (left, right) in zip(placed.letters.syllables, placed.letters.extents):
+                            full = [place for ink in (3, 7) for place in self.pixels(placed, left, right, ink)]
+                            waiting[placed, left] = syllable.start, [WIDTH * (y + 12) + x + 6 for x, y in full]
+            offs = []
+            for block, pixels in self.screens(script):
+                for key, (start, places) in list(waiting.items()):
+                    if block > PAUSE + 75 * start - 30 and all(pixels[place] & 8 for place in places):
+                        offs.append(1000 * (block - PAUSE) / 75 - 1000 * start)
+                        del waiting[key]
+            self.assertFalse(waiting)
+            self.assertGreaterEqual(min(offs), -20, song)
+            self.assertLessEqual(max(offs), 20, song)
 
 
 if __name__ == "__main__":

@@ -1,9 +1,9 @@
 """`plan`: rows for all pictures, those that are late, refusals that name the file, the chart, and texts in Latin-1."""
 import subprocess
 import unittest
+from pathlib import Path
 
-from fixtures import PROGRAM
-from publishers import TOP, FolderTest, desk, needs_pillow, needs_plan, needs_program, write_wav
+from fixtures import PROGRAM, TOP, FolderTest, Ran, Word, desk, needs_pillow, needs_plan, needs_program, write_wav
 
 HELLO = TOP / "examples" / "hello.cue", TOP / "examples" / "hello.script"
 SHEET = 'TITLE "Song"\nFILE "a.wav" WAVE\nTRACK 01 AUDIO\nINDEX 01 00:00:00\n'
@@ -14,7 +14,7 @@ class PlanTest(FolderTest):
     def test_rows(self) -> None:
         ran = desk("plan", *HELLO, "--length", "00:22:00")
         self.assertEqual(ran.status, 0, ran.told)
-        names, *rows = ran.rows()
+        names, *rows = ran.cells()
         self.assertEqual(names, "picture line ready hold need free first late".split())
         shows = [(number, line.split()[1:]) for number, line in enumerate(HELLO[1].read_text().splitlines(), 1)
                  if line.startswith("show")]
@@ -29,14 +29,14 @@ class PlanTest(FolderTest):
                                            "show 00:00:05 00:00:05\nfill 5\nshow 00:10:00 00:10:00\n")
         ran = desk("plan", self.write("a.cue", SHEET), script, "--length", "00:22:00")
         self.assertEqual(ran.status, 4)
-        self.assertEqual([row[7] for row in ran.rows()[1:]], ["yes", "yes", "no"])
+        self.assertEqual([row[7] for row in ran.cells()[1:]], ["yes", "yes", "no"])
 
     @needs_program
     def test_first_late_is_that_of_author(self) -> None:
         script = self.write("late.script", "show 00:00:20 00:00:20\nfill 5\nrect 6 12 60 60 7\n"
                                            "show 00:00:22 00:00:22\n")
         sheet = self.write("a.cue", SHEET)
-        late = next(row for row in desk("plan", sheet, script, "--length", "00:22:00").rows() if row[-1] == "yes")
+        late = next(row for row in desk("plan", sheet, script, "--length", "00:22:00").cells() if row[-1] == "yes")
         words = "author", "--lead-in", "30", "--length", "00:22:00", "--", sheet, script
         told = subprocess.run([str(PROGRAM), *words], capture_output=True, text=True).stderr.split()
         self.assertEqual(told, ["late", late[0], "need", late[4], "free", late[5]])
@@ -77,7 +77,7 @@ class PlanTest(FolderTest):
 
 @needs_plan
 class Latin1Test(FolderTest):
-    def plan(self, sheet, *words):
+    def plan(self, sheet: Path, *words: Word) -> Ran:
         return desk("plan", sheet, self.write("a.script", ""), "--length", "00:22:00", *words)
 
     def test_warns_of_texts_alone(self) -> None:

@@ -2,9 +2,11 @@
 import subprocess
 import sys
 import unittest
+from pathlib import Path
 
-from publishers import (PAUSE, SONG, TOP, FolderTest, desk, needs_ffmpeg, needs_font, needs_pillow, needs_plan,
-                        needs_program, run_program, screen)
+from fixtures import (PAUSE, SONG, TOP, FolderTest, desk, needs_ffmpeg, needs_font, needs_pillow, needs_plan,
+                      needs_program, program)
+from publishers import screen
 
 from ribjasper.film import Stills
 from ribjasper.streams import open_stream
@@ -26,7 +28,7 @@ class SongTest(FolderTest):
         ran = desk("plan", SONG / "song.cue", script, "--audio", audio, "--chart", self.folder / "plan.png")
         self.assertEqual((ran.status, "0 of them late" in ran.told), (0, True), ran.told)
         words = "--lead-in", LEAD_IN, "--length", "01:00:00", "--", SONG / "song.cue", script
-        raw.write_bytes(run_program("author", *words))
+        raw.write_bytes(program("author", *words))
         ran = desk("image", SONG / "song.cue", raw, "--audio", audio, "-o", self.folder / "song")
         self.assertEqual((ran.status, "pause" in ran.told), (0, False), ran.told)
         film, stills = self.folder / "song.mp4", self.folder / "stills.png"
@@ -34,7 +36,7 @@ class SongTest(FolderTest):
         self.assertEqual(ran.status, 0, ran.told)
         self.check_picture(raw)
 
-    def check_picture(self, raw):
+    def check_picture(self, raw: Path) -> None:
         """The picture in the documents is the first still after fifteen seconds, and stands on the image too."""
         from PIL import Image
         stream, stills = open_stream(raw), Stills(RATE, None)

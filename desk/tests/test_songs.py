@@ -2,12 +2,11 @@
 import struct
 import unittest
 
-from publishers import FolderTest
-from support import needs
+from fixtures import FolderTest, needs
 
 from ribjasper.output import Refusal
 from ribjasper.song_files import read_song
-from ribjasper.songs import BOTH, FIRST, SECOND
+from ribjasper.songs import BOTH, FIRST, SECOND, Song
 
 ASS = """[Script Info]
 Title: Two lines
@@ -55,19 +54,19 @@ E
 """
 
 
-def words(song):
+def words(song: Song) -> list[list[tuple[str, float]]]:
     return [[(syllable.text, round(syllable.start, 2)) for syllable in line.syllables] for line in song.lines]
 
 
-def voices(song):
+def voices(song: Song) -> list[int]:
     return [line.voice for line in song.lines]
 
 
 class SongTest(FolderTest):
-    def song(self, text, name="a.lrc"):
+    def song(self, text: str | bytes, name: str = "a.lrc") -> Song:
         return read_song(self.write(name, text))
 
-    def refused(self, text, name="a.lrc"):
+    def refused(self, text: str | bytes, name: str = "a.lrc") -> str:
         with self.assertRaises(Refusal) as refused:
             self.song(text, name)
         return str(refused.exception)
@@ -215,7 +214,7 @@ class SrtTest(SongTest):
         self.assertIn("line 10: x --> y is no time", told)
 
 
-def variable(number):
+def variable(number: int) -> bytes:
     """A number of a MIDI file, seven bits a byte."""
     digits = [number & 127]
     while number := number >> 7:
@@ -223,7 +222,7 @@ def variable(number):
     return bytes(reversed(digits))
 
 
-def midi(*events, division=480):
+def midi(*events: tuple[int, int, bytes], division: int = 480) -> bytes:
     """A MIDI file of one track: meta events with the ticks that they come after the one before."""
     track = b"".join(variable(ticks) + b"\xff" + bytes([kind]) + variable(len(text)) + text for ticks, kind, text in events)
     track += b"\0\xff\x2f\0"
