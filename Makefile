@@ -42,7 +42,8 @@ bench:
 guide:
 	tools/run_guide.sh
 
-# The program, its manual page, the completions of two shells, and the library where it is built, below PREFIX.
+# The program, its manual page, the completions of two shells, and where they can be used the library and the desk,
+# below PREFIX.
 install:
 	[ -x bin/ribjasper ] || tools/build.sh
 	install -d "$(DESTDIR)$(PREFIX)/bin" "$(DESTDIR)$(PREFIX)/share/man/man1"
@@ -53,6 +54,7 @@ install:
 	install -m 644 share/ribjasper.bash "$(DESTDIR)$(PREFIX)/share/bash-completion/completions/ribjasper"
 	install -m 644 share/_ribjasper "$(DESTDIR)$(PREFIX)/share/zsh/site-functions/_ribjasper"
 	[ ! -f lib/libribjasper.a ] || tools/install_library.sh "$(DESTDIR)" "$(PREFIX)" "$(LIBDIR)"
+	! command -v python3 >/dev/null || tools/install_desk.sh "$(DESTDIR)" "$(PREFIX)"
 
 # What was installed, and the folders that are then empty, but for those of the system.
 uninstall:
@@ -60,7 +62,8 @@ uninstall:
 	rmdir "$(DESTDIR)$(LIBDIR)/cmake/ribjasper" "$(DESTDIR)$(LIBDIR)/cmake" 2>/dev/null || true
 	cd "$(DESTDIR)$(LIBDIR)" 2>/dev/null && rm -f libribjasper.a libribjasper.so.0 libribjasper.so pkgconfig/ribjasper.pc || true
 	cd "$(DESTDIR)$(PREFIX)" && rm -f include/ribjasper.h share/man/man3/ribjasper.3 bin/ribjasper \
-		share/man/man1/ribjasper.1 share/bash-completion/completions/ribjasper share/zsh/site-functions/_ribjasper
+		share/man/man1/ribjasper.1 share/bash-completion/completions/ribjasper share/zsh/site-functions/_ribjasper \
+		bin/ribjasper-desk share/man/man1/ribjasper-desk.1 && rm -rf share/ribjasper-desk
 	case "$(PREFIX)" in /usr | /usr/local) ;; *) \
 		cd "$(DESTDIR)$(PREFIX)" && rmdir -p share/man/man1 share/man/man3 share/bash-completion/completions \
 			share/zsh/site-functions bin lib/pkgconfig include 2>/dev/null || true ;; \

@@ -40,7 +40,7 @@ class Run(NamedTuple):
     """What a run took of the processor, in seconds, how many bytes came out, and its status."""
 
     seconds: float
-    count: int
+    written: int
     status: int
 
 
@@ -55,12 +55,11 @@ def through_pipes(words: list[str], files: Sequence[str]) -> Run:
     if len(files) < 2:
         feed = subprocess.Popen(["cat", files[0] if files else os.devnull], stdout=subprocess.PIPE)
     given = feed.stdout if feed else subprocess.DEVNULL
-    how = dict(stdin=given, stdout=subprocess.PIPE, stderr=subprocess.DEVNULL)
-    work = subprocess.Popen([*words, *named(files)], **how)
+    work = subprocess.Popen([*words, *named(files)], stdin=given, stdout=subprocess.PIPE, stderr=subprocess.DEVNULL)
     sink = subprocess.Popen(["wc", "-c"], stdin=work.stdout, stdout=subprocess.PIPE)
-    work.stdout.close()
-    if feed:
-        feed.stdout.close()
+    for handed_on in (work.stdout, feed and feed.stdout):
+        if handed_on:
+            handed_on.close()
     _, status, used = os.wait4(work.pid, 0)
     work.returncode = os.waitstatus_to_exitcode(status)
     count = int(sink.communicate()[0])
@@ -73,8 +72,8 @@ def peak(words: list[str], files: Sequence[str]) -> int:
     """The most memory, in KB, that a run of a command held, as far as looks at it every millisecond tell."""
     most = 0
     with open(files[0] if files else os.devnull) as given:
-        how = dict(stdin=given, stdout=subprocess.DEVNULL, stderr=subprocess.DEVNULL)
-        work = subprocess.Popen([*words, *named(files)], **how)
+        work = subprocess.Popen([*words, *named(files)], stdin=given, stdout=subprocess.DEVNULL,
+                                stderr=subprocess.DEVNULL)
         while work.poll() is None:
             try:
                 told = Path(f"/proc/{work.pid}/status").read_text()
@@ -117,8 +116,7 @@ def plain_words(program: str | None, words: str) -> list[str] | None:
 def written(words: list[str], files: Sequence[str]) -> str:
     """A digest of what a run writes."""
     with open(files[0] if files else os.devnull) as given:
-        how = dict(stdin=given, stdout=subprocess.PIPE, stderr=subprocess.DEVNULL)
-        ran = subprocess.run([*words, *named(files)], check=False, **how)
+        ran = subprocess.run([*words, *named(files)], stdin=given, stdout=subprocess.PIPE, stderr=subprocess.DEVNULL)
     return hashlib.sha256(ran.stdout).hexdigest()
 
 
@@ -129,8 +127,7 @@ def ribjasper(words: str) -> list[str]:
 def made(words: str, files: Sequence[str], path: Path) -> str:
     """The output of a command, as a file."""
     with open(files[0] if files else os.devnull) as given, open(path, "wb") as out:
-        how = dict(stdin=given, stdout=out, stderr=subprocess.DEVNULL)
-        subprocess.run([*ribjasper(words), *named(files)], check=False, **how)
+        subprocess.run([*ribjasper(words), *named(files)], stdin=given, stdout=out, stderr=subprocess.DEVNULL)
     return str(path)
 
 
@@ -180,7 +177,7 @@ def told_time(block: int) -> str:
 CLEAN = 24 * (4 * BLOCKS - 7)
 AUTHORED = 96 * 400_170
 # What is run, the names of its inputs, what they are, and how many bytes have to come out (where that is known).
-ROWS = [
+ROWS: list[tuple[str, list[str], str, int | None]] = [
     ("convert --lead-in 0", ["clean"], "clean", CLEAN),
     ("convert --lead-in 0", ["damaged"], "a wrong symbol in each block", CLEAN),
     ("convert --lead-in 0", ["authored"], "authored, mostly idle", None),
@@ -223,8 +220,8 @@ def plain_run(program: str | None, words: str, given: Sequence[str]) -> list[str
 def row(program: str | None, what: str, words: str, given: Sequence[str], size: int | None) -> str:
     """A line of the table, once the command is seen to write what it should."""
     ran = through_pipes(ribjasper(words), given)
-    if ran.status > 1 or ran.count == 0 or (size is not None and ran.count != size):
-        raise ValueError(f"wrote {ran.count} bytes with status {ran.status}")
+    if ran.status > 1 or ran.written == 0 or (size is not None and ran.written != size):
+        raise ValueError(f"wrote {ran.written} bytes with status {ran.status}")
     other = plain_run(program, words, given)
     runs = [(ribjasper(words), given), *([(other, given)] if other else []), *((["cat"], [it]) for it in given)]
     took, *rest = best(runs)

@@ -48,8 +48,8 @@ class Built:
     def run(self, call: Call) -> tuple[int, str]:
         names = ["--", *call.inputs] if call.inputs else []
         with open(call.output, "wb") as out:
-            how = dict(stdin=subprocess.DEVNULL, stdout=out, stderr=subprocess.PIPE, text=True)
-            ran = subprocess.run([self.program, *call.words.split(), *names], **how)
+            words = [str(self.program), *call.words.split(), *names]
+            ran = subprocess.run(words, stdin=subprocess.DEVNULL, stdout=out, stderr=subprocess.PIPE, text=True)
         return ran.returncode, ran.stderr
 
     def end(self) -> None:
@@ -79,9 +79,9 @@ class Tried:
             case.with_suffix(".args").write_text("".join(f"{word}\n" for word in words))
         self.count, self.said = 0, 0
         self.output = open(room / "output", "wb")
-        trial = ["rt", "try", "--seconds", "110", "--cases", room / "cases"]
-        how = dict(stdin=subprocess.DEVNULL, stdout=self.output, stderr=subprocess.PIPE, text=True)
-        self.trying = subprocess.Popen(trial, cwd=TOP / "crates" / "ribjasper", **how)
+        trial = ["rt", "try", "--seconds", "110", "--cases", str(room / "cases")]
+        self.trying = subprocess.Popen(trial, cwd=TOP / "crates" / "ribjasper", stdin=subprocess.DEVNULL,
+                                       stdout=self.output, stderr=subprocess.PIPE, text=True)
 
     @staticmethod
     def name_of(number: int) -> str:
@@ -94,6 +94,7 @@ class Tried:
         for pipe, name in zip(self.pipes_of(call), call.inputs):
             threading.Thread(target=self.feed, args=(pipe, read(name)), daemon=True).start()
         told = []
+        assert self.trying.stderr is not None
         for line in self.trying.stderr:
             if line.startswith("case="):
                 break
@@ -171,8 +172,13 @@ def show_thin() -> None:
     must(after < before == 2 * graphics("clean.cdg"), f"{before} graphics packs before, {after} after")
 
 
+def show_card() -> None:
+    picture("card.ppm")
+    tell(lines("card.txt")[:4])
+
+
 # The files that no call makes, each by what it is made of.
-MADE = {
+MADE: dict[str, Callable[[], bytes]] = {
     "hello.cue": lambda: (TOP / "examples" / "hello.cue").read_bytes(),
     "hello.script": lambda: (TOP / "examples" / "hello.script").read_bytes(),
     "first.raw": lambda: with_hole(read("hello.raw"), 60_000),
@@ -237,7 +243,7 @@ STEPS = [
             Call("card.ppm", f"screen {N} --at 00:17:00", ("scratched.raw",)),
             Call("card.txt", f"state {N} --at 00:17:00", ("scratched.raw",)),
         ],
-        lambda: (picture("card.ppm"), tell(lines("card.txt")[:4])),
+        show_card,
     ),
     Step(
         "merge: two readings with 25 bytes destroyed in each; neither gives all packs back, both together do",
@@ -313,7 +319,8 @@ def main() -> int:
     os.chdir(folder)
     print("A tour of the commands. Its input is made here: the sheet and script of examples/, a stream authored of them.")
     built = [program for program in PROGRAMS if program.exists()]
-    program = Built(built[0]) if built else Tried([call for step in STEPS for call in step.calls])
+    calls = [call for step in STEPS for call in step.calls]
+    program: Built | Tried = Built(built[0]) if built else Tried(calls)
     try:
         for number, step in enumerate(STEPS, 1):
             print(f"\n{number}. {step.title}")

@@ -3,6 +3,10 @@ import os
 import struct
 import sys
 import zlib
+from pathlib import Path
+from typing import Iterator
+
+Pixel = tuple[int, int, int]
 
 WIDTH, HEIGHT = 300, 216
 HEADER = b"P6\n300 216\n255\n"
@@ -10,15 +14,15 @@ HEADER = b"P6\n300 216\n255\n"
 SCALE = 2
 
 
-def rows_of(pixmap):
+def rows_of(pixmap: bytes) -> list[list[Pixel]]:
     """The rows of a pixmap, each a list of its pixels."""
     if not pixmap.startswith(HEADER) or len(pixmap) != len(HEADER) + 3 * WIDTH * HEIGHT:
         sys.exit("this is no pixmap of 300 by 216 pixels")
-    pixels = [tuple(pixmap[at : at + 3]) for at in range(len(HEADER), len(pixmap), 3)]
+    pixels = [(pixmap[at], pixmap[at + 1], pixmap[at + 2]) for at in range(len(HEADER), len(pixmap), 3)]
     return [pixels[WIDTH * y : WIDTH * (y + 1)] for y in range(HEIGHT)]
 
 
-def code_of(pixel):
+def code_of(pixel: Pixel) -> str:
     """A colour as a terminal takes it, after its 38 or 48."""
     if os.environ.get("COLORTERM") in ("truecolor", "24bit"):
         return "2;{};{};{}".format(*pixel)
@@ -26,7 +30,7 @@ def code_of(pixel):
     return f"5;{16 + 36 * red + 6 * green + blue}"
 
 
-def coloured(rows):
+def coloured(rows: list[list[Pixel]]) -> Iterator[str]:
     """Lines of half blocks, 75 in a line, each of four by eight pixels."""
     for y in range(0, HEIGHT, 8):
         above, below = rows[y + 2], rows[y + 6]
@@ -34,20 +38,20 @@ def coloured(rows):
         yield f"    {''.join(cells)}\033[0m"
 
 
-def grey(rows):
+def grey(rows: list[list[Pixel]]) -> Iterator[str]:
     """Lines of a character for each six by twelve pixels."""
     for y in range(6, HEIGHT, 12):
         light = ((3 * red + 6 * green + blue) / 2551 for red, green, blue in rows[y][3::6])
         yield f"    |{''.join(' .:+#'[int(5 * part)] for part in light)}|"
 
 
-def as_text(pixmap):
+def as_text(pixmap: bytes) -> str:
     """A picture for the terminal, or in plain characters where the output is none."""
     is_terminal = sys.stdout.isatty() and os.environ.get("TERM", "dumb") != "dumb"
     return "\n".join((coloured if is_terminal else grey)(rows_of(pixmap)))
 
 
-def scan_lines(pixmap):
+def scan_lines(pixmap: bytes) -> bytes:
     """The bytes of a PNG file's picture, before they are packed."""
     lines = []
     for row in rows_of(pixmap):
@@ -55,17 +59,17 @@ def scan_lines(pixmap):
     return b"".join(lines)
 
 
-def chunk(kind, content):
+def chunk(kind: bytes, content: bytes) -> bytes:
     return struct.pack(">I", len(content)) + kind + content + struct.pack(">I", zlib.crc32(kind + content))
 
 
-def as_png(pixmap):
+def as_png(pixmap: bytes) -> bytes:
     head = struct.pack(">IIBBBBB", SCALE * WIDTH, SCALE * HEIGHT, 8, 2, 0, 0, 0)
     packed = zlib.compress(scan_lines(pixmap), 9)
     return b"\x89PNG\r\n\x1a\n" + chunk(b"IHDR", head) + chunk(b"IDAT", packed) + chunk(b"IEND", b"")
 
 
-def is_shown_by(pixmap, file):
+def is_shown_by(pixmap: bytes, file: Path) -> bool:
     """Whether a PNG file as `as_png` writes it shows the picture."""
     content, packed, at = file.read_bytes(), b"", 8
     while at < len(content):

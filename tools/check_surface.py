@@ -57,6 +57,7 @@ def names_of(crate: str) -> dict[str, str]:
         for number, line in enumerate(lines):
             if re.match(r"(impl|pub trait)\b", line):
                 named = re.match(r"impl(?:<.*?>)? (?:.*? for )?(\w+)", line) or re.match(r"pub trait (\w+)", line)
+                assert named, line
                 owner = (named[1], line.startswith("pub trait") or " for " in line)
                 if line.startswith("pub trait"):
                     found[owner[0]] = body(line.rstrip(" {"))
@@ -100,7 +101,7 @@ class Code:
         for _ in range(4):
             if path in self.known[crate]:
                 return self.known[crate][path]
-            crate = self.passed[crate].get(head)
+            crate = self.passed[crate].get(head, "")
             if crate not in self.known:
                 return None
         return None

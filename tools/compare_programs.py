@@ -11,6 +11,7 @@ or mixed. No check of a format is worked out here. The checks of Q frames, text 
 remainders, so three good ones combined by exclusive or have a good check again, mostly with fields out of range.
 """
 import argparse
+import os
 import random
 import re
 import shlex
@@ -21,10 +22,12 @@ import tempfile
 from collections import Counter
 from collections.abc import Callable
 from pathlib import Path
-from typing import NamedTuple
+from typing import IO, NamedTuple, TypeVar
 
 from commands import FORMS, TOP, bare, table
 from try_refusals import tables
+
+Made = TypeVar("Made")
 
 BLOCK, SECTOR_AUDIO, PACK = 96, 2352, 24
 SECOND = 75
@@ -214,17 +217,16 @@ class Texts:
         place = self.rng.randrange(len(made))
         line = made[place]
         cut = self.rng.randint(0, len(line))
-        instead = self.rng.choice(
-            (
-                [],
-                [line, line],
-                [self.rng.choice(self.faulty)],
-                [self.rng.choice(self.faulty), line],
-                [self.rng.choice(made)],
-                [line[:cut]],
-                [line[:cut] + self.rng.choice("x 09:-\"\t\x01é") + line[cut:]],
-            )
-        )
+        faults: list[list[str]] = [
+            [],
+            [line, line],
+            [self.rng.choice(self.faulty)],
+            [self.rng.choice(self.faulty), line],
+            [self.rng.choice(made)],
+            [line[:cut]],
+            [line[:cut] + self.rng.choice("x 09:-\"\t\x01é") + line[cut:]],
+        ]
+        instead = self.rng.choice(faults)
         return [*made[:place], *instead, *made[place + 1 :]]
 
     def written(self, lines: list[str], share: float = 0.25) -> bytes:
@@ -248,7 +250,7 @@ class Maker:
     def chance(self, share: float) -> bool:
         return self.rng.random() < share
 
-    def remember(self, pool: list, made: bytes | Stream) -> None:
+    def remember(self, pool: list[Made], made: Made) -> None:
         if len(pool) < POOL:
             pool.append(made)
         else:
@@ -354,7 +356,8 @@ class Maker:
         else:
             few = [self.pack() for _ in range(self.rng.choice((0, 1, 9, 60)))]
             made = b"".join(few + self.rng.choices(few or [bytes(PACK)], k=len(few)))
-        return self.rng.choice((*(lambda whole: whole,) * 5, self.flipped, self.torn))(made)
+        ways: list[Callable[[bytes], bytes]] = [*[bytes] * 5, self.flipped, self.torn]
+        return self.rng.choice(ways)(made)
 
     def cooked(self) -> bytes:
         """Blocks of four packs, with their parity where they come of a stream."""
@@ -496,7 +499,8 @@ class Maker:
         elif how == 4:
             made[place] = str(made[place]).upper()
         elif how == 5:
-            made[place] = self.rng.choice((*STRAY_WORDS, b"\xff", *COMMANDS))
+            strays: list[str | bytes] = [*STRAY_WORDS, b"\xff", *COMMANDS]
+            made[place] = self.rng.choice(strays)
         else:
             made = made[:place]
         return made
@@ -532,7 +536,8 @@ class Maker:
             second = self.texts.written(script, 0) if number % 2 else b"".join(self.pack() for _ in range(90))
             length = max(need, last, 30) + self.rng.choice((20, 100, 100, 4000))
             lead_in = self.rng.choice((0, 3 * tracks + 30))
-            words = [command, "--lead-in", str(lead_in), "--length", time_of(length), "--", "first", "second"]
+            words: list[str | bytes] = [command, "--lead-in", str(lead_in), "--length", time_of(length)]
+            words += ["--", "first", "second"]
             lines = [line for line in sheet if "GAP" not in line]
             made.append(Call(command, words, Inputs(self.texts.written(lines, 0), second), False))
         return made
@@ -542,10 +547,11 @@ class Maker:
         made = []
         for stream in self.streams[:12]:
             window = self.window(stream)
-            for words in (["convert", "--lead-in", str(stream.lead_in)], ["planar"]):
-                made.append(Call(words[0], words, Inputs(stream.data), False))
-            save = ["save", "--lead-in", str(window.lead_in)]
-            made.append(Call("save", save, Inputs(window.data), False))
+            words: list[str | bytes] = ["convert", "--lead-in", str(stream.lead_in)]
+            made.append(Call("convert", words, Inputs(stream.data), False))
+            made.append(Call("planar", ["planar"], Inputs(stream.data), False))
+            words = ["save", "--lead-in", str(window.lead_in)]
+            made.append(Call("save", words, Inputs(window.data), False))
         return made
 
 
@@ -562,10 +568,11 @@ class Runner:
 
     def run(self, program: Path, call: Call) -> Outcome:
         with open("/dev/full", "wb") as full:
-            where = full if call.full else subprocess.PIPE
-            how = dict(input=call.inputs.first, stdout=where, stderr=subprocess.PIPE, cwd=self.folder)
+            where: IO[bytes] | int = full if call.full else subprocess.PIPE
             try:
-                ran = subprocess.run([program, *call.words], timeout=SECONDS_ALLOWED, check=False, **how)
+                words: list[str | bytes] = [os.fspath(program), *call.words]
+                ran = subprocess.run(words, timeout=SECONDS_ALLOWED, input=call.inputs.first,
+                                     stdout=where, stderr=subprocess.PIPE, cwd=self.folder)
             except subprocess.TimeoutExpired as stopped:
                 return Outcome(None, stopped.stdout or b"", stopped.stderr or b"")
         return Outcome(ran.returncode, ran.stdout or b"", ran.stderr)

@@ -227,8 +227,8 @@ def modules() -> dict[str, Module]:
 def crates() -> Iterator[str]:
     """The crates in the order of crates.txt, lowest first."""
     for line in (TOP / "crates.txt").read_text().splitlines():
-        if line and not line.startswith("#"):
-            yield re.match(r"[a-z0-9_]+", line)[0]
+        if name := re.match(r"[a-z0-9_]+", line):
+            yield name[0]
 
 
 def clauses() -> tuple[dict[str, Claim], Names]:

@@ -179,8 +179,9 @@ class Proving:
         os.makedirs(folder / "out", exist_ok=True)
         room = room_of(name, self.below)
         with open(folder / "out" / "proving.log", "w") as log:
-            how = dict(cwd=room / "crates" / name, stdin=subprocess.DEVNULL, stdout=log, stderr=subprocess.STDOUT)
-            is_well = not subprocess.run(["rt", "lib", "--jobs", str(jobs)], **how).returncode
+            ran = subprocess.run(["rt", "lib", "--jobs", str(jobs)], cwd=room / "crates" / name,
+                                 stdin=subprocess.DEVNULL, stdout=log, stderr=subprocess.STDOUT)
+            is_well = not ran.returncode
         give_back(name, room)
         if is_well:
             (folder / "out" / "proved").write_text(self.made[name])
@@ -206,8 +207,7 @@ class Proving:
                         self.left.remove(name)
                         self.running[name] = time.monotonic()
                         self.used[name] = self.jobs(len(ready) - place)
-                        how = dict(target=self.prove, args=(name, self.used[name]), daemon=True)
-                        threading.Thread(**how).start()
+                        threading.Thread(target=self.prove, args=(name, self.used[name]), daemon=True).start()
                 if not self.running:
                     break
                 self.news.wait()

@@ -71,8 +71,8 @@ def tables() -> dict[str, tuple[str, list[int]]]:
 def source_of(name: str, path: str) -> list[int]:
     """The numbers of a table as they stand in its source."""
     text = (ROOT / "crates" / path).read_text()
-    body = re.search(r"static " + name + r": [^=]*= \[(.*?)\n\];", text, re.S).group(1)
-    return [int(number, 0) for number in re.findall(r"0x[0-9a-f]+|\d+", body)]
+    table = re.search(r"static " + name + r": [^=]*= \[(.*?)\n\];", text, re.S)
+    return [int(number, 0) for number in re.findall(r"0x[0-9a-f]+|\d+", table[1] if table else "")]
 
 
 def main() -> int:

@@ -3,4 +3,4 @@
 cd "$(dirname "$0")/.." || exit 1
 python=/usr/bin/python3
 [ -x "$python" ] || python=$(command -v python3) || { echo "test_desk: skipped, there is no python3"; exit 0; }
-exec "$python" desk/tests
+cd desk && exec "$python" -m tests

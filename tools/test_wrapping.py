@@ -9,7 +9,7 @@ SUM = " ∙ ".join(f"ap (λ k. k * {number}) (rest_{number} size)" for number in
 CALL = "first_law " + " ".join(f"(argument_{number} left right)" for number in range(9))
 
 
-def broken(line):
+def broken(line: str) -> list[str]:
     """The lines of a line, of which those that are still too long are broken again."""
     lines = [line]
     for _ in range(wrap_proofs.ROUNDS):
@@ -18,7 +18,7 @@ def broken(line):
 
 
 class LinesTest(unittest.TestCase):
-    def lines_of(self, line):
+    def lines_of(self, line: str) -> list[str]:
         """The lines of a line that is too long, which hold what it held and fit."""
         self.assertGreater(len(line), LIMIT)
         lines = broken(line)
@@ -26,38 +26,38 @@ class LinesTest(unittest.TestCase):
         self.assertLessEqual(max(map(len, lines)), LIMIT)
         return lines
 
-    def test_a_line_that_fits_stays(self):
+    def test_a_line_that_fits_stays(self) -> None:
         self.assertEqual(wrapped("    omega (arith, fits)", False, False), ["    omega (arith, fits)"])
 
-    def test_an_outermost_operator_begins_each_line(self):
+    def test_an_outermost_operator_begins_each_line(self) -> None:
         first, *rest = self.lines_of("    " + SUM)
         self.assertTrue(first.startswith("    ap "))
         self.assertTrue(all(line.lstrip().startswith("∙ ap ") for line in rest))
 
-    def test_a_call_is_broken_between_its_arguments(self):
+    def test_a_call_is_broken_between_its_arguments(self) -> None:
         for line in self.lines_of("    " + CALL):
             self.assertEqual(line.count("("), line.count(")"))
 
-    def test_what_is_bound_stands_behind_its_name(self):
+    def test_what_is_bound_stands_behind_its_name(self) -> None:
         first, *rest = self.lines_of(f"    let sum : whole ≡ parts = {SUM} in")
         self.assertEqual(first, "    let sum : whole ≡ parts =")
         self.assertTrue(rest[-1].endswith(" in"))
 
-    def test_a_signature_is_broken_before_its_arrows(self):
+    def test_a_signature_is_broken_before_its_arrows(self) -> None:
         types = " → ".join(f"IsPart{number} bytes place" for number in range(9))
         _, *rest = self.lines_of(f"pub law : (bytes : List ℕ) (place : ℕ) → {types}")
         self.assertTrue(all(line.lstrip().startswith("→") for line in rest))
 
-    def test_a_string_is_not_broken(self):
+    def test_a_string_is_not_broken(self) -> None:
         words = " ".join("word" for _ in range(12))
         lines = self.lines_of(f'    say "{words}" {" ".join(f"(more_{number} left)" for number in range(8))}')
         self.assertIn(f'"{words}"', "\n".join(lines))
 
-    def test_a_comment_is_filled_anew(self):
+    def test_a_comment_is_filled_anew(self) -> None:
         for line in self.lines_of("-- " + "a word of it " * 12):
             self.assertTrue(line.startswith("-- "))
 
-    def test_an_import_stays_unless_it_is_asked_for(self):
+    def test_an_import_stays_unless_it_is_asked_for(self) -> None:
         names = ", ".join(f"name_of_a_law_{number}" for number in range(9))
         line = f"use Rattle.crate.proofs.Laws.{{{names}}}"
         self.assertEqual(wrapped(line, False, False), [line])
@@ -65,7 +65,7 @@ class LinesTest(unittest.TestCase):
 
 
 class RoomTest(unittest.TestCase):
-    def test_what_stands_before_and_behind_takes_room(self):
+    def test_what_stands_before_and_behind_takes_room(self) -> None:
         text = "a" * (LIMIT - 10)
         self.assertTrue(Room(4, 3, 3).fits(text))
         self.assertFalse(Room(4, 4, 3).fits(text))
@@ -73,13 +73,13 @@ class RoomTest(unittest.TestCase):
 
 
 class TokensTest(unittest.TestCase):
-    def test_only_separators_of_a_broken_bracket_are_passed_over(self):
+    def test_only_separators_of_a_broken_bracket_are_passed_over(self) -> None:
         self.assertTrue(wrap_proofs.is_added(",", "x", ")"))
         self.assertTrue(wrap_proofs.is_added(";", "x", "}"))
         self.assertTrue(wrap_proofs.is_added("|", "[", "x"))
         self.assertFalse(wrap_proofs.is_added(",", "x", "y"))
 
-    def test_a_changed_letter_is_seen(self):
+    def test_a_changed_letter_is_seen(self) -> None:
         self.assertEqual(letters("f (a,\n  b,)"), letters("f (a, b)"))
         self.assertNotEqual(letters("f (a, c)"), letters("f (a, b)"))
 

@@ -14,7 +14,7 @@ FORMATS = Path(__file__).resolve().parent.parent / "docs" / "FORMATS.md"
 FILE, TRACK, INDEX = 'FILE "a.wav" WAVE', "TRACK 01 AUDIO", "INDEX 01 00:00:00"
 SHEET = [FILE, TRACK, INDEX]
 # What may stand before the example of each kind of text.
-BEGINNINGS = {
+BEGINNINGS: dict[str, list[list[str]]] = {
     "cue": [[], [FILE], [FILE, TRACK], SHEET, [FILE, TRACK, 'TITLE "One"'], [FILE, TRACK, "INDEX 01 00:01:00"]],
     "script": [[]],
 }
@@ -36,8 +36,8 @@ def told(program: str, sheet: list[str], script: list[str]) -> str:
             names.append(f"{folder}/{name}")
             Path(names[-1]).write_text("".join(f"{line}\n" for line in lines))
         words = [program, "author", "--lead-in", "0", "--length", "00:10:00", "--", *names]
-        how = dict(stdin=subprocess.DEVNULL, stdout=subprocess.DEVNULL, stderr=subprocess.PIPE, text=True)
-        return subprocess.run(words, **how).stderr.strip()
+        ran = subprocess.run(words, stdin=subprocess.DEVNULL, stdout=subprocess.DEVNULL, stderr=subprocess.PIPE, text=True)
+        return ran.stderr.strip()
 
 
 def is_refused(program: str, kind: str, why: str, example: str) -> bool:

@@ -1,9 +1,9 @@
 """A chart of a plan: over time, the packs that each picture needs and those that are free for it."""
 import math
-from pathlib import Path
+from typing import Any
 
-from .output import package, write_png
-from .planning import Plan, Row
+from .output import package
+from .planning import Plan, PlannedPicture
 
 # The chart in pixels; and what stands around the bars.
 WIDE, HIGH = 1600, 480
@@ -53,7 +53,7 @@ class Chart:
             self.pen.rectangle((left, 18, left + 14, 32), colour)
             self.pen.text((left + 20, 20), word, INK)
 
-    def bar(self, row: Row) -> None:
+    def bar(self, row: PlannedPicture) -> None:
         """As wide as the time from the first free pack to the ready time."""
         left = self.across(row.first / PACKS_A_BLOCK)
         right = max(left + 1, self.across(row.ready) - 1)
@@ -64,10 +64,11 @@ class Chart:
                 self.pen.rectangle((left, self.up(packs), right, foot), colour)
 
 
-def draw_plan(plan: Plan, path: Path) -> None:
+def draw_plan(plan: Plan) -> Any:
+    """The chart, a picture of Pillow."""
     chart = Chart(plan)
     chart.axes()
     chart.legend()
     for row in plan.rows:
         chart.bar(row)
-    write_png(chart.image, path)
+    return chart.image

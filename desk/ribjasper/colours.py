@@ -1,6 +1,10 @@
 """Colours of twelve bits, four each of red, green and blue, and the few of them that stand for many."""
+import math
+import re
 from collections import Counter
 from typing import Iterable, NamedTuple, Sequence
+
+SPELLED = re.compile(r"#?([0-9A-Fa-f]{3}|[0-9A-Fa-f]{6})")
 
 
 class Colour(NamedTuple):
@@ -14,10 +18,35 @@ class Colour(NamedTuple):
         """As a script names it: `0RGB`."""
         return f"0{self.red:X}{self.green:X}{self.blue:X}"
 
+    def lightness(self) -> float:
+        """How light it is, from 0 to 1: the relative luminance of sRGB."""
+        return sum(weight * linear(part / 15) for weight, part in zip((0.2126, 0.7152, 0.0722), self))
+
     def far_from(self, other: "Colour") -> int:
         """How different two colours look: green counts most, blue least."""
         red, green, blue = self.red - other.red, self.green - other.green, self.blue - other.blue
         return 3 * red * red + 6 * green * green + blue * blue
+
+
+def linear(part: float) -> float:
+    """The light that a part of an sRGB colour stands for."""
+    return part / 12.92 if part <= 0.04045 else math.pow((part + 0.055) / 1.055, 2.4)
+
+
+def contrast(first: Colour, second: Colour) -> float:
+    """How well one stands out against the other, from 1 to 21: the contrast ratio of WCAG 2."""
+    dark, light = sorted((first.lightness(), second.lightness()))
+    return (light + 0.05) / (dark + 0.05)
+
+
+def read_colour(word: str) -> Colour | None:
+    """A colour that is spelled `#RGB` or `#RRGGBB`, or nothing."""
+    found = SPELLED.fullmatch(word)
+    if not found:
+        return None
+    if len(found[1]) == 3:
+        return Colour(*(int(digit, 16) for digit in found[1]))
+    return near(*bytes.fromhex(found[1]))
 
 
 def near(red: int, green: int, blue: int) -> Colour:
@@ -64,7 +93,7 @@ def farthest(weights: Counter[Colour], few: list[Colour], count: int) -> list[Co
     error = {colour: min(colour.far_from(one) for one in few) for colour in weights}
     more: list[Colour] = []
     for _ in range(count):
-        worst = max(weights, key=lambda colour: error[colour] * weights[colour] ** 0.5)
+        worst = max(weights, key=lambda colour: error[colour] * math.sqrt(weights[colour]))
         if not error[worst]:
             break
         more.append(worst)

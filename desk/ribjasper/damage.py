@@ -2,11 +2,11 @@
 import argparse
 from typing import Iterator, NamedTuple
 
-from . import damage_map, output
+from . import damage_map, kinds
 from .dump import FORMS, Dump, Form
 from .identify import form_of, survey_of
 from .library import BLOCKS_A_SECOND, LONGEST_LEAD_IN
-from .output import FOUND, Refusal, shown, tell, write_row
+from .output import FOUND, Outputs, Refusal, add_force, shown, tell
 from .survey import Clock, Run, Survey, either, runs, spelled
 
 NAMES = ("kind", "first", "last", "from", "to", "track", "bad", "corrected", "q-bad", "empty")
@@ -107,6 +107,7 @@ def add_parser(commands) -> None:
     parser.add_argument("--lead-in", type=lead_in, metavar="N", help="blocks of the lead-in; else Q tells them")
     parser.add_argument("--form", choices=FORMS, metavar="F", help=f"the form: {', '.join(FORMS)}; else it is found")
     parser.add_argument("--map", metavar="FILE.png", help="also draw a map of the damage")
+    add_force(parser)
     parser.set_defaults(run=run)
 
 
@@ -129,18 +130,18 @@ def form_or_refuse(dump: Dump, named: str | None) -> Form:
 
 
 def run(arguments) -> int:
-    dump = Dump(arguments.file)
-    form = form_or_refuse(dump, arguments.form)
-    if not dump.units(form):
-        raise Refusal(dump.path, f"has no whole block of {form.unit} bytes")
-    survey = survey_of(dump.blocks(form), form, arguments.lead_in)
-    found = damages(survey)
-    write_row(NAMES)
-    for damage in found:
-        write_row(damage)
-    if dump.rest(form):
-        tell(f"{shown(dump.path)}: {dump.rest(form)} bytes behind the last whole block are not looked at")
-    if arguments.map:
-        with output.beside(arguments.map) as out:
-            draw_map(survey).save(out, "PNG", optimize=True)
-    return FOUND if found or dump.rest(form) else 0
+    with Outputs([arguments.file], [(arguments.map, kinds.PNG)], arguments.force) as outputs:
+        dump = Dump(arguments.file)
+        form = form_or_refuse(dump, arguments.form)
+        if not dump.units(form):
+            raise Refusal(dump.path, f"has no whole block of {form.unit} bytes")
+        survey = survey_of(dump.blocks(form), form, arguments.lead_in)
+        found = damages(survey)
+        outputs.row(NAMES)
+        for damage in found:
+            outputs.row(damage)
+        if dump.rest(form):
+            tell(f"{shown(dump.path)}: {dump.rest(form)} bytes behind the last whole block are not looked at")
+        if arguments.map:
+            outputs.write_png(arguments.map, draw_map(survey))
+        return FOUND if found or dump.rest(form) else 0

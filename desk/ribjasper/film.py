@@ -3,16 +3,17 @@ import argparse
 import contextlib
 import math
 import os
+import shutil
 import subprocess
 import tempfile
-import wave
 from pathlib import Path
-from typing import Iterator, NamedTuple
+from typing import IO, Any, Iterator, NamedTuple
 
+from . import audio, kinds
 from .library import HEIGHT, WIDTH
-from .output import Missing, Refusal, cause, package, tell, write_png
-from .picture import number_in
+from .output import Missing, Outputs, Refusal, add_force, package, tell
 from .streams import Stream, open_stream
+from .words import Commands, number_in
 
 # A picture that stands so long, in seconds, has a place on a page of stills.
 STANDS = 0.2
@@ -21,7 +22,7 @@ MOST_STILLS = 1_000
 STILL_WIDTH, STILL_HEIGHT, LABEL, BETWEEN = WIDTH // 2, HEIGHT // 2, 14, 8
 
 
-def add_parser(commands) -> None:
+def add_parser(commands: Commands) -> None:
     parser = commands.add_parser(
         "film", help="make a film of what a stream shows",
         description="Makes a film of the pictures of a raw stream, an image or a .cdg file, in time with its audio, "
@@ -37,20 +38,18 @@ def add_parser(commands) -> None:
     parser.add_argument("--stills", type=Path, metavar="OUT.png",
                         help="a page with each picture that stands for a fifth of a second, and its time")
     parser.add_argument("--every", type=float, metavar="SECONDS", help="a still for each so many seconds")
+    add_force(parser)
     parser.set_defaults(run=run, parser=parser)
 
 
 def audio_seconds(path: Path | None) -> float:
-    """How long an audio is; 0 where there is none, or ffmpeg alone can tell."""
+    """How long an audio is; 0 where there is none, or where ffmpeg alone could tell and is not there."""
     if not path:
         return 0
-    try:
-        with wave.open(os.fspath(path), "rb") as file:
-            return file.getnframes() / file.getframerate()
-    except OSError as error:
-        raise Refusal(path, cause(error)) from None
-    except (wave.Error, EOFError):
-        return 0
+    wave = audio.wave_of(path)
+    if wave and wave.channels and wave.bits >= 8 and wave.rate:
+        return wave.size / (wave.channels * (wave.bits // 8) * wave.rate)
+    return audio.frames(path) / audio.RATE if shutil.which("ffmpeg") else 0
 
 
 def film_words(arguments: argparse.Namespace, out: str) -> list[str]:
@@ -64,38 +63,26 @@ def film_words(arguments: argparse.Namespace, out: str) -> list[str]:
 
 
 @contextlib.contextmanager
-def film_of(arguments: argparse.Namespace) -> Iterator:
-    """Where frames are written to; the film takes its name once all of them are."""
-    out = arguments.output
-    folder = os.path.dirname(os.fspath(out)) or "."
-    try:
-        number, part = tempfile.mkstemp(prefix=".ribjasper-", suffix=out.suffix or ".mp4", dir=folder)
-    except OSError as error:
-        raise Refusal(out, cause(error)) from None
-    os.close(number)
-    try:
-        with tempfile.TemporaryFile() as said:
-            try:
-                ffmpeg = subprocess.Popen(film_words(arguments, part), stdin=subprocess.PIPE, stderr=said)
-            except FileNotFoundError:
-                raise Missing("this needs the program ffmpeg (apt-get install ffmpeg)") from None
-            try:
-                yield ffmpeg.stdin
-            except BrokenPipeError:
-                pass
-            finally:
-                with contextlib.suppress(BrokenPipeError):
-                    ffmpeg.stdin.close()
-                status = ffmpeg.wait()
-            if status:
-                said.seek(0)
-                why = said.read().decode(errors="replace").strip().splitlines()
-                raise Refusal(out, f"ffmpeg ended with {status}: {why[-1] if why else 'it says nothing'}")
-        os.chmod(part, 0o644)
-        os.replace(part, out)
-    finally:
-        with contextlib.suppress(FileNotFoundError):
-            os.unlink(part)
+def film_of(arguments: argparse.Namespace, part: str) -> Iterator[IO[bytes]]:
+    """Where frames are written to, of which ffmpeg makes a film."""
+    with tempfile.TemporaryFile() as said:
+        try:
+            ffmpeg = subprocess.Popen(film_words(arguments, part), stdin=subprocess.PIPE, stderr=said)
+        except FileNotFoundError:
+            raise Missing("this needs the program ffmpeg (apt-get install ffmpeg)") from None
+        assert ffmpeg.stdin is not None
+        try:
+            yield ffmpeg.stdin
+        except BrokenPipeError:
+            pass
+        finally:
+            with contextlib.suppress(BrokenPipeError):
+                ffmpeg.stdin.close()
+            status = ffmpeg.wait()
+        if status:
+            said.seek(0)
+            why = said.read().decode(errors="replace").strip().splitlines()
+            raise Refusal(arguments.output, f"ffmpeg ended with {status}: {why[-1] if why else 'it says nothing'}")
 
 
 class Still(NamedTuple):
@@ -128,7 +115,7 @@ class Stills:
             self.kept.append(Still(self.since / self.rate, self.last))
 
 
-def stills_page(stills: list[Still]):
+def stills_page(stills: list[Still]) -> Any:
     """The pictures in rows, each with its time below it."""
     images = package("PIL.Image", "python3-pil")
     pens = package("PIL.ImageDraw", "python3-pil")
@@ -146,7 +133,7 @@ def stills_page(stills: list[Still]):
     return page
 
 
-def show_all(stream: Stream, arguments: argparse.Namespace, count: int, out, stills: Stills) -> None:
+def show_all(stream: Stream, arguments: argparse.Namespace, count: int, out: IO[bytes] | None, stills: Stills) -> None:
     for picture in stream.frames(arguments.rate, count):
         if out:
             out.write(picture)
@@ -159,15 +146,21 @@ def run(arguments: argparse.Namespace) -> int:
         arguments.parser.error("one of -o and --stills is needed")
     if arguments.every is not None and arguments.every <= 0:
         arguments.parser.error("--every takes a number above 0")
-    stream = open_stream(arguments.stream)
-    seconds = max(stream.seconds(), audio_seconds(arguments.audio))
-    count = max(1, math.ceil(seconds * arguments.rate))
-    stills = Stills(arguments.rate, arguments.every)
-    with film_of(arguments) if arguments.output else contextlib.nullcontext() as out:
-        show_all(stream, arguments, count, out, stills)
-    if arguments.stills:
-        if len(stills.kept) > MOST_STILLS:
-            raise Refusal(arguments.stills, f"would have {len(stills.kept)} pictures; --every SECONDS asks for fewer")
-        write_png(stills_page(stills.kept), arguments.stills)
+    reads = [arguments.stream, arguments.audio]
+    writes = [(arguments.output, kinds.FILM), (arguments.stills, kinds.PNG)]
+    with Outputs(reads, writes, arguments.force) as outputs:
+        stream = open_stream(arguments.stream)
+        seconds = max(stream.seconds(), audio_seconds(arguments.audio))
+        count = max(1, math.ceil(seconds * arguments.rate))
+        stills = Stills(arguments.rate, arguments.every)
+        with contextlib.ExitStack() as open_film:
+            out = None
+            if arguments.output:
+                out = open_film.enter_context(film_of(arguments, outputs.path(arguments.output, ".mp4")))
+            show_all(stream, arguments, count, out, stills)
+        if arguments.stills:
+            if len(stills.kept) > MOST_STILLS:
+                raise Refusal(arguments.stills, f"would have {len(stills.kept)} pictures; --every SECONDS asks for fewer")
+            outputs.write_png(arguments.stills, stills_page(stills.kept))
     tell(f"{seconds:.1f} seconds, {count} frames, {len(stills.kept)} stills")
     return 0

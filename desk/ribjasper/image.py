@@ -4,14 +4,16 @@ import os
 from pathlib import Path
 from typing import Iterator
 
-from . import audio, latin1
+from . import audio, kinds, latin1
 from .discs import COPY, FOUR_CHANNELS, PRE_EMPHASIS, Disc, Track, read_disc
-from .library import BLOCK, PACK, PACKS_A_BLOCK, RAW, SECTOR, Player, convert
-from .output import LATE, Refusal, beside, read_file, tell, write_file
+from .library import BLOCK, PACK, PACKS_A_BLOCK, RAW, SECTOR, Player, convert, texts
+from .output import LATE, Outputs, Refusal, add_force, read_file, stem_of, tell
 from .program import author
 from .sheets import COMMANDS, FLAGS, quoted
 from .streams import open_stream
 from .times import PAUSE, clock
+from .tracks import FIRST_OF_AUDIO
+from .words import Commands
 
 # Held through the pause, so that all pictures come with the audio, which alone is on an image.
 HOLD_THROUGH_PAUSE = b"show 00:00:20 00:02:02\n"
@@ -21,7 +23,7 @@ P_AND_Q = bytes(byte & 0xC0 for byte in range(256))
 SHORTEST_TRACK = 4 * 75
 
 
-def add_parser(commands) -> None:
+def add_parser(commands: Commands) -> None:
     parser = commands.add_parser(
         "image", help="make a disc image that can be burned",
         description="Makes DISC.bin, sectors of 2,448 bytes with audio and subcode, without the lead-in and the first "
@@ -33,6 +35,7 @@ def add_parser(commands) -> None:
                         help="author the stream anew from its script, with a black picture held through the pause")
     parser.add_argument("--latin-1", action="store_true", help="write the texts in Latin-1, as players read them")
     parser.add_argument("-o", "--output", type=Path, required=True, metavar="DISC", help="the name without an ending")
+    add_force(parser)
     parser.set_defaults(run=run)
 
 
@@ -55,12 +58,34 @@ def checked(arguments: argparse.Namespace, disc: Disc) -> bytes:
     return program
 
 
-def loses_pictures(program: bytes) -> bool:
-    """Whether the packs that begin in the pause, which are not whole on the image, leave more than a black screen."""
+def loses_pictures(program: bytes) -> str | None:
+    """Why pictures are not whole on the image, if the packs that begin in the pause and are not whole on it leave more than
+    a black screen: what is to be done is another thing for a .cdg file that was pressed, which sends nothing earlier."""
     packs, _ = convert(program[: BLOCK * (PAUSE + 2)], RAW, 0)
     with Player() as player:
         player.draw(packs[: PACK * PACKS_A_BLOCK * PAUSE])
-        return any(player.screen()) or any(player.colours())
+        if not any(player.screen()) and not any(player.colours()):
+            return None
+    if not any(packs[: PACK * FIRST_OF_AUDIO]):
+        return ("the first seven packs of its .cdg file begin in the first pause and are not on an image: let them be idle, or "
+                "say once more behind them what they say, as the files of `pair` do")
+    return ("what is sent in the first pause is not on an image, and the pictures that need it will not be whole; "
+            "--hold-through-pause SCRIPT puts a black picture before them")
+
+
+def tell_texts(arguments: argparse.Namespace, disc: Disc) -> None:
+    """Tells if the texts of the sheet, which the image gets, are not those of the stream."""
+    stream = open_stream(arguments.stream)
+    if not stream.lead_in:
+        return
+    theirs, ours = (
+        [line for line in texts(content[: BLOCK * lead_in], lead_in).splitlines() if not line.startswith("packs ")]
+        for content, lead_in in ((stream.content, stream.lead_in), (disc.stream, disc.lead_in)))
+    differ = [("stream", line) for line in theirs if line not in ours] + [("sheet", line) for line in ours if line not in theirs]
+    if differ:
+        of, line = differ[0]
+        tell(f"{arguments.stream}: its texts are not those of {arguments.sheet}, which {arguments.output}.toc and .cue have: "
+             f"{len(differ)} differ, as `{line}` of the {of}")
 
 
 def held(arguments: argparse.Namespace, disc: Disc) -> bytes:
@@ -82,9 +107,7 @@ class Late(Exception):
 
 def sectors(disc: Disc, program: bytes, path: Path) -> Iterator[bytes]:
     """The sectors of the image: audio, or silence where the sheet has a gap, and the block."""
-    silent = {block for track in disc.tracks
-              for block in [*range(track.begin, track.begin + track.pregap),
-                            *range(track.end - track.postgap, track.end)]}
+    silent = disc.silence()
     samples = audio.sectors(path)
     silence = bytes(audio.SECTOR_AUDIO)
     for number in range(PAUSE, disc.blocks):
@@ -137,7 +160,8 @@ def toc_of(disc: Disc, name: str) -> str:
 
 
 def cue_texts(texts: dict[str, bytes], margin: bytes) -> list[bytes]:
-    return [b"%b%b %b" % (margin, name, quoted(texts[kind])) for kind, name in COMMANDS.items() if kind in texts]
+    return [b"%b%b %b" % (margin, name, spelled) for kind, name in COMMANDS.items()
+            if kind in texts and (spelled := quoted(texts[kind]))]
 
 
 def cue_of(disc: Disc, name: str) -> bytes:
@@ -161,26 +185,22 @@ def cue_of(disc: Disc, name: str) -> bytes:
 
 
 def warn(arguments: argparse.Namespace, disc: Disc, program: bytes) -> None:
-    if loses_pictures(program):
-        tell(f"{arguments.stream}: what is sent in the first pause is not on an image, and the pictures that need it "
-             "will not be whole; --hold-through-pause SCRIPT puts a black picture before them")
+    if lost := loses_pictures(program):
+        tell(f"{arguments.stream}: {lost}")
+    tell_texts(arguments, disc)
     for track in disc.tracks:
         if track.end - track.indices[0] < SHORTEST_TRACK:
             tell(f"{arguments.sheet}: track {track.number} is shorter than four seconds; burners may refuse it")
 
 
-def outputs(arguments: argparse.Namespace) -> list[str]:
-    """The names of the three files, none of which is one that is read."""
-    names = [f"{os.fspath(arguments.output)}{ending}" for ending in (".bin", ".toc", ".cue")]
-    read = [arguments.sheet, arguments.stream, arguments.audio]
-    for name in names:
-        if os.path.exists(name) and any(path.exists() and os.path.samefile(name, path) for path in read):
-            raise Refusal(name, "is read here and would be overwritten; -o takes another name")
-    return names
-
-
 def run(arguments: argparse.Namespace) -> int:
-    binary, toc, cue = outputs(arguments)
+    reads = [arguments.sheet, arguments.stream, arguments.audio, arguments.hold_through_pause]
+    names = [f"{stem_of(arguments.output)}{ending}" for ending in (".bin", ".toc", ".cue")]
+    with Outputs(reads, zip(names, (kinds.IMAGE, kinds.TOC, kinds.CUE)), arguments.force) as outputs:
+        return write_image(arguments, outputs, *names)
+
+
+def write_image(arguments: argparse.Namespace, outputs: Outputs, binary: str, toc: str, cue: str) -> int:
     sheet = read_file(arguments.sheet)
     if arguments.latin_1:
         sheet = latin1.as_latin_1(arguments.sheet, sheet)
@@ -196,10 +216,10 @@ def run(arguments: argparse.Namespace) -> int:
             return LATE
     warn(arguments, disc, program)
     name = os.path.basename(binary)
-    with beside(binary) as out:
-        for sector in sectors(disc, program, arguments.audio):
-            out.write(sector)
-    write_file(toc, toc_of(disc, name).encode())
-    write_file(cue, cue_of(disc, name))
+    out = outputs.open(binary)
+    for sector in sectors(disc, program, arguments.audio):
+        out.write(sector)
+    outputs.write(toc, toc_of(disc, name).encode())
+    outputs.write(cue, cue_of(disc, name))
     tell(f"{disc.blocks - PAUSE} sectors, {clock(disc.blocks - PAUSE)}; `cdrdao write --swap {toc}` burns them")
     return 0

@@ -1,68 +1,160 @@
 """The command line of the desk: each command is a module with `add_parser` and `run`."""
 import argparse
+import contextlib
+import functools
 import importlib
+import io
 import os
 import signal
 import sys
+from types import FrameType
+from typing import Any, Iterator, NoReturn, Sequence
 
-from . import output
+from . import failures, output
+from .failures import Failure, failure_of
 from .library import version
 
 # Each module has `add_parser(subparsers)`, which adds its command with set_defaults(run=run), and
 # `run(arguments) -> int`, the exit number.
-COMMANDS = ("identify", "damage", "mend", "report", "sheets", "texts", "plan", "picture", "lyrics", "image", "film")
+COMMANDS = ("identify", "damage", "mend", "report", "sheets", "texts", "plan", "picture", "lyrics", "image", "film",
+            "album", "pair", "look")
 
 
 class Version(argparse.Action):
-    """Tells the version of the library that is at hand."""
+    """Prints the version of the library that is at hand."""
 
-    def __init__(self, *args, **options):
-        super().__init__(*args, nargs=0, **options)
+    def __init__(self, option_strings: Sequence[str], dest: str, **options: Any) -> None:
+        super().__init__(option_strings, dest, nargs=0, help=options.get("help"))
 
-    def __call__(self, parser, *_):
-        print(f"ribjasper-desk {version()}")
+    def __call__(self, parser: argparse.ArgumentParser, *_: Any) -> None:
+        output.write_text(f"ribjasper-desk {version()}\n")
         parser.exit()
 
 
+class Parser(argparse.ArgumentParser):
+    """A parser whose help is written as all else is, so that a full standard output is told."""
+
+    def _print_message(self, message: str, file: Any = None) -> None:
+        if message and file is not None:
+            if file is sys.stdout:
+                output.write_text(message)
+            else:
+                with contextlib.suppress(OSError):
+                    file.write(message)
+
+
+@functools.lru_cache(maxsize=None)
 def parser() -> argparse.ArgumentParser:
-    top = argparse.ArgumentParser(
+    top = Parser(
         prog="ribjasper-desk",
         description="Works on dumps and songs of the subcode channels of Compact Discs, over the proved library.",
-        epilog="Exit: 0 done, 1 damage was found, 2 wrong words, 3 a file was refused, 4 a picture is late, 5 something "
-        "has to be installed or built first.",
+        epilog="Exit: 0 done, 1 damage was found or files differ, 2 wrong words, 3 a file was refused, 4 a picture is late, "
+        "5 something has to be installed or built first, 6 an output cannot be written, 7 the memory is not enough, 8 a "
+        "fault of the desk, 128 and the number of the signal that ended it.",
     )
-    top.add_argument("--version", action=Version, help="tell the version and end")
-    commands = top.add_subparsers(metavar="COMMAND", required=True)
+    top.add_argument("--version", action=Version, help="print the version and end")
+    commands = top.add_subparsers(metavar="COMMAND", required=True, parser_class=Parser)
     for name in COMMANDS:
         importlib.import_module(f".{name}", __package__).add_parser(commands)
     return top
 
 
-def _stop(*_) -> None:
-    """A request to end is taken as Ctrl-C is: files that are half written go."""
-    raise KeyboardInterrupt
+class Stopped(KeyboardInterrupt):
+    """A signal that ends the command."""
+
+    def __init__(self, number: int) -> None:
+        super().__init__()
+        self.number = number
 
 
-def main(words: list[str] | None = None) -> int:
+def _stop(number: int, _: FrameType | None) -> NoReturn:
+    """The first request to end is followed, and those that come while files are put away are not."""
+    for other in output.STOPS:
+        signal.signal(other, signal.SIG_IGN)
+    raise Stopped(number)
+
+
+@contextlib.contextmanager
+def stopping() -> Iterator[None]:
+    """Requests to end are taken as an exception, but for those that whoever started the desk wants ignored (nohup)."""
+    before = {number: signal.getsignal(number) for number in output.STOPS}
+    for number, handler in before.items():
+        if handler is not signal.SIG_IGN:
+            signal.signal(number, _stop)
+    try:
+        yield
+    finally:
+        for number, handler in before.items():
+            signal.signal(number, handler)
+
+
+def open_streams() -> None:
+    """Standard streams that are closed are opened on nothing, so that no file of the call takes their place; what is
+    then written to standard output fails."""
+    for number, how in ((0, os.O_RDONLY), (1, os.O_RDONLY), (2, os.O_WRONLY)):
+        try:
+            os.fstat(number)
+        except OSError:
+            os.open(os.devnull, how)
+    # A reader of a closed standard output is none: each write to it is refused.
+    sys.stdout = sys.stdout or open(1, "w", closefd=False)
+    sys.stderr = sys.stderr or open(2, "w", closefd=False)
+
+
+def let_go_of_output() -> None:
+    """What waits for a standard output that takes no more is not written again at the end."""
+    with contextlib.suppress(OSError, ValueError):
+        nothing = os.open(os.devnull, os.O_WRONLY)
+        os.dup2(nothing, sys.stdout.fileno())
+        os.close(nothing)
+
+
+def inputs_of(arguments: argparse.Namespace | None) -> str:
+    """How the files of a call are called where nobody knows which of them was at fault."""
+    names = (getattr(arguments, name, None) for name in ("files", "file", "folder", "song", "image", "sheet", "stream"))
+    found = next((name for name in names if name), "the call")
+    return os.fspath(found[0] if isinstance(found, list) else found)
+
+
+def followed(words: Sequence[str] | None) -> int:
+    """Does what the words ask for; what goes wrong is a line and a number."""
+    arguments = None
+    try:
+        try:
+            arguments = parser().parse_args(words)
+            status: int = arguments.run(arguments)
+        except SystemExit as end:
+            status = end.code if isinstance(end.code, int) else 0
+        output.flush()
+        return status
+    except Failure as failure:
+        return told(failure)
+    except Exception as error:
+        return told(failure_of(error, inputs_of(arguments)))
+
+
+def told(failure: Failure) -> int:
+    for line in failure.lines:
+        output.tell(line)
+    return failure.status
+
+
+def main(words: Sequence[str] | None = None) -> int:
+    open_streams()
     # Names of files are bytes: what is no text in this locale goes out as it came in.
     for stream in (sys.stdout, sys.stderr):
-        stream.reconfigure(encoding=sys.getfilesystemencoding(), errors="surrogateescape")
-    signal.signal(signal.SIGTERM, _stop)
+        if isinstance(stream, io.TextIOWrapper):
+            stream.reconfigure(encoding=sys.getfilesystemencoding(), errors="surrogateescape")
     try:
-        arguments = parser().parse_args(words)
-        status = arguments.run(arguments)
-        sys.stdout.flush()
-        return status
-    except output.Refusal as refusal:
-        output.tell(str(refusal))
-        return output.REFUSED
-    except output.Missing as missing:
-        output.tell(str(missing))
-        return output.MISSING
-    except BrokenPipeError:
-        # Whoever read the table has seen enough.
-        os.dup2(os.open(os.devnull, os.O_WRONLY), sys.stdout.fileno())
-        return 0
-    except KeyboardInterrupt:
+        with stopping():
+            status = followed(words)
+    except KeyboardInterrupt as stop:
         output.tell("stopped")
-        return output.INTERRUPTED
+        status = failures.STOPPED + getattr(stop, "number", signal.SIGINT)
+    finally:
+        output.sweep()
+    try:
+        output.flush()
+    except Failure:
+        let_go_of_output()
+    return status

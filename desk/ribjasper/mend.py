@@ -3,10 +3,10 @@ import itertools
 import re
 from typing import Sequence
 
-from . import library
+from . import kinds, library
 from .damage import lead_in
 from .library import PACK
-from .output import FOUND, shown, tell, write_file, write_row
+from .output import FOUND, Outputs, add_force, shown, tell
 from .readings import read, side_by_side
 from .survey import spelled
 
@@ -44,23 +44,25 @@ def add_parser(commands) -> None:
     parser.add_argument(
         "--lead-in", type=lead_in, metavar="N", help="blocks of the lead-in, where no Q frame tells a time"
     )
+    add_force(parser)
     parser.set_defaults(run=run, error=parser.error)
 
 
 def run(arguments) -> int:
     if len(arguments.files) < 2:
         arguments.error("two readings are needed")
-    readings = [read(path) for path in arguments.files]
-    aligned = side_by_side(readings, arguments.lead_in)
-    results, lost = [], []
-    write_row(NAMES)
-    for first, second in itertools.combinations(range(len(readings)), 2):
-        packs, told = library.mend(aligned.streams[first], aligned.streams[second], aligned.lead_in)
-        counts = (told.both, told.of_first, told.of_second, told.agreed, told.none)
-        write_row((arguments.files[first], arguments.files[second], len(packs) // PACK, *counts))
-        results.append(packs)
-        lost.append(told.none)
-    write_file(arguments.output, vote(results))
+    with Outputs(arguments.files, [(arguments.output, kinds.CDG)], arguments.force) as outputs:
+        readings = [read(path) for path in arguments.files]
+        aligned = side_by_side(readings, arguments.lead_in)
+        results, lost = [], []
+        outputs.row(NAMES)
+        for first, second in itertools.combinations(range(len(readings)), 2):
+            packs, told = library.mend(aligned.streams[first], aligned.streams[second], aligned.lead_in)
+            counts = (told.both, told.of_first, told.of_second, told.agreed, told.none)
+            outputs.row((arguments.files[first], arguments.files[second], len(packs) // PACK, *counts))
+            results.append(packs)
+            lost.append(told.none)
+        outputs.write(arguments.output, vote(results))
     tell(f"pack 0 of {shown(arguments.output)} is of the absolute time {spelled(aligned.time)}")
     # What each pair has lost, more readings may have all the same.
     return FOUND if min(lost) else 0

@@ -1,48 +1,51 @@
-"""What the desk writes: files beside and renamed, tables with a line of names, and errors that name a file."""
+"""What the desk writes. There is one way for all commands: `Outputs` takes the files that a call reads and those that it
+is to write, refuses what would cost the user a file, and lets all outputs appear together or none of them."""
+import argparse
+import atexit
 import contextlib
+import errno
 import io
 import os
+import signal
+import socket
+import stat
 import sys
 import tempfile
-from typing import BinaryIO, Iterator, Sequence
+from types import TracebackType
+from typing import Any, Iterable, Iterator, Sequence, TextIO
 
-# What the desk ends with, beside 0: damage was found, or a file could not be used.
-FOUND = 1
-REFUSED = 3
-# A picture is late.
-LATE = 4
-# A package or the library is not there.
-MISSING = 5
-INTERRUPTED = 130
+from . import kinds
+from .failures import FOUND as FOUND
+from .failures import LATE as LATE
+from .failures import MISSING as MISSING
+from .failures import REFUSED as REFUSED
+from .failures import Failure as Failure
+from .failures import Missing as Missing
+from .failures import Name, Several, Unwritten, failure_of, reading, writing
+from .failures import Refusal as Refusal
+from .failures import cause as cause
+from .failures import shown as shown
+from .kinds import Kind
 
-
-class Refusal(Exception):
-    """A file that cannot be used, and why."""
-
-    def __init__(self, path: str | os.PathLike, cause: str):
-        super().__init__(f"{shown(os.fspath(path))}: {cause}")
-        self.cause = cause
-
-
-class Missing(Exception):
-    """Something that has to be installed or built first."""
-
-
-def shown(name: str) -> str:
-    """A name on one line: as it is, but backslash, tab and ends of lines written with a backslash."""
-    marks = (("\\", "\\\\"), ("\t", "\\t"), ("\n", "\\n"), ("\r", "\\r"))
-    for mark, spelled in marks:
-        name = name.replace(mark, spelled)
-    return name
-
-
-def cause(error: OSError) -> str:
-    """Why the system refused, in its own words."""
-    return (error.strerror or str(error)).lower()
+# The name that stands for standard output, and how it is called in a line.
+DASH, STANDARD_OUTPUT = "-", "standard output"
+# What is written waits under such a name beside where it is to stand.
+PREFIX = ".ribjasper-"
+# Programs that write a file themselves go by its ending, if it is one.
+LONGEST_ENDING = 16
+# Outputs that are no files wait in memory up to so many bytes, and in a file without a name beyond.
+KEPT_IN_MEMORY = 1 << 26
+COPIED_AT_ONCE = 1 << 20
+# What a user ends a command with.
+STOPS = (signal.SIGINT, signal.SIGTERM, signal.SIGHUP)
+# Why a file system has no hard links.
+NO_LINKS = (errno.EPERM, errno.EOPNOTSUPP, errno.ENOSYS, errno.EMLINK, errno.EXDEV)
+WRITABLE = stat.S_IWUSR | stat.S_IWGRP | stat.S_IWOTH
+ALL_MODES = stat.S_IRWXU | stat.S_IRWXG | stat.S_IRWXO
 
 
-def package(module: str, debian: str):
-    """Imports a module that is needed here alone, or tells which package to install."""
+def package(module: str, debian: str) -> Any:
+    """Imports a module that is needed here alone, or says which package to install."""
     try:
         return __import__(module, fromlist=["_"])
     except ImportError as error:
@@ -51,59 +54,504 @@ def package(module: str, debian: str):
 
 def tell(message: str) -> None:
     """A line on standard error."""
-    print(f"ribjasper-desk: {message}", file=sys.stderr)
+    if sys.stderr is not None:
+        with contextlib.suppress(OSError):
+            print(f"ribjasper-desk: {message}", file=sys.stderr)
 
 
-def write_row(cells: Sequence[object], to=None) -> None:
+def write_text(text: str, to: TextIO | None = None) -> None:
+    """A text on standard output, or on what takes its place."""
+    with writing(STANDARD_OUTPUT):
+        print(text, end="", file=to or sys.stdout)
+
+
+def write_row(cells: Sequence[object], to: TextIO | None = None) -> None:
     """A line of a table, its cells between tabs."""
-    print("\t".join(shown(str(cell)) for cell in cells), file=to or sys.stdout)
+    write_text("\t".join(shown(str(cell)) for cell in cells) + "\n", to)
+
+
+def flush() -> None:
+    """Brings what was printed to where standard output goes."""
+    with writing(STANDARD_OUTPUT):
+        sys.stdout.flush()
+
+
+def read_file(path: Name) -> bytes:
+    """The bytes of a file, or a refusal that names it."""
+    with reading(path), open(path, "rb") as file:
+        before = os.fstat(file.fileno())
+        content = file.read()
+        check_unchanged(path, before, os.fstat(file.fileno()))
+        return content
+
+
+def check_unchanged(path: Name, before: os.stat_result, after: os.stat_result) -> None:
+    """Refuses a file that another program wrote while it was read."""
+    if stat.S_ISREG(after.st_mode) and (before.st_size, before.st_mtime_ns) != (after.st_size, after.st_mtime_ns):
+        raise Refusal(path, "was changed while it was read")
+
+
+# Files that wait beside, and the process that made them: a child of it leaves them alone.
+_waiting: dict[str, int] = {}
+
+
+def sweep() -> None:
+    """Removes what still waits beside; for the end of a command that was stopped at an unlucky moment."""
+    for part, process in list(_waiting.items()):
+        if process == os.getpid():
+            with contextlib.suppress(OSError):
+                os.unlink(part)
+        _waiting.pop(part, None)
+
+
+atexit.register(sweep)
 
 
 @contextlib.contextmanager
-def beside(path: str | os.PathLike) -> Iterator[BinaryIO]:
-    """A file to write to, which takes its name once all is written; where something fails nothing is left."""
-    path = os.fspath(path)
-    if os.path.isdir(path):
-        raise Refusal(path, "is a directory")
+def held_back() -> Iterator[None]:
+    """What is done here is not cut off by a signal, which comes right after."""
+    before = signal.pthread_sigmask(signal.SIG_BLOCK, ())
     try:
-        number, part = tempfile.mkstemp(prefix=".ribjasper-", dir=os.path.dirname(path) or ".")
-    except OSError as error:
-        raise Refusal(path, cause(error)) from None
-    try:
-        with os.fdopen(number, "wb") as out:
-            yield out
-        os.chmod(part, 0o666 & ~_mask())
-        os.replace(part, path)
-    except OSError as error:
-        raise Refusal(path, cause(error)) from None
+        signal.pthread_sigmask(signal.SIG_BLOCK, STOPS)
+        yield
     finally:
-        with contextlib.suppress(FileNotFoundError):
-            os.unlink(part)
+        signal.pthread_sigmask(signal.SIG_SETMASK, before)
 
 
-def _mask() -> int:
-    """The permissions that new files do not get."""
+def _made_beside(folder: str, ending: str = "") -> tuple[int, str]:
+    """A new file that waits in a folder, and its name."""
+    with held_back():
+        number, part = tempfile.mkstemp(prefix=PREFIX, suffix=ending, dir=folder)
+        _waiting[part] = os.getpid()
+    return number, part
+
+
+def _new_mode() -> int:
+    """The permissions of a new file."""
     mask = os.umask(0)
     os.umask(mask)
-    return mask
+    return 0o666 & ~mask
 
 
-def write_file(path: str | os.PathLike, content: bytes) -> None:
-    with beside(path) as out:
-        out.write(content)
+class Part(io.BufferedIOBase):
+    """Where an output is written to; what the system refuses names the output."""
+
+    def __init__(self, name: str, file: Any) -> None:
+        self.name, self._file = name, file
+
+    def writable(self) -> bool:
+        return True
+
+    def seekable(self) -> bool:
+        return True
+
+    def write(self, content: Any) -> int:
+        with writing(self.name):
+            return int(self._file.write(content))
+
+    def seek(self, place: int, whence: int = 0) -> int:
+        with writing(self.name):
+            self._file.seek(place, whence)
+            return int(self._file.tell())
+
+    def tell(self) -> int:
+        return int(self._file.tell())
+
+    def flush(self) -> None:
+        if not self._file.closed:
+            with writing(self.name):
+                self._file.flush()
+
+    def close(self) -> None:
+        if not self._file.closed:
+            with writing(self.name):
+                self._file.close()
+        super().close()
 
 
-def write_png(image, path: str | os.PathLike) -> None:
-    """Writes a picture of Pillow."""
+class Target:
+    """What the name of an output stands for."""
+
+    def __init__(self, name: Name) -> None:
+        self.name = os.fsdecode(name)
+        self.is_dash = self.name == DASH
+        if not self.is_dash and not self.name:
+            raise Refusal("''", "is no name of a file")
+        with reading(self.name):
+            self.found = None if self.is_dash else _found(self.name)
+        # Where the links lead that are in the name: they stay, and what they name is replaced.
+        self.path = os.path.realpath(self.name)
+        self.folder = os.path.dirname(self.path)
+
+    @property
+    def is_stream(self) -> bool:
+        """Whether it is written to as it stands: standard output, a pipe, a device or a socket."""
+        return self.is_dash or (self.found is not None and not stat.S_ISREG(self.found.st_mode))
+
+    def identity(self) -> tuple[object, ...]:
+        """What two names of one file have in common, also of one that is still to come."""
+        if self.is_dash:
+            return (DASH,)
+        if self.found is not None:
+            return self.found.st_dev, self.found.st_ino
+        folder, name = _found(self.folder), os.path.basename(self.path)
+        return (folder.st_dev, folder.st_ino, name) if folder else (self.path,)
+
+    def against(self, kind: Kind, force: bool) -> str | None:
+        """Why it is not to be written, if there is a reason."""
+        if self.is_dash:
+            return None
+        if self.found is None:
+            return "names a folder" if self.name.endswith("/") else None
+        mode = self.found.st_mode
+        if stat.S_ISDIR(mode):
+            return "is a directory"
+        if stat.S_ISBLK(mode):
+            return None if force else "is a disk or a part of one; --force writes to it"
+        if not stat.S_ISREG(mode) or force:
+            return None
+        if not mode & WRITABLE or not os.access(self.path, os.W_OK):
+            return "is write-protected; --force replaces it"
+        with reading(self.name):
+            if kind.has(self.path):
+                return None
+        why = f"is not {kind.name}" if kind.can_be_known else f"nobody can tell whether {kind.name} can be made again"
+        return f"is there already, and {why}; --force replaces it"
+
+
+def _found(path: str) -> os.stat_result | None:
+    try:
+        return os.stat(path)
+    except (FileNotFoundError, NotADirectoryError):
+        return None
+
+
+def _standard_output() -> os.stat_result | None:
+    """The file that standard output is, if it is one."""
+    try:
+        found = os.fstat(sys.stdout.fileno())
+    except (OSError, ValueError, AttributeError):
+        return None
+    return found if stat.S_ISREG(found.st_mode) else None
+
+
+def _inputs(names: list[str]) -> dict[tuple[object, ...], str]:
+    """The files that a call reads. A character device is none that could be lost."""
+    found: dict[tuple[object, ...], str] = {}
+    for name in names:
+        # Whatever is wrong with an input is told when it is read.
+        with contextlib.suppress(Failure, OSError):
+            target = Target(name if name != DASH else f"./{DASH}")
+            if target.found is None or not stat.S_ISCHR(target.found.st_mode):
+                found[target.identity()] = name
+    return found
+
+
+def _against_standard_output(inputs: dict[tuple[object, ...], str]) -> list[Failure]:
+    """A refusal if standard output is written to a file that is read, and which holds something still."""
+    out = _standard_output()
+    read = inputs.get((out.st_dev, out.st_ino)) if out is not None and out.st_size else None
+    return [] if read is None else [Refusal(read, "is read here, and standard output is written to it")]
+
+
+class Output:
+    """An output of a call, which waits until all of them are written."""
+
+    def __init__(self, name: Name, kind: Kind, force: bool) -> None:
+        self.target, self.kind, self.force = Target(name), kind, force
+        self.part: Part | None = None
+        self.waits: str | None = None
+        self.kept: str | None = None
+        self.is_put = False
+
+    @property
+    def name(self) -> str:
+        return STANDARD_OUTPUT if self.target.is_dash else self.target.name
+
+    def check(self) -> None:
+        if why := self.target.against(self.kind, self.force):
+            raise Refusal(self.name, why)
+
+    def open(self) -> Part:
+        """Where it is written to."""
+        if self.part is None:
+            if self.target.is_stream:
+                self.part = Part(self.name, tempfile.SpooledTemporaryFile(KEPT_IN_MEMORY))
+            else:
+                self.part = Part(self.name, os.fdopen(self._beside(self.target.folder), "w+b"))
+        return self.part
+
+    def path(self, ending: str) -> str:
+        """The name of a file beside, for a program that writes it itself."""
+        if self.waits is None:
+            os.close(self._beside(tempfile.gettempdir() if self.target.is_stream else self.target.folder, ending))
+        assert self.waits is not None
+        return self.waits
+
+    def _beside(self, folder: str, ending: str = "") -> int:
+        with writing(self.name):
+            own = os.path.splitext(self.target.path)[1]
+            number, self.waits = _made_beside(folder, own if 0 < len(own) <= LONGEST_ENDING else ending)
+        return number
+
+    def finish(self) -> None:
+        """Brings a file to the disk whole."""
+        if self.part is not None and not self.target.is_stream:
+            self.part.close()
+        if self.waits is not None:
+            with writing(self.name), open(self.waits, "rb+") as file:
+                os.fsync(file.fileno())
+
+    def send(self) -> None:
+        """Writes what waits to a stream."""
+        with writing(self.name):
+            if self.part is not None:
+                self.part.seek(0)
+                _copy(self.part._file, self.target)
+                self.part.close()
+            elif self.waits is not None:
+                with open(self.waits, "rb") as file:
+                    _copy(file, self.target)
+
+    def put(self, placed: Sequence["Output"], is_alone: bool) -> None:
+        """Gives a file its name; what had it is kept until all files of the call have theirs."""
+        # What came there while the command was at work is judged as what was there before.
+        self.target = Target(self.target.name)
+        self.check()
+        if self.target.is_stream or self.target.identity() in [one.target.identity() for one in placed]:
+            raise Refusal(self.name, "became something else meanwhile")
+        assert self.waits is not None
+        with writing(self.name):
+            found = self.target.found
+            os.chmod(self.waits, found.st_mode & ALL_MODES if found else _new_mode())
+            if found and (found.st_uid, found.st_gid) != (os.geteuid(), os.getegid()):
+                with contextlib.suppress(OSError):
+                    os.chown(self.waits, found.st_uid, found.st_gid)
+            if found:
+                if not is_alone:
+                    self._keep()
+                os.replace(self.waits, self.target.path)
+            else:
+                _name(self.waits, self.target.path)
+            self.is_put = True
+            self.target.found = os.stat(self.target.path)
+
+    def _keep(self) -> None:
+        number, self.kept = _made_beside(self.target.folder)
+        os.close(number)
+        os.unlink(self.kept)
+        try:
+            os.link(self.target.path, self.kept)
+        except OSError as error:
+            if error.errno not in NO_LINKS:
+                raise
+            os.rename(self.target.path, self.kept)
+
+    def take_back(self) -> None:
+        """Puts back what was there before."""
+        with contextlib.suppress(OSError):
+            if self.kept is not None and os.path.lexists(self.kept):
+                os.replace(self.kept, self.target.path)
+            elif self.is_put:
+                os.unlink(self.target.path)
+
+    def drop(self) -> None:
+        """Removes what waits or was kept."""
+        if self.part is not None:
+            with contextlib.suppress(Failure, OSError):
+                self.part.close()
+        for beside in (self.waits, self.kept):
+            if beside is not None:
+                with contextlib.suppress(OSError):
+                    os.unlink(beside)
+                _waiting.pop(beside, None)
+        self.part = self.waits = self.kept = None
+
+
+def _name(part: str, path: str) -> None:
+    """Gives a file a name that no other has."""
+    try:
+        os.link(part, path)
+    except OSError as error:
+        if error.errno not in NO_LINKS or os.path.lexists(path):
+            raise
+        os.rename(part, path)
+
+
+def _copy(file: Any, target: Target) -> None:
+    """Writes a file to standard output, a pipe, a device or a socket."""
+    if target.is_dash:
+        sys.stdout.flush()
+        while content := file.read(COPIED_AT_ONCE):
+            sys.stdout.buffer.write(content)
+        sys.stdout.buffer.flush()
+    elif target.found is not None and stat.S_ISSOCK(target.found.st_mode):
+        with socket.socket(socket.AF_UNIX) as connected:
+            connected.connect(target.name)
+            while content := file.read(COPIED_AT_ONCE):
+                connected.sendall(content)
+    else:
+        with open(os.open(target.name, os.O_WRONLY | os.O_NOCTTY), "wb") as out:
+            while content := file.read(COPIED_AT_ONCE):
+                out.write(content)
+
+
+class Outputs:
+    """The outputs of a call, to be used in a `with`. Made from the files that the call reads and from those that it is
+    to write, each with its kind (a name that is None is passed over); what would cost the user a file is refused at once.
+    If the `with` ends well, all that was opened appears together; otherwise nothing does."""
+
+    def __init__(self, reads: Iterable[Name | None], writes: Iterable[tuple[Name | None, Kind]], force: bool = False,
+                 folders: bool = False) -> None:
+        self.folders, self.made = folders, list[str]()
+        self.all: dict[str, Output] = {}
+        inputs = _inputs([os.fsdecode(name) for name in reads if name is not None])
+        failures: list[Failure] = _against_standard_output(inputs)
+        for name, kind in writes:
+            if name is not None:
+                try:
+                    output = Output(name, kind, force)
+                    self._check_alone(output, inputs)
+                    output.check()
+                    self.all[output.target.name] = output
+                except Failure as failure:
+                    failures.append(failure)
+        if failures:
+            raise Several(failures) if len(failures) > 1 else failures[0]
+
+    def _check_alone(self, output: Output, inputs: dict[tuple[object, ...], str]) -> None:
+        """Refuses an output that is an input, another output, or what standard output is written to."""
+        target = output.target
+        if target.found is not None and stat.S_ISCHR(target.found.st_mode):
+            return
+        read = None if target.is_dash else inputs.get(target.identity())
+        if read is not None:
+            same = "" if read == target.name else f" as {shown(read)}"
+            raise Refusal(output.name, f"is read here{same} and would be overwritten")
+        for other in self.all.values():
+            if other.target.identity() == target.identity():
+                raise Refusal(output.name, f"is the same file as another output, {shown(other.name)}")
+        if target.found is not None and (out := _standard_output()) is not None and os.path.samestat(target.found, out):
+            raise Refusal(output.name, f"is what standard output is written to; {DASH} stands for it")
+
+    @property
+    def table(self) -> TextIO:
+        """Where a table goes that the call prints beside: standard output, or standard error if an output takes that."""
+        return sys.stderr if DASH in self.all else sys.stdout
+
+    def row(self, cells: Sequence[object]) -> None:
+        """A line of such a table."""
+        write_row(cells, self.table)
+
+    def open(self, name: Name) -> Part:
+        """Where an output is written to, bytes."""
+        return self._output(name).open()
+
+    def write(self, name: Name, content: bytes) -> None:
+        """Writes all of an output."""
+        self.open(name).write(content)
+
+    def write_png(self, name: Name, image: Any) -> None:
+        """Writes a picture of Pillow."""
+        self.write(name, png(image))
+
+    def path(self, name: Name, ending: str = "") -> str:
+        """The name of a file for a program that writes the output itself; it has the ending of the output's name, or this
+        one if that has none."""
+        return self._output(name).path(ending)
+
+    def drop(self) -> None:
+        """Forgets what was written: nothing appears."""
+        with held_back():
+            for output in self.all.values():
+                output.drop()
+
+    def _output(self, name: Name) -> Output:
+        output = self.all[os.fsdecode(name)]
+        if self.folders and not output.target.is_stream:
+            self._make_folders(output.target.folder)
+        return output
+
+    def _make_folders(self, folder: str) -> None:
+        if not os.path.isdir(folder):
+            self._make_folders(os.path.dirname(folder))
+            with held_back(), writing(folder):
+                os.mkdir(folder)
+                self.made.append(folder)
+
+    def __enter__(self) -> "Outputs":
+        return self
+
+    def __exit__(self, kind: type[BaseException] | None, error: BaseException | None, _: TracebackType | None) -> None:
+        try:
+            if error is None:
+                self._appear()
+                self.made.clear()
+        finally:
+            self.drop()
+            for folder in reversed(self.made):
+                with contextlib.suppress(OSError):
+                    os.rmdir(folder)
+
+    def _appear(self) -> None:
+        """Lets all outputs appear that were opened. What a stream was sent cannot be taken back, so streams come first:
+        if one of them fails no file appears."""
+        flush()
+        opened = [output for output in self.all.values() if output.part is not None or output.waits is not None]
+        for output in opened:
+            output.finish()
+        for output in opened:
+            if output.target.is_stream:
+                output.send()
+        files = [output for output in opened if not output.target.is_stream]
+        with held_back():
+            put: list[Output] = []
+            try:
+                for output in files:
+                    put.append(output)
+                    output.put(put[:-1], len(files) == 1)
+            except BaseException:
+                for output in reversed(put):
+                    output.take_back()
+                raise
+            for folder in {output.target.folder for output in put}:
+                _keep_folder(folder)
+
+
+def _keep_folder(folder: str) -> None:
+    """Brings the names in a folder to the disk, if the file system does so."""
+    with contextlib.suppress(OSError):
+        number = os.open(folder, os.O_RDONLY | os.O_DIRECTORY)
+        try:
+            os.fsync(number)
+        finally:
+            os.close(number)
+
+
+def stem_of(name: Name) -> str:
+    """The name from which the names of several files are made, as a call has it."""
+    stem = os.fsdecode(name)
+    if stem == DASH:
+        raise Refusal(DASH, f"stands for standard output, which takes one file and not several; ./{DASH} is a name")
+    if os.path.basename(stem) in ("", os.curdir, os.pardir):
+        raise Refusal(stem or "''", "is no name from which those of several files can be made")
+    return stem
+
+
+def add_force(parser: argparse.ArgumentParser) -> None:
+    """The word that lets outputs replace any file."""
+    parser.add_argument("--force", action="store_true",
+                        help="let an output replace a file that is there, whatever it is")
+
+
+def png(image: Any) -> bytes:
+    """The file of a picture of Pillow."""
     content = io.BytesIO()
     image.save(content, "PNG", optimize=True)
-    write_file(path, content.getvalue())
+    return content.getvalue()
 
 
-def read_file(path: str | os.PathLike) -> bytes:
-    """The bytes of a file, or a refusal that names it."""
-    try:
-        with open(path, "rb") as file:
-            return file.read()
-    except OSError as error:
-        raise Refusal(path, cause(error)) from None
+def write_file(path: Name, content: bytes, kind: Kind, force: bool = False) -> None:
+    """Writes one file of a call that has others too, as those of a report."""
+    with Outputs([], [(path, kind)], force) as outputs:
+        outputs.write(path, content)

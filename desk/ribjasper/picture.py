@@ -1,18 +1,24 @@
 """`picture`: the lines of a script that draw an image, in few colours and few tiles."""
 import argparse
 from collections import Counter
+from dataclasses import dataclass
 from pathlib import Path
-from typing import Iterator, NamedTuple, Sequence
+from typing import Any, Iterator, NamedTuple, Sequence
 
 from . import colours as colouring
+from . import kinds
 from .colours import Colour
-from .library import BLOCKS_A_SECOND
-from .output import Refusal, cause, package, tell, write_file
+from .failures import reading
+from .library import BLOCKS_A_SECOND, tile_weight
+from .output import DASH, Outputs, Refusal, add_force, package, tell
 from .planning import plan
 from .raster import COLOURS, COLUMNS, HEIGHT, ROWS, TILE_HEIGHT, TILE_WIDTH, WIDTH, Raster, Span, joined, lines_between
+from .words import Commands, number_in
 
 Grid = list[bytearray]
-Tile = tuple[int, ...]
+# The pixels of the largest image that is read, and from which distance on a colour is not near another.
+MOST_PIXELS = 64_000_000
+FAR = 60
 
 
 class Flat(NamedTuple):
@@ -22,43 +28,87 @@ class Flat(NamedTuple):
     colours: list[Colour]
 
 
-def image_package():
+@dataclass(frozen=True)
+class Reading:
+    """How an image is read: which frame of a file that has several, and whether it fills its place and loses what is
+    beyond, or stands whole amid the colour of its edge."""
+
+    frame: int | None = None
+    crop: bool = False
+
+
+def image_package() -> Any:
     return package("PIL.Image", "python3-pil")
 
 
-def read(path: Path):
-    """The image of a file, in red, green and blue, on black where it is transparent."""
-    try:
-        image = image_package().open(path).convert("RGBA")
-    except image_package().UnidentifiedImageError:
-        raise Refusal(path, "is no image that can be read") from None
-    except OSError as error:
-        raise Refusal(path, cause(error)) from None
-    ground = image_package().new("RGBA", image.size, (0, 0, 0, 255))
-    return image_package().alpha_composite(ground, image).convert("RGB")
+def read(path: Path, how: Reading = Reading()) -> Any:
+    """The image of a file as it is to be looked at, in red, green and blue, on black where it is transparent."""
+    pictures = image_package()
+    with reading(path):
+        image = pictures.open(path)
+        if image.width * image.height > MOST_PIXELS:
+            raise Refusal(path, f"has {image.width} by {image.height} pixels, and {MOST_PIXELS:,} are the most")
+        choose_frame(image, path, how.frame)
+        image = package("PIL.ImageOps", "python3-pil").exif_transpose(image)
+        image = in_eight_bits(image).convert("RGBA")
+    ground = pictures.new("RGBA", image.size, (0, 0, 0, 255))
+    return pictures.alpha_composite(ground, image).convert("RGB")
 
 
-def fitted(image, width: int, height: int):
-    """The image in this size, whole and in its proportions, amid the colour that its edge mostly has."""
+def choose_frame(image: Any, path: Path, frame: int | None) -> None:
+    """Turns to a frame of a file that has several."""
+    count = getattr(image, "n_frames", 1)
+    if count > 1 and frame is None:
+        raise Refusal(path, f"has {count} frames; --frame N chooses one, from 1 to {count}")
+    if frame is not None and frame > count:
+        raise Refusal(path, f"has {count} frame{'s' * (count != 1)}, and no number {frame}")
+    if frame is not None:
+        image.seek(frame - 1)
+
+
+def in_eight_bits(image: Any) -> Any:
+    """The same image; one of sixteen bits of grey, which Pillow would cut off at 255, by its upper eight."""
+    if image.mode.startswith("I"):
+        return image.convert("I").point(lambda light: light * (1 / 256)).convert("L")
+    return image
+
+
+def fitted(image: Any, width: int, height: int, crop: bool = False) -> Any:
+    """The image in this size and in its proportions: whole amid the colour that its edge is mostly near, or filling
+    it."""
     if image.size == (width, height):
         return image
-    scale = min(width / image.width, height / image.height)
+    scale = (max if crop else min)(width / image.width, height / image.height)
     size = max(1, round(image.width * scale)), max(1, round(image.height * scale))
     scaled = image.resize(size, image_package().LANCZOS)
+    left, top = (width - size[0]) // 2, (height - size[1]) // 2
+    if crop:
+        return scaled.crop((-left, -top, width - left, height - top))
     ground = image_package().new("RGB", (width, height), edge_colour(image))
-    ground.paste(scaled, ((width - size[0]) // 2, (height - size[1]) // 2))
+    ground.paste(scaled, (left, top))
     return ground
 
 
-def edge_colour(image) -> tuple[int, int, int]:
-    """The most frequent colour of the outermost pixels."""
+def edge_colour(image: Any) -> tuple[int, int, int]:
+    """The colour to which the outermost pixels are nearest."""
     right, low = image.width - 1, image.height - 1
     across = [image.getpixel((x, y)) for x in range(image.width) for y in (0, low)]
     down = [image.getpixel((x, y)) for y in range(image.height) for x in (0, right)]
-    return Counter(across + down).most_common(1)[0][0]
+    edge = Counter(colouring.near(*pixel) for pixel in across + down)
+    best = most_near(edge, [colour for colour, _ in edge.most_common(64)])
+    return 17 * best.red, 17 * best.green, 17 * best.blue
 
 
-def in_colours(image, most: int, dither: bool = False) -> Flat:
+def most_near(edge: Counter[Colour], among: Sequence[Colour]) -> Colour:
+    """The one of some colours that most pixels of an edge are near; how far off those are that are not near counts
+    little."""
+    def distance(colour: Colour) -> int:
+        return sum(count * min(colour.far_from(other), FAR) for other, count in edge.items())
+
+    return min(among, key=distance)
+
+
+def in_colours(image: Any, most: int, dither: bool = False) -> Flat:
     """The image in at most so many colours, chosen for it."""
     pixels = [colouring.near(*pixel) for pixel in image.getdata()]
     few = colouring.chosen(pixels, most)
@@ -71,7 +121,7 @@ def in_colours(image, most: int, dither: bool = False) -> Flat:
     return Flat([bytearray(places[at : at + width]) for at in range(0, len(places), width)], few)
 
 
-def dithered(image, few: Sequence[Colour]) -> bytes:
+def dithered(image: Any, few: Sequence[Colour]) -> bytes:
     """The places of the colours, with what each pixel lacks handed to its neighbours."""
     table = [17 * part for colour in few for part in colour]
     palette = image_package().new("P", (1, 1))
@@ -115,18 +165,6 @@ def simplify(flat: Flat, most_error: float) -> None:
         put(flat.rows, left, top, bytes(change))
 
 
-def rank(tile: Tile) -> int:
-    """How many packs a tile of these colour numbers takes: one, and more where their differences need it."""
-    found: list[int] = []
-    for number in tile[1:]:
-        difference = number ^ tile[0]
-        for one in found:
-            difference = min(difference, difference ^ one)
-        if difference:
-            found.append(difference)
-    return max(1, len(found))
-
-
 def numbered(flat: Flat, free: Sequence[int]) -> list[int]:
     """A number for each colour, of those that are free, so that the tiles of three and more colours take few packs."""
     sets = Counter(tuple(sorted(set(pixels_of(flat.rows, left, top)))) for left, top in tiles_of(flat.rows))
@@ -134,7 +172,7 @@ def numbered(flat: Flat, free: Sequence[int]) -> list[int]:
     numbers = list(free)
 
     def cost() -> int:
-        return sum(count * rank(tuple(numbers[place] for place in colours)) for colours, count in many.items())
+        return sum(count * tile_weight(frozenset(numbers[place] for place in colours)) for colours, count in many.items())
 
     least, is_better = cost(), bool(many)
     while is_better:
@@ -154,7 +192,7 @@ def numbered(flat: Flat, free: Sequence[int]) -> list[int]:
 PLAIN = 2.0
 
 
-def flat_of(image, most: int = COLOURS, simple: float = PLAIN, dither: bool = False) -> Flat:
+def flat_of(image: Any, most: int = COLOURS, simple: float = PLAIN, dither: bool = False) -> Flat:
     """The image in few colours, and its tiles in fewer; one that has no more colours than that is taken as it is."""
     flat = in_colours(image, most, dither)
     if not dither and len(set(image.getdata())) > most:
@@ -162,9 +200,9 @@ def flat_of(image, most: int = COLOURS, simple: float = PLAIN, dither: bool = Fa
     return flat
 
 
-def raster_of(flat: Flat, ground: Raster, left: int, top: int, first: int = 0) -> Raster:
-    """What stands where it is drawn on something else from a pixel on, its colours having numbers from `first` on."""
-    numbers = numbered(flat, range(first, COLOURS))
+def raster_of(flat: Flat, ground: Raster, left: int, top: int, free: Sequence[int] = range(COLOURS)) -> Raster:
+    """What stands if it is drawn on something else from a pixel on, its colours having some of the free numbers."""
+    numbers = numbered(flat, free)
     raster = ground.copy()
     for number, colour in zip(numbers, flat.colours):
         raster.colours[number] = colour
@@ -174,12 +212,29 @@ def raster_of(flat: Flat, ground: Raster, left: int, top: int, first: int = 0) -
     return raster
 
 
-def whole(path: Path, most: int = COLOURS, simple: float = PLAIN, dither: bool = False) -> Raster:
-    """An image that fills the window, with a border of the colour that its edge mostly has."""
-    raster = raster_of(flat_of(fitted(read(path), WIDTH, HEIGHT), most, simple, dither), Raster(), 0, 0)
+def whole(path: Path, most: int = COLOURS, simple: float = PLAIN, dither: bool = False, how: Reading = Reading(),
+          border: Colour | None = None) -> Raster:
+    """An image that fills the window, with a border of this colour, or of the one that most of its edge is near."""
+    image = fitted(read(path, how), WIDTH, HEIGHT, how.crop)
+    raster = raster_of(flat_of(image, most, simple, dither), Raster(), 0, 0)
     edge = bytes(raster.rows[0] + raster.rows[-1]) + b"".join(bytes((row[0], row[-1])) for row in raster.rows)
-    raster.border = Counter(edge).most_common(1)[0][0]
+    used = sorted(set(b"".join(raster.rows)))
+    if border:
+        raster.border = border_number(raster, used, border)
+    else:
+        counts = Counter(raster.colours[number] for number in edge)
+        near = most_near(counts, [raster.colours[number] for number in used])
+        raster.border = next(number for number in used if raster.colours[number] == near)
     return raster
+
+
+def border_number(raster: Raster, used: Sequence[int], border: Colour) -> int:
+    """A colour for the border: one that the image has, a number that is free, or the nearest that there is."""
+    free = next((number for number in range(COLOURS) if number not in used), None)
+    if border in [raster.colours[number] for number in used] or free is None:
+        return used[colouring.nearest(border, [raster.colours[number] for number in used])]
+    raster.colours[free] = border
+    return free
 
 
 def placed_lines(flat: Flat, column: int, row: int, first: int) -> list[str]:
@@ -190,6 +245,14 @@ def placed_lines(flat: Flat, column: int, row: int, first: int) -> list[str]:
     table = bytes(numbers) + bytes(256 - len(numbers))
     return colours + list(joined([Span(left, top + y, bytes(pixels.translate(table)))
                                   for y, pixels in enumerate(flat.rows)]))
+
+
+def colour_word(word: str) -> Colour:
+    """A colour, as an argument of the command line."""
+    colour = colouring.read_colour(word)
+    if colour is None:
+        raise argparse.ArgumentTypeError(f"{word} is no colour like #08F or #0088FF")
+    return colour
 
 
 def tile_place(word: str) -> tuple[int, int]:
@@ -203,18 +266,7 @@ def tile_place(word: str) -> tuple[int, int]:
     return column, row
 
 
-def number_in(least: int, most: int):
-    """A number in a range, as an argument of the command line."""
-
-    def read_number(word: str) -> int:
-        if not (word.isascii() and word.isdigit() and least <= int(word) <= most):
-            raise argparse.ArgumentTypeError(f"{word} is no number from {least} to {most}")
-        return int(word)
-
-    return read_number
-
-
-def add_parser(commands) -> None:
+def add_parser(commands: Commands) -> None:
     parser = commands.add_parser(
         "picture", help="write the lines of a script that draw an image",
         description="Writes the lines of a script that draw an image: as large as the window of 288 by 192 pixels, in "
@@ -229,18 +281,28 @@ def add_parser(commands) -> None:
     parser.add_argument("--simple", type=float, default=PLAIN, metavar="LOSS",
                         help="how much a tile may change to need fewer packs (2; 0 keeps all, 40 is coarse)")
     parser.add_argument("--dither", action="store_true", help="mix colours by dots, which needs many packs")
+    parser.add_argument("--border", type=colour_word, metavar="COLOUR",
+                        help="the colour of the border, like #08F (the one that most of the edge is near)")
+    parser.add_argument("--crop", action="store_true", help="fill the window, and cut off what is beyond")
+    parser.add_argument("--frame", type=number_in(1, 1_000_000), metavar="N",
+                        help="which frame of an image that has several")
     parser.add_argument("-o", "--output", type=Path, metavar="FILE", help="the file (standard output)")
+    add_force(parser)
     parser.set_defaults(run=run)
 
 
 def lines_of(arguments: argparse.Namespace) -> list[str]:
     most = min(arguments.colours or COLOURS, COLOURS - arguments.first)
+    how = Reading(arguments.frame, arguments.crop)
     if not arguments.at and not arguments.first:
-        return lines_between(Raster(), whole(arguments.image, most, arguments.simple, arguments.dither))
+        return lines_between(Raster(), whole(arguments.image, most, arguments.simple, arguments.dither, how,
+                                             arguments.border))
     column, row = arguments.at or (0, 0)
-    image = read(arguments.image)
+    image = read(arguments.image, how)
     room = WIDTH - TILE_WIDTH * column, HEIGHT - TILE_HEIGHT * row
-    if image.width > room[0] or image.height > room[1] or not arguments.at:
+    if how.crop:
+        image = fitted(image, *room, crop=True)
+    elif image.width > room[0] or image.height > room[1] or not arguments.at:
         scale = min(room[0] / image.width, room[1] / image.height)
         image = image.resize((max(1, round(image.width * scale)), max(1, round(image.height * scale))),
                              image_package().LANCZOS)
@@ -258,12 +320,10 @@ def packs_of(lines: list[str]) -> int:
 
 
 def run(arguments: argparse.Namespace) -> int:
-    lines = lines_of(arguments)
-    text = "".join(f"{line}\n" for line in lines)
-    if arguments.output:
-        write_file(arguments.output, text.encode())
-    else:
-        print(text, end="")
+    out = arguments.output or DASH
+    with Outputs([arguments.image], [(out, kinds.SCRIPT)], arguments.force) as outputs:
+        lines = lines_of(arguments)
+        outputs.write(out, "".join(f"{line}\n" for line in lines).encode())
     packs = packs_of(lines)
     tell(f"as a first picture it needs {packs} packs, {packs / 300:.1f} seconds")
     return 0

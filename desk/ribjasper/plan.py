@@ -2,11 +2,12 @@
 import argparse
 from pathlib import Path
 
-from . import audio, latin1, times
+from . import audio, kinds, latin1, times
 from .charts import draw_plan
-from .output import LATE, Refusal, read_file, shown, tell, write_file, write_row
-from .planning import NoPlan, Plan, least_lead_in, plan
+from .output import LATE, Outputs, Refusal, add_force, read_file, shown, tell
+from .planning import NoPlan, Plan, least_lead_in, plan, refused_lines
 from .times import clock
+from .words import Commands
 
 NAMES = ("picture", "line", "ready", "hold", "need", "free", "first", "late")
 
@@ -19,10 +20,11 @@ def add_length(parser: argparse.ArgumentParser) -> None:
 
 
 def length_of(arguments: argparse.Namespace) -> int:
-    return audio.length(arguments.audio) if arguments.audio else arguments.length
+    told: int = audio.length(arguments.audio) if arguments.audio else arguments.length
+    return told
 
 
-def add_parser(commands) -> None:
+def add_parser(commands: Commands) -> None:
     parser = commands.add_parser(
         "plan", help="tell which pictures of a script are in time",
         description="Tells for each picture of a script what it needs and what is free for it: packs, 300 a second. "
@@ -33,6 +35,7 @@ def add_parser(commands) -> None:
     parser.add_argument("--chart", type=Path, metavar="FILE.png", help="draw a chart: packs needed and free over time")
     parser.add_argument("--latin-1", type=Path, metavar="FILE.cue",
                         help="write the sheet with its texts in Latin-1, as players read them")
+    add_force(parser)
     parser.set_defaults(run=run)
 
 
@@ -42,24 +45,28 @@ def planned(sheet: Path, script: Path, length: int) -> Plan:
     try:
         return plan(sheet_text, script_text, length)
     except NoPlan as none:
-        raise Refusal(script if none.is_of_script() else sheet, none.cause()) from None
+        causes = refused_lines(sheet_text, script_text, length, none)
+        raise Refusal(script if none.is_of_script() else sheet, *causes) from None
 
 
 def run(arguments: argparse.Namespace) -> int:
-    length = length_of(arguments)
-    found = planned(arguments.sheet, arguments.script, length)
-    sheet = read_file(arguments.sheet)
-    if arguments.latin_1:
-        write_file(arguments.latin_1, latin1.as_latin_1(arguments.sheet, sheet))
-    else:
-        latin1.warn(arguments.sheet, sheet)
-    write_row(NAMES)
-    for number, row in enumerate(found.rows):
-        first = clock(row.first // 4)
-        write_row((number, row.line, clock(row.ready), clock(row.hold), row.need, row.free, first,
-                   "yes" if row.is_late else "no"))
-    if arguments.chart:
-        draw_plan(found, arguments.chart)
+    reads = [arguments.sheet, arguments.script, arguments.audio]
+    writes = [(arguments.chart, kinds.PNG), (arguments.latin_1, kinds.CUE)]
+    with Outputs(reads, writes, arguments.force) as outputs:
+        length = length_of(arguments)
+        found = planned(arguments.sheet, arguments.script, length)
+        sheet = read_file(arguments.sheet)
+        if arguments.latin_1:
+            outputs.write(arguments.latin_1, latin1.as_latin_1(arguments.sheet, sheet))
+        else:
+            latin1.warn(arguments.sheet, sheet)
+        outputs.row(NAMES)
+        for number, row in enumerate(found.rows):
+            first = clock(row.first // 4)
+            outputs.row((number, row.line, clock(row.ready), clock(row.hold), row.need, row.free, first,
+                         "yes" if row.is_late else "no"))
+        if arguments.chart:
+            outputs.write_png(arguments.chart, draw_plan(found))
     names = shown(str(arguments.latin_1 or arguments.sheet)), shown(str(arguments.script))
     tell(f"{len(found.rows)} pictures, {len(found.late())} of them late; the disc is authored by ribjasper author "
          f"--lead-in {least_lead_in(sheet, length)} --length {clock(length)} -- {' '.join(names)}")

@@ -6,18 +6,18 @@ import subprocess
 import tempfile
 from pathlib import Path
 
-from .library import TOP
-from .output import Missing
+from .failures import Missing, writing
+from .library import checkout
 from .times import clock
 
-# What make built, or else what the gate left.
-BUILT = (TOP / "bin" / "ribjasper", TOP / "crates" / "ribjasper" / "out" / "ribjasper")
+# What make built, or what the gate left.
+BUILT = (checkout("bin", "ribjasper"), checkout("crates", "ribjasper", "out", "ribjasper"))
 
 
 @functools.lru_cache(maxsize=None)
 def program() -> str:
     """The program: that which RIBJASPER_PROGRAM names, or that of the checkout, or an installed one."""
-    built = [os.fspath(path) for path in BUILT if path.exists()]
+    built = [os.fspath(path) for path in BUILT if path and path.exists()]
     found = os.environ.get("RIBJASPER_PROGRAM") or (built[0] if built else shutil.which("ribjasper"))
     if not found:
         raise Missing("this needs the program ribjasper; 'make' builds it")
@@ -26,16 +26,21 @@ def program() -> str:
 
 def author(sheet: bytes, script: bytes, lead_in: int, length: int) -> tuple[bytes, int, str]:
     """The stream of a sheet and a script; the exit number, and the line on standard error."""
+    return stream_of("author", sheet, ("pictures.script", script), lead_in, length)
+
+
+def press(sheet: bytes, packs: bytes, lead_in: int, length: int) -> tuple[bytes, int, str]:
+    """The stream of a sheet and a .cdg file, likewise."""
+    return stream_of("press", sheet, ("pictures.cdg", packs), lead_in, length)
+
+
+def stream_of(command: str, sheet: bytes, other: tuple[str, bytes], lead_in: int, length: int) -> tuple[bytes, int, str]:
     with tempfile.TemporaryDirectory(prefix="ribjasper-") as folder:
-        names = [Path(folder) / "sheet.cue", Path(folder) / "pictures.script"]
-        for name, content in zip(names, (sheet, script)):
-            name.write_bytes(content)
-        words = ["author", "--lead-in", str(lead_in), "--length", clock(length), "--", *map(os.fspath, names)]
+        names = [Path(folder) / "sheet.cue", Path(folder) / other[0]]
+        for name, content in zip(names, (sheet, other[1])):
+            with writing(name):
+                name.write_bytes(content)
+        words = [command, "--lead-in", str(lead_in), "--length", clock(length), "--", *(str(name) for name in names)]
         done = subprocess.run([program(), *words], stdin=subprocess.DEVNULL, capture_output=True)
     return done.stdout, done.returncode, done.stderr.decode(errors="replace").strip()
 
-
-def texts(stream: bytes, lead_in: int) -> str:
-    """The lines of the CD-TEXT of a stream."""
-    done = subprocess.run([program(), "text", "--lead-in", str(lead_in)], input=stream, capture_output=True)
-    return done.stdout.decode("ascii") if done.returncode == 0 else ""

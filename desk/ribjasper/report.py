@@ -6,19 +6,23 @@ import hashlib
 import json
 import multiprocessing
 import os
+import re
 import signal
+import site
 import sys
 from concurrent.futures.process import BrokenProcessPool
 from pathlib import Path
 from typing import Iterator, NamedTuple
 
-from . import library, report_page
+from . import kinds, library, report_page
 from .examine import COLUMNS, UNREAD, Examined, examine
-from .output import REFUSED, Refusal, beside, cause, package, shown, tell, write_file, write_row
+from .failures import reading
+from .output import DASH, REFUSED, Outputs, Refusal, add_force, cause, package, shown, tell, write_file, write_row
 
 # What a journal holds changes with this number; rows of another are read again.
 LAYOUT = 1
 JOURNALS = "journal*.jsonl"
+PICTURE_NAME = re.compile(r"[0-9a-f]{20}-(first|map)\.png")
 # Linux's call by which a process is told when the one that started it has ended.
 PR_SET_PDEATHSIG = 1
 
@@ -62,6 +66,7 @@ def add_parser(commands) -> None:
     parser.add_argument("--jobs", type=jobs, default=len(os.sched_getaffinity(0)), metavar="N", help="files at a time")
     parser.add_argument("--quiet", action="store_true", help="no progress bar, which a terminal has else")
     parser.add_argument("--no-pictures", action="store_true", help="no pictures and no maps, for which Pillow is needed")
+    add_force(parser)
     several = parser.add_mutually_exclusive_group()
     several.add_argument("--cluster", metavar="ADDRESS", help="send the files to the workers of a Dask scheduler")
     several.add_argument(
@@ -133,6 +138,7 @@ def end_with_parent() -> None:
     """A worker ends with the run that started it, and leaves Ctrl-C to it."""
     signal.signal(signal.SIGINT, signal.SIG_IGN)
     signal.signal(signal.SIGTERM, signal.SIG_DFL)
+    signal.signal(signal.SIGHUP, signal.SIG_DFL)
     if sys.platform == "linux":
         ctypes.CDLL(None).prctl(PR_SET_PDEATHSIG, signal.SIGTERM)
 
@@ -159,8 +165,7 @@ def finder(distributed, folder: str):
 
     class Finder(distributed.WorkerPlugin):
         def setup(self, worker) -> None:
-            if folder not in sys.path:
-                sys.path.insert(0, folder)
+            site.addsitedir(folder)
 
     return Finder()
 
@@ -202,7 +207,7 @@ def keep(out: Path, journal, entry: Examined, stamped: str) -> None:
         if content is None:
             (out / name).unlink(missing_ok=True)
         else:
-            write_file(out / name, content)
+            write_file(out / name, content, kinds.PNG, force=True)
     line = json.dumps({"stamp": stamped, "row": entry.row})
     journal.write(line.encode() + b"\n")
     journal.flush()
@@ -249,24 +254,50 @@ def plain(row: dict) -> dict:
 
 
 def clear_pictures(out: Path, rows: list[dict]) -> None:
-    """Removes the pictures of dumps that are gone."""
+    """Removes the pictures of dumps that are gone, and nothing else."""
     wanted = {name for row in rows for name in picture_names(row["file"])}
     for path in (out / "pictures").iterdir():
-        if f"pictures/{path.name}" not in wanted:
+        if PICTURE_NAME.fullmatch(path.name) and f"pictures/{path.name}" not in wanted:
             path.unlink()
 
 
-def write_tables(out: Path, rows: list[dict]) -> None:
-    with beside(out / "table.tsv") as table:
-        lines = ["\t".join(COLUMNS), *("\t".join(shown(cell(row[name])) for name in COLUMNS) for row in rows)]
-        table.write("".join(f"{line}\n" for line in lines).encode(errors="surrogateescape"))
-    with beside(out / "table.jsonl") as table:
-        table.write("".join(json.dumps(plain(row)) + "\n" for row in rows).encode())
-    write_file(out / "index.html", report_page.html(rows, out, picture_names))
+def tables(out: Path, force: bool) -> Outputs:
+    """The files of a report that every run writes anew."""
+    writes = ((out / "table.tsv", kinds.TABLE), (out / "table.jsonl", kinds.ROWS), (out / "index.html", kinds.PAGE))
+    return Outputs([], writes, force)
+
+
+def write_tables(outputs: Outputs, out: Path, rows: list[dict]) -> None:
+    lines = ["\t".join(COLUMNS), *("\t".join(shown(cell(row[name])) for name in COLUMNS) for row in rows)]
+    table = "".join(f"{line}\n" for line in lines).encode(errors="surrogateescape")
+    outputs.write(out / "table.tsv", table)
+    outputs.write(out / "table.jsonl", "".join(json.dumps(plain(row)) + "\n" for row in rows).encode())
+    outputs.write(out / "index.html", report_page.html(rows, out, picture_names))
 
 
 def run(arguments) -> int:
-    out = Path(arguments.output)
+    out = Path(folder_of(arguments.output))
+    check_folder(out, arguments.folder, arguments.force)
+    with tables(out, arguments.force) as outputs:
+        return report(arguments, outputs, out)
+
+
+def folder_of(name: str) -> str:
+    if name in ("", DASH):
+        raise Refusal(name or "''", "is no name of a folder, which a report needs")
+    return name
+
+
+def check_folder(out: Path, folder: str, force: bool) -> None:
+    """Refuses a folder for a report that has files of its own."""
+    with reading(out):
+        if out.exists() and os.path.isdir(folder) and os.path.samefile(out, folder):
+            raise Refusal(out, "is the folder that is read; the report takes one of its own")
+        if out.is_dir() and not force and any(out.iterdir()) and not any(out.glob(JOURNALS)):
+            raise Refusal(out, "has files in it and is no folder of a report; --force puts one there")
+
+
+def report(arguments, outputs: Outputs, out: Path) -> int:
     tasks = files_below(arguments.folder, arguments.output)
     if arguments.part:
         tasks = [task for task in tasks if arguments.part.has(task.name)]
@@ -280,7 +311,7 @@ def run(arguments) -> int:
     ordered = [rows[task.name] for task in tasks]
     if not arguments.part:
         clear_pictures(out, ordered)
-        write_tables(out, ordered)
+        write_tables(outputs, out, ordered)
     write_row(("status", "files"))
     for status in sorted({row["status"] for row in ordered}):
         write_row((status, sum(row["status"] == status for row in ordered)))

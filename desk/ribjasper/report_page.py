@@ -66,7 +66,7 @@ def html(rows: Sequence[dict], out: Path, names: Callable[[str], tuple[str, str]
     heads = "".join(f"<th>{name}</th>" for name in ("first picture", "dump", *NUMBERS, "map"))
     body = "\n".join(line(row, out, names) for row in rows)
     page = (
-        '<!DOCTYPE html>\n<html lang="en"><head><meta charset="utf-8"><title>Dumps</title>'
+        '<!DOCTYPE html>\n<html lang="en"><head><meta charset="utf-8"><meta name="generator" content="ribjasper-desk"><title>Dumps</title>'
         f"<style>{STYLE}</style></head>\n<body><h1>{len(rows)} dumps</h1>\n<p>{said}</p>\n"
         f'<p>All columns: <a href="table.tsv">table.tsv</a>, <a href="table.jsonl">table.jsonl</a></p>\n'
         f"<table><thead><tr>{heads}</tr></thead>\n<tbody>\n{body}\n</tbody></table></body></html>\n"

@@ -2,15 +2,14 @@
 import collections
 import os
 import re
-import sys
 from typing import Iterator, NamedTuple
 
-from . import library
+from . import kinds, library
 from .damage import lead_in
 from .dump import Dump
 from .identify import form_of, survey_of
 from .library import BLOCK, RAW, QFrame
-from .output import Refusal, shown, tell, write_file
+from .output import DASH, Outputs, Refusal, add_force, shown, tell
 from .survey import Clock, Survey, spelled
 
 # The blocks from the start of the program to that of the audio file.
@@ -260,11 +259,19 @@ def add_parser(commands) -> None:
     parser.add_argument("file", metavar="DUMP")
     parser.add_argument("-o", "--output", metavar="OUT.cue", help="the file to write; else standard output")
     parser.add_argument("--lead-in", type=lead_in, metavar="N", help="blocks of the lead-in; else Q tells them")
+    add_force(parser)
     parser.set_defaults(run=run)
 
 
 def run(arguments) -> int:
-    path = arguments.file
+    out = arguments.output or DASH
+    with Outputs([arguments.file], [(out, kinds.CUE)], arguments.force) as outputs:
+        outputs.write(out, sheet_of(arguments.file, arguments.lead_in))
+    return 0
+
+
+def sheet_of(path: str, told: int | None) -> bytes:
+    """The lines of the sheet of a dump."""
     dump = Dump(path)
     form, against = form_of(dump, allow_torn=True)
     if form is None:
@@ -272,16 +279,11 @@ def run(arguments) -> int:
     if form.library != RAW:
         raise Refusal(path, f"is {form.name}, which has no Q channel")
     stream = dump.blocks(form)
-    source = Source(stream, survey_of(stream, form, arguments.lead_in))
+    source = Source(stream, survey_of(stream, form, told))
     if not source.clock.stretches:
         raise Refusal(path, "no Q frame tells a track")
     found = disc(source)
     for remark in remarks(path, found):
         tell(f"{shown(path)}: {remark}")
     stem = os.path.splitext(os.path.basename(path))[0]
-    lines = sheet(found, os.fsencode(f"{stem}.wav"), source.survey.lead_in)
-    if arguments.output:
-        write_file(arguments.output, lines)
-    else:
-        sys.stdout.buffer.write(lines)
-    return 0
+    return sheet(found, os.fsencode(f"{stem}.wav"), source.survey.lead_in)

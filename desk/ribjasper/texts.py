@@ -1,12 +1,12 @@
 """The text packs of a lead-in, as other tools take them, and back."""
 import ctypes
 
-from . import library
+from . import kinds, library
 from .damage import lead_in
 from .dump import Dump
 from .identify import form_of, survey_of
 from .library import BLOCK, PACKS_A_BLOCK, RAW, TEXT_PACK
-from .output import Refusal, read_file, tell, write_file
+from .output import Outputs, Refusal, add_force, read_file, shown, tell, write_text
 
 # Some tools write four bytes in front of the packs: how many follow these two, and two zeros.
 HEADER = 4
@@ -74,6 +74,7 @@ def add_parser(commands) -> None:
     parser.add_argument("--lead-in", type=lead_in, metavar="N", help="blocks of the lead-in; else Q tells them")
     parser.add_argument("--back", action="store_true", help="read a file of packs")
     parser.add_argument("--blocks", metavar="OUT", help="with --back: write raw lead-in blocks that carry the packs")
+    add_force(parser)
     parser.set_defaults(run=run, error=parser.error)
 
 
@@ -94,17 +95,19 @@ def run(arguments) -> int:
         arguments.error("--back goes with --blocks alone")
     if arguments.blocks and not arguments.back:
         arguments.error("--blocks needs --back")
-    if arguments.back:
-        blocks = lead_in_of_packs(without_header(arguments.file, read_file(arguments.file)))
-    else:
-        blocks = lead_in_of_dump(arguments.file, arguments.lead_in)
-    found = packs_of(blocks)
-    if not found:
-        tell(f"{arguments.file}: there is no text pack")
-    if arguments.packs:
-        packs = b"".join(found)
-        write_file(arguments.packs, with_header(packs) if arguments.header else packs)
-    if arguments.blocks:
-        write_file(arguments.blocks, blocks)
-    print(library.texts(blocks, len(blocks) // BLOCK), end="")
+    writes = [(arguments.packs, kinds.TEXT_PACKS), (arguments.blocks, kinds.STREAM)]
+    with Outputs([arguments.file], writes, arguments.force) as outputs:
+        if arguments.back:
+            blocks = lead_in_of_packs(without_header(arguments.file, read_file(arguments.file)))
+        else:
+            blocks = lead_in_of_dump(arguments.file, arguments.lead_in)
+        found = packs_of(blocks)
+        if not found:
+            tell(f"{shown(arguments.file)}: there is no text pack")
+        if arguments.packs:
+            packs = b"".join(found)
+            outputs.write(arguments.packs, with_header(packs) if arguments.header else packs)
+        if arguments.blocks:
+            outputs.write(arguments.blocks, blocks)
+        write_text(library.texts(blocks, len(blocks) // BLOCK), outputs.table)
     return 0

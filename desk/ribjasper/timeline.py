@@ -1,7 +1,12 @@
 """Steps on one line of time: what is sung is lit at its time, and what comes next is drawn in the gaps."""
 from dataclasses import dataclass, field
+from typing import Iterator, Sequence
 
-from .pages import Draw, Light, Placed, Step
+from .lettering import is_leftward
+from .library import BLOCKS_A_SECOND
+from .pages import Draw, DotOut, Light, Placed, Step
+from .raster import TILE_WIDTH
+from .songs import Syllable
 from .times import nearest_block
 
 PACKS_A_BLOCK = 4
@@ -12,7 +17,7 @@ SEEN = 3
 FOREVER, A_MINUTE = 10**9, 60 * 75
 
 
-def blocks_for(steps: list[Step]) -> int:
+def blocks_for(steps: Sequence[Step]) -> int:
     return -(-sum(step.need for step in steps) // PACKS_A_BLOCK)
 
 
@@ -29,7 +34,7 @@ class Picture:
 class Due:
     """What is lit together, and the block at which it is to stand."""
 
-    steps: list[Light]
+    steps: list[Light | DotOut]
     block: int
 
     @property
@@ -54,7 +59,7 @@ class Timeline:
     now: int
     pictures: list[Picture] = field(default_factory=list)
 
-    def put(self, steps: list[Step], start: int) -> int:
+    def put(self, steps: Sequence[Step], start: int) -> int:
         """Sends steps from a block on, or as soon as the line is free; returns when they stand."""
         steps = [step for step in steps if step.need]
         if not steps:
@@ -74,17 +79,15 @@ def latest_starts(dues: list[Due]) -> list[int]:
     return starts[::-1]
 
 
-def grouped(dues: list[Due]) -> list[Due]:
+def grouped(dues: Sequence[Due]) -> list[Due]:
     """What would be lit much too early is lit together with what follows on its line."""
-    dues = list(dues)
-    while True:
-        starts = latest_starts(dues)
-        hurried = [place for place, (due, start) in enumerate(zip(dues[:-1], starts))
-                   if due.block - blocks_for(due.steps) - start > EARLY and dues[place + 1].placed is due.placed]
-        if not hurried:
-            return dues
-        place = hurried[-1]
-        dues[place : place + 2] = [Due(dues[place].steps + dues[place + 1].steps, dues[place].block)]
+    kept: list[tuple[Due, int]] = []
+    for due in reversed(dues):
+        while kept and due.block - kept[-1][1] > EARLY and kept[-1][0].placed is due.placed:
+            due = Due(due.steps + kept.pop()[0].steps, due.block)
+        limit = kept[-1][1] if kept else FOREVER
+        kept.append((due, min(due.block, limit) - blocks_for(due.steps)))
+    return [due for due, _ in reversed(kept)]
 
 
 @dataclass
@@ -106,7 +109,7 @@ class Told:
 
 
 class Arranger:
-    """Puts tasks and dues on a line of time."""
+    """Puts tasks and dues on a line of time. A place is cleared wholly before other letters are drawn in it."""
 
     def __init__(self, line: Timeline, tasks: list[Task], dues: list[Due]):
         self.line, self.dues = line, dues
@@ -129,8 +132,8 @@ class Arranger:
 
     def fill(self, until: int) -> None:
         """Draws what may be drawn before a block, that which is due first before others, column by column."""
-        while waiting := [task for task in self.tasks.values() if task.steps and task.release < until
-                          and task.placed.before not in self.is_open]:
+        while waiting := [task for task in self.tasks.values()
+                          if task.steps and task.release < until and self.may_come(task)]:
             begin = max(self.line.now, min(task.release for task in waiting))
             task = min((task for task in waiting if task.release <= begin), key=lambda task: task.block)
             self.take_over(task)
@@ -139,35 +142,55 @@ class Arranger:
                 return
             self.draw(task, count, begin)
 
+    def may_come(self, task: Task) -> bool:
+        """Whether what stood there before is sung, and is cleared where letters are to come."""
+        before = task.placed.before
+        if not before:
+            return True
+        return not self.tasks[before].steps if task.placed.letters else before not in self.is_open
+
     def take_over(self, task: Task) -> None:
-        """What was still to be drawn in the same place before is not drawn any more, and these columns come with the
-        task."""
-        before = self.tasks.get(task.placed.before)
-        if not before or not before.steps:
+        """Where a place is cleared, what was still to be drawn there before is not drawn any more; and what was
+        still to be cleared before that is cleared with it."""
+        letters = task.placed.before
+        if task.placed.letters or not letters:
             return
-        self.take_over(before)
-        needs = {step.left: step.need for step in before.steps}
+        self.tasks[letters].steps.clear()
+        earlier = self.tasks.get(letters.before) if letters.before else None
+        if not earlier or not earlier.steps:
+            return
+        self.take_over(earlier)
+        needs = {step.left: step.need for step in earlier.steps}
         for step in task.steps:
             step.need = max(step.need, needs.get(step.left, 0))
-        before.steps.clear()
+        earlier.steps.clear()
 
     def draw(self, task: Task, count: int, start: int) -> None:
         """Draws so many columns."""
         now = self.line.put(list(task.steps[:count]), start)
         del task.steps[:count]
-        if not task.steps and task.placed.letters:
+        if not task.steps and task.placed.letters and task.placed.is_sung:
             note(self.told.drawn_late, task.placed, now - task.block)
 
     def light(self, due: Due, start: int) -> None:
         task, placed = self.tasks[due.placed], due.placed
         right = max(step.right for step in due.steps)
         if any(step.left < right for step in task.steps):
-            if placed.before in self.is_open:
-                self.is_open.discard(placed.before)
-                self.told.lost.append(placed.before)
-            self.take_over(task)
+            self.clear_for(placed)
             self.draw(task, len(task.steps), self.line.now)
         note(self.told.lit_late, placed, self.line.put(list(due.steps), start) - due.block)
+
+    def clear_for(self, placed: Placed) -> None:
+        """Clears a place at once, whether what stands there is sung or not."""
+        clearing = self.tasks.get(placed.before) if placed.before else None
+        if not clearing or not clearing.steps:
+            return
+        letters = clearing.placed.before
+        if letters in self.is_open:
+            self.is_open.discard(letters)
+            self.told.lost.append(letters)
+        self.take_over(clearing)
+        self.draw(clearing, len(clearing.steps), self.line.now)
 
 
 def note(late: dict[Placed, int], placed: Placed, blocks: int) -> None:
@@ -187,10 +210,20 @@ def fitting(steps: list[Draw], blocks: int) -> int:
 
 
 def dues_of(placed: Placed, sweep: bool) -> list[Due]:
-    """When the syllables of a line are lit: each at its time, or column by column while it is sung."""
-    dues: list[Due] = []
-    for syllable, (left, right) in zip(placed.letters.syllables, placed.letters.extents):
-        for block, light in lights_of(placed, syllable, left, right, sweep):
+    """When the parts of a line are lit: each syllable at its time, or column by column while it is sung; and when the dots
+    go out that count it in."""
+    dues = [Due([DotOut(placed, left, placed.draws[0].empty)], nearest_block(placed.start) - BLOCKS_A_SECOND * after)
+            for after, left in zip(range(len(placed.dots) - 1, -1, -1), placed.dots)]
+    letters = placed.letters
+    if not letters:
+        return dues
+    parts = list(zip(letters.syllables, letters.extents))
+    if letters.line.is_whole:
+        first, last = letters.syllables[0], letters.syllables[-1]
+        sides = [side for extent in letters.extents for side in extent]
+        parts = [(Syllable(placed.text(), first.start, last.end), (min(sides), max(sides)))]
+    for syllable, (left, right) in parts:
+        for block, light in lights_of(placed, syllable, left, right, sweep or letters.line.is_whole):
             if dues and dues[-1].block >= block:
                 dues[-1].steps.append(light)
             else:
@@ -198,13 +231,13 @@ def dues_of(placed: Placed, sweep: bool) -> list[Due]:
     return dues
 
 
-def lights_of(placed: Placed, syllable, left: int, right: int, sweep: bool):
-    """The steps that light a syllable, with their blocks."""
+def lights_of(placed: Placed, syllable: Syllable, left: int, right: int, sweep: bool) -> Iterator[tuple[int, Light]]:
+    """The steps that light a syllable, with their blocks: at once, or tile by tile in the direction of reading."""
     if not sweep:
         yield nearest_block(syllable.start), Light(placed, left, right)
         return
-    columns = range(left, right, 6)
-    for number, column in enumerate(columns):
+    edges = [left, *range(left - left % TILE_WIDTH + TILE_WIDTH, right, TILE_WIDTH), right]
+    columns = list(zip(edges, edges[1:]))
+    for number, (begin, end) in enumerate(columns[::-1] if is_leftward(placed.text()) else columns):
         part = number / len(columns)
-        block = nearest_block(syllable.start + (syllable.end - syllable.start) * part)
-        yield block, Light(placed, column, min(right, column + 6))
+        yield nearest_block(syllable.start + (syllable.end - syllable.start) * part), Light(placed, begin, end)

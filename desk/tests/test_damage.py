@@ -115,7 +115,7 @@ class DamageTest(FolderTest):
     @needs_pillow
     def test_map_that_cannot_be_written(self):
         ran = desk("damage", self.write("dump", hello()), "--map", self.folder / "no" / "map.png")
-        self.assertEqual(ran.status, 3)
+        self.assertEqual(ran.status, 6)
         self.assertIn("no such file or directory", ran.told)
 
 

@@ -1,11 +1,13 @@
 """`image`: the sectors, what cdrdao reads of them, what would be lost in the first pause, and refusals."""
+import os
 import re
 import subprocess
 import unittest
+from pathlib import Path
+from unittest import mock
 
-from publishers import (LEAD_IN, PAUSE, TOP, FolderTest, author, desk, needs_cdrdao, needs_plan, needs_program,
-                        run_program, screen, write_wav)
-
+from fixtures import PAUSE, TOP, FolderTest, Ran, Word, desk, needs_cdrdao, needs_plan, needs_program, program, write_wav
+from publishers import LEAD_IN, author, screen
 HELLO = TOP / "examples" / "hello.script"
 BLOCK, SECTOR, SOUND = 96, 2448, 2352
 # Three tracks with every kind of gap; track 2 begins at a block that carries the catalogue number.
@@ -44,29 +46,29 @@ TRACK 3: PREGAP 150 START 1295 END 1895"""
 @needs_plan
 @needs_program
 class ImageTest(FolderTest):
-    def setUp(self):
+    def setUp(self) -> None:
         super().setUp()
         self.audio = write_wav(self.folder / "hello.wav", 588 * 22 * 75 - 100)
         self.sheet = self.write("a.cue", SHEET)
         self.stream = author(self.sheet, HELLO, "00:22:00", self.folder / "a.raw")
         self.disc = self.folder / "disc"
 
-    def image(self, *words):
+    def image(self, *words: Word) -> Ran:
         ran = desk("image", self.sheet, self.stream, "--audio", self.audio, "-o", self.disc, *words)
         self.assertEqual(ran.status, 0, ran.told)
         return ran
 
-    def test_subcode_is_that_of_the_stream(self):
+    def test_subcode_is_that_of_the_stream(self) -> None:
         self.image()
         image = (self.folder / "disc.bin").read_bytes()
         blocks = self.stream.read_bytes()[BLOCK * (LEAD_IN + PAUSE) :]
         self.assertEqual(len(image), SECTOR * 1895)
         self.assertEqual(b"".join(image[at + SOUND : at + SECTOR] for at in range(0, len(image), SECTOR)), blocks)
-        packs = run_program("convert", "--lead-in", 0, "--form", "sector", "--", self.folder / "disc.bin")
-        whole = run_program("convert", "--lead-in", LEAD_IN, "--", self.stream)
+        packs = program("convert", "--lead-in", 0, "--form", "sector", "--", self.folder / "disc.bin")
+        whole = program("convert", "--lead-in", LEAD_IN, "--", self.stream)
         self.assertEqual(packs, whole[24 * 4 * PAUSE :])
 
-    def test_audio_and_gaps(self):
+    def test_audio_and_gaps(self) -> None:
         self.image()
         image = (self.folder / "disc.bin").read_bytes()
         sectors = [image[at : at + SOUND] for at in range(0, len(image), SECTOR)]
@@ -76,7 +78,7 @@ class ImageTest(FolderTest):
         self.assertEqual(sound, self.audio.read_bytes()[44:].ljust(SOUND * 22 * 75, b"\0"))
 
     @needs_cdrdao
-    def test_cdrdao_finds_tracks_and_times(self):
+    def test_cdrdao_finds_tracks_and_times(self) -> None:
         self.image()
         toc = self.folder / "disc.toc"
         size = subprocess.run(["cdrdao", "toc-size", toc], capture_output=True, text=True, check=True).stdout
@@ -94,7 +96,7 @@ class ImageTest(FolderTest):
         self.assertTrue("COPY NOT PERMITTED" in second and "FOUR CHANNEL AUDIO" in second)
         self.assertTrue("NO PRE-EMPHASIS" in third and "TWO CHANNEL AUDIO" in third)
 
-    def test_texts_are_those_of_the_sheet(self):
+    def test_texts_are_those_of_the_sheet(self) -> None:
         self.image()
         toc = (self.folder / "disc.toc").read_text()
         album, *tracks = re.split(r"^TRACK", toc, flags=re.MULTILINE)
@@ -109,7 +111,7 @@ class ImageTest(FolderTest):
                           ("00", "00:15:20"), ("01", "00:17:20")])
         self.assertEqual(re.findall(r"FLAGS (.*)", cue), ["DCP PRE", "4CH"])
 
-    def test_latin_1(self):
+    def test_latin_1(self) -> None:
         self.sheet = self.write("a.cue", SHEET.replace("Hello", "H\u00e9llo"))
         self.stream = author(self.sheet, HELLO, "00:22:00", self.stream)
         ran = self.image()
@@ -120,7 +122,7 @@ class ImageTest(FolderTest):
         self.assertIn('TITLE "H\\351llo"', (self.folder / "disc.toc").read_text())
         self.assertIn(b'TITLE "H\xe9llo"', (self.folder / "disc.cue").read_bytes())
 
-    def test_what_is_sent_in_the_pause(self):
+    def test_what_is_sent_in_the_pause(self) -> None:
         self.assertIn("--hold-through-pause", self.image().told)
         image = self.folder / "disc.bin"
         third = screen(self.stream, 535)
@@ -129,24 +131,56 @@ class ImageTest(FolderTest):
         self.assertNotIn("pause", ran.told)
         self.assertEqual(screen(image, 535 - PAUSE, "--form", "sector", lead_in=0), third)
 
-    def test_without_texts_and_codes(self):
+    def test_texts_of_another_sheet_are_told(self) -> None:
+        self.assertNotIn("its texts are not those", self.image().told)
+        self.sheet = self.write("b.cue", SHEET.replace("All the Gaps", "Other Gaps"))
+        told = self.image().told
+        self.assertIn("its texts are not those of", told)
+        self.assertIn("2 differ, as `title 00 All the Gaps` of the stream", told)
+
+    def test_a_pressed_file_is_not_told_to_have_a_script(self) -> None:
+        plain = self.write("b.cue", 'FILE "a.wav" WAVE\nTRACK 01 AUDIO\nINDEX 01 00:00:00\n')
+        packs = program("convert", "--lead-in", LEAD_IN, "--", author(plain, HELLO, "00:22:00", self.folder / "b.raw"))[14_232:]
+        preset, idle = bytes([9, 1, 0, 0, 5]) + bytes(19), bytes(24)
+        for name, first, is_told in (("early", preset + 11 * idle, True), ("late", 11 * idle + preset, False)):
+            pressed = self.write(f"{name}.raw", program(
+                "press", "--lead-in", LEAD_IN, "--length", "00:22:00", "--", plain,
+                self.write(f"{name}.cdg", first + packs[288:])))
+            ran = desk("image", plain, pressed, "--audio", self.audio, "-o", self.folder / name)
+            self.assertEqual(ran.status, 0, ran.told)
+            self.assertNotIn("--hold-through-pause", ran.told)
+            self.assertEqual("the first seven packs of its .cdg file begin in the first pause" in ran.told, is_told, ran.told)
+
+    def test_without_texts_and_codes(self) -> None:
         self.sheet = self.write("b.cue", 'FILE "a.wav" WAVE\nTRACK 07 AUDIO\nINDEX 01 00:00:00\n')
         self.stream = author(self.sheet, HELLO, "00:22:00", self.stream)
         self.image()
         self.assertEqual((self.folder / "disc.toc").read_text(), 'CD_DA\n\n// Track 7\nTRACK AUDIO RW_RAW\nNO COPY\n'
                          'NO PRE_EMPHASIS\nTWO_CHANNEL_AUDIO\nDATAFILE "disc.bin" #0 00:22:00\n')
 
-    def test_refusals(self):
-        def refused(why, **others):
+    def test_a_first_track_with_a_gap(self) -> None:
+        """The gap of the first track comes behind the pause, which is not on the image."""
+        self.sheet = self.write("b.cue", 'FILE "a.wav" WAVE\nTRACK 01 AUDIO\nPREGAP 00:02:00\nINDEX 01 00:00:00\n')
+        self.stream = author(self.sheet, HELLO, "00:22:00", self.stream)
+        self.image()
+        image = (self.folder / "disc.bin").read_bytes()
+        sectors = [image[at : at + SOUND] for at in range(0, len(image), SECTOR)]
+        self.assertEqual(sectors[:PAUSE], [bytes(SOUND)] * PAUSE)
+        sound = b"".join(sectors[PAUSE:])
+        self.assertEqual(sound, self.audio.read_bytes()[44:].ljust(SOUND * 22 * 75, b"\0"))
+        self.assertIn("START 00:02:00", (self.folder / "disc.toc").read_text())
+
+    def test_refusals(self) -> None:
+        def refused(why: str, **others: Path) -> None:
             words = {"sheet": self.sheet, "stream": self.stream, "audio": self.audio, **others}
             ran = desk("image", words["sheet"], words["stream"], "--audio", words["audio"], "-o", self.disc)
             self.assertEqual(ran.status, 3, ran.told)
             self.assertIn(why, ran.told)
             self.assertFalse((self.folder / "disc.bin").exists())
 
-        refused("has 48000 Hz, 2 channels, 16 bits", audio=write_wav(self.folder / "b.wav", 100, rate=48_000))
-        refused("has 44100 Hz, 1 channels, 16 bits", audio=write_wav(self.folder / "b.wav", 100, channels=1))
-        refused("has 44100 Hz, 2 channels, 24 bits", audio=write_wav(self.folder / "b.wav", 100, width=3))
+        with mock.patch.dict(os.environ, {"PATH": str(self.folder)}):
+            refused("has 48000 Hz, 2 channels, 16 bits, and ffmpeg is not installed",
+                    audio=write_wav(self.folder / "b.wav", 100, rate=48_000))
         refused("is no WAV file", audio=self.sheet)
         refused("no such file", audio=self.folder / "none.wav")
         refused("author it with --length 00:23:00", audio=write_wav(self.folder / "b.wav", 588 * 75 * 23))

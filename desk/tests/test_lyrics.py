@@ -1,126 +1,166 @@
-"""`lyrics`: what is read of LRC and ASS, and that each script is in time and shows its words when they are sung."""
+"""`lyrics`: that each script is in time, that its letters can be read, and that words are lit when they are sung."""
+import argparse
 import unittest
 from pathlib import Path
+from typing import Iterator
 
-from publishers import SONG, FolderTest, author, desk, needs_font, needs_pillow, needs_plan, needs_program, screen
-
-from ribjasper.lyrics import best, parser_of
-from ribjasper.output import Refusal
-from ribjasper.pages import STYLES
-from ribjasper.songs import read_song
+from fixtures import (PAUSE, SONG, TOP, FolderTest, Ran, Word, desk, needs_font, needs_pillow, needs_plan,
+                      needs_program, write_wav)
+from publishers import LEAD_IN, author, screen
+from ribjasper.colours import Colour, contrast
+from ribjasper.library import HEIGHT, PACK, RAW, WIDTH, Player, convert
+from ribjasper.lyrics import add_parser, wishes_of
+from ribjasper.pages import DotOut, Placed
+from ribjasper.song_files import read_song
+from ribjasper.song_script import Maker, best
+from ribjasper.styles import read_style, shipped
 from ribjasper.timeline import EARLY, blocks_for
-from ribjasper.times import clock
+from ribjasper.times import blocks, clock
 
 SHEET = 'FILE "a.wav" WAVE\nTRACK 01 AUDIO\nINDEX 01 00:00:00\n'
+# The Japanese font of the package fonts-vlgothic, which the desk finds by itself.
+GOTHIC = Path("/usr/share/fonts/truetype/vlgothic/VL-Gothic-Regular.ttf")
 
-ASS = """[Script Info]
-Title: Two lines
-[V4+ Styles]
-Format: Name, Fontname
-Style: Default,Arial
-[Events]
+ASS = """[Events]
 Format: Layer, Start, End, Style, Name, MarginL, MarginR, MarginV, Effect, Text
-Comment: 0,0:00:01.00,0:00:09.00,Default,,0,0,0,,{\\k50}not {\\k50}sung
 Dialogue: 0,0:00:05.00,0:00:08.00,Default,,0,0,0,,{\\k50}One, {\\kf70}two{\\K30}fold, {\\k20}{\\an8\\k100}three
-Dialogue: 0,0:00:10.50,0:00:12.00,Default,,0,0,0,,plain\\hline\\Nand, with commas, another
 """
 
 
-def words(song):
-    return [[(syllable.text, round(syllable.start, 2)) for syllable in line.syllables] for line in song.lines]
+def rgb(colour: Colour) -> tuple[int, int, int]:
+    return 17 * colour.red, 17 * colour.green, 17 * colour.blue
 
 
-class SongTest(FolderTest):
-    def song(self, text, name="a.lrc"):
-        return read_song(self.write(name, text))
+class StylesTest(FolderTest):
+    def test_letters_can_be_read_in_each_style(self) -> None:
+        for name in shipped():
+            style = read_style(name)
+            for voice in style.voices:
+                self.assertGreaterEqual(contrast(voice.unsung, style.ground), 7, name)
+                self.assertGreaterEqual(contrast(voice.sung, style.ground), 4.5, name)
+                for other in style.voices:
+                    self.assertGreaterEqual(contrast(voice.sung, other.unsung), 3, name)
 
-    def test_lines_with_times(self):
-        song = self.song("[ti:A song]\n[ar: Somebody ]\n[00:05.50]First line\n[00:10]Second\n[00:12.5]\n"
-                         "[01:00.00]Third\n")
-        self.assertEqual((song.title, song.performer), ("A song", "Somebody"))
-        self.assertEqual(words(song), [[("First line", 5.5)], [("Second", 10)], [("Third", 60)]])
-        self.assertEqual([line.end for line in song.lines], [10, 12.5, 70])
+    def test_contrast(self) -> None:
+        # By the formula of WCAG 2: black and white, and the grey of #777, which is known for its 4.48.
+        black, grey, white = (read_style(self.style(f'ground = "{word}"')).ground for word in ("#000", "#777", "#FFF"))
+        self.assertAlmostEqual(contrast(black, white), 21, places=6)
+        self.assertAlmostEqual(contrast(grey, white), 4.48, places=2)
 
-    def test_words_with_times(self):
-        song = self.song("[00:05.00]<00:05.10>One <00:05.60>two<00:05.90>fold <00:06.40>\n[00:09.00]So <00:09.50>on\n")
-        self.assertEqual(words(song), [[("One ", 5.1), ("two", 5.6), ("fold ", 5.9)], [("So ", 9), ("on", 9.5)]])
-        self.assertEqual([line.end for line in song.lines], [6.4, 12.5])
+    def style(self, *lines: str, voices: str = '[[voice]]\nunsung = "#FFF"\nsung = "#F80"\n') -> str:
+        return str(self.write("a.toml", "".join(f"{line}\n" for line in lines) + voices))
 
-    def test_a_line_that_comes_twice(self):
-        song = self.song("[00:05.00][00:25.00]<00:05.00>La <00:06.00>la\n[00:10.00]Other\n")
-        self.assertEqual(words(song), [[("La ", 5), ("la", 6)], [("Other", 10)], [("La ", 25), ("la", 26)]])
+    def test_all_keys(self) -> None:
+        font = self.write("b.ttf", "")
+        style = read_style(self.style('font = "b.ttf"', "size = 20", 'ground = "#001122"', 'border = "#123"',
+                                      'outline = "#000"', 'align = "left"', "rows = 6", 'mode = "page"',
+                                      'background = "c.png"'))
+        self.assertEqual((style.fonts, style.size, style.align, style.rows, style.by_page),
+                         ((font,), 20, "left", 6, True))
+        self.assertEqual((style.ground, style.border, style.outline), ((0, 1, 2), (1, 2, 3), (0, 0, 0)))
+        self.assertEqual((style.background, style.voice(1).sung), (self.folder / "c.png", (15, 8, 0)))
 
-    def test_offset_makes_earlier(self):
-        self.assertEqual(words(self.song("[offset:+500]\n[00:05.00]La\n")), [[("La", 4.5)]])
-        self.assertEqual(words(self.song("[offset:-500]\n[00:05.00]La\n")), [[("La", 5.5)]])
+    def test_refusals(self) -> None:
+        for line, why in (('rows = 7', "rows is 7, and has to be from 2 to 6"), ('rows = "4"', "rows is '4'"),
+                          ('ground = "blue"', "ground is 'blue'"), ('colour = "#000"', "knows nothing of 'colour'"),
+                          ('align = "middle"', "align is 'middle'"), ('font = "No Such Font"', "there is no font No"),
+                          ("rows = ", "is no TOML"), ("sweep = true", "knows nothing of 'sweep'")):
+            ran = desk("lyrics", SONG / "song.lrc", "-o", self.folder / "a.script", "--style", self.style(line))
+            self.assertEqual((ran.status, why in ran.told), (3, True), ran.told)
+        ran = desk("lyrics", SONG / "song.lrc", "-o", self.folder / "a.script", "--style", "green")
+        self.assertEqual((ran.status, "is no style; there are black, night, paper" in ran.told), (3, True), ran.told)
+        for voices in ("", '[[voice]]\nunsung = "#FFF"\n', 3 * '[[voice]]\nunsung = "#FFF"\nsung = "#000"\n'):
+            ran = desk("lyrics", SONG / "song.lrc", "-o", self.folder / "a.script", "--style", self.style(voices=voices))
+            self.assertEqual((ran.status, "[[voice]]" in ran.told), (3, True), ran.told)
 
-    def test_what_has_no_time_is_told(self):
-        song = self.song("A title\n[00:05.00]La\n")
-        self.assertEqual(len(song.left_out), 1)
-        self.assertIn("line 1 has no time", song.left_out[0])
 
-    def test_ass(self):
-        song = self.song(ASS, "a.ass")
-        self.assertEqual(song.title, "Two lines")
-        self.assertEqual(words(song), [[("One, ", 5), ("two", 5.5), ("fold, ", 6.2), ("three", 6.7)],
-                                       [("plain line", 10.5)], [("and, with commas, another", 10.5)]])
+class ScriptTest(FolderTest):
+    """A test that makes scripts."""
 
-    def test_refusals(self):
-        for text, why in (("La\n", "no line has a time"), ("[00:05.00]<00:06.00>La <00:05.50>la\n", "line 1"),
-                          ("[offset:x]\n[00:05.00]La\n", "line 1"), (b"[00:05.00]\xfcber\n", "byte 10")):
-            with self.assertRaises(Refusal) as refused:
-                self.song(text)
-            self.assertIn(why, str(refused.exception))
+    def made(self, song: Path, *words: Word, status: int = 0) -> tuple[Ran, Path, Maker]:
+        """Runs the command; and makes the pages once more, to know where each word stands."""
+        script = self.folder / "a.script"
+        ran = desk("lyrics", song, "-o", script, *words)
+        self.assertEqual(ran.status, status, ran.told)
+        top = argparse.ArgumentParser()
+        add_parser(top.add_subparsers())
+        arguments = top.parse_args(["lyrics", str(song), "-o", str(script), *map(str, words)])
+        return ran, script, best(read_song(song), wishes_of(arguments, None)).maker
+
+    def stream(self, script: Path) -> Path:
+        """A disc that ends three seconds after the last picture."""
+        last = [line.split()[2] for line in script.read_text().splitlines() if line.startswith("show")][-1]
+        return author(self.write("a.cue", SHEET), script, clock(blocks(last) + 3 * 75), self.folder / "a.raw")
+
+    def is_planned(self, script: Path) -> None:
+        self.assertEqual(desk("plan", self.write("a.cue", SHEET), script, "--length", clock(30_000)).status, 0)
+
+    @staticmethod
+    def letters(placed: Placed) -> list[bytes]:
+        """The numbers of the pixels of a line; 3 is the full colour of the first voice, 7 of the second."""
+        assert placed.letters
+        return placed.letters.rows
+
+    def pixels(self, placed: Placed, left: int, right: int, ink: int) -> list[tuple[int, int]]:
+        """The pixels of a part of a line that have a number."""
+        return [(x, placed.top + y) for y, row in enumerate(self.letters(placed))
+                for x in range(left, min(right, 288)) if row[x] == ink]
+
+    def screens(self, script: Path) -> Iterator[tuple[int, bytes]]:
+        """What stands at each block of the program from the end of the pause on: the numbers of all pixels."""
+        packs, _ = convert(self.stream(script).read_bytes(), RAW, LEAD_IN)
+        with Player() as player:
+            done = 0
+            for block in range(PAUSE, len(packs) // PACK // 4 + 2):
+                # A pack has eight slots, four of them in a block: those that are whole by this block.
+                player.draw(packs[PACK * done : PACK * (4 * block - 7)])
+                done = 4 * block - 7
+                yield block, player.screen()
+
+    def check_words(self, script: Path, maker: Maker, step: int = 1) -> None:
+        """That words stand in the one colour before their times, and in the other from them on."""
+        stream = self.stream(script)
+        style, seen = maker.style, 0
+        lights = [due for due in maker.dues if not isinstance(due.steps[0], DotOut)]
+        for due in lights[::step]:
+            light, placed = due.steps[0], due.placed
+            early = due.block - EARLY - blocks_for(due.steps) - 1
+            before, after = screen(stream, early), screen(stream, due.block)
+            for number, ink in enumerate((3, 7)):
+                full = self.pixels(placed, light.left, light.right, ink)
+                seen += len(full) > 5
+                voice = style.voice(number)
+                if full:
+                    self.assertEqual({before.at(*pixel) for pixel in full}, {rgb(voice.unsung)}, placed.text())
+                    self.assertEqual({after.at(*pixel) for pixel in full}, {rgb(voice.sung)}, placed.text())
+            box = [(x, placed.top + y) for y in range(len(self.letters(placed)))
+                   for x in range(light.left, min(light.right, 288))]
+            self.assertIn(rgb(style.ground), {after.at(*pixel) for pixel in box})
+        self.assertGreater(seen, len(lights[::step]) // 2)
 
 
 @needs_plan
 @needs_pillow
 @needs_font
-class LyricsTest(FolderTest):
-    def made(self, song: Path, *words):
-        """Runs the command; and makes the pages once more, to know where each word stands."""
-        script = self.folder / "a.script"
-        ran = desk("lyrics", song, "-o", script, *words)
-        self.assertEqual(ran.status, 0, ran.told)
-        arguments = parser_of(str(song), "-o", str(script), *map(str, words))
-        return ran, script, best(read_song(song), arguments, None)[0]
-
-    def check_words(self, script, maker, step=1):
-        """That words stand in the one colour before their times, and in the other from them on."""
-        stream = author(self.write("a.cue", SHEET), script, clock(30_000), self.folder / "a.raw")
-        style = STYLES[maker.arguments.style]
-        plain, sung = (tuple(17 * part for part in colour) for colour in (style.unsung, style.sung))
-        for due in maker.dues[::step]:
-            light, placed = due.steps[0], due.placed
-            full = [(x, placed.top + y) for y, row in enumerate(placed.letters.rows)
-                    for x in range(light.left, min(light.right, 288)) if row[x] == 3]
-            early = due.block - EARLY - blocks_for(due.steps) - 1
-            before, after = screen(stream, early), screen(stream, due.block)
-            self.assertGreater(len(full), 5)
-            self.assertEqual({before.at(*pixel) for pixel in full}, {plain}, placed.text())
-            self.assertEqual({after.at(*pixel) for pixel in full}, {sung}, placed.text())
-            height = len(placed.letters.rows)
-            box = [(x, placed.top + y) for y in range(height) for x in range(light.left, light.right)]
-            self.assertIn(tuple(17 * part for part in style.ground), {after.at(*pixel) for pixel in box})
-
+class LyricsTest(ScriptTest):
     @needs_program
-    def test_the_song(self):
+    def test_the_song(self) -> None:
         ran, script, maker = self.made(SONG / "song.lrc", "--title", SONG / "title.png")
         self.assertIn("none is late", ran.told)
-        self.assertEqual(desk("plan", self.write("a.cue", SHEET), script, "--length", clock(30_000)).status, 0)
+        self.is_planned(script)
         self.check_words(script, maker, 9)
 
-    def test_rows_flow_over_pages_until_a_rest(self):
+    def test_rows_flow_over_pages_until_a_rest(self) -> None:
         song = self.write("a.lrc", "[00:06.00]One\n[00:08.00]Two\n[00:10.00]Three\n[00:12.00]Four\n[00:14.00]Five\n"
                                    "[00:16.00]\n[00:20.00]Six, after a rest\n[00:22.00]\n")
         _, _, maker = self.made(song)
-        texts = [[placed.text() for placed in page if placed.letters] for page in maker.pages]
+        texts = [[placed.text() for placed in page.placed if placed.letters] for page in maker.pages]
         self.assertEqual(texts, [["One", "Two", "Three", "Four"], ["Five"], ["Six, after a rest"], []])
 
-    def test_rows_of_a_line_are_sung_one_after_the_other(self):
+    def test_rows_of_a_line_are_sung_one_after_the_other(self) -> None:
         song = self.write("a.lrc", "[00:06.00]Many words, of which there are more than in a single row\n[00:12.00]\n")
         _, _, maker = self.made(song, "--size", "24")
-        rows = [placed for placed in maker.pages[0] if placed.letters]
+        rows = [placed for placed in maker.pages[0].placed if placed.letters]
         self.assertGreater(len(rows), 2)
         self.assertEqual([row.start for row in rows], sorted({row.start for row in rows}))
         self.assertEqual([row.end for row in rows], [*(row.start for row in rows[1:]), 12])
@@ -129,14 +169,14 @@ class LyricsTest(FolderTest):
             self.assertAlmostEqual(following.start - row.start, 6 * (len(row.text()) + 1) / letters, delta=0.15)
 
     @needs_program
-    def test_lines_of_which_the_beginning_is_told(self):
+    def test_lines_of_which_the_beginning_is_told(self) -> None:
         song = self.write("a.lrc", "[00:06.00]First line\n[00:09.00]Second line, which is rather long for one row\n"
                                    "[00:12.00]Third\n[00:15.00]Fourth\n[00:18.00]Fifth\n[00:21.00]Sixth\n")
         _, script, maker = self.made(song, "--style", "paper")
         self.check_words(script, maker, 2)
 
     @needs_program
-    def test_many_words(self):
+    def test_many_words(self) -> None:
         lines = []
         for number in range(24):
             start = 8 + 2 * number
@@ -147,75 +187,359 @@ class LyricsTest(FolderTest):
         self.assertNotIn("line", ran.told.replace("24 lines", ""))
         self.check_words(script, maker, 37)
 
-    def test_letters_become_smaller_and_plain_where_all_would_be_late(self):
-        lines = []
-        for number in range(20):
-            start = 10 + 1.36 * number
-            stamps = "".join(f"<00:{start + 0.09 * word:05.2f}>{'nevermore' if word % 3 else 'to'} " for word in range(14))
-            lines.append(f"[00:{start:05.2f}]{stamps}")
-        ran, _, maker = self.made(self.write("a.lrc", "\n".join(lines)))
+    def test_letters_become_smaller_and_plain_where_all_would_be_late(self) -> None:
+        def song(slower: float) -> Path:
+            lines = []
+            for number in range(12):
+                start = 10 + 1.36 * number * slower
+                words = ((start + 0.09 * slower * word, "nevermore" if word % 3 else "to") for word in range(14))
+                stamps = "".join(f"<{time // 60:02.0f}:{time % 60:05.2f}>{text} " for time, text in words)
+                lines.append(f"[{start // 60:02.0f}:{start % 60:05.2f}]{stamps}")
+            return self.write("a.lrc", "\n".join(lines))
+
+        ran, _, maker = self.made(song(1))
         self.assertTrue(maker.font.is_plain)
-        ran, _, maker = self.made(self.write("a.lrc", "\n".join(lines[:2])))
+        self.assertIn("line 12 is drawn", ran.told)
+        ran, _, maker = self.made(song(5))
         self.assertFalse(maker.font.is_plain)
+        self.assertNotIn("is drawn", ran.told)
 
     @needs_program
-    def test_sweep_of_ass(self):
+    def test_sweep_of_ass(self) -> None:
         _, script, maker = self.made(self.write("a.ass", ASS), "--sweep")
         self.assertGreater(len(maker.dues), 15)
-        stream = author(self.write("a.cue", SHEET), script, clock(30_000), self.folder / "a.raw")
+        stream = self.stream(script)
         last = maker.dues[-1]
-        sung = tuple(17 * part for part in STYLES["night"].sung)
-        full = [(x, last.placed.top + y) for y, row in enumerate(last.placed.letters.rows)
-                for x in range(288) if row[x] == 3]
+        full = self.pixels(last.placed, 0, 288, 3)
         after = screen(stream, last.block + 2)
-        self.assertEqual({after.at(*pixel) for pixel in full}, {sung})
+        self.assertEqual({after.at(*pixel) for pixel in full}, {rgb(read_style("night").voices[0].sung)})
 
-    def test_a_line_that_cannot_be_drawn_in_time_is_told(self):
+    def test_a_line_that_cannot_be_drawn_in_time_is_told(self) -> None:
         ran, script, _ = self.made(self.write("a.lrc", "[00:00.05]Too early\n[00:05.00]In time\n"))
         self.assertIn("line 1 is drawn", ran.told)
         self.assertNotIn("line 2", ran.told)
-        self.assertEqual(desk("plan", self.write("a.cue", SHEET), script, "--length", clock(30_000)).status, 0)
+        self.is_planned(script)
 
-    def test_a_title_without_room_is_left_out(self):
+    def test_a_title_without_room_is_left_out(self) -> None:
         song = self.write("a.lrc", "[00:03.00]La\n")
         ran, _, _ = self.made(song, "--title", SONG / "title.png")
         self.assertIn("the title is left out", ran.told)
 
     @needs_program
-    def test_a_title_stands(self):
+    def test_a_title_stands(self) -> None:
         _, script, _ = self.made(SONG / "song.lrc", "--title", SONG / "title.png")
-        stream = author(self.write("a.cue", SHEET), script, clock(30_000), self.folder / "a.raw")
+        stream = self.stream(script)
         stands = screen(stream, 150 + 5 * 75)
         self.assertEqual(len({stands.at(x, y) for x in range(288) for y in range(0, 192, 4)}), 16)
 
     @needs_program
-    def test_the_first_pause_holds_nothing(self):
+    def test_the_first_pause_holds_nothing(self) -> None:
         _, script, _ = self.made(SONG / "song.lrc")
-        stream = author(self.write("a.cue", SHEET), script, clock(30_000), self.folder / "a.raw")
+        stream = self.stream(script)
         self.assertEqual(set(screen(stream, 150).pixels), {0})
 
-    def test_letters_that_the_font_lacks_are_named(self):
-        song = self.write("a.lrc", "[00:06.00]Fine\n[00:08.00]\u6f22\n")
+    def test_letters_that_no_font_has_are_named_at_once(self) -> None:
+        song = self.write("a.lrc", "[ti:A \U0001f941]\n[00:06.00]Fine\n[00:08.00]\U00012000\n[00:09.00]\U0001f941 \U00012000\n")
         ran = desk("lyrics", song, "-o", self.folder / "a.script")
         self.assertEqual(ran.status, 3)
-        self.assertIn("line 2: the font", ran.told)
-        self.assertIn("U+6F22", ran.told)
+        self.assertIn("(U+12000 cuneiform sign a) in line 3, line 4", ran.told)
+        self.assertIn("(U+1F941 drum with drumsticks) in line 4, the title", ran.told)
         self.assertFalse((self.folder / "a.script").exists())
 
-    def test_other_alphabets(self):
+    def test_other_alphabets(self) -> None:
         song = self.write("a.lrc", "[00:06.00]\u00dcber \u0388\u03bd\u03b1 \u0438 \u0434\u0432\u0430\n"
                                    "[00:09.00]\u05e9\u05dc\u05d5\u05dd \u05e2\u05d5\u05dc\u05dd\n")
         _, _, maker = self.made(song)
-        extents = [placed.letters.extents for placed in maker.pages[0]]
+        extents = [placed.letters.extents for placed in maker.pages[0].placed if placed.letters]
         self.assertLess(extents[0][0][0], extents[0][1][0])
         self.assertGreater(extents[1][0][0], extents[1][1][0])
 
-    def test_a_song_longer_than_its_audio(self):
-        from publishers import write_wav
+    def test_a_song_longer_than_its_audio(self) -> None:
         audio = write_wav(self.folder / "a.wav", 44_100 * 5)
         ran = desk("lyrics", self.write("a.lrc", "[00:06.00]La\n"), "--audio", audio, "-o", self.folder / "a.script")
         self.assertEqual(ran.status, 3)
-        self.assertIn("ends at 00:05:00", ran.told)
+        self.assertIn("which ends at 00:05.00", ran.told)
+
+
+# Lines that follow each other quickly, in the same places.
+QUICK = "".join(f"[00:{8 + 2 * number:02}.00]" + "".join(
+    f"<00:{8 + 2 * number + 0.4 * word:05.2f}>{text} " for word, text in enumerate(("my", "jumping", "kamps", f"{number}ly")))
+    + "\n" for number in range(12))
+DUET = """[ti:Two]
+[singer:Anna]
+[00:10.00]<00:10.00>One <00:10.50>voice <00:11.00>
+[singer:Ben]
+[00:12.00]<00:12.00>other <00:12.50>voice <00:13.00>
+[singer:both]
+[00:14.00]<00:14.00>both <00:14.50>of <00:15.00>them <00:15.50>
+"""
+
+
+@needs_plan
+@needs_program
+@needs_pillow
+@needs_font
+class ReadableTest(ScriptTest):
+    def slots(self, maker: Maker) -> dict[int, list[Placed]]:
+        found: dict[int, list[Placed]] = {}
+        for page in maker.pages:
+            for placed in page.placed:
+                if placed.letters:
+                    found.setdefault(placed.slot, []).append(placed)
+        return found
+
+    def shown(self, pixels: bytes, maker: Maker, slot: int) -> set[tuple[int, int]]:
+        """The pixels in a place of the page that are not of the ground."""
+        top = maker.style.top(slot)
+        rows = range(top, top + 12 * maker.style.slot_rows)
+        return {(x, y) for y in rows for x in range(288) if pixels[WIDTH * (y + 12) + x + 6]}
+
+    def check_clear(self, script: Path, maker: Maker) -> None:
+        """That the pixels that stand in a place of the page are of one line at each block."""
+        inks = {slot: [{(x, placed.top + y) for y, row in enumerate(self.letters(placed)) for x in range(288) if row[x]}
+                       for placed in some] for slot, some in self.slots(maker).items()}
+        seen, before = set(), b""
+        for block, pixels in self.screens(script):
+            if block > PAUSE + 75 * 40:
+                break
+            if pixels == before or block < maker.first - 75:
+                continue
+            before = pixels
+            for slot, lines in inks.items():
+                shown = self.shown(pixels, maker, slot)
+                # A tile that takes two packs may show other pixels between them.
+                fits = [number for number, ink in enumerate(lines)
+                        if len({(x // 6, y // 12) for x, y in shown - ink}) <= 1]
+                self.assertTrue(fits, (block, slot))
+                seen |= {(slot, fits[0])} if shown else set()
+        self.assertEqual(len(seen), sum(len(lines) for lines in inks.values()))
+
+    def test_a_row_is_cleared_before_another_is_drawn_over_it(self) -> None:
+        ran, script, maker = self.made(self.write("a.lrc", QUICK), "--no-rests")
+        self.assertNotIn(": line", ran.told)
+        self.assertGreater(len(self.slots(maker)[0]), 2)
+        self.check_clear(script, maker)
+
+    def test_by_page(self) -> None:
+        style = self.write("a.toml", 'mode = "page"\nrows = 3\n[[voice]]\nunsung = "#FFF"\nsung = "#28F"\n')
+        _, script, maker = self.made(self.write("a.lrc", QUICK), "--no-rests", "--style", style)
+        self.check_clear(script, maker)
+        second = [placed for placed in maker.pages[1].placed if placed.letters]
+        self.assertEqual(len(second), 3)
+        end = PAUSE + round(75 * maker.pages[0].placed[-1].end)
+        for block, pixels in self.screens(script):
+            if block == end:
+                self.assertEqual([bool(self.shown(pixels, maker, slot)) for slot in range(3)], [True] * 3)
+                break
+
+    def test_a_line_with_one_time_is_lit_column_by_column(self) -> None:
+        _, script, maker = self.made(self.write("a.lrc", "[00:10.00]Light goes over this line\n[00:15.00]\n"))
+        placed = next(placed for page in maker.pages for placed in page.placed if placed.letters)
+        columns = [[(x, y) for x, y in self.pixels(placed, left, left + 6, 3)] for left in range(0, 288, 6)]
+        columns = [column for column in columns if column]
+        lit_at: dict[int, int] = {}
+        for block, pixels in self.screens(script):
+            if not PAUSE + 750 <= block <= PAUSE + 1130:
+                continue
+            states = [{pixels[WIDTH * (y + 12) + x + 6] for x, y in column} for column in columns]
+            self.assertLessEqual(sum(len(state) > 1 for state in states), 1, "one column changes at a time")
+            whole = [state == {11} for state in states]
+            self.assertEqual(whole, sorted(whole, reverse=True), "from left to right")
+            for number, is_lit in enumerate(whole):
+                if is_lit:
+                    lit_at.setdefault(number, block)
+        self.assertEqual(len(lit_at), len(columns))
+        # Over the five seconds of the line.
+        self.assertAlmostEqual(lit_at[len(columns) // 2] / 75, 2 + 12.5, delta=0.4)
+        self.assertLess(lit_at[len(columns) - 1], PAUSE + 75 * 15 + 2)
+
+    def test_a_broken_line_stands_on_neighbouring_rows(self) -> None:
+        text = "".join(f"[00:{8 + 4 * number:02}.00]{'A line that is too long for one row of this size' if number % 2 else 'Short'}\n"
+                       for number in range(8))
+        _, _, maker = self.made(self.write("a.lrc", text), "--size", "20", "--no-rests")
+        rows: dict[int, list[tuple[int, int]]] = {}
+        for number, page in enumerate(maker.pages):
+            for placed in page.placed:
+                if placed.letters:
+                    rows.setdefault(placed.letters.line.number, []).append((number, placed.slot))
+        self.assertGreaterEqual(max(len(places) for places in rows.values()), 2)
+        for places in rows.values():
+            self.assertEqual({page for page, _ in places}, {places[0][0]})
+            self.assertEqual([slot for _, slot in places], list(range(places[0][1], places[0][1] + len(places))))
+
+    def test_smaller_letters_where_most_lines_would_be_broken(self) -> None:
+        lines = "".join(f"[00:{10 + 4 * number:02}.00]Nearly thirty letters, line {number}\n" for number in range(6))
+        ran, _, maker = self.made(self.write("a.lrc", lines), "--size", "24")
+        self.assertLess(maker.font.size, 24)
+        self.assertIn("letters of 24 pixels break 6 of 6 lines, and so they have", ran.told)
+        self.assertTrue(all(len({id(placed) for placed in page.placed}) for page in maker.pages))
+        self.assertEqual(sum(bool(placed.letters) for page in maker.pages for placed in page.placed if placed.is_sung), 6)
+
+    def test_titles_wrap(self) -> None:
+        title = "A title that is as long as seventy letters, and that is on every disc"
+        self.assertGreaterEqual(len(title), 69)
+        ran, script, maker = self.made(self.write("a.lrc", f"[ti:{title}]\n[ar:Somebody]\n[00:15.00]La la\n"))
+        self.assertNotIn("title", ran.told)
+        stands = next(pixels for block, pixels in self.screens(script) if block == PAUSE + 75 * 6)
+        rows = [any(pixels) for pixels in (stands[WIDTH * y : WIDTH * (y + 1)] for y in range(HEIGHT))]
+        stretches = sum(after and not before for before, after in zip(rows, rows[1:]))
+        self.assertGreaterEqual(stretches, 4)
+
+    def test_two_voices_and_both(self) -> None:
+        _, script, maker = self.made(self.write("a.lrc", DUET), "--size", "20")
+        self.check_words(script, maker)
+        first, second, both = (placed for page in maker.pages for placed in page.placed if placed.letters and placed.is_sung)
+        numbers = [set(b"".join(self.letters(placed))) for placed in (first, second, both)]
+        # Four levels each, the ground among them.
+        self.assertEqual(numbers, [{0, 1, 2, 3}, {0, 5, 6, 7}, {0, 1, 2, 3, 5, 6, 7}])
+        rows = [{number & 4 for number in row if number} for row in self.letters(both)]
+        self.assertEqual([row for row in rows if row], sorted((row for row in rows if row), key=max))
+        self.assertTrue(all(len(row) < 2 for row in rows))
+
+    def test_a_legend(self) -> None:
+        ran, script, maker = self.made(self.write("a.lrc", DUET), "--legend")
+        self.assertNotIn("legend", ran.told)
+        stands = next(pixels for block, pixels in self.screens(script) if block == PAUSE + 75 * 5)
+        self.assertLessEqual({3, 7, 11}, set(stands))
+        ran, _, _ = self.made(self.write("b.lrc", QUICK), "--legend")
+        self.assertIn("only one voice sings, and so there is no legend", ran.told)
+
+    def dots(self, pixels: bytes, placed: Placed) -> int:
+        """How many of the dots above a line stand."""
+        return sum(pixels[WIDTH * (placed.top - 7 + 12) + left + 3 + 6] == 3 for left in placed.dots)
+
+    def test_a_line_after_a_rest_is_counted_in(self) -> None:
+        text = "[00:08.00]<00:08.00>La <00:09.00>la <00:10.00>\n[00:17.00]<00:17.00>So <00:17.50>on <00:18.00>\n" \
+               "[00:20.00]<00:20.00>and <00:20.50>on <00:21.00>\n"
+        _, script, maker = self.made(self.write("a.lrc", text))
+        lines = [placed for page in maker.pages for placed in page.placed if placed.letters]
+        self.assertEqual([len(placed.dots) for placed in lines], [3, 3, 0])
+        counts = {block: [self.dots(pixels, placed) for placed in lines[:2]] for block, pixels in self.screens(script)}
+        for place, start in ((0, 8), (1, 17)):
+            found = [counts[PAUSE + round(75 * (start - before))][place] for before in (2.5, 1.5, 0.5, -0.1)]
+            self.assertEqual(found, [3, 2, 1, 0])
+
+    def test_a_long_rest_is_told(self) -> None:
+        text = "[00:08.00]<00:08.00>La <00:09.00>la <00:10.00>\n[01:15.00]<01:15.00>So <01:15.50>on <01:16.00>\n"
+        _, script, maker = self.made(self.write("a.lrc", text))
+        rest = next(page.placed[-1] for page in maker.pages if not page.group.is_sung)
+        self.assertEqual(rest.text(), "instrumental 1:05")
+        ink = {(x, rest.top + y) for y, row in enumerate(self.letters(rest)) for x in range(288) if row[x]}
+        stands = {second: self.shown(pixels, maker, rest.slot) for second, pixels in
+                  ((block / 75 - 2, pixels) for block, pixels in self.screens(script)) if second in (11, 16, 60, 72)}
+        self.assertEqual([stands[second] == ink for second in (11, 16, 60, 72)], [False, True, True, False])
+
+    def test_how_long_a_line_stands(self) -> None:
+        text = "[00:20.00]<00:20.00>La <00:21.00>la <00:22.00>\n"
+        _, script, maker = self.made(self.write("a.lrc", text), "--lead", "4")
+        placed = next(placed for page in maker.pages for placed in page.placed if placed.letters)
+        stands = [block for block, pixels in self.screens(script) if self.shown(pixels, maker, placed.slot)]
+        self.assertIn(min(stands), range(PAUSE + 75 * 15, PAUSE + 75 * 16))
+
+    def test_a_last_page(self) -> None:
+        text = "[ti:The title]\n[00:08.00]<00:08.00>La <00:09.00>la <00:10.00>\n"
+        _, script, maker = self.made(self.write("a.lrc", text))
+        self.assertEqual(maker.pages[-2].placed[-1].text(), "The title")
+        *_, (_, last) = self.screens(script)
+        ink = sum(any((number,)) for number in b"".join(self.letters(maker.pages[-2].placed[-1])))
+        self.assertEqual(ink, len(self.shown(last, maker, maker.pages[-2].placed[-1].slot)))
+        short = write_wav(self.folder / "a.wav", 44_100 * 12)
+        ran, script, _ = self.made(self.folder / "a.lrc", "--audio", short)
+        self.is_planned(script)
+
+    def test_a_picture_behind_the_text(self) -> None:
+        from PIL import Image
+        image = Image.new("RGB", (288, 192))
+        image.putdata([(17 * (x // 48), 17 * (y // 48), 102) for y in range(192) for x in range(288)])
+        image.save(self.folder / "b.png")
+        style = self.write("a.toml", 'background = "b.png"\nrows = 3\n[[voice]]\nunsung = "#FFF"\nsung = "#28F"\n')
+        text = "[00:15.00]<00:15.00>La <00:16.00>la <00:17.00>\n[00:18.00]<00:18.00>lo <00:19.00>\n"
+        _, script, maker = self.made(self.write("a.lrc", text), "--style", style)
+        screens = {block: self.window(pixels) for block, pixels in self.screens(script)}
+        ground, numbers = b"".join(maker.ground.rows), set(b"".join(maker.ground.rows))
+        self.assertGreater(len(numbers), 4)
+        self.assertFalse(numbers & {1, 2, 3, 4, 9, 10, 11})
+        # Letters have an outline on it, and when they go the picture is whole again.
+        placed = next(placed for page in maker.pages for placed in page.placed if placed.letters)
+        self.assertIn(4, set(b"".join(self.letters(placed))))
+        differ = {(at % 288, at // 288) for at, (old, new) in enumerate(zip(ground, screens[PAUSE + 75 * 14])) if old != new}
+        inks = {(x, one.top + y) for page in maker.pages for one in page.placed if one.letters
+                for y, row in enumerate(self.letters(one)) for x in range(288) if row[x]}
+        inks |= {(dot + x, placed.top - 9 + y) for dot in placed.dots for x in range(6) for y in range(6)}
+        self.assertLessEqual(differ, inks)
+        self.assertEqual(screens[max(screens)], ground)
+
+    @staticmethod
+    def window(pixels: bytes) -> bytes:
+        return b"".join(pixels[WIDTH * (y + 12) + 6 : WIDTH * (y + 12) + 294] for y in range(192))
+
+    def test_rows_and_sides(self) -> None:
+        for rows in (2, 3, 5, 6):
+            _, _, maker = self.made(self.write("a.lrc", QUICK), "--rows", rows)
+            self.assertEqual(max(len([placed for placed in page.placed if placed.letters]) for page in maker.pages), rows)
+            for page in maker.pages:
+                for placed in page.placed:
+                    if placed.letters:
+                        bottom = placed.top + len(self.letters(placed))
+                        self.assertLessEqual(bottom, maker.style.top(placed.slot) + 12 * maker.style.slot_rows)
+        for side, at in (("left", 6), ("right", 282)):
+            style = self.write("a.toml", f'align = "{side}"\n[[voice]]\nunsung = "#FFF"\nsung = "#28F"\n')
+            _, _, maker = self.made(self.write("a.lrc", QUICK), "--style", style)
+            for page in maker.pages:
+                for placed in page.placed:
+                    if placed.letters:
+                        edges = [extent[side == "right"] for extent in placed.letters.extents]
+                        self.assertAlmostEqual(min(edges) if side == "left" else max(edges), at + 6 * (side == "right"), delta=1)
+
+    def test_an_outline(self) -> None:
+        style = self.write("a.toml", 'outline = "#F00"\n[[voice]]\nunsung = "#FFF"\nsung = "#28F"\n')
+        _, _, maker = self.made(self.write("a.lrc", QUICK), "--style", style)
+        placed = next(placed for page in maker.pages for placed in page.placed if placed.letters)
+        rows = [bytes(288), *self.letters(placed), bytes(288)]
+        for y in range(1, len(rows) - 1):
+            for x in range(1, 287):
+                around = [rows[y + down][x + right] for down in (-1, 0, 1) for right in (-1, 0, 1)]
+                if rows[y][x] & 3:
+                    self.assertNotIn(0, around, (x, y))
+                self.assertEqual(rows[y][x] == 4, not rows[y][x] & 3 and any(number & 3 for number in around))
+
+    @unittest.skipUnless(GOTHIC.exists(), "fonts-vlgothic is not installed")
+    def test_japanese_beside_latin(self) -> None:
+        song = self.write("a.lrc", "[00:10.00]\u65e5\u672c\u8a9e\u306e\u6b4c, and Latin\n[00:16.00]\n")
+        _, _, maker = self.made(song)
+        font = maker.font
+        self.assertEqual([font.paths[number].name for number, _ in font.runs("\u6b4c La")],
+                         ["VL-Gothic-Regular.ttf", "DejaVuSans-Bold.ttf"])
+        ran = desk("lyrics", song, "-o", self.folder / "b.script", "--font", GOTHIC)
+        self.assertEqual(ran.status, 0)
+
+    def test_all_lines_beyond_the_end_are_told(self) -> None:
+        audio = write_wav(self.folder / "a.wav", 44_100 * 9)
+        text = "[00:06.00]La\n[0:10.50]Lo\n[00:12.00]Lu\n[00:13.00]\n"
+        ran = desk("lyrics", self.write("a.lrc", text), "--audio", audio, "-o", self.folder / "a.script")
+        self.assertEqual(ran.status, 3)
+        self.assertIn("line 2 at [0:10.50] begins after the sound, which ends at 00:09.00: Lo", ran.told)
+        self.assertIn("line 3 at [00:12.00] begins after", ran.told)
+
+    def test_words_stand_lit_within_twenty_milliseconds(self) -> None:
+        for song in (SONG / "song.lrc", TOP / "examples" / "album" / "duet.lrc", TOP / "examples" / "album" / "morning.lrc"):
+            _, script, maker = self.made(song)
+            waiting = {}
+            for page in maker.pages:
+                for placed in page.placed:
+                    if placed.is_sung and placed.letters:
+                        for syllable, (left, right) in zip(placed.letters.syllables, placed.letters.extents):
+                            full = [place for ink in (3, 7) for place in self.pixels(placed, left, right, ink)]
+                            waiting[placed, left] = syllable.start, [WIDTH * (y + 12) + x + 6 for x, y in full]
+            offs = []
+            for block, pixels in self.screens(script):
+                for key, (start, places) in list(waiting.items()):
+                    if block > PAUSE + 75 * start - 30 and all(pixels[place] & 8 for place in places):
+                        offs.append(1000 * (block - PAUSE) / 75 - 1000 * start)
+                        del waiting[key]
+            self.assertFalse(waiting)
+            self.assertGreaterEqual(min(offs), -20, song)
+            self.assertLessEqual(max(offs), 20, song)
 
 
 if __name__ == "__main__":

@@ -1,15 +1,16 @@
 """What all commands share: the version, help, and what is told where something has to be installed or built."""
 import os
+import subprocess
 import sys
 import unittest
 
-from archivists import TOP, FolderTest, desk, has, hello, needs_library
+from fixtures import DESK, TOP, FolderTest, Word, desk, has, hello, needs_library
 
 COMMANDS = "identify damage mend report sheet texts plan picture lyrics image film".split()
 
 
 class MainTest(FolderTest):
-    def test_help(self):
+    def test_help(self) -> None:
         ran = desk("--help")
         self.assertEqual(ran.status, 0)
         for command in COMMANDS:
@@ -17,10 +18,10 @@ class MainTest(FolderTest):
             self.assertEqual(desk(command, "--help").status, 0, command)
 
     @unittest.skipUnless(has("ribjasper_version"), "lib/ or the program is not built (make library, make)")
-    def test_version(self):
+    def test_version(self) -> None:
         self.assertEqual(desk("--version").out, f"ribjasper-desk {(TOP / 'VERSION').read_text().strip()}\n")
 
-    def test_without_the_library(self):
+    def test_without_the_library(self) -> None:
         path = self.write("dump", bytes(96))
         ran = desk("identify", path, env={**os.environ, "RIBJASPER_LIBRARY": str(self.folder / "none.so")})
         self.assertEqual(ran.status, 5)
@@ -28,7 +29,7 @@ class MainTest(FolderTest):
         self.assertNotIn("Traceback", ran.told)
 
     @needs_library
-    def test_without_a_package(self):
+    def test_without_a_package(self) -> None:
         """Each package is asked for where it is used, and named."""
         for module in ("PIL", "distributed"):
             folder = self.folder / "broken" / module
@@ -38,24 +39,26 @@ class MainTest(FolderTest):
         dump = self.write("dumps/dump", hello())
         self.assertEqual(desk("identify", dump, **how).status, 0)
         self.assertEqual(desk("damage", dump, **how).status, 0)
-        for words, package in (
+        calls: tuple[tuple[tuple[Word, ...], str], ...] = (
             (("damage", dump, "--map", self.folder / "map.png"), "python3-pil"),
             (("report", dump.parent, "-o", self.folder / "out"), "python3-pil"),
             (("report", dump.parent, "-o", self.folder / "out", "--no-pictures", "--cluster", "a:1"), "python3-distributed"),
-        ):
+        )
+        for words, package in calls:
             ran = desk(*words, **how)
             self.assertEqual(ran.status, 5, ran.told)
             self.assertIn(f"apt-get install {package}", ran.told)
             self.assertNotIn("Traceback", ran.told)
 
-    def test_a_reader_that_has_seen_enough(self):
-        import subprocess
-
+    def test_a_reader_that_has_seen_enough(self) -> None:
         path = self.write("dump", bytes(960))
-        words = [sys.executable, TOP / "desk" / "ribjasper-desk", "identify", *[path] * 50]
+        words = [sys.executable, str(DESK), "identify", *[str(path)] * 50]
         with subprocess.Popen(words, stdout=subprocess.PIPE, stderr=subprocess.PIPE) as running:
+            assert running.stdout and running.stderr
             running.stdout.close()
-            self.assertNotIn(b"Traceback", running.stderr.read())
+            told = running.stderr.read()
+        self.assertEqual(told.splitlines()[-1], b"ribjasper-desk: standard output: broken pipe")
+        self.assertEqual(running.returncode, 6)
 
 
 if __name__ == "__main__":

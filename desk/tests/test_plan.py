@@ -1,7 +1,9 @@
 """`plan`: rows for all pictures, those that are late, refusals that name the file, the chart, and texts in Latin-1."""
+import subprocess
 import unittest
+from pathlib import Path
 
-from publishers import TOP, FolderTest, desk, needs_pillow, needs_plan, needs_program, run_program, write_wav
+from fixtures import PROGRAM, TOP, FolderTest, Ran, Word, desk, needs_pillow, needs_plan, needs_program, write_wav
 
 HELLO = TOP / "examples" / "hello.cue", TOP / "examples" / "hello.script"
 SHEET = 'TITLE "Song"\nFILE "a.wav" WAVE\nTRACK 01 AUDIO\nINDEX 01 00:00:00\n'
@@ -9,10 +11,10 @@ SHEET = 'TITLE "Song"\nFILE "a.wav" WAVE\nTRACK 01 AUDIO\nINDEX 01 00:00:00\n'
 
 @needs_plan
 class PlanTest(FolderTest):
-    def test_rows(self):
+    def test_rows(self) -> None:
         ran = desk("plan", *HELLO, "--length", "00:22:00")
         self.assertEqual(ran.status, 0, ran.told)
-        names, *rows = ran.rows()
+        names, *rows = ran.cells()
         self.assertEqual(names, "picture line ready hold need free first late".split())
         shows = [(number, line.split()[1:]) for number, line in enumerate(HELLO[1].read_text().splitlines(), 1)
                  if line.startswith("show")]
@@ -22,25 +24,24 @@ class PlanTest(FolderTest):
         self.assertEqual([row[6] for row in rows[:2]], ["00:00:00", "00:03:73"])
         self.assertTrue(all(int(row[4]) <= int(row[5]) for row in rows))
 
-    def test_all_late_pictures(self):
+    def test_all_late_pictures(self) -> None:
         script = self.write("late.script", "fill 5\nshow 00:00:02 00:00:02\nrect 0 0 288 96 3\n"
                                            "show 00:00:05 00:00:05\nfill 5\nshow 00:10:00 00:10:00\n")
         ran = desk("plan", self.write("a.cue", SHEET), script, "--length", "00:22:00")
         self.assertEqual(ran.status, 4)
-        self.assertEqual([row[7] for row in ran.rows()[1:]], ["yes", "yes", "no"])
+        self.assertEqual([row[7] for row in ran.cells()[1:]], ["yes", "yes", "no"])
 
     @needs_program
-    def test_first_late_is_that_of_author(self):
+    def test_first_late_is_that_of_author(self) -> None:
         script = self.write("late.script", "show 00:00:20 00:00:20\nfill 5\nrect 6 12 60 60 7\n"
                                            "show 00:00:22 00:00:22\n")
         sheet = self.write("a.cue", SHEET)
-        late = next(row for row in desk("plan", sheet, script, "--length", "00:22:00").rows() if row[-1] == "yes")
-        with self.assertRaises(Exception) as refused:
-            run_program("author", "--lead-in", 30, "--length", "00:22:00", "--", sheet, script)
-        told = refused.exception.stderr.decode().split()
+        late = next(row for row in desk("plan", sheet, script, "--length", "00:22:00").cells() if row[-1] == "yes")
+        words = "author", "--lead-in", "30", "--length", "00:22:00", "--", sheet, script
+        told = subprocess.run([str(PROGRAM), *words], capture_output=True, text=True).stderr.split()
         self.assertEqual(told, ["late", late[0], "need", late[4], "free", late[5]])
 
-    def test_length_of_audio(self):
+    def test_length_of_audio(self) -> None:
         audio = write_wav(self.folder / "a.wav", 588 * 100 + 1)
         script = self.write("a.script", "show 00:00:20 00:03:26\n")
         sheet = self.write("a.cue", SHEET)
@@ -50,7 +51,7 @@ class PlanTest(FolderTest):
         self.assertEqual(ran.status, 3)
         self.assertIn("a.script: its last picture is held beyond the end of the disc, which is at 00:03:26", ran.told)
 
-    def test_refusals_name_the_file_and_the_line(self):
+    def test_refusals_name_the_file_and_the_line(self) -> None:
         sheet, script = self.write("a.cue", SHEET), self.write("a.script", "fill 5\nfill 16\n")
         ran = desk("plan", sheet, script, "--length", "00:22:00")
         self.assertEqual((ran.status, "a.script: line 2: out-of-range" in ran.told), (3, True), ran.told)
@@ -60,12 +61,12 @@ class PlanTest(FolderTest):
         self.assertEqual((ran.status, "none.cue: no such file" in ran.told), (3, True), ran.told)
         self.assertEqual(desk("plan", sheet, script, "--length", "00:22:75").status, 2)
 
-    def test_words_for_author_are_told(self):
+    def test_words_for_author_are_told(self) -> None:
         ran = desk("plan", *HELLO, "--length", "00:22:00")
         self.assertIn("ribjasper author --lead-in 15 --length 00:22:00 -- ", ran.told)
 
     @needs_pillow
-    def test_chart(self):
+    def test_chart(self) -> None:
         from PIL import Image
         chart = self.folder / "chart.png"
         self.assertEqual(desk("plan", *HELLO, "--length", "00:22:00", "--chart", chart).status, 0)
@@ -76,16 +77,16 @@ class PlanTest(FolderTest):
 
 @needs_plan
 class Latin1Test(FolderTest):
-    def plan(self, sheet, *words):
+    def plan(self, sheet: Path, *words: Word) -> Ran:
         return desk("plan", sheet, self.write("a.script", ""), "--length", "00:22:00", *words)
 
-    def test_warns_of_texts_alone(self):
+    def test_warns_of_texts_alone(self) -> None:
         sheet = self.write("a.cue", "REM \u00fcber\n" + SHEET.replace("Song", "S\u00f6ng"))
         ran = self.plan(sheet)
         self.assertIn('a.cue: line 2: TITLE "S\u00f6ng" goes onto the disc in UTF-8', ran.told)
         self.assertNotIn("line 1", ran.told)
 
-    def test_writes_the_bytes_of_latin_1(self):
+    def test_writes_the_bytes_of_latin_1(self) -> None:
         sheet = self.write("a.cue", "\ufeffREM \u00fcber\n" + SHEET.replace("Song", "So\u0308ng"))
         out = self.folder / "out.cue"
         ran = self.plan(sheet, "--latin-1", out)
@@ -95,7 +96,7 @@ class Latin1Test(FolderTest):
         self.assertEqual(out.read_bytes(), "REM \u00fcber\n".encode() + texts)
         self.assertNotIn("UTF-8", self.plan(out).told)
 
-    def test_names_the_line_that_cannot_be_said(self):
+    def test_names_the_line_that_cannot_be_said(self) -> None:
         sheet = self.write("a.cue", SHEET.replace("Song", "\u0160ong"))
         out = self.folder / "out.cue"
         ran = self.plan(sheet, "--latin-1", out)

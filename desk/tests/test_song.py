@@ -2,9 +2,11 @@
 import subprocess
 import sys
 import unittest
+from pathlib import Path
 
-from publishers import (PAUSE, SONG, TOP, FolderTest, desk, needs_ffmpeg, needs_font, needs_pillow, needs_plan,
-                        needs_program, run_program, screen)
+from fixtures import (PAUSE, SONG, TOP, FolderTest, desk, needs_ffmpeg, needs_font, needs_pillow, needs_plan,
+                      needs_program, program)
+from publishers import screen
 
 from ribjasper.film import Stills
 from ribjasper.streams import open_stream
@@ -18,7 +20,7 @@ LEAD_IN, RATE = 30, 25
 @needs_font
 @needs_ffmpeg
 class SongTest(FolderTest):
-    def test_five_commands(self):
+    def test_five_commands(self) -> None:
         audio, script, raw = (self.folder / name for name in ("song.wav", "song.script", "song.raw"))
         subprocess.run([sys.executable, SONG / "make_audio.py", audio], check=True)
         ran = desk("lyrics", SONG / "song.lrc", "--title", SONG / "title.png", "--audio", audio, "-o", script)
@@ -26,7 +28,7 @@ class SongTest(FolderTest):
         ran = desk("plan", SONG / "song.cue", script, "--audio", audio, "--chart", self.folder / "plan.png")
         self.assertEqual((ran.status, "0 of them late" in ran.told), (0, True), ran.told)
         words = "--lead-in", LEAD_IN, "--length", "01:00:00", "--", SONG / "song.cue", script
-        raw.write_bytes(run_program("author", *words))
+        raw.write_bytes(program("author", *words))
         ran = desk("image", SONG / "song.cue", raw, "--audio", audio, "-o", self.folder / "song")
         self.assertEqual((ran.status, "pause" in ran.told), (0, False), ran.told)
         film, stills = self.folder / "song.mp4", self.folder / "stills.png"
@@ -34,15 +36,16 @@ class SongTest(FolderTest):
         self.assertEqual(ran.status, 0, ran.told)
         self.check_picture(raw)
 
-    def check_picture(self, raw):
-        """The picture in the documents is the third of the stills, and stands on the image too."""
+    def check_picture(self, raw: Path) -> None:
+        """The picture in the documents is the first still after fifteen seconds, and stands on the image too."""
         from PIL import Image
         stream, stills = open_stream(raw), Stills(RATE, None)
         for picture in stream.frames(RATE, 20 * RATE):
             stills.see(picture)
-        block = PAUSE + round(stills.kept[2].second * 75)
+        still = next(still for still in stills.kept if still.second > 15)
+        block = PAUSE + round(still.second * 75)
         stands = screen(raw, block, lead_in=LEAD_IN)
-        self.assertEqual(stills.kept[2].picture, stands.pixels)
+        self.assertEqual(still.picture, stands.pixels)
         self.assertEqual(screen(self.folder / "song.bin", block - PAUSE, "--form", "sector", lead_in=0), stands)
         with Image.open(TOP / "docs" / "song.png") as image:
             self.assertEqual(image.convert("RGB").resize((300, 216), Image.NEAREST).tobytes(), stands.pixels)

@@ -39,7 +39,7 @@ class TextsTest(FolderTest):
         length = (len(packs) + 2).to_bytes(2, "big") + bytes(2)
         for content in (packs, length + packs, length + packs + b"\0", packs + b"\0"):
             out = self.folder / "blocks"
-            ran = desk("texts", "--back", self.write("given", content), "--blocks", out)
+            ran = desk("texts", "--back", self.write("given", content), "--blocks", out, "--force")
             self.assertEqual(ran.status, 0, ran.told)
             lines = [line for line in listed.splitlines() if not line.startswith("packs ")]
             self.assertEqual(ran.out.splitlines()[:-1], lines)

@@ -1,9 +1,11 @@
 #!/usr/bin/env python3
-"""Writes the audio of the song: a minute of chords, a bass, and a note for each syllable of song.lrc at its time.
+"""Writes the audio of a song: chords, a bass, and a note for each syllable of its lyrics at its time; a minute for
+song.lrc, and else until five seconds after the last word.
 
-make_audio.py OUT.wav"""
+make_audio.py OUT.wav [LYRICS]"""
 import argparse
 import functools
+import itertools
 import math
 import operator
 import sys
@@ -12,12 +14,13 @@ from array import array
 from pathlib import Path
 from typing import Iterator, NamedTuple
 
+# The package of the desk, to which a link leads from here.
+from ribjasper.song_files import read_song
+from ribjasper.songs import Song
+
 HERE = Path(__file__).resolve().parent
-sys.path.insert(0, str(HERE.parent.parent / "desk"))
 
-from ribjasper.songs import Song, read_song  # noqa: E402
-
-RATE, SECONDS = 44_100, 60
+RATE, SECONDS, LAST = 44_100, 60, 5
 BEAT = 60 / 108
 BAR = 4 * BEAT
 # Two bars of each chord, by semitones from the note of 440 Hz.
@@ -67,14 +70,14 @@ def samples(length: float, pitch: int, loud: float) -> list[int]:
 
 
 def tune(song: Song) -> Iterator[Note]:
-    for line, phrase in zip(song.lines, PHRASES):
+    for line, phrase in zip(song.lines, itertools.cycle(PHRASES)):
         for number, syllable in enumerate(line.syllables):
             length = min(syllable.end - syllable.start, 2.0)
             yield Note(syllable.start, length, phrase[number % len(phrase)], 9_000, 0.5)
 
 
-def chords() -> Iterator[Note]:
-    bars = int(SECONDS / BAR)
+def chords(seconds: int) -> Iterator[Note]:
+    bars = int(seconds / BAR)
     for bar in range(bars):
         chord = CHORDS[bar // 2 % len(CHORDS)] if bar < bars - 1 else CHORDS[0]
         for beat in range(4):
@@ -85,25 +88,28 @@ def chords() -> Iterator[Note]:
         yield Note(bar * BAR, BAR * 0.9, chord[0] - 12, 6_000, 0.5)
 
 
-def mixed(notes: list[Note]) -> array:
+def mixed(notes: list[Note], seconds: int) -> "array[int]":
     """Left and right, sample by sample."""
-    sides = [[0] * (RATE * SECONDS) for _ in range(2)]
+    sides = [[0] * (RATE * seconds) for _ in range(2)]
     for note in notes:
         at = int(RATE * note.start)
         for side, part in zip(sides, (1 - note.side, note.side)):
             tone = samples(note.length, note.pitch, note.loud * part)
             side[at : at + len(tone)] = map(operator.add, side[at : at + len(tone)], tone)
-    sound = array("h", bytes(4 * RATE * SECONDS))
+    sound = array("h", bytes(4 * RATE * seconds))
     for place, side in enumerate(sides):
-        sound[place::2] = array("h", side[: RATE * SECONDS])
+        sound[place::2] = array("h", side[: RATE * seconds])
     return sound
 
 
 def main() -> None:
-    parser = argparse.ArgumentParser(description="Writes the audio of the song.")
+    parser = argparse.ArgumentParser(description="Writes the audio of a song.")
     parser.add_argument("out", metavar="OUT.wav")
+    parser.add_argument("lyrics", metavar="LYRICS", type=Path, nargs="?", help="song.lrc")
     arguments = parser.parse_args()
-    sound = mixed([*chords(), *tune(read_song(HERE / "song.lrc"))])
+    song = read_song(arguments.lyrics or HERE / "song.lrc")
+    seconds = SECONDS if not arguments.lyrics else math.ceil(song.lines[-1].end) + LAST
+    sound = mixed([*chords(seconds), *tune(song)], seconds)
     if sys.byteorder == "big":
         sound.byteswap()
     with wave.open(arguments.out, "wb") as file:

@@ -1,0 +1,84 @@
+"""Kinds of files that commands write, and how one that is there already is known to be of a kind."""
+import os
+import re
+from typing import Callable, NamedTuple
+
+# So many of a file's first bytes are looked at.
+LOOKED_AT = 1 << 16
+PNG_MARK = b"\x89PNG\r\n\x1a\n"
+# What the pages of the desk have near their beginning.
+PAGE_MARK = b'<meta name="generator" content="ribjasper-desk">'
+
+
+class Kind(NamedTuple):
+    """What a command writes: a name; and how such a file is known: by its first bytes and its size, by the ending of its
+    name, or by both. What is known by neither is replaced with --force alone."""
+
+    name: str
+    looks: Callable[[bytes, int], bool] | None = None
+    endings: tuple[str, ...] = ()
+
+    @property
+    def can_be_known(self) -> bool:
+        return self.looks is not None or bool(self.endings)
+
+    def has(self, path: str) -> bool:
+        """Whether a file is of this kind, or holds nothing."""
+        size = os.path.getsize(path)
+        if not size:
+            return True
+        if self.endings and not path.lower().endswith(self.endings):
+            return False
+        if self.looks is None:
+            return bool(self.endings)
+        with open(path, "rb") as file:
+            return self.looks(file.read(LOOKED_AT), size)
+
+
+def begins(*marks: bytes) -> Callable[[bytes, int], bool]:
+    """Files that begin with one of these."""
+    return lambda head, _: head.startswith(marks)
+
+
+def lines_like(pattern: bytes) -> Callable[[bytes, int], bool]:
+    """Texts each of whose lines, as far as they are looked at, begins so, or is empty."""
+    like = re.compile(rb"[ \t]*(?:(?:" + pattern + rb")(?![A-Za-z0-9_])|\r?$)", re.IGNORECASE)
+
+    def looks(head: bytes, size: int) -> bool:
+        lines = head.removeprefix(b"\xef\xbb\xbf").split(b"\n")
+        whole = lines if size <= len(head) else lines[:-1]
+        return b"\0" not in head and bool(whole) and all(like.match(line) for line in whole)
+
+    return looks
+
+
+def _is_film(head: bytes, _: int) -> bool:
+    """The marks of ISO media files, Matroska and WebM, AVI, Ogg, FLV, MPEG streams and GIF."""
+    marks = (b"\x1aE\xdf\xa3", b"OggS", b"FLV\1", b"\0\0\1\xba", b"GIF8", b"G@")
+    return head[4:8] == b"ftyp" or head.startswith(marks) or (head.startswith(b"RIFF") and head[8:12] == b"AVI ")
+
+
+def _is_text_packs(head: bytes, size: int) -> bool:
+    """Packs of 18 bytes whose first byte is that of a kind of text, with four bytes in front or without."""
+    at = size % 18
+    return at in (0, 1, 4, 5) and 0x80 <= head[at & 4] <= 0x8F
+
+
+PNG = Kind("a PNG picture", begins(PNG_MARK))
+CDG = Kind("a .cdg file", endings=(".cdg",))
+# A stream that was made looks as a dump does, which nobody can make again.
+STREAM = Kind("a stream")
+IMAGE = Kind("a disc image", lambda head, size: size % 2448 == 0, (".bin",))
+CUE = Kind("a cue sheet", lines_like(
+    rb"REM|CATALOG|CDTEXTFILE|FILE|TRACK|INDEX|PREGAP|POSTGAP|FLAGS|ISRC|TITLE|PERFORMER|SONGWRITER"))
+TOC = Kind("a sheet for cdrdao", begins(b"CD_DA\n"))
+SCRIPT = Kind("a picture script", lines_like(rb"#.*|colour|border|fill|rect|row|show"))
+TEXT_PACKS = Kind("a file of text packs", _is_text_packs)
+FILM = Kind("a film", _is_film)
+TABLE = Kind("a table of a report", begins(b"file\tstatus\t"))
+ROWS = Kind("the rows of a report", begins(b'{"file": '))
+PAGE = Kind("a page of the desk", lambda head, _: PAGE_MARK in head[:1000])
+ALBUM = Kind("a list of songs", lines_like(rb"#.*|\[\[track\]\]|[a-z]+[ \t]*=.*"), (".toml",))
+ZIP = Kind("a ZIP file", begins(b"PK\3\4"))
+# A sound that is there already may be the only one of its kind.
+SOUND = Kind("a sound of this song")

@@ -1,0 +1,268 @@
+"use strict";
+
+// What keys do with the lines of a song; nothing here knows of the page.
+
+const STEP = 0.05;
+
+/** A time as LRC spells it. */
+function spelled(seconds) {
+  const hundredths = Math.max(0, Math.round(seconds * 100));
+  const pad = (number) => String(number).padStart(2, "0");
+  return `${pad(Math.floor(hundredths / 6000))}:${pad(Math.floor(hundredths / 100) % 60)}.${pad(hundredths % 100)}`;
+}
+
+/** Moves the beginning of a syllable; those beside it give way, so that times never go back. */
+function setStart(line, place, time) {
+  const syllables = line.syllables;
+  time = Math.max(0, time);
+  syllables[place].start = time;
+  for (let at = place - 1; at >= 0; at--) {
+    syllables[at].start = Math.min(syllables[at].start, time);
+    syllables[at].end = Math.min(syllables[at].end, time);
+  }
+  if (place > 0) syllables[place - 1].end = time;
+  for (let at = place; at < syllables.length; at++) {
+    syllables[at].start = Math.max(syllables[at].start, time);
+    syllables[at].end = Math.max(syllables[at].end, syllables[at].start);
+  }
+}
+
+/** Moves a line as a whole. */
+function shiftLine(line, by) {
+  by = Math.max(by, -line.syllables[0].start);
+  for (const syllable of line.syllables) {
+    syllable.start += by;
+    syllable.end += by;
+  }
+}
+
+/** The syllable after one, on its line or the next; the same one where there is none. */
+function following(lines, line, place) {
+  if (place + 1 < lines[line].syllables.length) return [line, place + 1];
+  return line + 1 < lines.length ? [line + 1, 0] : [line, place];
+}
+
+/** The lyrics as an LRC file, lines in the order of their times. */
+function asLrc(song) {
+  const head = [];
+  if (song.title) head.push(`[ti:${song.title}]`);
+  if (song.performer) head.push(`[ar:${song.performer}]`);
+  const marks = ["M: ", "F: ", "D: "];
+  const lines = [...song.lines].sort((one, other) => one.syllables[0].start - other.syllables[0].start);
+  let voice = 0;
+  const rows = lines.map((line) => {
+    const first = line.syllables[0], last = line.syllables[line.syllables.length - 1];
+    const mark = line.voice === voice ? "" : marks[line.voice];
+    voice = line.voice;
+    if (line.whole) return `[${spelled(first.start)}]${mark}${line.syllables.map((one) => one.text).join("").trim()}`;
+    const words = line.syllables.map((one) => `<${spelled(one.start)}>${one.text}`).join("");
+    return `[${spelled(first.start)}]${mark}${words}<${spelled(last.end)}>`;
+  });
+  return [...head, ...rows].join("\n") + "\n";
+}
+
+/** The changes of the picture: at a block, perhaps colours, and a rectangle of their numbers. */
+class Changes {
+  constructor(bytes) {
+    this.view = new DataView(bytes.buffer, bytes.byteOffset, bytes.byteLength);
+    this.bytes = bytes;
+    this.starts = [];
+    for (let at = 0; at < bytes.length; ) {
+      this.starts.push(at);
+      const colours = this.view.getUint8(at + 4) ? 32 : 0;
+      at += 11 + colours + this.view.getUint16(at + 7) * this.view.getUint16(at + 9);
+    }
+  }
+
+  block(number) {
+    return this.view.getUint32(this.starts[number]);
+  }
+}
+
+/** The picture as it stands at a block. */
+class Screen {
+  constructor(changes, width, height) {
+    Object.assign(this, { changes, width, height });
+    this.clear();
+  }
+
+  clear() {
+    this.pixels = new Uint8Array(this.width * this.height);
+    this.colours = new Uint16Array(16);
+    this.next = 0;
+  }
+
+  show(block) {
+    if (this.next && this.changes.block(this.next - 1) > block) this.clear();
+    const before = this.next;
+    while (this.next < this.changes.starts.length && this.changes.block(this.next) <= block) this.apply(this.next++);
+    return this.next !== before;
+  }
+
+  apply(number) {
+    const { view, bytes } = this.changes;
+    let at = this.changes.starts[number];
+    const hasColours = view.getUint8(at + 4), place = view.getUint16(at + 5);
+    const wide = view.getUint16(at + 7), high = view.getUint16(at + 9);
+    at += 11;
+    if (hasColours) {
+      for (let colour = 0; colour < 16; colour++, at += 2) this.colours[colour] = view.getUint16(at);
+    }
+    for (let row = 0; row < high; row++, at += wide) {
+      this.pixels.set(bytes.subarray(at, at + wide), place + row * this.width);
+    }
+  }
+
+  /** Red, green, blue and opacity of all pixels. */
+  image() {
+    const shown = new Uint8ClampedArray(4 * this.pixels.length);
+    this.pixels.forEach((colour, at) => {
+      const parts = this.colours[colour];
+      shown.set([17 * (parts >> 8 & 15), 17 * (parts >> 4 & 15), 17 * (parts & 15), 255], 4 * at);
+    });
+    return shown;
+  }
+}
+
+async function inflated(text) {
+  const packed = Uint8Array.from(atob(text.trim()), (letter) => letter.charCodeAt(0));
+  const stream = new Blob([packed]).stream().pipeThrough(new DecompressionStream("deflate"));
+  return new Uint8Array(await new Response(stream).arrayBuffer());
+}
+
+/** The page: the picture, the line of time, the lines, and the keys. */
+async function start() {
+  const song = JSON.parse(document.getElementById("song").textContent);
+  const screen = new Screen(new Changes(await inflated(document.getElementById("changes").textContent)), 300, 216);
+  const pen = document.getElementById("screen").getContext("2d");
+  const sound = document.getElementById("sound"), told = document.getElementById("told");
+  const list = document.getElementById("lines"), time = document.getElementById("time");
+  const cursor = time.querySelector("i");
+  const kinds = ["first", "second", "both"];
+  let line = 0, place = 0, isChanged = false;
+
+  const items = song.lines.map((one, number) => {
+    const item = document.createElement("li"), bar = document.createElement("span");
+    item.append(document.createElement("time"));
+    for (const syllable of one.syllables) {
+      const word = document.createElement("b");
+      word.textContent = syllable.text;
+      item.append(word);
+    }
+    if (one.late) {
+      const why = document.createElement("small");
+      why.textContent = one.late;
+      item.append(why);
+      item.classList.add("late");
+      bar.classList.add("late");
+      bar.title = one.late;
+    }
+    bar.classList.add(kinds[one.voice]);
+    item.addEventListener("click", () => jump(number));
+    time.append(bar);
+    list.append(item);
+    return { item, bar };
+  });
+
+  function lay() {
+    song.lines.forEach((one, number) => {
+      const { item, bar } = items[number];
+      const from = one.syllables[0].start, to = one.syllables[one.syllables.length - 1].end;
+      item.querySelector("time").textContent = spelled(from);
+      bar.style.left = `${100 * from / song.seconds}%`;
+      bar.style.width = `${Math.max(0.3, 100 * (to - from) / song.seconds)}%`;
+      for (const element of [item, bar]) element.classList.toggle("chosen", number === line);
+      item.querySelectorAll("b").forEach((word, at) => word.classList.toggle("chosen", at === place));
+    });
+    items[line].item.scrollIntoView({ block: "nearest" });
+  }
+
+  function draw() {
+    const now = sound.currentTime;
+    if (screen.show(Math.floor(now * 75)) || !draw.hasDrawn) {
+      pen.putImageData(new ImageData(screen.image(), 300, 216), 0, 0);
+      draw.hasDrawn = true;
+    }
+    cursor.style.left = `${100 * now / song.seconds}%`;
+    song.lines.forEach((one, number) => {
+      const words = items[number].item.querySelectorAll("b");
+      one.syllables.forEach((syllable, at) => words[at].classList.toggle("sung", syllable.start <= now && now < syllable.end));
+    });
+    document.body.dataset.shown = checksum(screen.pixels);
+  }
+
+  function jump(number) {
+    [line, place] = [number, 0];
+    sound.currentTime = Math.max(0, song.lines[number].syllables[0].start - 0.5);
+    lay();
+  }
+
+  function save() {
+    const link = document.createElement("a");
+    link.href = URL.createObjectURL(new Blob([asLrc(song)], { type: "text/plain" }));
+    link.download = song.name;
+    link.click();
+    isChanged = false;
+    told.textContent = `saved as ${song.name}`;
+  }
+
+  function changed(what) {
+    isChanged = true;
+    told.textContent = what;
+    lay();
+  }
+
+  const keys = {
+    p: () => (sound.paused ? sound.play() : sound.pause()),
+    s: save,
+    ArrowUp: () => { [line, place] = [Math.max(0, line - 1), 0]; lay(); },
+    ArrowDown: () => { [line, place] = [Math.min(song.lines.length - 1, line + 1), 0]; lay(); },
+    ArrowLeft: () => { place = Math.max(0, place - 1); lay(); },
+    ArrowRight: () => { place = Math.min(song.lines[line].syllables.length - 1, place + 1); lay(); },
+    ",": () => shift(-STEP), ".": () => shift(STEP),
+    "<": () => { shiftLine(song.lines[line], -STEP); changed("the line is earlier"); },
+    ">": () => { shiftLine(song.lines[line], STEP); changed("the line is later"); },
+    " ": () => {
+      if (sound.paused) { sound.play(); return; }
+      setStart(song.lines[line], place, sound.currentTime);
+      [line, place] = following(song.lines, line, place);
+      changed("set");
+    },
+  };
+
+  function shift(by) {
+    const syllable = song.lines[line].syllables[place];
+    setStart(song.lines[line], place, syllable.start + by);
+    changed(`${syllable.text.trim()} is at ${spelled(syllable.start)}`);
+  }
+
+  document.addEventListener("keydown", (event) => {
+    const act = !event.ctrlKey && !event.metaKey && !event.altKey && keys[event.key];
+    if (act) { event.preventDefault(); act(); }
+  });
+  document.getElementById("save").addEventListener("click", save);
+  time.addEventListener("click", (event) => {
+    const box = time.getBoundingClientRect();
+    sound.currentTime = song.seconds * (event.clientX - box.left) / box.width;
+  });
+  window.addEventListener("beforeunload", (event) => { if (isChanged) event.preventDefault(); });
+  sound.addEventListener("seeked", draw);
+
+  // PAGE#12.5 begins at that second.
+  const asked = parseFloat(location.hash.slice(1));
+  if (asked > 0) sound.currentTime = asked;
+  lay();
+  (function loop() { draw(); requestAnimationFrame(loop); })();
+  document.body.dataset.ready = "yes";
+}
+
+/** A sum by which a test knows a picture. */
+function checksum(pixels) {
+  return pixels.reduce((sum, pixel) => (sum * 31 + pixel) >>> 0, 7) >>> 0;
+}
+
+if (typeof document === "undefined") {
+  module.exports = { spelled, setStart, shiftLine, following, asLrc, Changes, Screen, checksum };
+} else {
+  start();
+}

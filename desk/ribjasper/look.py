@@ -1,0 +1,126 @@
+"""`look`: one page that plays a song before its film is made: sound, picture, a line of time, and keys that move what is
+sung."""
+import argparse
+import base64
+import html
+import json
+import os
+import re
+import shutil
+import struct
+import zlib
+from pathlib import Path
+from typing import Any, Iterator
+
+from . import audio, kinds
+from .album import Album, Sung, Track, sing
+from .library import BLOCKS_A_SECOND, COLOURS, HEIGHT, PACK, PACKS_A_BLOCK, WIDTH, Player
+from .lyrics import add_wishes, reads_of, wishes_of
+from .output import Outputs, add_force, tell
+from .pair import make_mp3, sound_of
+from .tracks import as_pair
+from .words import Commands
+
+FOLDER = Path(__file__).parent
+# The picture is looked at each so many blocks, twenty-five times a second.
+EVERY = 3
+# A place of the page that is filled in.
+PART = re.compile(r"\{\{(\w+)\}\}")
+
+
+def add_parser(commands: Commands) -> None:
+    parser = commands.add_parser(
+        "look", help="make a page that plays a song, to hear and see before the film",
+        description="Makes one HTML page that plays a song: its sound, its picture as the proved player shows it, and its "
+        "lines on a line of time, those that are late marked. A click jumps there, keys move a line or a syllable by 0.05 "
+        "seconds, the space bar sets times anew, and the lyrics are saved as LRC.")
+    parser.add_argument("song", type=Path, metavar="SONG", help="the lyrics")
+    parser.add_argument("--audio", type=Path, metavar="SOUND", help="the sound (the one beside SONG that has its name)")
+    add_wishes(parser)
+    parser.add_argument("-o", "--output", type=Path, required=True, metavar="PAGE.html", help="the page")
+    add_force(parser)
+    parser.set_defaults(run=run)
+
+
+def changes_of(packs: bytes) -> Iterator[bytes]:
+    """The changes of the picture, each with its block: whether colours come, the first pixel, width and height of what
+    changes, and the numbers of its colours."""
+    step = PACK * PACKS_A_BLOCK * EVERY
+    before, colours = bytes(WIDTH * HEIGHT), [0] * COLOURS
+    with Player() as player:
+        for number, at in enumerate(range(0, len(packs), step), 1):
+            part = packs[at : at + step]
+            if not any(part):
+                continue
+            player.draw(part)
+            pixels, shown = player.screen(), player.colours()
+            if pixels == before and shown == colours:
+                continue
+            left, top, right, bottom = box_of(before, pixels)
+            rows = [pixels[WIDTH * y + left : WIDTH * y + right] for y in range(top, bottom)]
+            head = struct.pack(">IBHHH", EVERY * number, shown != colours, WIDTH * top + left, right - left, bottom - top)
+            yield head + struct.pack(">16H", *shown) * (shown != colours) + b"".join(rows)
+            before, colours = pixels, shown
+
+
+def box_of(before: bytes, after: bytes) -> tuple[int, int, int, int]:
+    """The rectangle outside of which nothing differs: left, top, right and bottom; an empty one where nothing does."""
+    rows = [y for y in range(HEIGHT) if before[WIDTH * y : WIDTH * (y + 1)] != after[WIDTH * y : WIDTH * (y + 1)]]
+    if not rows:
+        return 0, 0, 0, 0
+    differ = 0
+    for y in rows:
+        old, new = (int.from_bytes(one[WIDTH * y : WIDTH * (y + 1)], "big") for one in (before, after))
+        differ |= old ^ new
+    marks = differ.to_bytes(WIDTH, "big")
+    return WIDTH - len(marks.lstrip(b"\0")), rows[0], len(marks.rstrip(b"\0")), rows[-1] + 1
+
+
+def song_of(sung: Sung) -> dict[str, Any]:
+    """What the page knows of the song."""
+    late: dict[int, str] = {}
+    for told in sung.made.warnings():
+        number, _, why = told.partition(": line ")[2].partition(" ")
+        if number.isdigit():
+            late[int(number)] = why.rpartition(":")[0]
+    lines = [{
+        "number": line.number, "voice": line.voice, "whole": line.is_whole, "late": late.get(line.number, ""),
+        "syllables": [{"text": one.text, "start": round(one.start, 3), "end": round(one.end, 3)} for one in line.syllables],
+    } for line in sung.song.lines]
+    return {"title": sung.song.title, "performer": sung.song.performer, "name": f"{sung.track.lyrics.stem}.lrc",
+            "seconds": sung.blocks / BLOCKS_A_SECOND, "lines": lines}
+
+
+def sound_word(sung: Sung) -> str:
+    """The sound as a part of the page: MP3 where ffmpeg is installed, else as a disc has it."""
+    if shutil.which("ffmpeg"):
+        made = Path(audio.folder()) / f"{len(os.listdir(audio.folder()))}.mp3"
+        make_mp3(sung.track.sound, sung.song, os.fspath(made))
+        return f"data:audio/mpeg;base64,{base64.b64encode(made.read_bytes()).decode()}"
+    samples = b"".join(audio.sectors(sung.track.sound))
+    return f"data:audio/wav;base64,{base64.b64encode(audio.header(len(samples)) + samples).decode()}"
+
+
+def page_of(sung: Sung) -> str:
+    changes = base64.b64encode(zlib.compress(b"".join(changes_of(as_pair(sung.packs))), 9)).decode()
+    parts = {
+        "title": html.escape(sung.song.title or sung.track.lyrics.stem),
+        "sound": sound_word(sung),
+        # What would end the script that it stands in is spelled otherwise.
+        "song": json.dumps(song_of(sung)).replace("<", "\\u003c"),
+        "changes": changes,
+        "script": (FOLDER / "look.js").read_text(encoding="utf-8"),
+    }
+    page = (FOLDER / "look.html").read_text(encoding="utf-8")
+    return PART.sub(lambda found: parts[found[1]], page)
+
+
+def run(arguments: argparse.Namespace) -> int:
+    sound = sound_of(arguments)
+    with Outputs([*reads_of(arguments), sound], [(arguments.output, kinds.PAGE)], arguments.force) as outputs:
+        track = Track(arguments.song, sound, "", "", "", wishes_of(arguments, None))
+        sung = sing(Album(arguments.song, "", "", "", 0, [track]), track)
+        page = page_of(sung).encode()
+        outputs.write(arguments.output, page)
+    tell(f"{arguments.output}: {sung.blocks / BLOCKS_A_SECOND:.1f} seconds, {len(page):,} bytes; any browser opens it")
+    return 0

@@ -1,0 +1,209 @@
+"""Styles of lyrics: fonts, colours and the layout of a page, as small TOML files tell them."""
+import tomllib
+from dataclasses import dataclass
+from pathlib import Path
+from typing import Any, Iterable
+
+from .colours import Colour, blend, read_colour
+from .output import Refusal, read_file
+from .raster import BLACK, COLOURS, HEIGHT, TILE_HEIGHT, Raster
+
+# The styles that ship, and where fonts are looked for by their names.
+FOLDER = Path(__file__).parent / "styles"
+FONT_FOLDERS = (Path("/usr/share/fonts"), Path("/usr/local/share/fonts"), Path.home() / ".local/share/fonts")
+# The number of a colour: that of the ground; levels of a letter, from 1 to the full colour; and with these bits the
+# second voice and what is sung. Level 0 of the second voice is an outline.
+GROUND, FULL, SECOND, SUNG = 0, 3, 4, 8
+OUTLINE, BORDER = SECOND, 12
+VOICES = 2
+ALIGNMENTS = ("left", "centre", "right")
+LEAST_ROWS, MOST_ROWS = 2, 6
+LEAST_SIZE, MOST_SIZE = 10, 40
+
+
+@dataclass(frozen=True)
+class Voice:
+    """The colours of a singer: of what is to be sung, and of what is sung."""
+
+    unsung: Colour
+    sung: Colour
+
+
+@dataclass(frozen=True)
+class Style:
+    """Colours, letters and layout; a page has so many rows, and with `by_page` it goes as a whole."""
+
+    voices: tuple[Voice, ...]
+    ground: Colour = BLACK
+    border: Colour = BLACK
+    outline: Colour | None = None
+    fonts: tuple[Path, ...] = ()
+    size: int | None = None
+    align: str = "centre"
+    rows: int = 4
+    by_page: bool = False
+    background: Path | None = None
+
+    def voice(self, number: int) -> Voice:
+        """The colours of a voice; those of the last stand for more."""
+        return self.voices[min(number, len(self.voices) - 1)]
+
+    @property
+    def edge(self) -> Colour | None:
+        """The colour around letters: that of the outline, which letters on a picture always have."""
+        return self.outline if self.outline or not self.background else self.ground
+
+    @property
+    def slot_rows(self) -> int:
+        """The rows of tiles that each row of a page has."""
+        return HEIGHT // TILE_HEIGHT // self.rows
+
+    def top(self, slot: int) -> int:
+        """The first pixel row of a row of a page; what is left over stands above the first."""
+        above = HEIGHT // TILE_HEIGHT - self.rows * self.slot_rows
+        return TILE_HEIGHT * (above + self.slot_rows * slot)
+
+    def colours(self, voices: int) -> dict[int, Colour]:
+        """The numbers of all colours but those of a background."""
+        numbers = {GROUND: self.ground, BORDER: self.border}
+        if self.edge:
+            numbers[OUTLINE] = self.edge
+        around = self.edge or self.ground
+        for number in range(voices):
+            for level in range(1, FULL + 1):
+                ink = level | SECOND * number
+                numbers[ink] = blend(around, self.voice(number).unsung, level / FULL)
+                numbers[ink | SUNG] = blend(around, self.voice(number).sung, level / FULL)
+        return numbers
+
+    def empty(self, voices: int = 1) -> Raster:
+        """An empty page."""
+        numbers = self.colours(voices)
+        raster = Raster(colours=[numbers.get(number, self.ground) for number in range(COLOURS)])
+        raster.border = BORDER if self.border != self.ground else GROUND
+        return raster
+
+
+class Table:
+    """A table of TOML whose keys are asked for one by one; what is no such thing is refused by its name."""
+
+    def __init__(self, path: Path, values: dict[str, Any]):
+        self.path, self.values = path, dict(values)
+
+    def take(self, key: str, kind: type | tuple[type, ...], what: str) -> Any:
+        value = self.values.pop(key, None)
+        if value is not None and (not isinstance(value, kind) or isinstance(value, bool) and kind is not bool):
+            raise Refusal(self.path, f"{key} is {value!r}, and has to be {what}")
+        return value
+
+    def text(self, key: str) -> str | None:
+        value: str | None = self.take(key, str, "a text")
+        return value
+
+    def one_of(self, key: str, words: Iterable[str], default: str) -> str:
+        words = tuple(words)
+        value = self.text(key)
+        if value is not None and value not in words:
+            raise Refusal(self.path, f"{key} is {value!r}, and has to be one of {', '.join(words)}")
+        return value or default
+
+    def number(self, key: str, least: float, most: float, kind: type = int) -> Any:
+        value = self.take(key, (int, float) if kind is float else int, "a number")
+        if value is not None and not least <= value <= most:
+            raise Refusal(self.path, f"{key} is {value}, and has to be from {least} to {most}")
+        return value
+
+    def colour(self, key: str, default: Colour | None) -> Colour | None:
+        word = self.text(key)
+        if word is None:
+            return default
+        colour = read_colour(word)
+        if colour is None:
+            raise Refusal(self.path, f"{key} is {word!r}, and has to be a colour like #08F or #0088FF")
+        return colour
+
+    def file(self, key: str) -> Path | None:
+        """A file by its name, beside this one where it is no whole path."""
+        name = self.text(key)
+        return self.path.parent / name if name else None
+
+    def tables(self, key: str) -> list["Table"]:
+        found = self.take(key, list, "tables in double brackets")
+        if not all(isinstance(one, dict) for one in found or []):
+            raise Refusal(self.path, f"{key} has to be written [[{key}]]")
+        return [Table(self.path, one) for one in found or []]
+
+    def end(self) -> None:
+        """Refuses what was not asked for."""
+        if self.values:
+            raise Refusal(self.path, f"knows nothing of {', '.join(map(repr, self.values))}")
+
+
+def read_table(path: Path) -> Table:
+    """A file of TOML."""
+    content = read_file(path)
+    try:
+        return Table(path, tomllib.loads(content.decode("utf-8-sig")))
+    except UnicodeDecodeError as wrong:
+        raise Refusal(path, f"byte {wrong.start} is no UTF-8") from None
+    except tomllib.TOMLDecodeError as wrong:
+        raise Refusal(path, f"is no TOML: {wrong}") from None
+
+
+def shipped() -> list[str]:
+    """The names of the styles that ship."""
+    return sorted(path.stem for path in FOLDER.glob("*.toml"))
+
+
+def read_style(word: str) -> Style:
+    """A style by its name, or by its file."""
+    path = FOLDER / f"{word}.toml" if word in shipped() else Path(word)
+    if path.suffix != ".toml":
+        raise Refusal(word, f"is no style; there are {', '.join(shipped())}, and files that end with .toml")
+    table = read_table(path)
+    voices = tuple(voice_of(one) for one in table.tables("voice"))
+    if not 1 <= len(voices) <= VOICES:
+        raise Refusal(path, f"has {len(voices)} tables [[voice]], and has to have 1 or {VOICES}")
+    ground = table.colour("ground", BLACK) or BLACK
+    style = Style(
+        voices=voices,
+        ground=ground,
+        border=table.colour("border", ground) or ground,
+        outline=table.colour("outline", None),
+        fonts=tuple(font_file(path, name) for name in font_names(table)),
+        size=table.number("size", LEAST_SIZE, MOST_SIZE),
+        align=table.one_of("align", ALIGNMENTS, "centre"),
+        rows=table.number("rows", LEAST_ROWS, MOST_ROWS) or 4,
+        by_page=table.one_of("mode", ("line", "page"), "line") == "page",
+        background=table.file("background"),
+    )
+    table.end()
+    return style
+
+
+def voice_of(table: Table) -> Voice:
+    unsung, sung = table.colour("unsung", None), table.colour("sung", None)
+    if unsung is None or sung is None:
+        raise Refusal(table.path, "a [[voice]] needs the colours unsung and sung")
+    table.end()
+    return Voice(unsung, sung)
+
+
+def font_names(table: Table) -> list[str]:
+    names = table.take("font", (str, list), "the name of a font, or a list of names") or []
+    names = [names] if isinstance(names, str) else names
+    if not all(isinstance(name, str) for name in names):
+        raise Refusal(table.path, "font has to be the name of a font, or a list of names")
+    return names
+
+
+def font_file(beside: Path, name: str) -> Path:
+    """The file of a font: a path, or the name of one that is installed."""
+    if "/" in name or (beside.parent / name).exists():
+        return beside.parent / name
+    stem = Path(name).stem if name.lower().endswith((".ttf", ".otf", ".ttc")) else name
+    for folder in FONT_FOLDERS:
+        for path in sorted(folder.rglob("*")):
+            if path.stem.lower() == stem.lower() and path.suffix.lower() in (".ttf", ".otf", ".ttc"):
+                return path
+    raise Refusal(beside, f"there is no font {name} in {', '.join(map(str, FONT_FOLDERS))}")

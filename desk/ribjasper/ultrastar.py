@@ -1,0 +1,105 @@
+"""Lyrics as UltraStar files: notes in beats, whose syllables are sung."""
+import re
+from dataclasses import dataclass
+
+from .songs import BOTH, FIRST, SECOND, Line, Song, Syllable, spelled
+
+HEADER = re.compile(r"#(\w+):(.*)")
+NOTE = re.compile(r"([:*FRG])\s*(-?\d+)\s+(-?\d+)\s+(-?\d+)(?: (.*))?$")
+BREAK = re.compile(r"-\s*(-?\d+)?(?:\s+(-?\d+))?\s*$")
+PLAYER = re.compile(r"#?P\s*([123])\s*$")
+VOICES = {"1": FIRST, "2": SECOND, "3": BOTH}
+# A beat of the file is a quarter of one of the music.
+BEATS = 4
+# What holds the syllable before it.
+HELD = "~"
+
+
+@dataclass
+class Clock:
+    """Turns beats into seconds."""
+
+    beats_a_minute: float = 0.0
+    gap: float = 0.0
+    base: int = 0
+
+    def seconds(self, beat: int) -> float:
+        return self.gap / 1000 + 60 * (self.base + beat) / (BEATS * self.beats_a_minute)
+
+
+def read_ultrastar(text: str, song: Song) -> None:
+    clock, voice, is_relative, line = Clock(), FIRST, False, Line(0, [])
+    names: dict[str, str] = {}
+
+    def close() -> None:
+        nonlocal line
+        if any(syllable.text.strip() for syllable in line.syllables):
+            line.written = spelled(line.start)
+            song.lines.append(line)
+        line = Line(0, [])
+
+    for number, row in enumerate(text.splitlines(), 1):
+        if player := PLAYER.match(row):
+            close()
+            voice, clock.base = VOICES[player[1]], 0
+        elif header := HEADER.match(row):
+            name, value = header[1].upper(), header[2].strip()
+            song.title = value if name == "TITLE" else song.title
+            song.performer = value if name == "ARTIST" else song.performer
+            is_relative = is_relative or name == "RELATIVE" and value.upper() == "YES"
+            if name in ("BPM", "GAP"):
+                set_clock(song, clock, name, value, number)
+            if name in ("P1", "P2", "DUETSINGERP1", "DUETSINGERP2"):
+                names[name[-1]] = value
+        elif note := NOTE.match(row):
+            if clock.beats_a_minute <= 0:
+                song.fault(number, "a note comes before a line #BPM")
+                return
+            line.number = line.number or number
+            start, end = (clock.seconds(int(note[2]) + after) for after in (0, int(note[3])))
+            add_syllable(line, note[5] or "", start, end, voice)
+        elif found := BREAK.match(row):
+            close()
+            clock.base += int(found[2] or found[1] or 0) if is_relative else 0
+        elif row.strip() == "E":
+            break
+        elif row.strip():
+            song.tell(number, f"is no note, and is left out: {row.strip()}")
+    close()
+    song.singers = [names.get("1", ""), names.get("2", "")] if names else []
+    song.lines = joined(song.lines)
+
+
+def set_clock(song: Song, clock: Clock, name: str, value: str, number: int) -> None:
+    try:
+        amount = float(value.replace(",", "."))
+    except ValueError:
+        song.fault(number, f"#{name} is {value}, and no number")
+        return
+    if name == "BPM":
+        clock.beats_a_minute = amount
+    else:
+        clock.gap = amount
+
+
+def add_syllable(line: Line, text: str, start: float, end: float, voice: int) -> None:
+    """A note; one whose text is only held, or none, makes the one before it longer."""
+    if text.strip() in (HELD, "") and line.syllables:
+        line.syllables[-1].end = end
+        line.syllables[-1].text += " " * (text != text.rstrip())
+    else:
+        line.syllables.append(Syllable(text.replace(HELD, ""), start, end, voice))
+
+
+def joined(lines: list[Line]) -> list[Line]:
+    """In the order of the times; a line that both sing at once is one of both."""
+    lines = sorted(lines, key=lambda one: one.start)
+    kept: list[Line] = []
+    for line in lines:
+        same = next((one for one in kept if one.start == line.start and one.text == line.text), None)
+        if same and same.voice != line.voice:
+            for syllable in same.syllables:
+                syllable.voice = BOTH
+        else:
+            kept.append(line)
+    return kept

@@ -1,0 +1,159 @@
+"""Whatever goes wrong outside is a line that names the file, and a number of its own."""
+import errno
+import os
+import resource
+import struct
+import unittest
+import warnings
+import wave
+from typing import Callable
+from unittest import mock
+
+from fixtures import FolderTest, Word, desk, needs_library, needs_pillow
+
+from ribjasper import main, output
+from ribjasper.failures import Failure, Fault, Missing, NoMemory, Refusal, Refusals, Several, Unwritten, failure_of, reading
+
+
+def called(error: BaseException, writing: bool = False) -> tuple[type[Failure], str, int]:
+    """What an exception becomes."""
+    failure = failure_of(error, "a\tb", writing)
+    return type(failure), str(failure), failure.status
+
+
+class TableTest(unittest.TestCase):
+    def test_what_the_system_refuses(self) -> None:
+        for number, said in ((errno.EACCES, "permission denied"), (errno.ENOENT, "no such file or directory"),
+                             (errno.EIO, "input/output error"), (errno.EISDIR, "is a directory")):
+            error = OSError(number, os.strerror(number))
+            self.assertEqual(called(error), (Refusal, f"a\\tb: {said}", 3))
+            self.assertEqual(called(error, True), (Unwritten, f"a\\tb: {said}", 6))
+        self.assertEqual(called(OSError("odd"))[1], "a\\tb: odd")
+        self.assertEqual(called(OSError())[1], "a\\tb: oserror")
+
+    def test_what_is_wrong_with_a_file(self) -> None:
+        for error, said, status in (
+            (MemoryError(), "there is not enough memory for it", 7),
+            (RecursionError(), "is nested too deeply", 3),
+            (EOFError(), "ends too early", 3),
+            (wave.Error("odd"), "cannot be read", 3),
+            (struct.error("odd"), "cannot be read", 3),
+            (UnicodeDecodeError("utf-8", b"\xff", 0, 1, "odd"), "is no text in UTF-8", 3),
+        ):
+            self.assertEqual(called(error)[1:], (f"a\\tb: {said}", status))
+        self.assertIs(called(MemoryError())[0], NoMemory)
+
+    @needs_pillow
+    def test_pictures(self) -> None:
+        from PIL import Image
+
+        self.assertEqual(called(Image.DecompressionBombError())[1], "a\\tb: has too many pixels for an image")
+        self.assertEqual(called(Image.UnidentifiedImageError("odd"))[1], "a\\tb: is no image that can be read")
+        with self.assertRaises(Refusal), reading("x"):
+            warnings.warn("could be decompression bomb DOS attack", Image.DecompressionBombWarning)
+
+    def test_what_nobody_thought_of(self) -> None:
+        kind, said, status = called(KeyError("x\ny"))
+        self.assertEqual((kind, status, "\n" in said), (Fault, 8, False))
+        self.assertIn("a fault of the desk", said)
+
+    def test_failures_stay(self) -> None:
+        for failure in (Missing("this needs x"), Refusal("a", "b"), Unwritten("a", "b")):
+            self.assertIs(failure_of(failure, "other"), failure)
+
+    def test_several_at_once(self) -> None:
+        wrong = Refusals("x")
+        wrong.end()
+        wrong.add("line 1: one")
+        wrong.add("line 2: two")
+        with self.assertRaises(Refusal) as caught:
+            wrong.end()
+        self.assertEqual(caught.exception.lines, ("x: line 1: one", "x: line 2: two"))
+        both = Several([Unwritten("a", "b"), caught.exception])
+        self.assertEqual((both.lines, both.status), (("a: b", "x: line 1: one", "x: line 2: two"), 6))
+
+
+class MainTest(FolderTest):
+    def ended(self, error: BaseException) -> tuple[int, str]:
+        """What a command ends with in which this happens."""
+        path = self.write("x", b"dump")
+        with mock.patch("ribjasper.identify.Dump", side_effect=error):
+            ran = desk("identify", path)
+        self.assertEqual(ran.told.count("\n"), 1)
+        return ran.status, ran.told.removeprefix(f"ribjasper-desk: {path}: ").rstrip("\n")
+
+    def test_each_end(self) -> None:
+        self.assertEqual(self.ended(MemoryError()), (7, "there is not enough memory for it"))
+        self.assertEqual(self.ended(RecursionError()), (3, "is nested too deeply"))
+        self.assertEqual(self.ended(OSError(errno.EIO, "Input/output error")), (3, "input/output error"))
+        self.assertEqual(self.ended(ZeroDivisionError())[0], 8)
+        self.assertEqual(desk("no such command").status, 2)
+
+    def test_a_second_signal_while_files_are_put_away(self) -> None:
+        with main.stopping():
+            with self.assertRaises(main.Stopped) as caught:
+                os.kill(os.getpid(), 15)
+                signal_comes()
+            os.kill(os.getpid(), 15)
+            signal_comes()
+        self.assertEqual(caught.exception.number, 15)
+
+
+def signal_comes() -> None:
+    """Time for a signal of this process to be handled."""
+    for _ in range(1000):
+        pass
+
+
+@needs_library
+class MemoryTest(FolderTest):
+    def test_a_process_that_is_given_little(self) -> None:
+        """Dumps of a whole disc, where there is memory for the desk and little more."""
+        dump = self.folder / "dump"
+        with open(dump, "wb") as file:
+            file.truncate(96_000_000)
+
+        def little() -> None:
+            resource.setrlimit(resource.RLIMIT_AS, (150 << 20, 150 << 20))
+
+        calls: tuple[tuple[Word, ...], ...] = (
+            ("identify", dump), ("damage", dump), ("mend", dump, dump, "-o", self.folder / "new.cdg"), ("texts", dump),
+            ("sheet", dump, "-o", self.folder / "new.cue"), ("film", dump, "--stills", self.folder / "new.png"))
+        for words in calls:
+            ran = desk(*words, preexec_fn=little)
+            told = f"ribjasper-desk: {dump}: there is not enough memory for it\n"
+            self.assertEqual((ran.status, ran.told), (7, told), words)
+            self.assertEqual(os.listdir(self.folder), ["dump"])
+
+
+class ReadTest(FolderTest):
+    def test_a_file_that_changes_while_it_is_read(self) -> None:
+        path = self.write("x", b"before")
+        real = open
+
+        def opened(name: str, mode: str) -> object:
+            file = real(name, mode)
+            read: Callable[[], bytes] = file.read
+
+            def late() -> bytes:
+                with real(path, "ab") as other:
+                    other.write(b"more")
+                return read()
+
+            wrapped = mock.Mock(wraps=file, read=late, fileno=file.fileno)
+            wrapped.__enter__ = lambda _: wrapped
+            wrapped.__exit__ = lambda *_: file.close()
+            return mock.MagicMock(__enter__=lambda _: wrapped, __exit__=lambda *_: file.close())
+
+        with mock.patch("builtins.open", opened), self.assertRaises(Refusal) as caught:
+            output.read_file(path)
+        self.assertEqual(str(caught.exception), f"{path}: was changed while it was read")
+
+    def test_a_file_that_is_not_there(self) -> None:
+        with self.assertRaises(Refusal) as caught:
+            output.read_file(self.folder / "none")
+        self.assertEqual(str(caught.exception), f"{self.folder}/none: no such file or directory")
+
+
+if __name__ == "__main__":
+    unittest.main()

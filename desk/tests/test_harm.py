@@ -1,0 +1,335 @@
+"""No command costs a user a file: an output that is read too, in each command and option; outputs that are pipes, links,
+devices and standard output; and what is there already."""
+import os
+import stat
+import threading
+import unittest
+from pathlib import Path
+
+from fixtures import (
+    HELLO, LEAD_IN, FolderTest, Ran, Word, desk, hello, hello_packs, needs_ffmpeg, needs_font, needs_library,
+    needs_pillow, needs_plan, program, with_burst, write_wav,
+)  # fmt: skip
+
+from ribjasper import kinds
+
+LRC = "[00:08.00]One line\n[00:12.00]Another\n"
+
+
+def png() -> bytes:
+    from io import BytesIO
+
+    from PIL import Image
+
+    out = BytesIO()
+    Image.new("RGB", (12, 12), "#F00").save(out, "PNG")
+    return out.getvalue()
+
+
+class CallsTest(FolderTest):
+    """A folder with an input of each kind, and what is in it before and after a call."""
+
+    def content(self) -> dict[str, bytes]:
+        return {os.fspath(path.relative_to(self.folder)): path.read_bytes() for path in sorted(self.folder.rglob("*"))
+                if path.is_file()}
+
+    def refuses(self, *words: Word, why: str = "is read here", status: int = 3) -> Ran:
+        """A call that is refused, and after which all is as it was."""
+        before = self.content()
+        ran = desk(*words)
+        self.assertEqual(ran.status, status, (words, ran.told))
+        self.assertIn(why, ran.told)
+        self.assertEqual(ran.out, "", words)
+        self.assertEqual(self.content(), before, words)
+        return ran
+
+
+class SameFileTest(CallsTest):
+    """An output that is an input is refused before anything is done: nothing of the library is needed."""
+
+    def test_each_command(self) -> None:
+        dump = self.write("x", b"dump")
+        a, b = self.write("a.raw", b"a"), self.write("b.raw", b"b")
+        lrc, image, cdg = self.write("s.lrc", LRC), self.write("l.png", b"png"), self.write("f.cdg", bytes(24))
+        sheet, script = self.write("s.cue", b"TRACK"), self.write("s.script", b"show")
+        wav = write_wav(self.folder / "s.wav", 100)
+        toc = self.write("h.toc", b"script")
+        calls: tuple[tuple[Word, ...], ...] = (
+            ("mend", a, b, "-o", a), ("mend", a, b, "-o", b),
+            ("sheet", dump, "-o", dump),
+            ("damage", dump, "--map", dump),
+            ("texts", dump, "--packs", dump), ("texts", "--back", dump, "--blocks", dump),
+            ("lyrics", lrc, "-o", lrc), ("lyrics", lrc, "--title", image, "-o", image),
+            ("lyrics", lrc, "--audio", wav, "-o", wav), ("lyrics", lrc, "--font", image, "-o", image),
+            ("picture", image, "-o", image),
+            ("plan", sheet, script, "--length", "00:22:00", "--chart", script),
+            ("plan", sheet, script, "--length", "00:22:00", "--chart", sheet),
+            ("plan", sheet, script, "--length", "00:22:00", "--latin-1", sheet),
+            ("plan", sheet, script, "--audio", wav, "--chart", wav),
+            ("film", cdg, "--stills", cdg), ("film", cdg, "-o", cdg), ("film", cdg, "--audio", wav, "-o", wav),
+            ("image", sheet, a, "--audio", wav, "--hold-through-pause", toc, "-o", self.folder / "h"),
+            ("image", sheet, a, "--audio", wav, "-o", self.folder / "s"),
+            ("report", self.folder, "-o", self.folder),
+        )
+        for words in calls:
+            forces: tuple[tuple[str, ...], ...] = ((), ("--force",))
+            for force in forces:
+                why = "is read here" if words[0] != "report" else "is the folder that is read"
+                told = self.refuses(*words, *force, why=why).told
+                self.assertEqual(len(told.splitlines()), 1, told)
+
+    def test_through_links(self) -> None:
+        dump = self.write("x", b"dump")
+        os.symlink("x", self.folder / "soft")
+        os.link(dump, self.folder / "hard")
+        for name in ("soft", "hard"):
+            self.refuses("sheet", dump, "-o", self.folder / name)
+            self.refuses("sheet", self.folder / name, "-o", dump)
+
+    def test_two_outputs_of_one_name(self) -> None:
+        sheet, script = self.write("s.cue", b"TRACK"), self.write("s.script", b"show")
+        out = self.folder / "out"
+        words = ("plan", sheet, script, "--length", "00:22:00")
+        self.refuses(*words, "--chart", out, "--latin-1", out, why="is the same file as another output")
+        os.symlink("out", self.folder / "link")
+        self.refuses("film", script, "--stills", out, "-o", self.folder / "link", why="is the same file as another output")
+
+    def test_what_is_of_another_kind(self) -> None:
+        dump, notes = self.write("x", b"dump"), self.write("notes", b"Dear diary,\n")
+        calls: tuple[tuple[Word, ...], ...] = (
+            ("sheet", dump, "-o", notes), ("damage", dump, "--map", notes), ("texts", dump, "--packs", notes),
+            ("mend", dump, dump, "-o", notes), ("film", dump, "--stills", notes, "-o", notes.parent / "new"),
+            ("film", dump, "-o", notes))
+        for words in calls:
+            self.refuses(*words, why="is there already, and is not")
+        self.refuses("texts", "--back", dump, "--blocks", notes, why="is there already, and nobody can tell whether")
+
+    def test_names_of_which_several_files_cannot_be_made(self) -> None:
+        file = write_wav(self.folder / "s.wav", 100)
+        for name, why in (("-", "stands for standard output"), ("", "is no name"), ("..", "is no name")):
+            self.refuses("image", file, file, "--audio", file, "-o", name, why=why)
+            self.refuses("pair", file, "--audio", file, "-o", name, why=why)
+            if name in ("-", ""):
+                self.refuses("report", self.folder, "-o", name, why="is no name of a folder")
+
+    def test_a_report_takes_a_folder_of_its_own(self) -> None:
+        self.write("dumps/x", b"dump")
+        self.write("mine/pictures/holiday.png", b"precious")
+        self.refuses("report", self.folder / "dumps", "-o", self.folder / "mine", "--no-pictures",
+                     why="is no folder of a report")
+
+
+@needs_library
+class OutputsTest(CallsTest):
+    def setUp(self) -> None:
+        super().setUp()
+        self.dump = self.write("x.raw", hello())
+
+    def calls(self, out: Word) -> dict[str, tuple[Word, ...]]:
+        """A call for each command with one output, which is written to this name."""
+        packs = self.folder / "packs"
+        if not packs.exists():
+            packs.write_bytes(self.text_packs())
+        found: dict[str, tuple[Word, ...]] = {
+            "mend": ("mend", self.dump, self.dump, "-o", out),
+            "sheet": ("sheet", self.dump, "-o", out),
+            "texts": ("texts", self.dump, "--packs", out),
+            "back": ("texts", "--back", packs, "--blocks", out),
+        }
+        return found
+
+    def text_packs(self) -> bytes:
+        desk("texts", self.dump, "--packs", self.folder / "made")
+        made = (self.folder / "made").read_bytes()
+        (self.folder / "made").unlink()
+        return made
+
+    def expected(self) -> dict[str, bytes]:
+        """What each call writes to a file."""
+        found = {}
+        for name, words in self.calls(self.folder / "plain").items():
+            ran = desk(*words)
+            self.assertEqual(ran.status, 0, (words, ran.told))
+            found[name] = (self.folder / "plain").read_bytes()
+            (self.folder / "plain").unlink()
+        self.assertEqual(found["mend"], hello_packs())
+        return found
+
+    def test_standard_output(self) -> None:
+        expected = self.expected()
+        for name, words in self.calls("-").items():
+            before = self.content()
+            ran = desk(*words, cwd=self.folder)
+            self.assertEqual(ran.status, 0, ran.told)
+            self.assertEqual(ran.out.encode("utf-8", "surrogateescape"), expected[name], name)
+            self.assertEqual(self.content(), before, name)
+            self.assertFalse((self.folder / "-").exists())
+
+    def test_a_pipe(self) -> None:
+        expected, pipe = self.expected(), self.folder / "pipe"
+        os.mkfifo(pipe)
+        for name, words in self.calls(pipe).items():
+            found: list[bytes] = []
+            reader = threading.Thread(target=lambda: found.append(pipe.read_bytes()))
+            reader.start()
+            self.assertEqual(desk(*words).status, 0, name)
+            reader.join()
+            self.assertEqual(found, [expected[name]], name)
+            self.assertTrue(stat.S_ISFIFO(os.lstat(pipe).st_mode), name)
+
+    def test_a_link(self) -> None:
+        expected = self.expected()
+        for name, words in self.calls(self.folder / "link").items():
+            (self.folder / "target").write_bytes(b"")
+            os.symlink("target", self.folder / "link")
+            self.assertEqual(desk(*words).status, 0, name)
+            self.assertEqual(os.readlink(self.folder / "link"), "target")
+            self.assertEqual((self.folder / "target").read_bytes(), expected[name], name)
+            (self.folder / "link").unlink()
+            (self.folder / "target").unlink()
+
+    def test_a_device(self) -> None:
+        node = self.folder / "null"
+        try:
+            os.mknod(node, 0o666 | stat.S_IFCHR, os.makedev(1, 3))
+        except PermissionError:
+            self.skipTest("no device can be made here")
+        for name, words in self.calls(node).items():
+            self.assertEqual(desk(*words).status, 0, name)
+            self.assertTrue(stat.S_ISCHR(os.lstat(node).st_mode), name)
+
+    def test_a_full_device(self) -> None:
+        node = self.folder / "full"
+        try:
+            os.mknod(node, 0o666 | stat.S_IFCHR, os.makedev(1, 7))
+        except PermissionError:
+            self.skipTest("no device can be made here")
+        for name, words in self.calls(node).items():
+            ran = desk(*words)
+            self.assertEqual((ran.status, f"{node}: no space left on device" in ran.told), (6, True), (name, ran.told))
+
+    def test_again(self) -> None:
+        """What a command wrote it replaces without asking; but a stream, which may be a dump, it does not."""
+        for name, words in self.calls(self.folder / "out.cdg").items():
+            self.assertEqual(desk(*words).status, 0, name)
+            if name == "back":
+                self.refuses(*words, why="nobody can tell whether a stream can be made again")
+            self.assertEqual(desk(*words, *["--force"] * (name == "back")).status, 0, name)
+            (self.folder / "out.cdg").unlink()
+
+    def test_standard_output_that_takes_no_more(self) -> None:
+        before = self.content()
+        with open("/dev/full", "wb") as full:
+            calls: tuple[tuple[Word, ...], ...] = (
+                ("identify", self.dump), ("damage", self.dump), ("sheet", self.dump), ("--version",), ("--help",),
+                ("mend", self.dump, self.dump, "-o", self.folder / "new.cdg"))
+            for words in calls:
+                ran = self.process(full, *words)
+                self.assertEqual((ran.status, ran.told.splitlines()[-1]),
+                                 (6, "ribjasper-desk: standard output: no space left on device"))
+        self.assertEqual(self.content(), before)
+        ran = self.process(None, "mend", self.dump, self.dump, "-o", self.folder / "new.cdg")
+        self.assertEqual((ran.status, self.content()), (6, before), ran.told)
+
+    @staticmethod
+    def process(out: object, *words: Word) -> Ran:
+        """A call whose standard output is a file, or closed."""
+        import subprocess
+        import sys
+
+        from fixtures import DESK, text, word
+
+        how = {"stdout": out} if out else {"preexec_fn": lambda: os.close(1)}
+        ran = subprocess.run([sys.executable, DESK, *map(word, words)], stderr=subprocess.PIPE, **how)  # type: ignore
+        return Ran(ran.returncode, "", text(ran.stderr))
+
+
+@needs_library
+@needs_pillow
+class SeveralTest(CallsTest):
+    """Commands with several outputs: if one cannot be written the others do not appear."""
+
+    @needs_plan
+    def test_image(self) -> None:
+        wav = write_wav(self.folder / "a.wav", 588 * 75 * 22)
+        stream = self.write("a.raw", hello())
+        words = ("image", HELLO[0], stream, "--audio", wav, "-o", self.folder / "disc")
+        (self.folder / "disc.cue").mkdir()
+        self.refuses(*words, why="disc.cue: is a directory")
+        (self.folder / "disc.cue").rmdir()
+        notes = self.write("disc.toc", b"Dear diary,\n")
+        self.refuses(*words, why="disc.toc: is there already, and is not a sheet for cdrdao")
+        notes.unlink()
+        self.assertEqual(desk(*words).status, 0)
+        first = self.content()
+        self.assertEqual(desk(*words).status, 0)
+        self.assertEqual(self.content(), first)
+
+    def test_map_that_cannot_be_written(self) -> None:
+        dump = self.write("x.raw", with_burst(hello(), 900, 100))
+        ran = desk("damage", dump, "--map", self.folder / "no" / "map.png")
+        self.assertEqual(ran.status, 6)
+        self.assertIn("no such file or directory", ran.told)
+
+
+@needs_plan
+@needs_pillow
+class DrawnTest(CallsTest):
+    @needs_font
+    def test_lyrics_and_picture(self) -> None:
+        lrc, image = self.write("s.lrc", LRC), self.write("l.png", png())
+        calls: tuple[tuple[Word, ...], ...] = (("lyrics", lrc), ("picture", image))
+        for words in calls:
+            out = self.folder / "out.script"
+            self.assertEqual(desk(*words, "-o", out).status, 0)
+            made = out.read_bytes()
+            self.assertTrue(kinds.SCRIPT.has(os.fspath(out)))
+            self.assertEqual(desk(*words, "-o", out).status, 0)
+            self.assertEqual(desk(*words, "-o", "-", cwd=self.folder).out.encode(), made)
+            self.assertFalse((self.folder / "-").exists())
+            out.unlink()
+
+    @needs_ffmpeg
+    def test_film(self) -> None:
+        cdg = self.write("f.cdg", bytes(24 * 300))
+        pipe, found = self.folder / "pipe", list[bytes]()
+        os.mkfifo(pipe)
+        reader = threading.Thread(target=lambda: found.append(pipe.read_bytes()))
+        reader.start()
+        self.assertEqual(desk("film", cdg, "-o", pipe).status, 0)
+        reader.join()
+        self.assertEqual(found[0][4:8], b"ftyp")
+        film = self.folder / "f.mp4"
+        for _ in range(2):
+            self.assertEqual(desk("film", cdg, "-o", film, "--stills", self.folder / "f.png").status, 0)
+        before = self.content()
+        self.assertEqual(desk("film", cdg, "-o", film, "--stills", self.folder / "none" / "f.png").status, 6)
+        self.assertEqual(self.content(), before)
+
+
+class StoppedTest(CallsTest):
+    """A command that is stopped while it works leaves nothing, and says so."""
+
+    @needs_library
+    def test_each_signal(self) -> None:
+        import signal
+        import subprocess
+        import sys
+        import time
+
+        from fixtures import DESK
+
+        cdg = self.write("f.cdg", bytes(24 * 300 * 2000))
+        page = self.folder / "f.png"
+        for number in (signal.SIGINT, signal.SIGTERM, signal.SIGHUP):
+            words = [sys.executable, str(DESK), "film", str(cdg), "--stills", str(page)]
+            with subprocess.Popen(words, stderr=subprocess.PIPE) as running:
+                time.sleep(0.7)
+                running.send_signal(number)
+                told = running.communicate()[1]
+            self.assertEqual((running.returncode, told), (128 + number, b"ribjasper-desk: stopped\n"))
+            self.assertEqual(sorted(path.name for path in self.folder.iterdir()), ["f.cdg"])
+
+
+if __name__ == "__main__":
+    unittest.main()

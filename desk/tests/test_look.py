@@ -1,0 +1,156 @@
+"""`look`: the page shows what the player shows, tells what is late, and keys move what is sung; in node and in Chromium."""
+import base64
+import json
+import re
+import shutil
+import struct
+import subprocess
+import unittest
+import zlib
+from typing import Any
+
+from fixtures import TOP, FolderTest, desk, needs_font, needs_pillow, needs_plan, needs_program, write_wav
+
+from ribjasper.library import HEIGHT, PACK, WIDTH, Player
+
+SCRIPT = TOP / "desk" / "ribjasper" / "look.js"
+CHROMIUM = shutil.which("chromium") or shutil.which("chromium-browser")
+needs_node = unittest.skipUnless(shutil.which("node"), "node is not installed")
+SONG = """[ti:A </script> & <b>title</b>]
+[00:06.00]<00:06.00>One <00:06.50>two <00:07.00>
+[00:08.00]M: A line with one time
+[00:11.00]F: <00:11.00>She <00:11.50>too <00:12.00>
+"""
+
+
+def checksum(pixels: bytes) -> int:
+    total = 7
+    for pixel in pixels:
+        total = (31 * total + pixel) & 0xFFFF_FFFF
+    return total
+
+
+@needs_plan
+@needs_program
+@needs_pillow
+@needs_font
+class LookTest(FolderTest):
+    def page(self, song: str = SONG) -> str:
+        self.song = self.write("a.lrc", song)
+        write_wav(self.folder / "a.wav", 44_100 * 14)
+        ran = desk("look", self.song, "-o", self.folder / "a.html")
+        self.assertEqual(ran.status, 0, ran.told)
+        return (self.folder / "a.html").read_text()
+
+    def part(self, page: str, name: str) -> str:
+        found = re.search(f'<script id="{name}"[^>]*>(.*?)</script>', page, re.DOTALL)
+        assert found
+        return found[1]
+
+    def screens(self, blocks: list[int]) -> list[bytes]:
+        """What the player shows of the pair of this song at some blocks."""
+        desk("pair", self.song, "-o", self.folder / "b")
+        packs, shown = (self.folder / "b.cdg").read_bytes(), []
+        with Player() as player:
+            done = 0
+            for block in blocks:
+                player.draw(packs[PACK * 4 * done : PACK * 4 * block])
+                done = block
+                shown.append(player.screen())
+        return shown
+
+    def test_the_page_is_one_file(self) -> None:
+        page = self.page()
+        self.assertIn("<title>A &lt;/script&gt; &amp; &lt;b&gt;title&lt;/b&gt;</title>", page)
+        self.assertFalse(re.findall(r'(?:src|href)="(?!data:|\{)', page.replace('href = URL', "")))
+        song = json.loads(self.part(page, "song"))
+        self.assertEqual(song["title"], "A </script> & <b>title</b>")
+        self.assertEqual([line["voice"] for line in song["lines"]], [0, 0, 1])
+        self.assertEqual([line["whole"] for line in song["lines"]], [False, True, False])
+        self.assertEqual([line["late"] for line in song["lines"]], [""] * 3)
+
+    def test_late_lines_are_marked(self) -> None:
+        page = self.page("[00:00.05]Too early for this\n[00:08.00]In time\n")
+        song = json.loads(self.part(page, "song"))
+        self.assertRegex(song["lines"][0]["late"], r"is drawn 0\.\d+ seconds after it begins")
+        self.assertEqual(song["lines"][1]["late"], "")
+
+    def test_changes_give_the_screens_of_the_player(self) -> None:
+        """By another reader of the changes than that of the page."""
+        changes = zlib.decompress(base64.b64decode(self.part(self.page(), "changes")))
+        pixels, at, shown = bytearray(WIDTH * HEIGHT), 0, {}
+        while at < len(changes):
+            block, colours, place, wide, high = struct.unpack_from(">IBHHH", changes, at)
+            at += 11 + 32 * colours
+            for row in range(high):
+                pixels[place + WIDTH * row : place + WIDTH * row + wide] = changes[at : at + wide]
+                at += wide
+            shown[block] = bytes(pixels)
+        self.assertGreater(len(shown), 30)
+        self.assertEqual(self.screens(sorted(shown)), [shown[block] for block in sorted(shown)])
+
+    def node(self, code: str) -> Any:
+        words = ["node", "-e", f"const look = require({json.dumps(str(SCRIPT))});\n{code}"]
+        return json.loads(subprocess.run(words, capture_output=True, text=True, check=True).stdout)
+
+    @needs_node
+    def test_keys(self) -> None:
+        song = self.part(self.page(), "song")
+        moved = self.node(f"""const song = {song};
+            look.setStart(song.lines[0], 1, 6.55);
+            look.shiftLine(song.lines[1], -0.05);
+            look.setStart(song.lines[2], 0, 11.7);
+            console.log(JSON.stringify([look.asLrc(song), look.following(song.lines, 0, 1), look.following(song.lines, 2, 1)]))
+            """)
+        self.assertEqual(moved[0], "[ti:A </script> & <b>title</b>]\n"
+                         "[00:06.00]<00:06.00>One <00:06.55>two <00:07.00>\n"
+                         "[00:07.95]A line with one time\n"
+                         "[00:11.70]F: <00:11.70>She <00:11.70>too <00:12.00>\n")
+        self.assertEqual(moved[1:], [[1, 0], [2, 1]])
+
+    @needs_node
+    def test_what_is_saved_is_read_again(self) -> None:
+        song = self.part(self.page(), "song")
+        saved = self.node(f"console.log(JSON.stringify(look.asLrc({song})))")
+        self.page(saved.replace("[ti:", "[ti:"))
+        again = json.loads(self.part((self.folder / "a.html").read_text(), "song"))
+        self.assertEqual([line["syllables"] for line in again["lines"]],
+                         [line["syllables"] for line in json.loads(song)["lines"]])
+
+    @needs_node
+    def test_times_never_go_back(self) -> None:
+        starts = self.node("""const line = { syllables: [1, 2, 3].map((at) => ({ text: "x", start: at, end: at + 1 })) };
+            const found = [[1, 2.5], [1, 3.5], [2, 0.5], [0, -4]].map(([place, time]) => {
+                look.setStart(line, place, time);
+                return line.syllables.map((one) => [one.start, one.end]);
+            });
+            console.log(JSON.stringify(found))""")
+        self.assertEqual(starts[0], [[1, 2.5], [2.5, 3], [3, 4]])
+        self.assertEqual(starts[1], [[1, 3.5], [3.5, 3.5], [3.5, 4]])
+        self.assertEqual(starts[2], [[0.5, 0.5], [0.5, 0.5], [0.5, 4]])
+        for found in starts:
+            flat = [time for pair in found for time in pair]
+            self.assertEqual(flat, sorted(flat))
+
+    @unittest.skipUnless(CHROMIUM, "chromium is not installed")
+    def test_in_a_browser(self) -> None:
+        self.page()
+        profile = self.folder / "profile"
+        for second, block in ((7.2, 540), (11.6, 870)):
+            words = [str(CHROMIUM), "--headless", "--no-sandbox", "--disable-gpu", f"--user-data-dir={profile}",
+                     "--virtual-time-budget=6000", "--dump-dom", f"file://{self.folder}/a.html#{second}"]
+            page = subprocess.run(words, capture_output=True, text=True, timeout=120).stdout
+            self.assertIn('data-ready="yes"', page)
+            found = re.search(r'data-shown="(\d+)"', page)
+            assert found
+            sums = [checksum(pixels) for pixels in self.screens([block - 3, block, block + 3])]
+            self.assertIn(int(found[1]), sums)
+            self.assertEqual(page.count("<li"), 3)
+
+    def test_no_sound(self) -> None:
+        ran = desk("look", self.write("b.lrc", SONG), "-o", self.folder / "b.html")
+        self.assertEqual((ran.status, "has no sound of its name" in ran.told), (3, True), ran.told)
+
+
+if __name__ == "__main__":
+    unittest.main()
