@@ -2,9 +2,6 @@
 import argparse
 import os
 import re
-import subprocess
-import tempfile
-from pathlib import Path
 from typing import Any, Callable, Iterator
 
 from . import kinds
@@ -13,10 +10,10 @@ from .forms import AUDIO, FORMS, Coding, Form, in_order, to_planar, to_pq
 from .identify import corrected, packs_of
 from .library import BLOCK, PACK, PACKS_A_BLOCK, RAW
 from .loading import Loaded, add_options, asked, form_name, load
-from .output import FOUND, Outputs, Refusal, add_force, shown, tell
+from .output import FOUND, Outputs, Refusal, add_force, read_file, shown, tell
 from .pieces import pieces_of
-from .program import program
-from .times import CLOCK, PAUSE, blocks, clock
+from .program import press
+from .times import CLOCK, PAUSE, blocks
 
 # The form that an output has, by its ending, where none is named.
 ENDINGS = {".raw": "raw", ".subcode": "raw", ".sub": "planar", ".bin": "sector", ".img": "sector", ".cdg": "cdg"}
@@ -74,15 +71,10 @@ def pressed(loaded: Loaded, sheet: str | None) -> bytes:
     """Raw blocks that carry packs, with P and Q of the disc of a sheet, or of one track; they begin at 00:00:00."""
     content = b"".join(packs(loaded, FORMS["cdg"]))
     length = -(-len(content) // PACK // PACKS_A_BLOCK) + 2 * SPREAD
-    with tempfile.TemporaryDirectory(prefix="ribjasper-") as folder:
-        names = Path(folder) / "sheet.cue", Path(folder) / "packs.cdg"
-        names[0].write_bytes(Path(sheet).read_bytes() if sheet else ONE_TRACK)
-        names[1].write_bytes(content)
-        words = ["press", "--lead-in", "0", "--length", clock(length), "--"]
-        done = subprocess.run([program(), *words, *names], stdin=subprocess.DEVNULL, capture_output=True)
-    if done.returncode:
-        raise Refusal(sheet or loaded.path, done.stderr.decode(errors="replace").strip())
-    return done.stdout
+    stream, status, told = press(read_file(sheet) if sheet else ONE_TRACK, content, 0, length)
+    if status:
+        raise Refusal(sheet or loaded.path, told)
+    return stream
 
 
 def coded(raw: bytes, target: Form) -> bytes:

@@ -12,6 +12,7 @@ from .mending import Counts
 from .output import FOUND, Outputs, Refusal, shown, tell
 from .readings import Laid, read, side_by_side
 from .survey import Clock, Run, spelled
+from .texts import packs_of
 
 NAMES = ("reading", "words", "of-reading", "gives", "missed", "left-out")
 DIFFERENCES = ("first", "last", "from", "to")
@@ -148,12 +149,15 @@ def ddrescue_map(blocks: int, lost: list[Run]) -> bytes:
 
 
 def lead_in_of(laid: Laid) -> tuple[int, bytes]:
-    """The lead-in of the first reading that has one that was read: its number, and its blocks."""
+    """The lead-in of the first reading that has one with texts, or else of the first that has one that was read: the number
+    of the reading, and the blocks."""
+    found = []
     for number, reading in enumerate(laid.readings, 1):
         survey = reading.loaded.survey
         if laid.time == 0 and survey.first < survey.lead_in:
-            return number, reading.loaded.stream[BLOCK * survey.first : BLOCK * survey.lead_in]
-    return 0, b""
+            found.append((number, reading.loaded.stream[BLOCK * survey.first : BLOCK * survey.lead_in]))
+    with_texts = (it for it in found if packs_of(it[1]))
+    return next(with_texts, found[0] if found else (0, b""))
 
 
 def report(laid: Laid, counts: Counts, outputs: Outputs) -> int:

@@ -7,12 +7,15 @@ from typing import Callable, Iterator, NamedTuple, Sequence
 
 from . import library
 from .library import BLOCK, PACK, PACKS_A_BLOCK, MendedReadings
-from .readings import Laid, Reading
+from .mended_blocks import mended_blocks
+from .readings import Laid
 from .survey import Run, either, runs
 
 # So many blocks are mended at a time. A word is spread over its own block and the next two, and seven words on both sides
 # of it have a part in what it is mended to.
 AT_ONCE, SPREAD, AROUND = 10_000, 2, 4
+# The slots that a word reaches over.
+SLOTS = 8
 # Words of graphics that no more than so many blocks part belong together; fewer of them may be chance.
 TOGETHER, LEAST = 75, 3
 _RW = bytes(byte & 63 for byte in range(256))
@@ -22,9 +25,9 @@ _NONE = bytes(1 if value == library.NO_READING else 0 for value in range(256))
 
 
 class Mended(NamedTuple):
-    """What came of a part: its packs or blocks, and of each word which reading it is of."""
+    """What came of a part: its packs, and of each word which reading it is of."""
 
-    content: bytes
+    packs: bytes
     sources: bytes
 
 
@@ -49,19 +52,18 @@ class Counts:
         return max(range(len(self.given)), key=lambda it: self.given[it])
 
 
-def call(name: str, readings: Sequence[bytes], lead_in: int) -> tuple[Mended, MendedReadings]:
-    """Packs or blocks of readings of equal length."""
-    joined, length = b"".join(readings), len(readings[0])
-    words = max(0, PACKS_A_BLOCK * (length // BLOCK - lead_in) - 7) if length // BLOCK - lead_in > 1 else 0
-    room = length if name == "ribjasper_mend_stream" else PACK * words
-    content, sources = ctypes.create_string_buffer(max(1, room)), ctypes.create_string_buffer(max(1, words))
+def mended(readings: Sequence[bytes]) -> Mended:
+    """The packs of readings of equal length that have no lead-in."""
+    joined, blocks = b"".join(readings), len(readings[0]) // BLOCK
+    words = max(0, PACKS_A_BLOCK * blocks - SLOTS + 1) if blocks > 1 else 0
+    packs, sources = ctypes.create_string_buffer(max(1, PACK * words)), ctypes.create_string_buffer(max(1, words))
     told = MendedReadings()
-    status = library.call(name)(
-        joined, len(joined), len(readings), lead_in, content, room, sources, words, told
+    status = library.call("ribjasper_mend_readings")(
+        joined, len(joined), len(readings), 0, packs, PACK * words, sources, words, told
     )
     if status not in (library.DONE, library.DAMAGED):
-        raise ValueError(f"{name} answers {status}")
-    return Mended(ctypes.string_at(content, told.bytes), ctypes.string_at(sources, words)), told
+        raise ValueError(f"ribjasper_mend_readings answers {status}")
+    return Mended(ctypes.string_at(packs, told.bytes), ctypes.string_at(sources, words))
 
 
 class Part(NamedTuple):
@@ -71,10 +73,10 @@ class Part(NamedTuple):
     end: int
     start: int
 
-    def words(self, mended: Mended) -> Mended:
+    def words(self, found: Mended) -> Mended:
         """Of the packs that were mended from the start on those whose slots are of the part."""
         a, b = self.place(0), PACKS_A_BLOCK * (self.end - self.start)
-        return Mended(mended.content[PACK * a : PACK * b], mended.sources[a:b])
+        return Mended(found.packs[PACK * a : PACK * b], found.sources[a:b])
 
     def place(self, word: int) -> int:
         """The place from the start on of a word of the part."""
@@ -137,7 +139,7 @@ def survey(laid: Laid) -> Survey:
             stream = bytes(laid.window(reading, start, stop))
             symbols = stream[BLOCK * (first - start) : BLOCK * (end - start)].translate(_RW)
             found.bits[number] += either(*(symbols[place::BLOCK] for place in range(BLOCK))).translate(_ANY)
-            packs = part.words(call("ribjasper_mend_readings", [stream], 0)[0]).content
+            packs = part.words(mended([stream])).packs
             busy = marked(packs)
             alone.append((packs, busy))
             column = busy.ljust(PACKS_A_BLOCK * (end - first), b"\0")
@@ -182,23 +184,24 @@ def mend(laid: Laid, wants_blocks: bool, write: Callable[[bytes], object]) -> Co
     """Mends part by part, and writes the packs or the blocks."""
     counts = Counts([0] * len(laid.readings), given=[0] * len(laid.readings), missed=[0] * len(laid.readings))
     for part, stop in parts(laid):
-        first, end, start = part
-        streams = [laid.mended_window(reading, start, stop) for reading in laid.readings]
-        packs = part.words(call("ribjasper_mend_readings", streams, 0)[0])
-        add(counts, packs, streams, part)
+        streams = [laid.mended_window(reading, part.start, stop) for reading in laid.readings]
+        whole = mended(streams)
+        found = part.words(whole)
+        add(counts, found, streams, part)
         if wants_blocks:
-            blocks = call("ribjasper_mend_stream", streams, 0)[0].content
-            write(with_pq(laid, blocks, start)[BLOCK * (first - start) : BLOCK * (end - start)])
+            own = [bytes(laid.window(reading, part.start, stop)) for reading in laid.readings]
+            blocks = mended_blocks(whole.packs, whole.sources, streams, own)
+            write(blocks[BLOCK * (part.first - part.start) : BLOCK * (part.end - part.start)])
         else:
-            write(packs.content)
+            write(found.packs)
     counts.lost_blocks = joined(counts.lost_blocks)
     return counts
 
 
-def add(counts: Counts, mended: Mended, streams: Sequence[bytes], part: Part) -> None:
+def add(counts: Counts, found: Mended, streams: Sequence[bytes], part: Part) -> None:
     """Counts the words of a part."""
-    alone = [part.words(call("ribjasper_mend_readings", [stream], 0)[0]) for stream in streams]
-    sources = mended.sources
+    alone = [part.words(mended([stream])) for stream in streams]
+    sources = found.sources
     counts.words += len(sources)
     counts.agreed += sources.count(library.AGREED)
     counts.none += sources.count(library.NO_READING)
@@ -207,9 +210,9 @@ def add(counts: Counts, mended: Mended, streams: Sequence[bytes], part: Part) ->
     counts.lost += sum(both(none, given))
     for number, it in enumerate(alone):
         counts.of_reading[number] += sources.count(number)
-        busy = marked(it.content)
+        busy = marked(it.packs)
         counts.given[number] += sum(busy)
-        others = re.finditer(b"\1", both(busy, differ(it.content, mended.content)))
+        others = re.finditer(b"\1", both(busy, differ(it.packs, found.packs)))
         counts.missed[number] += sum(not wrong_symbols(streams[number], part.place(other.start())) for other in others)
     for run in runs(none):
         first, last = run.first // PACKS_A_BLOCK, (run.last + 7) // PACKS_A_BLOCK
@@ -225,22 +228,6 @@ def joined(found: Sequence[Run]) -> list[Run]:
         else:
             result.append(run)
     return result
-
-
-def with_pq(laid: Laid, blocks: bytes, start: int) -> bytes:
-    """Blocks with P and Q of readings that were left out there for their graphics alone, where no other has a frame."""
-    if not any(reading.left_out for reading in laid.readings):
-        return blocks
-    changed = bytearray(blocks)
-    for reading in laid.readings:
-        for run in reading.left_out:
-            for block in range(max(run.first, start), min(run.last + 1, start + len(blocks) // BLOCK)):
-                at = BLOCK * (block - start)
-                own = laid.window(reading, block, block + 1)
-                if library.q_frame(bytes(changed[at : at + BLOCK])) is None and library.q_frame(bytes(own)):
-                    mixed = zip(own, changed[at : at + BLOCK])
-                    changed[at : at + BLOCK] = bytes(mine & 0xC0 | other & 0x3F for mine, other in mixed)
-    return bytes(changed)
 
 
 def differing_blocks(a: bytes, b: bytes) -> list[Run]:

@@ -13,7 +13,6 @@ from fixtures import has
 
 NAMES = ["reading", "words", "of-reading", "gives", "missed", "left-out"]
 needs_mending = unittest.skipUnless(has("ribjasper_mend_readings"), "lib/ has no ribjasper_mend_readings")
-needs_stream = unittest.skipUnless(has("ribjasper_mend_stream"), "lib/ has no ribjasper_mend_stream")
 
 
 def noisy(stream: bytes, places: range, seed: int, length: int = 60) -> bytes:
@@ -258,7 +257,7 @@ class KnownReadingsTest(MendCase):
 
 
 @needs_library
-@needs_stream
+@needs_mending
 class MendedStreamTest(MendCase):
     def setUp(self) -> None:
         super().setUp()
@@ -278,6 +277,19 @@ class MendedStreamTest(MendCase):
             self.assertEqual(stream[: -2 * BLOCK].translate(bits), self.whole[: -2 * BLOCK].translate(bits))
         planar = self.mended(first, second, name="out.sub")
         self.assertEqual(planar, known.as_planar(stream))
+
+    def test_packs_of_a_stream_are_the_mended_ones(self) -> None:
+        """Also where words have none: those are bad in the stream too."""
+        first, second = known.scratched(self.whole, 1, 12, 70), known.scratched(self.whole, 2, 13, 70)
+        packs = self.mended(first, second, status=1)
+        stream = self.mended(first, second, status=1, name="out.raw")
+        again = program("convert", "--lead-in", 60, stdin=stream, statuses=(0, 1))
+        self.assertEqual(again, packs)
+        checked = program("check", "--lead-in", 60, stdin=stream, statuses=(0, 1)).decode()
+        counts = dict(line.split() for line in checked.splitlines())
+        self.assertEqual((counts["one"], counts["two"]), ("0", "0"))
+        none = int(re.search(r"(\d+) words have no codeword", self.ran.told)[1])  # type: ignore[index]
+        self.assertEqual(int(counts["bad"]), none)
 
     def test_q_of_a_reading_that_is_left_out(self) -> None:
         """A reading without graphics gives its Q where the other's is bad."""
