@@ -82,3 +82,9 @@ ALBUM = Kind("a list of songs", lines_like(rb"#.*|\[\[track\]\]|[a-z]+[ \t]*=.*"
 ZIP = Kind("a ZIP file", begins(b"PK\3\4"))
 # A sound that is there already may be the only one of its kind.
 SOUND = Kind("a sound of this song")
+CCD = Kind("a sheet of CloneCD", begins(b"[CloneCD]"))
+TABLE_OF_BLOCKS = Kind("a table of blocks", begins(b"block\ttime\tblocks\n"))
+DDRESCUE = Kind("a map for ddrescue", begins(b"# Mapfile"))
+SBI = Kind("a list of changed frames", begins(b"SBI\0"))
+DAT = Kind("a list of checksums", lambda head, _: head.startswith(b"<?xml") and b"<datafile>" in head)
+LIST_OF_PLACES = Kind("a list of places", begins(b"kind\tfirst\tlast\t"))
