@@ -52,7 +52,8 @@ def changes_of(packs: bytes) -> Iterator[bytes]:
             part = packs[at : at + step]
             if not any(part):
                 continue
-            player.draw(part)
+            if player.draw(part).is_none:
+                continue
             pixels, shown = player.screen(), player.colours()
             if pixels == before and shown == colours:
                 continue

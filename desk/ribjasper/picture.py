@@ -1,5 +1,7 @@
 """`picture`: the lines of a script that draw an image, in few colours and few tiles."""
 import argparse
+import functools
+import operator
 from collections import Counter
 from dataclasses import dataclass
 from pathlib import Path
@@ -16,7 +18,6 @@ from .raster import COLOURS, COLUMNS, HEIGHT, ROWS, TILE_HEIGHT, TILE_WIDTH, WID
 from .words import Commands, number_in
 
 Grid = list[bytearray]
-Tile = tuple[int, ...]
 # The pixels of the largest image that is read, and from which distance on a colour is not near another.
 MOST_PIXELS = 64_000_000
 FAR = 60
@@ -166,11 +167,14 @@ def simplify(flat: Flat, most_error: float) -> None:
         put(flat.rows, left, top, bytes(change))
 
 
-def rank(tile: Tile) -> int:
-    """How many packs a tile of these colour numbers takes: one, and more where their differences need it."""
+@functools.lru_cache(maxsize=None)
+def rank(numbers: int) -> int:
+    """How many packs a tile takes that has the colours whose bits are set: one, and more where their differences need
+    it."""
+    first, *others = [number for number in range(COLOURS) if numbers >> number & 1]
     found: list[int] = []
-    for number in tile[1:]:
-        difference = number ^ tile[0]
+    for number in others:
+        difference = number ^ first
         for one in found:
             difference = min(difference, difference ^ one)
         if difference:
@@ -185,7 +189,10 @@ def numbered(flat: Flat, free: Sequence[int]) -> list[int]:
     numbers = list(free)
 
     def cost() -> int:
-        return sum(count * rank(tuple(numbers[place] for place in colours)) for colours, count in many.items())
+        bits, total = [1 << number for number in numbers], 0
+        for colours, count in many.items():
+            total += count * rank(functools.reduce(operator.or_, map(bits.__getitem__, colours)))
+        return total
 
     least, is_better = cost(), bool(many)
     while is_better:

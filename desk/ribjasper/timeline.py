@@ -212,7 +212,7 @@ def fitting(steps: list[Draw], blocks: int) -> int:
 def dues_of(placed: Placed, sweep: bool) -> list[Due]:
     """When the parts of a line are lit: each syllable at its time, or column by column while it is sung; and when the dots
     go out that count it in."""
-    dues = [Due([DotOut(placed, left, placed.draws[0].empty)], nearest_block(placed.start) - BLOCKS_A_SECOND * after)
+    dues = [Due([DotOut(placed, left, left + TILE_WIDTH)], nearest_block(placed.start) - BLOCKS_A_SECOND * after)
             for after, left in zip(range(len(placed.dots) - 1, -1, -1), placed.dots)]
     letters = placed.letters
     if not letters:
