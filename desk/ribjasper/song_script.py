@@ -75,6 +75,8 @@ class Made:
             number = placed.letters.line.number if placed.letters else 0
             return f"{path}: line {number} {what}: {placed.text()}"
 
+        for placed in self.told.cut:
+            yield of(placed, "is not wholly lit before the sound ends")
         for placed in self.told.lost:
             yield of(placed, "is not sung out when another has to come in its place")
         for placed, blocks in self.told.drawn_late.items():
@@ -348,7 +350,7 @@ class Maker:
         """Schedules until the plan finds nothing late."""
         for _ in range(ROUNDS):
             pictures, told = self.arranged()
-            pictures = within(pictures, self.wishes.end)
+            pictures = within(pictures, self.wishes.end, told)
             lines = self.script(pictures, self.wishes.end)
             found = plan_of(lines)
             if not found.late():
@@ -395,12 +397,16 @@ def tasks_of(pages: list[Page], begin: int, style: Style, lead: float | None) ->
     return tasks
 
 
-def within(pictures: list[Picture], end: int | None) -> list[Picture]:
-    """Without what would clear the page, or end the song, after the end of the audio."""
-    def is_needed(picture: Picture) -> bool:
-        return any(not isinstance(step, Draw) or step.placed.letters and step.placed.is_sung for step in picture.steps)
-
-    return [picture for picture in pictures if end is None or picture.ready <= end or is_needed(picture)]
+def within(pictures: list[Picture], end: int | None, told: Told) -> list[Picture]:
+    """Without what comes after the end of the audio; where that is more than what clears the page or ends the song, its
+    lines are told."""
+    if end is None:
+        return pictures
+    for picture in pictures:
+        for step in picture.steps if picture.ready > end else ():
+            if isinstance(step, Part) and step.placed.letters and step.placed.is_sung:
+                told.cut.setdefault(step.placed)
+    return [picture for picture in pictures if picture.ready <= end]
 
 
 def end_with_sound(song: Song, end: int) -> None:

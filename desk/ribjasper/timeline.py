@@ -92,20 +92,21 @@ def grouped(dues: Sequence[Due]) -> list[Due]:
 
 @dataclass
 class Told:
-    """By how many blocks lines are drawn and words are lit after their times, and the lines that are not sung out when
-    others have to come in their place."""
+    """By how many blocks lines are drawn and words are lit after their times, the lines that are not sung out when others
+    have to come in their place, and those that are not wholly lit before the audio ends."""
 
     drawn_late: dict[Placed, int] = field(default_factory=dict)
     lit_late: dict[Placed, int] = field(default_factory=dict)
     lost: list[Placed] = field(default_factory=list)
+    cut: dict[Placed, None] = field(default_factory=dict)
 
     def rows(self) -> set[Placed]:
         """The rows of which something is told."""
-        return {*self.drawn_late, *self.lit_late, *self.lost}
+        return {*self.drawn_late, *self.lit_late, *self.lost, *self.cut}
 
     def total(self) -> int:
         """How bad it is: blocks, and a minute for each line that is lost."""
-        return sum(self.drawn_late.values()) + sum(self.lit_late.values()) + A_MINUTE * len(self.lost)
+        return sum(self.drawn_late.values()) + sum(self.lit_late.values()) + A_MINUTE * len([*self.lost, *self.cut])
 
 
 class Arranger:
