@@ -11,7 +11,7 @@ from . import audio, kinds
 from .discs import read_disc
 from .image import SHORTEST_TRACK, cue_of, toc_of
 from .library import BLOCK, BLOCKS_A_SECOND, PACK, PACKS_A_BLOCK
-from .output import DASH, Outputs, Refusal, add_force, tell
+from .output import DASH, Outputs, Refusal, add_force, stem_of, tell
 from .planning import NoPlan, least_lead_in
 from .program import press
 from .song_files import read_song
@@ -102,7 +102,7 @@ def run(arguments: argparse.Namespace) -> int:
     if len(arguments.files) > 1 or not arguments.output:
         arguments.parser.error("one list and -o DISC are needed, or --new")
     album = read_album(arguments.files[0])
-    name = os.fspath(arguments.output)
+    name = stem_of(arguments.output)
     scripts = [f"{name}-{number:02}.script" for number in range(1, len(album.tracks) + 1)]
     disc_files = [f"{name}.bin", f"{name}.toc", f"{name}.cue", f"{name}.raw", f"{name}-sheet.cue"]
     disc_kinds = [kinds.IMAGE, kinds.TOC, kinds.CUE, kinds.STREAM, kinds.CUE]

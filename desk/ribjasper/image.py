@@ -7,7 +7,7 @@ from typing import Iterator
 from . import audio, kinds, latin1
 from .discs import COPY, FOUR_CHANNELS, PRE_EMPHASIS, Disc, Track, read_disc
 from .library import BLOCK, PACK, PACKS_A_BLOCK, RAW, SECTOR, Player, convert, texts
-from .output import LATE, Outputs, Refusal, add_force, read_file, tell
+from .output import LATE, Outputs, Refusal, add_force, read_file, stem_of, tell
 from .program import author
 from .sheets import COMMANDS, FLAGS, quoted
 from .streams import open_stream
@@ -195,7 +195,7 @@ def warn(arguments: argparse.Namespace, disc: Disc, program: bytes) -> None:
 
 def run(arguments: argparse.Namespace) -> int:
     reads = [arguments.sheet, arguments.stream, arguments.audio, arguments.hold_through_pause]
-    names = [f"{os.fspath(arguments.output)}{ending}" for ending in (".bin", ".toc", ".cue")]
+    names = [f"{stem_of(arguments.output)}{ending}" for ending in (".bin", ".toc", ".cue")]
     with Outputs(reads, zip(names, (kinds.IMAGE, kinds.TOC, kinds.CUE)), arguments.force) as outputs:
         return write_image(arguments, outputs, *names)
 

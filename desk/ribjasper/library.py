@@ -1,11 +1,12 @@
 """The proved library, by ctypes: its structs, its calls, and a player."""
 import ctypes
 import functools
+import itertools
 import os
 from ctypes import POINTER, Structure, c_bool, c_int32, c_size_t, c_uint8, c_uint16, c_uint32, c_uint64, c_void_p
 from pathlib import Path
 from types import TracebackType
-from typing import Any, Iterator
+from typing import Any, Iterator, NamedTuple
 
 from .failures import Missing
 
@@ -22,6 +23,9 @@ MOST_BLOCKS, LONGEST_LEAD_IN = 1_000_000, 450_000
 RAW, PACKS, SECTORS = 0, 1, 2
 DONE, DAMAGED, USAGE, TORN, NO_ROOM, NO_MEMORY = 0, 1, 2, 3, 6, 7
 NO_TIME = 0xFFFF_FFFF
+# The pixels of a tile, the most index lines that a sheet has, and the kinds of its texts by their numbers.
+TILE, MOST_INDEX_LINES = 72, 9_900
+SHEET_TEXTS = ("title", "performer", "songwriter")
 # What the texts of most discs need.
 TEXT_ROOM = 65_536
 Q_PROGRAM, Q_TRACK, Q_FIRST, Q_LAST, Q_LEAD_OUT, Q_CATALOGUE, Q_ISRC, Q_OTHER = range(8)
@@ -131,6 +135,41 @@ class Change(Structure):
         return bool(self.left == WIDTH and not self.colours and not self.levels)
 
 
+class SheetRow(Structure):
+    """An index line of a cue sheet: its time in the file, and what the sheet says of its track."""
+
+    _fields_ = [
+        ("time", c_uint32),
+        ("pregap", c_uint32),
+        ("postgap", c_uint32),
+        ("track", c_uint8),
+        ("index", c_uint8),
+        ("control", c_uint8),
+        ("has_isrc", c_uint8),
+        ("isrc", c_uint8 * 12),
+    ]
+
+
+class SheetTold(Structure):
+    _fields_ = [
+        ("rows", c_uint32),
+        ("tracks", c_uint32),
+        ("line", c_uint32),
+        ("why", c_uint32),
+        ("has_catalogue", c_uint8),
+        ("catalogue", c_uint8 * 13),
+    ]
+
+
+class Sheet(NamedTuple):
+    """The index lines of a cue sheet and its catalogue number, or the line that is refused and the reason's number."""
+
+    rows: list[SheetRow]
+    catalogue: bytes
+    line: int
+    why: int
+
+
 # What each call takes and answers. Where bytes are read a `bytes` may be given, which is not copied.
 _BYTES, _PLAYER = c_void_p, POINTER(PlayerHandle)
 CALLS = {
@@ -153,6 +192,9 @@ CALLS = {
     "ribjasper_survey": ([_BYTES, c_size_t, c_uint32, c_uint32, _BYTES, c_size_t, POINTER(Surveyed)], c_int32),
     "ribjasper_texts": ([_BYTES, c_size_t, c_uint32, c_uint32, _BYTES, c_size_t, POINTER(Listed)], c_int32),
     "ribjasper_mend": ([_BYTES, c_size_t, _BYTES, c_size_t, c_uint32, _BYTES, c_size_t, POINTER(Mended)], c_int32),
+    "ribjasper_sheet": ([_BYTES, c_size_t, POINTER(SheetRow), c_size_t, POINTER(SheetTold)], c_int32),
+    "ribjasper_sheet_text": ([_BYTES, c_size_t, c_uint32, c_uint32, _BYTES, c_size_t, POINTER(c_uint32)], c_int32),
+    "ribjasper_tile_weight": ([c_uint8 * TILE], c_int32),
     "ribjasper_plan": (
         [_BYTES, c_size_t, _BYTES, c_size_t, c_uint32, c_uint32, POINTER(PlanRow), c_size_t, POINTER(Planned)],
         c_int32,
@@ -290,3 +332,36 @@ def q_frame(block: bytes) -> QFrame | None:
     planar, frame, bit = ctypes.create_string_buffer(BLOCK), QFrame(), c_uint8()
     call("ribjasper_block_to_planar")(block, planar)
     return frame if call("ribjasper_q_decode")(planar.raw[12:24], frame, bit) == DONE else None
+
+
+def sheet(text: bytes) -> Sheet:
+    """What a cue sheet says, line by line of its indices."""
+    rows, told = (SheetRow * MOST_INDEX_LINES)(), SheetTold()
+    status = call("ribjasper_sheet")(text, len(text), rows, MOST_INDEX_LINES, told)
+    if status == NO_MEMORY:
+        raise MemoryError
+    if status not in (DONE, TORN):
+        raise ValueError(f"ribjasper_sheet answers {status}")
+    catalogue = bytes(told.catalogue) if told.has_catalogue else b""
+    return Sheet(rows[: told.rows], catalogue, told.line, told.why)
+
+
+def sheet_text(text: bytes, kind: int, place: int) -> bytes:
+    """A text of a cue sheet that is not refused: of the album at place 0, of the k-th track at place k."""
+    room, length, status = TEXT_ROOM, c_uint32(), NO_ROOM
+    while status == NO_ROOM:
+        out = ctypes.create_string_buffer(room)
+        status = call("ribjasper_sheet_text")(text, len(text), kind, place, out, room, length)
+        room = max(room, length.value)
+    if status == NO_MEMORY:
+        raise MemoryError
+    if status != DONE:
+        raise ValueError(f"ribjasper_sheet_text answers {status}")
+    return ctypes.string_at(out, length.value)
+
+
+@functools.lru_cache(maxsize=None)
+def tile_weight(numbers: frozenset[int]) -> int:
+    """How many packs a tile takes in which the colours of these numbers stand, and no others."""
+    pixels = (*numbers, *itertools.repeat(min(numbers), TILE - len(numbers)))
+    return int(call("ribjasper_tile_weight")((c_uint8 * TILE)(*pixels)))

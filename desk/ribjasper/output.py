@@ -31,6 +31,8 @@ from .kinds import Kind
 DASH, STANDARD_OUTPUT = "-", "standard output"
 # What is written waits under such a name beside where it is to stand.
 PREFIX = ".ribjasper-"
+# Programs that write a file themselves go by its ending, if it is one.
+LONGEST_ENDING = 16
 # Outputs that are no files wait in memory up to so many bytes, and in a file without a name beyond.
 KEPT_IN_MEMORY = 1 << 26
 COPIED_AT_ONCE = 1 << 20
@@ -39,6 +41,7 @@ STOPS = (signal.SIGINT, signal.SIGTERM, signal.SIGHUP)
 # Why a file system has no hard links.
 NO_LINKS = (errno.EPERM, errno.EOPNOTSUPP, errno.ENOSYS, errno.EMLINK, errno.EXDEV)
 WRITABLE = stat.S_IWUSR | stat.S_IWGRP | stat.S_IWOTH
+ALL_MODES = stat.S_IRWXU | stat.S_IRWXG | stat.S_IRWXO
 
 
 def package(module: str, debian: str) -> Any:
@@ -187,6 +190,8 @@ class Target:
 
     def identity(self) -> tuple[object, ...]:
         """What two names of one file have in common, also of one that is still to come."""
+        if self.is_dash:
+            return (DASH,)
         if self.found is not None:
             return self.found.st_dev, self.found.st_ino
         folder, name = _found(self.folder), os.path.basename(self.path)
@@ -285,7 +290,8 @@ class Output:
 
     def _beside(self, folder: str, ending: str = "") -> int:
         with writing(self.name):
-            number, self.waits = _made_beside(folder, os.path.splitext(self.target.path)[1] or ending)
+            own = os.path.splitext(self.target.path)[1]
+            number, self.waits = _made_beside(folder, own if 0 < len(own) <= LONGEST_ENDING else ending)
         return number
 
     def finish(self) -> None:
@@ -317,7 +323,7 @@ class Output:
         assert self.waits is not None
         with writing(self.name):
             found = self.target.found
-            os.chmod(self.waits, stat.S_IMODE(found.st_mode) if found else _new_mode())
+            os.chmod(self.waits, found.st_mode & ALL_MODES if found else _new_mode())
             if found and (found.st_uid, found.st_gid) != (os.geteuid(), os.getegid()):
                 with contextlib.suppress(OSError):
                     os.chown(self.waits, found.st_uid, found.st_gid)
@@ -520,6 +526,16 @@ def _keep_folder(folder: str) -> None:
             os.fsync(number)
         finally:
             os.close(number)
+
+
+def stem_of(name: Name) -> str:
+    """The name from which the names of several files are made, as a call has it."""
+    stem = os.fsdecode(name)
+    if stem == DASH:
+        raise Refusal(DASH, f"stands for standard output, which takes one file and not several; ./{DASH} is a name")
+    if os.path.basename(stem) in ("", os.curdir, os.pardir):
+        raise Refusal(stem or "''", "is no name from which those of several files can be made")
+    return stem
 
 
 def add_force(parser: argparse.ArgumentParser) -> None:

@@ -10,7 +10,7 @@ from pathlib import Path
 from . import audio, kinds
 from .album import Album, Track, sing, write_disc
 from .lyrics import add_wishes, reads_of, wishes_of
-from .output import Missing, Outputs, Refusal, add_force, tell
+from .output import Missing, Outputs, Refusal, add_force, stem_of, tell
 from .songs import Song
 from .tracks import as_pair
 from .words import Commands
@@ -45,7 +45,7 @@ def sound_of(arguments: argparse.Namespace) -> Path:
 
 def run(arguments: argparse.Namespace) -> int:
     sound = sound_of(arguments)
-    name = os.fspath(arguments.output)
+    name = stem_of(arguments.output)
     ending = ".mp3" if arguments.mp3 else sound.suffix.lower()
     cdg, beside, packed = f"{name}.cdg", f"{name}{ending}", f"{name}.zip"
     is_there = os.path.exists(beside) and os.path.samefile(beside, sound) and not arguments.mp3

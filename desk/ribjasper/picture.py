@@ -11,7 +11,7 @@ from . import colours as colouring
 from . import kinds
 from .colours import Colour
 from .failures import reading
-from .library import BLOCKS_A_SECOND
+from .library import BLOCKS_A_SECOND, tile_weight
 from .output import DASH, Outputs, Refusal, add_force, package, tell
 from .planning import plan
 from .raster import COLOURS, COLUMNS, HEIGHT, ROWS, TILE_HEIGHT, TILE_WIDTH, WIDTH, Raster, Span, joined, lines_between
@@ -168,18 +168,9 @@ def simplify(flat: Flat, most_error: float) -> None:
 
 
 @functools.lru_cache(maxsize=None)
-def rank(numbers: int) -> int:
-    """How many packs a tile takes that has the colours whose bits are set: one, and more where their differences need
-    it."""
-    first, *others = [number for number in range(COLOURS) if numbers >> number & 1]
-    found: list[int] = []
-    for number in others:
-        difference = number ^ first
-        for one in found:
-            difference = min(difference, difference ^ one)
-        if difference:
-            found.append(difference)
-    return max(1, len(found))
+def weight(numbers: int) -> int:
+    """How many packs a tile takes that has the colours whose bits are set."""
+    return tile_weight(frozenset(number for number in range(COLOURS) if numbers >> number & 1))
 
 
 def numbered(flat: Flat, free: Sequence[int]) -> list[int]:
@@ -191,7 +182,7 @@ def numbered(flat: Flat, free: Sequence[int]) -> list[int]:
     def cost() -> int:
         bits, total = [1 << number for number in numbers], 0
         for colours, count in many.items():
-            total += count * rank(functools.reduce(operator.or_, map(bits.__getitem__, colours)))
+            total += count * weight(functools.reduce(operator.or_, map(bits.__getitem__, colours)))
         return total
 
     least, is_better = cost(), bool(many)

@@ -44,8 +44,3 @@ def stream_of(command: str, sheet: bytes, other: tuple[str, bytes], lead_in: int
         done = subprocess.run([program(), *words], stdin=subprocess.DEVNULL, capture_output=True)
     return done.stdout, done.returncode, done.stderr.decode(errors="replace").strip()
 
-
-def texts(stream: bytes, lead_in: int) -> str:
-    """The lines of the CD-TEXT of a stream."""
-    done = subprocess.run([program(), "text", "--lead-in", str(lead_in)], input=stream, capture_output=True)
-    return done.stdout.decode("ascii") if done.returncode == 0 else ""

@@ -17,7 +17,7 @@ from typing import Iterator, NamedTuple
 from . import kinds, library, report_page
 from .examine import COLUMNS, UNREAD, Examined, examine
 from .failures import reading
-from .output import REFUSED, Outputs, Refusal, add_force, cause, package, shown, tell, write_file, write_row
+from .output import DASH, REFUSED, Outputs, Refusal, add_force, cause, package, shown, tell, write_file, write_row
 
 # What a journal holds changes with this number; rows of another are read again.
 LAYOUT = 1
@@ -276,10 +276,16 @@ def write_tables(outputs: Outputs, out: Path, rows: list[dict]) -> None:
 
 
 def run(arguments) -> int:
-    out = Path(arguments.output)
+    out = Path(folder_of(arguments.output))
     check_folder(out, arguments.folder, arguments.force)
     with tables(out, arguments.force) as outputs:
         return report(arguments, outputs, out)
+
+
+def folder_of(name: str) -> str:
+    if name in ("", DASH):
+        raise Refusal(name or "''", "is no name of a folder, which a report needs")
+    return name
 
 
 def check_folder(out: Path, folder: str, force: bool) -> None:

@@ -104,6 +104,14 @@ class SameFileTest(CallsTest):
             self.refuses(*words, why="is there already, and is not")
         self.refuses("texts", "--back", dump, "--blocks", notes, why="is there already, and nobody can tell whether")
 
+    def test_names_of_which_several_files_cannot_be_made(self) -> None:
+        file = write_wav(self.folder / "s.wav", 100)
+        for name, why in (("-", "stands for standard output"), ("", "is no name"), ("..", "is no name")):
+            self.refuses("image", file, file, "--audio", file, "-o", name, why=why)
+            self.refuses("pair", file, "--audio", file, "-o", name, why=why)
+            if name in ("-", ""):
+                self.refuses("report", self.folder, "-o", name, why="is no name of a folder")
+
     def test_a_report_takes_a_folder_of_its_own(self) -> None:
         self.write("dumps/x", b"dump")
         self.write("mine/pictures/holiday.png", b"precious")

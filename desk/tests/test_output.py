@@ -80,6 +80,7 @@ class OutputTest(FolderTest):
         os.link(self.path("b"), self.path("c"))
         self.refused("is the same file as another output", [], [(self.path("b"), ANY), (self.path("c"), ANY)])
         self.refused("is the same file as another output", [], [("-", ANY), ("-", ANY)])
+        Outputs([], [("-", ANY), ("./-", ANY)])
 
     def test_all_refusals_at_once(self) -> None:
         dump, other = self.write("dump", "x"), self.write("notes.txt", "precious")
@@ -188,6 +189,14 @@ class OutputTest(FolderTest):
             reader.join()
         self.assertEqual(found, [b"content" * 1000])
         self.assertTrue(stat.S_ISSOCK(os.stat(path).st_mode))
+
+    def test_a_name_as_long_as_can_be(self) -> None:
+        for name in ("a" * 255, "a." + "b" * 253):
+            write_file(self.path(name), b"content", ANY)
+            self.assertEqual(self.path(name).read_bytes(), b"content")
+        with self.assertRaises(Failure) as caught:
+            write_file(self.path("a" * 256), b"content", ANY)
+        self.assertIn("file name too long", str(caught.exception))
 
     def test_several_appear_together(self) -> None:
         old, new = self.write("old", "before"), self.path("new")

@@ -14,11 +14,11 @@ from array import array
 from pathlib import Path
 from typing import Iterator, NamedTuple
 
-HERE = Path(__file__).resolve().parent
-sys.path.insert(0, str(HERE.parent.parent / "desk"))
+# The package of the desk, to which a link leads from here.
+from ribjasper.song_files import read_song
+from ribjasper.songs import Song
 
-from ribjasper.song_files import read_song  # noqa: E402
-from ribjasper.songs import Song  # noqa: E402
+HERE = Path(__file__).resolve().parent
 
 RATE, SECONDS, LAST = 44_100, 60, 5
 BEAT = 60 / 108
