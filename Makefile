@@ -1,6 +1,6 @@
 # Builds the program, shows it at work, and checks the repository.
 
-.PHONY: all library example demo check bench guide install uninstall deb dist clean
+.PHONY: all library example demo check bench guide definitions install uninstall deb dist clean
 
 PREFIX ?= /usr/local
 # Where libraries go; some systems have a folder for each processor.
@@ -41,6 +41,10 @@ bench:
 # The commands of the guide, as they stand.
 guide:
 	tools/run_guide.sh
+
+# All definitions that the clauses rest on, the two long acts too that docs/DEFINITIONS.md only counts.
+definitions:
+	tools/list_definitions.py --whole
 
 # The program, its manual page, the completions of two shells, and where they can be used the library and the desk,
 # below PREFIX.

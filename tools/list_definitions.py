@@ -3,8 +3,9 @@
 
 An act begins with clauses of the top call `run`, with definitions or with laws, and shows each definition that these
 rest on, once, in the order in which they are met, and those that only name a number in a table at its end; what an
-earlier act shows is not shown again. What no act reaches is listed by name at the end. With --check it only says whether
-the document is the one that would be written; --count prints the lines of each act.
+earlier act shows is not shown again. What no act reaches is listed by name at the end. Two long acts that few read are
+counted there alone: with --whole (`make definitions`) they are written too, to a file that is not kept. With --check it only
+says whether the document is the one that would be written; --count prints the lines of each act.
 """
 import argparse
 import re
@@ -14,6 +15,7 @@ from typing import Iterator
 
 TOP = Path(__file__).resolve().parent.parent
 DOCUMENT = TOP / "docs" / "DEFINITIONS.md"
+WHOLE = TOP / "docs" / "DEFINITIONS-WHOLE.md"
 CLAIMS = TOP / "crates" / "cdg_cmd" / "src" / "top.rt"
 LAWS = TOP / "crates" / "run_laws" / "src"
 START = re.compile(r"(?:abbrev pub|unfoldable pub|pub record|pub data|abbrev|unfoldable|record|data) (\S+)")
@@ -30,7 +32,14 @@ ACTS = [
     ("The two grammars", ["IsSheetText", "IsScriptText", "CueSheet"]),
     ("Words, answers, and what each command takes and writes", ["Spells", "texts", "error_line", "run.*"]),
     ("What follows for special inputs", ["laws"]),
+    ("What the calls of the library say", ["library"]),
 ]
+
+# The acts that are written on demand.
+ON_DEMAND = ("Words, answers, and what each command takes and writes", "What the calls of the library say")
+
+# The crates whose definitions the clauses of the library for programs in C rest on, beside those of the program.
+LIBRARY = ("plain_frames", "block_survey", "rw_mend", "disc_plan", "live_player", "ribjasper_c")
 
 # What an act says first, where its claims name something that it does not show.
 SAID = {
@@ -84,6 +93,7 @@ WORDS = {
     "Contains": "the list has this element",
     "Err": "an answer that is no success, with its reason",
     "ForSome": "there is a value, and this holds of it",
+    "Global": "the heap",
     "IfErr": "where the answer is `Err`, this holds of its reason",
     "IfOk": "where the answer is `Ok`, this holds of its value",
     "IfSome": "where there is a value, this holds of it",
@@ -109,7 +119,9 @@ WORDS = {
     "before_first": "what stands before the first element of this kind",
     "bit_at": "bit k of a number, the lowest first",
     "bit_xor": "exclusive or, bit by bit",
+    "box_owns": "a box holds this value, and the memory that it lies in",
     "bytes_eq": "whether two lists of bytes are equal",
+    "coded_list": "numbers as they lie in memory, one behind another",
     "codes": "the letters of a text as numbers",
     "concat": "the lists of a list, joined",
     "count_by": "how many elements are of this kind",
@@ -143,14 +155,17 @@ WORDS = {
     "nat_eq": "whether two numbers are equal",
     "nat_le": "whether a number is at most another",
     "nat_lt": "whether a number is below another",
+    "negsuc": "a number below zero: `negsuc n` is - n - 1",
     "not": "the other truth value",
     "option_map": "what a function gives for a value, if there is one",
+    "pos": "a whole number from 0 on",
     "position": "the number of the first element of this kind",
     "range_with_len": "so many numbers, counted up from the first",
     "replicate": "a list of n equal elements",
     "reverse": "a list from its end",
     "slice_index": "element n of a list, counted from 0; 0 where there is none",
     "slice_index_or": "the same, or another value where there is none",
+    "slice_range": "the elements of a list between two places",
     "slice_set": "a list with another value at place n",
     "slice_split": "a list cut at each element of this kind, without these",
     "starts_with": "whether a list begins with another",
@@ -350,6 +365,9 @@ class Book:
 
     def claims_of(self, root: str) -> tuple[list[Claim], list[Target]]:
         """The claims that a root of an act stands for, and the definitions that these cite."""
+        if root == "library":
+            modules = [(where, module) for where, module in self.modules.items() if module.crate in LIBRARY]
+            return [], [(where, name) for where, module in modules for name in module.blocks]
         if root == "laws":
             found = list(laws())
             cited = [target for _, lines, imports in found for target in self.cites(lines, imports)]
@@ -392,14 +410,16 @@ class Book:
     def link(self, module: Module) -> str:
         return f"../crates/{module.crate}/specs/{module.path.relative_to(TOP / 'crates' / module.crate / 'specs')}"
 
-    def acts(self) -> tuple[list[str], list[tuple[str, int, int]]]:
+    def acts(self, is_whole: bool) -> tuple[list[str], list[tuple[str, int, int]]]:
         """The lines of the acts, and how many definitions and printed lines each has."""
         out: list[str] = []
         counts = []
         for number, (title, _) in enumerate(ACTS):
             lines, definitions = self.printed(number)
-            out += [f"## {ROMAN[number]}. {title}", "", *lines]
             counts.append((title, definitions, len(lines)))
+            if title in ON_DEMAND and not is_whole:
+                lines = [f"{definitions} definitions, {len(lines)} lines: `make definitions` writes them to {WHOLE.relative_to(TOP)}.", ""]
+            out += [f"## {ROMAN[number]}. {title}", "", *lines]
         return out, counts
 
     def later_than(self, number: int) -> dict[Target, str]:
@@ -407,7 +427,7 @@ class Book:
         later: dict[Target, str] = {}
         for place in range(number + 1, len(ACTS)):
             for root in ACTS[place][1]:
-                if not root.startswith("run.") and root != "laws":
+                if not root.startswith("run.") and root not in ("laws", "library"):
                     later.setdefault(self.target(root), ROMAN[place])
         return later
 
@@ -457,9 +477,9 @@ class Book:
                 out.append(f"- [{module.crate}, {module.name}]({self.link(module)}): {listed}")
         return out
 
-    def text(self) -> tuple[str, list[tuple[str, int, int]]]:
+    def text(self, is_whole: bool) -> tuple[str, list[tuple[str, int, int]]]:
         """The document, and how many definitions and printed lines each act has."""
-        acts, counts = self.acts()
+        acts, counts = self.acts(is_whole)
         first, second, third = (counts[k][2] for k in range(3))
         out = [
             "# Definitions",
@@ -497,9 +517,10 @@ def main() -> int:
     how = parser.add_mutually_exclusive_group()
     how.add_argument("--check", action="store_true", help="only say whether the document would change")
     how.add_argument("--count", action="store_true", help="print the lines of each act")
+    how.add_argument("--whole", action="store_true", help=f"write all acts, to {WHOLE.relative_to(TOP)}")
     arguments = parser.parse_args()
     book = Book()
-    text, counts = book.text()
+    text, counts = book.text(arguments.whole)
     lacking = sorted(word for word in book.words if word not in WORDS and not word.startswith("◌") and word not in "[]")
     if arguments.count:
         print(counts, lacking)
@@ -513,7 +534,7 @@ def main() -> int:
             print("tools/list_definitions.py: docs/DEFINITIONS.md is not what it writes", file=sys.stderr)
             failed = True
     else:
-        DOCUMENT.write_text(text)
+        (WHOLE if arguments.whole else DOCUMENT).write_text(text)
     return 1 if failed else 0
 
 
