@@ -103,6 +103,7 @@ WORDS = {
     "IsOk": "the answer is `Ok`",
     "IsTrue": "the value is `true`",
     "List": "a finite list",
+    "MatchBool": "one thing holds if a truth value is `true`, another if it is `false`",
     "MatchOption": "one thing holds where there is no value, another of the value that is there",
     "MatchResult": "one thing holds of the value of an `Ok`, another of the reason of an `Err`",
     "None": "no value",
