@@ -24,6 +24,12 @@ BLOCK = 96
 PACK = 24
 
 
+def setUpModule() -> None:
+    """Nothing is tried of a program that is not built."""
+    if not os.access(PROGRAM, os.X_OK):
+        raise unittest.SkipTest("there is no bin/ribjasper (make)")
+
+
 def stream(size: int) -> bytes:
     """Bytes of any kind, the same at each run."""
     return random.Random(96).randbytes(size)
