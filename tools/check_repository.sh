@@ -77,6 +77,17 @@ done
 try tools/compare_player.sh || complain "the library for programs in C is not as the program"
 try tools/test_linking.sh || complain "the library for programs in C is not linked as it should be"
 
+# What linked programs rest on is as it was, examples show what the program shows, mending is that of another program, no call
+# takes more of the stack than is said, and nothing that is asked for is forgotten.
+try tools/check_abi.py || complain "tools/abi.txt does not list what the library is"
+try tools/compare_examples.sh || complain "an example of a player does not show what the program shows"
+try tools/compare_mending.py --cases 300 || complain "readings are mended otherwise than the rule says"
+try tools/test_small_stack.sh || complain "a call takes more of the stack than it should"
+tools/check_forgotten.sh || complain "memory may be forgotten"
+
+# What comes through a slow pipe goes out before more is waited for.
+try tools/test_live_stream.py || complain "a live stream is held back"
+
 # The desk does what it says, where the program and the library are built.
 try tools/test_desk.sh || complain "a test of the desk fails"
 
