@@ -7,5 +7,5 @@ check() {
 }
 path=desk:tools:examples check $(git ls-files --cached --others --exclude-standard 'tools/*.py' 'bench/*.py' 'examples/*.py')
 tools=$?
-path=desk:desk/tests check $(git ls-files --cached --others --exclude-standard 'desk/*.py')
+path=desk:desk/tests:tools check $(git ls-files --cached --others --exclude-standard 'desk/*.py')
 [ "$tools$?" = 00 ]

@@ -16,8 +16,10 @@ from .library import version
 
 # Each module has `add_parser(subparsers)`, which adds its command with set_defaults(run=run), and
 # `run(arguments) -> int`, the exit number.
-COMMANDS = ("identify", "damage", "mend", "report", "sheets", "texts", "plan", "picture", "lyrics", "image", "film",
-            "album", "pair", "look")
+COMMANDS = (
+    "identify", "damage", "mend", "q_fix", "convert", "sums", "report", "sheets", "texts",
+    "plan", "picture", "lyrics", "image", "film", "album", "pair", "look",
+)  # fmt: skip
 
 
 class Version(argparse.Action):
