@@ -106,7 +106,8 @@ def run(arguments: argparse.Namespace) -> int:
     scripts = [f"{name}-{number:02}.script" for number in range(1, len(album.tracks) + 1)]
     disc_files = [f"{name}.bin", f"{name}.toc", f"{name}.cue", f"{name}.raw", f"{name}-sheet.cue"]
     disc_kinds = [kinds.IMAGE, kinds.TOC, kinds.CUE, kinds.STREAM, kinds.CUE]
-    reads = [album.path, *(path for track in album.tracks for path in (track.lyrics, track.sound, track.wishes.title))]
+    reads = [album.path, *(path for track in album.tracks for path in
+                           (track.lyrics, track.sound, track.wishes.title, *track.wishes.style.files()))]
     writes = [*zip(disc_files, disc_kinds), *((script, kinds.SCRIPT) for script in scripts)]
     with Outputs(reads, writes, arguments.force) as outputs:
         sung = [sing(album, track) for track in album.tracks]

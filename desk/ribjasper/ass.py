@@ -5,11 +5,11 @@ from .songs import FIRST, Line, Song, Syllable, seconds
 
 DIALOGUE = re.compile(r"\s*Dialogue\s*:\s*", re.IGNORECASE)
 FORMAT = re.compile(r"\s*Format\s*:\s*", re.IGNORECASE)
-CLOCK = re.compile(r"(\d+):(\d+):(\d+)[.:](\d+)$")
+CLOCK = re.compile(r"(\d{1,6}):(\d{1,6}):(\d{1,6})[.:](\d{1,6})$")
 OVERRIDE = re.compile(r"\{([^}]*)\}")
-KARAOKE = re.compile(r"\\[kK][fot]?(\d+(?:\.\d+)?)")
+KARAOKE = re.compile(r"\\[kK][fot]?(\d{1,9}(?:\.\d{1,9})?)")
 # From here on the text of an event is a drawing, or letters again (0).
-DRAWING = re.compile(r"\\p(\d+)")
+DRAWING = re.compile(r"\\p(\d{1,9})")
 FIELDS = "Layer,Start,End,Style,Name,MarginL,MarginR,MarginV,Effect,Text"
 
 

@@ -1,4 +1,5 @@
 """Colours of twelve bits, four each of red, green and blue, and the few of them that stand for many."""
+import functools
 import math
 import re
 from collections import Counter
@@ -49,6 +50,7 @@ def read_colour(word: str) -> Colour | None:
     return near(*bytes.fromhex(found[1]))
 
 
+@functools.lru_cache(maxsize=1 << 16)
 def near(red: int, green: int, blue: int) -> Colour:
     """The colour nearest to one of three bytes."""
     return Colour(*((part + 8) // 17 for part in (red, green, blue)))

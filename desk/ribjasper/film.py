@@ -55,7 +55,8 @@ def audio_seconds(path: Path | None) -> float:
 def film_words(arguments: argparse.Namespace, out: str) -> list[str]:
     """The call of ffmpeg, which reads frames from its standard input."""
     size, scale = f"{WIDTH}x{HEIGHT}", arguments.scale
-    coding = ["-c:v", "libx264rgb", "-qp", "0"] if arguments.lossless else ["-crf", "16", "-pix_fmt", "yuv420p"]
+    coding = (["-c:v", "libx264rgb", "-qp", "0"] if arguments.lossless
+              else ["-preset", "veryfast", "-crf", "16", "-pix_fmt", "yuv420p"])
     sound = ["-i", os.fspath(arguments.audio), "-map", "0:v", "-map", "1:a"] if arguments.audio else []
     frames = ["-f", "rawvideo", "-pix_fmt", "rgb24", "-s", size, "-r", str(arguments.rate), "-i", "pipe:0"]
     larger = ["-vf", f"scale=iw*{scale}:ih*{scale}:flags=neighbor"]

@@ -32,7 +32,7 @@ def texts_of(content: bytes, song: Song, decode: Decode) -> list[tuple[float, st
             now += message.time
             if message.is_meta and message.type in ("lyrics", "text"):
                 texts.append((now, message.type, decode(message.text.encode("latin-1"))))
-    except (OSError, EOFError, ValueError, KeyError, IndexError) as error:
+    except (OSError, EOFError, ValueError, LookupError, TypeError, OverflowError) as error:
         raise Refusal(song.path, f"is no MIDI file that can be read: {error or 'it ends too early'}") from None
     return texts
 

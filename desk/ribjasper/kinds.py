@@ -78,9 +78,9 @@ FILM = Kind("a film", _is_film)
 TABLE = Kind("a table of a report", begins(b"file\tstatus\t"))
 ROWS = Kind("the rows of a report", begins(b'{"file": '))
 PAGE = Kind("a page of the desk", lambda head, _: PAGE_MARK in head[:1000])
-ALBUM = Kind("a list of songs", lines_like(rb"#.*|\[\[track\]\]|[a-z]+[ \t]*=.*"), (".toml",))
 ZIP = Kind("a ZIP file", begins(b"PK\3\4"))
-# A sound that is there already may be the only one of its kind.
+# A list that is there already was written on, and a sound may be the only one of its kind.
+ALBUM = Kind("a list of songs")
 SOUND = Kind("a sound of this song")
 CCD = Kind("a sheet of CloneCD", begins(b"[CloneCD]"))
 TABLE_OF_BLOCKS = Kind("a table of blocks", begins(b"block\ttime\tblocks\n"))

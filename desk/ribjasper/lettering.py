@@ -1,4 +1,6 @@
 """Lines of lyrics as letters on the screen: wrapped, aligned, in four levels from the ground to the full colour."""
+import bisect
+import functools
 import re
 import unicodedata
 from dataclasses import dataclass
@@ -19,6 +21,7 @@ FALLBACKS = tuple(Path("/usr/share/fonts") / name for name in (
     "truetype/wqy/wqy-zenhei.ttc", "truetype/noto/NotoSansThai-Bold.ttf", "truetype/noto/NotoSansDevanagari-Bold.ttf"))
 # Pixels that stay free at each side, and the smallest letters for a word that is too long for a line.
 MARGIN, SMALLEST = 6, 9
+ROOM = WIDTH - 2 * MARGIN
 # The level of each lightness of a pixel, and that of plain letters.
 SMOOTH = bytes((FULL * light + 127) // 255 for light in range(256))
 PLAIN = bytes(FULL * (light > 127) for light in range(256))
@@ -84,6 +87,8 @@ class Font:
 
     def runs(self, text: str) -> list[tuple[int, str]]:
         """The stretches of a text that one file has, with its number, in the order of reading."""
+        if all(self.face_of(letter) == 0 for letter in set(text) if is_drawn(letter)):
+            return [(0, text)]
         runs: list[tuple[int, str]] = []
         for letter in text:
             before = runs[-1][0] if runs else 0
@@ -120,6 +125,7 @@ class Font:
         return light
 
 
+@functools.lru_cache(maxsize=None)
 def is_drawn(letter: str) -> bool:
     """Whether a letter has a picture of its own: no blank, mark or sign that only joins others."""
     return not letter.isspace() and unicodedata.category(letter) not in ("Mn", "Cf")
@@ -176,17 +182,22 @@ def text_of(words: list[list[Syllable]]) -> str:
     return "".join(syllable.text for word in words for syllable in word).strip()
 
 
+def rows_of(line: Line, font: Font) -> int:
+    """How many rows a line needs."""
+    return len(filled(words_of(line), font, ROOM))
+
+
 def wrapped(line: Line, font: Font) -> list[list[list[Syllable]]]:
     """The words of a line in as few rows as they need, and these as even as they can be."""
     words = words_of(line)
-    room = WIDTH - 2 * MARGIN
-    count = len(filled(words, font, room))
+    count = len(filled(words, font, ROOM))
+    if count == 1:
+        return [words]
     widest = max(font.width(text_of([word]), font.size) for word in words)
-    whole = font.width(text_of(words), font.size)
-    limits = (room * step / 40 for step in range(1, 41))
-    enough = (limit for limit in limits if limit >= max(widest, whole / count))
-    even = next((limit for limit in enough if len(filled(words, font, limit)) <= count), room)
-    return sung_later(filled(words, font, even))
+    limits = [ROOM * step / 40 for step in range(1, 41)]
+    # The fewer rows, the wider they are: the least width that does with as many is looked for by halves.
+    even = bisect.bisect_left(limits, -count, key=lambda limit: -len(filled(words, font, limit)))
+    return sung_later(filled(words, font, max(widest, limits[min(even, len(limits) - 1)])))
 
 
 def sung_later(rows: list[list[list[Syllable]]]) -> list[list[list[Syllable]]]:
@@ -244,7 +255,7 @@ class Setter:
 
     def set(self, line: Line, words: list[list[Syllable]]) -> Letters:
         text, size = text_of(words), self.font.size
-        while self.font.width(text, size) > WIDTH - 2 * MARGIN and size > SMALLEST:
+        while self.font.width(text, size) > ROOM and size > SMALLEST:
             size -= 1
         wide = self.font.width(text, size)
         if wide > WIDTH:

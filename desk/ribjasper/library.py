@@ -138,6 +138,25 @@ class Planned(Structure):
     ]
 
 
+class Change(Structure):
+    """What of the screen may have changed: pixels from `left` to `right` of the rows from `top` to `bottom`, and whether
+    colours or levels may have."""
+
+    _fields_ = [
+        ("left", c_uint32),
+        ("top", c_uint32),
+        ("right", c_uint32),
+        ("bottom", c_uint32),
+        ("colours", c_uint8),
+        ("levels", c_uint8),
+    ]
+
+    @property
+    def is_none(self) -> bool:
+        """Whether all is as it was."""
+        return bool(self.left == WIDTH and not self.colours and not self.levels)
+
+
 class SheetRow(Structure):
     """An index line of a cue sheet: its time in the file, and what the sheet says of its track."""
 
@@ -180,9 +199,9 @@ CALLS = {
     "ribjasper_player_open": ([_PLAYER], c_int32),
     "ribjasper_player_close": ([_PLAYER], None),
     "ribjasper_player_begin": ([_PLAYER, c_uint32, c_uint32], c_int32),
-    "ribjasper_player_feed": ([_PLAYER, _BYTES], c_int32),
+    "ribjasper_player_feed_all": ([_PLAYER, _BYTES, c_size_t, POINTER(Change)], c_int32),
+    "ribjasper_player_draw_all": ([_PLAYER, _BYTES, c_size_t, POINTER(Change)], c_int32),
     "ribjasper_player_take": ([_PLAYER, _BYTES, Pack * PACKS_A_BLOCK], c_int32),
-    "ribjasper_player_draw": ([_PLAYER, _BYTES], c_int32),
     "ribjasper_player_screen": ([_PLAYER, _BYTES], c_int32),
     "ribjasper_player_picture": ([_PLAYER, _BYTES], c_int32),
     "ribjasper_player_colours": ([_PLAYER, c_uint16 * COLOURS], c_int32),
@@ -270,20 +289,21 @@ class Player:
     def __exit__(self, kind: type[BaseException] | None, error: BaseException | None, _: TracebackType | None) -> None:
         call("ribjasper_player_close")(self._handle)
 
-    def draw(self, packs: bytes) -> None:
-        """Draws packs of 24 bytes, as those of a .cdg file."""
-        draw = call("ribjasper_player_draw")
-        for start in range(0, len(packs) - PACK + 1, PACK):
-            draw(self._handle, packs[start : start + PACK])
+    def draw(self, packs: bytes) -> Change:
+        """Draws packs of 24 bytes, as those of a .cdg file; what of the screen may have changed."""
+        change = Change()
+        call("ribjasper_player_draw_all")(self._handle, packs, len(packs) // PACK, change)
+        return change
 
     def begin(self, form: int, lead_in: int) -> None:
         """Forgets all that was drawn; blocks that are fed from now on have this form."""
         call("ribjasper_player_begin")(self._handle, form, lead_in)
 
-    def feed(self, blocks: bytes) -> None:
-        feed = call("ribjasper_player_feed")
-        for start in range(0, len(blocks) - BLOCK + 1, BLOCK):
-            feed(self._handle, blocks[start : start + BLOCK])
+    def feed(self, blocks: bytes) -> Change:
+        """Feeds blocks; what of the screen may have changed."""
+        change = Change()
+        call("ribjasper_player_feed_all")(self._handle, blocks, len(blocks) // BLOCK, change)
+        return change
 
     def take(self, block: bytes) -> list[Pack]:
         """Feeds a block, and returns the packs that came with it."""

@@ -124,16 +124,56 @@ class Screen {
   }
 }
 
-async function inflated(text) {
-  const packed = Uint8Array.from(atob(text.trim()), (letter) => letter.charCodeAt(0));
+/** The same by the proved library, which draws the packs of a .cdg file. */
+class Played {
+  constructor(player, packs) {
+    Object.assign(this, { player, packs });
+    this.clear();
+  }
+
+  clear() {
+    this.player.begin({ form: "packs" });
+    this.next = 0;
+  }
+
+  show(block) {
+    const until = Math.min(4 * block, Math.floor(this.packs.length / 24));
+    if (until < this.next) this.clear();
+    const part = this.packs.subarray(24 * this.next, 24 * until);
+    this.next = until;
+    if (!part.some((byte) => byte)) return false;
+    this.player.drawAll(part);
+    return true;
+  }
+
+  get pixels() {
+    return this.player.screen();
+  }
+
+  image() {
+    return new Uint8ClampedArray(this.player.picture());
+  }
+}
+
+async function inflated(name) {
+  const text = document.getElementById(name).textContent.trim();
+  const packed = Uint8Array.from(atob(text), (letter) => letter.charCodeAt(0));
   const stream = new Blob([packed]).stream().pipeThrough(new DecompressionStream("deflate"));
   return new Uint8Array(await new Response(stream).arrayBuffer());
+}
+
+/** What draws the picture: the library where the page holds it, or otherwise its changes. */
+async function drawn() {
+  if (!document.getElementById("module").textContent.trim()) return new Screen(new Changes(await inflated("changes")), 300, 216);
+  const script = URL.createObjectURL(new Blob([await inflated("module")], { type: "text/javascript" }));
+  const library = await (await import(script)).load(await inflated("wasm"));
+  return new Played(library.player({ form: "packs" }), await inflated("packs"));
 }
 
 /** The page: the picture, the line of time, the lines, and the keys. */
 async function start() {
   const song = JSON.parse(document.getElementById("song").textContent);
-  const screen = new Screen(new Changes(await inflated(document.getElementById("changes").textContent)), 300, 216);
+  const screen = await drawn();
   const pen = document.getElementById("screen").getContext("2d");
   const sound = document.getElementById("sound"), told = document.getElementById("told");
   const list = document.getElementById("lines"), time = document.getElementById("time");
@@ -182,13 +222,13 @@ async function start() {
     if (screen.show(Math.floor(now * 75)) || !draw.hasDrawn) {
       pen.putImageData(new ImageData(screen.image(), 300, 216), 0, 0);
       draw.hasDrawn = true;
+      document.body.dataset.shown = checksum(screen.pixels);
     }
     cursor.style.left = `${100 * now / song.seconds}%`;
     song.lines.forEach((one, number) => {
       const words = items[number].item.querySelectorAll("b");
       one.syllables.forEach((syllable, at) => words[at].classList.toggle("sung", syllable.start <= now && now < syllable.end));
     });
-    document.body.dataset.shown = checksum(screen.pixels);
   }
 
   function jump(number) {

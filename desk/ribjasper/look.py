@@ -10,11 +10,11 @@ import shutil
 import struct
 import zlib
 from pathlib import Path
-from typing import Any, Iterator
+from typing import Any, Iterator, NamedTuple
 
 from . import audio, kinds
 from .album import Album, Sung, Track, sing
-from .library import BLOCKS_A_SECOND, COLOURS, HEIGHT, PACK, PACKS_A_BLOCK, WIDTH, Player
+from .library import BLOCKS_A_SECOND, COLOURS, HEIGHT, PACK, PACKS_A_BLOCK, WIDTH, Player, checkout
 from .lyrics import add_wishes, reads_of, wishes_of
 from .output import Outputs, add_force, tell
 from .pair import make_mp3, sound_of
@@ -52,7 +52,8 @@ def changes_of(packs: bytes) -> Iterator[bytes]:
             part = packs[at : at + step]
             if not any(part):
                 continue
-            player.draw(part)
+            if player.draw(part).is_none:
+                continue
             pixels, shown = player.screen(), player.colours()
             if pixels == before and shown == colours:
                 continue
@@ -101,14 +102,45 @@ def sound_word(sung: Sung) -> str:
     return f"data:audio/wav;base64,{base64.b64encode(audio.header(len(samples)) + samples).decode()}"
 
 
+class Web(NamedTuple):
+    """The proved library for pages: its module and the script that calls it."""
+
+    module: Path
+    script: Path
+
+
+def web() -> Web | None:
+    """The one in the folder that RIBJASPER_WEB names, or that of the checkout, if it is built."""
+    folder = os.environ.get("RIBJASPER_WEB")
+    if folder is not None:
+        found = Web(Path(folder) / "ribjasper.wasm", Path(folder) / "ribjasper.mjs")
+    else:
+        built = checkout("lib", "web", "ribjasper.wasm"), checkout("web", "ribjasper.mjs")
+        if not built[0] or not built[1]:
+            return None
+        found = Web(built[0], built[1])
+    return found if found.module.exists() and found.script.exists() else None
+
+
+def packed(content: bytes) -> str:
+    return base64.b64encode(zlib.compress(content, 9)).decode()
+
+
+def picture_parts(packs: bytes) -> dict[str, str]:
+    """What draws the picture: the library and the packs, or otherwise its changes."""
+    parts = dict.fromkeys(("module", "wasm", "packs", "changes"), "")
+    if found := web():
+        return parts | {"module": packed(found.script.read_bytes()), "wasm": packed(found.module.read_bytes()),
+                        "packs": packed(packs)}
+    return parts | {"changes": packed(b"".join(changes_of(packs)))}
+
+
 def page_of(sung: Sung) -> str:
-    changes = base64.b64encode(zlib.compress(b"".join(changes_of(as_pair(sung.packs))), 9)).decode()
-    parts = {
+    parts = picture_parts(as_pair(sung.packs)) | {
         "title": html.escape(sung.song.title or sung.track.lyrics.stem),
         "sound": sound_word(sung),
         # What would end the script that it stands in is spelled otherwise.
         "song": json.dumps(song_of(sung)).replace("<", "\\u003c"),
-        "changes": changes,
         "script": (FOLDER / "look.js").read_text(encoding="utf-8"),
     }
     page = (FOLDER / "look.html").read_text(encoding="utf-8")

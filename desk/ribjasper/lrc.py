@@ -5,8 +5,9 @@ from dataclasses import dataclass
 from .songs import BOTH, FIRST, LONGEST_LINE, LONGEST_WORD, SECOND, Line, Song, Syllable, seconds
 
 TAG = re.compile(r"\[([a-zA-Z#]+):([^\]]*)\]\s*$")
-STAMP = re.compile(r"\[(\d+):(\d+)(?:[.:](\d+))?\]")
-WORD = re.compile(r"<(\d+):(\d+)(?:[.:](\d+))?>")
+STAMP = re.compile(r"\[(\d{1,6}):(\d{1,6})(?:[.:](\d{1,6}))?\]")
+WORD = re.compile(r"<(\d{1,6}):(\d{1,6})(?:[.:](\d{1,6}))?>")
+OFFSET = re.compile(r"[+-]?\d{1,9}")
 # The marks of a man, a woman and both in front of a line, for it and those after it.
 MARK = re.compile(r"([MFD]):\s*")
 MARKED = {"M": FIRST, "F": SECOND, "D": BOTH}
@@ -71,11 +72,10 @@ def tell_order(song: Song, stamped: list[Stamped]) -> None:
 
 
 def offset_of(value: str, song: Song, number: int) -> float:
-    try:
+    if OFFSET.fullmatch(value):
         return int(value) / 1000
-    except ValueError:
-        song.fault(number, f"the offset {value} is no number of milliseconds")
-        return 0.0
+    song.fault(number, f"the offset {value} is no number of milliseconds")
+    return 0.0
 
 
 def stamps_of(line: str) -> tuple[list[tuple[float, str]], str]:
@@ -100,9 +100,6 @@ def parts_of(rest: str, later: float) -> list[tuple[float | None, str]]:
 
 def add_line(song: Song, one: Stamped, following: float | None, offset: float) -> None:
     starts = [one.start if time is None else time for time, _ in one.parts]
-    if starts != sorted(starts):
-        song.fault(one.number, "the times of its words go back")
-        return
     longest = LONGEST_WORD if len(starts) > 1 else LONGEST_LINE
     last = starts[-1] + longest
     ends = [*starts[1:], last if following is None else max(starts[-1], min(last, following))]

@@ -58,7 +58,7 @@ def add_parser(commands: Commands) -> None:
 
 def reads_of(arguments: argparse.Namespace) -> list[Path | None]:
     """The files that a song is made from."""
-    return [arguments.song, arguments.audio, arguments.title, Path(arguments.style), *arguments.font]
+    return [arguments.song, arguments.audio, arguments.title, *arguments.font, *read_style(arguments.style).files()]
 
 
 def run(arguments: argparse.Namespace) -> int:

@@ -1,8 +1,10 @@
 """Pages of a few rows, and the steps that draw, light and clear them on the screen."""
+import functools
 from dataclasses import dataclass, field
+from typing import Iterator
 
 from .lettering import Font, Letters, Setter, is_leftward, text_of, wrapped
-from .raster import HEIGHT, TILE_HEIGHT, TILE_WIDTH, WIDTH, Raster
+from .raster import TILE_HEIGHT, TILE_WIDTH, WIDTH, Raster, Span, joined
 from .songs import Line, Song, Syllable
 from .styles import FULL, SUNG, Style
 
@@ -31,6 +33,8 @@ class Placed:
     letters: Letters | None
     start: float
     end: float
+    area: range
+    empty: Raster
     before: "Placed | None" = None
     is_sung: bool = True
     begin: float = 0.0
@@ -39,6 +43,29 @@ class Placed:
 
     def text(self) -> str:
         return "".join(syllable.text for syllable in self.letters.syllables).strip() if self.letters else ""
+
+    @functools.cached_property
+    def rows(self) -> list[bytes]:
+        """The rows of its area as they stand when it is drawn."""
+        rows = [bytearray(row) for row in self.empty.rows[self.area.start : self.area.stop]]
+        if self.letters:
+            for row, inks in zip(rows[self.top - self.area.start :], self.letters.rows):
+                row[:] = bytes(ink or ground for ink, ground in zip(inks, row))
+        for dot in self.dots:
+            for row, marks in zip(rows[self.top - TILE_HEIGHT - self.area.start :], DOT):
+                row[dot : dot + TILE_WIDTH] = bytes(FULL if mark == "#" else old
+                                                    for mark, old in zip(marks, row[dot : dot + TILE_WIDTH]))
+        return [bytes(row) for row in rows]
+
+    @functools.cached_property
+    def lit(self) -> list[bytes]:
+        """The same rows when all is sung; the dots are gone."""
+        rows = list(self.empty.rows[self.area.start : self.area.stop])
+        first = self.top - self.area.start
+        for number, inks in enumerate(self.letters.rows if self.letters else [], first):
+            lit = inks.translate(LIT)
+            rows[number] = bytearray(new or ground for new, ground in zip(lit, rows[number]))
+        return [bytes(row) for row in rows]
 
 
 class Step:
@@ -62,66 +89,55 @@ class Show(Step):
 
 
 @dataclass(eq=False)
-class Draw(Step):
-    """Some columns of a place come, or go, over the empty page."""
-
-    placed: Placed
-    left: int
-    right: int
-    place: range
-    empty: Raster
-
-    def apply(self, raster: Raster) -> None:
-        placed, left, right = self.placed, self.left, self.right
-        for row, ground in zip(raster.rows[self.place.start : self.place.stop],
-                               self.empty.rows[self.place.start : self.place.stop]):
-            row[left:right] = ground[left:right]
-        if placed.letters:
-            for row, inks in zip(raster.rows[placed.top :], placed.letters.rows):
-                row[left:right] = bytes(ink or ground for ink, ground in zip(inks[left:right], row[left:right]))
-        for dot in placed.dots:
-            if left <= dot < right:
-                put_dot(raster, placed, dot)
-
-
-def put_dot(raster: Raster, placed: Placed, left: int) -> None:
-    for row, marks in zip(raster.rows[placed.top - TILE_HEIGHT :], DOT):
-        row[left : left + TILE_WIDTH] = bytes(FULL if mark == "#" else old
-                                              for mark, old in zip(marks, row[left : left + TILE_WIDTH]))
-
-
-@dataclass(eq=False)
-class Light(Step):
-    """Some columns of letters take the colour of what is sung."""
+class Part(Step):
+    """Some columns of a place change."""
 
     placed: Placed
     left: int
     right: int
 
+    def pixels(self) -> Iterator[tuple[int, bytes]]:
+        """The rows that change, with what they are to have in these columns."""
+        raise NotImplementedError
+
     def apply(self, raster: Raster) -> None:
-        placed, left, right = self.placed, self.left, self.right
-        for row, inks in zip(raster.rows[placed.top :], placed.letters.rows if placed.letters else []):
-            lit = inks[left:right].translate(LIT)
-            row[left:right] = bytes(new if ink & FULL else old
-                                    for ink, new, old in zip(inks[left:right], lit, row[left:right]))
+        for number, pixels in self.pixels():
+            raster.rows[number][self.left : self.right] = pixels
+
+    def lines(self, raster: Raster) -> list[str]:
+        """The lines of a script that change what stands into this, which then stands."""
+        spans = []
+        for number, pixels in self.pixels():
+            row = raster.rows[number]
+            if row[self.left : self.right] != pixels:
+                row[self.left : self.right] = pixels
+                spans.append(Span(self.left, number, pixels))
+        return list(joined(spans))
 
 
-@dataclass(eq=False)
-class DotOut(Step):
+class Draw(Part):
+    """They come, or go, over the empty page."""
+
+    def pixels(self) -> Iterator[tuple[int, bytes]]:
+        for number, row in zip(self.placed.area, self.placed.rows):
+            yield number, row[self.left : self.right]
+
+
+class Light(Part):
+    """They take the colour of what is sung."""
+
+    def pixels(self) -> Iterator[tuple[int, bytes]]:
+        placed = self.placed
+        for number, row in zip(range(placed.top, placed.area.stop), placed.lit[placed.top - placed.area.start :]):
+            yield number, row[self.left : self.right]
+
+
+class DotOut(Part):
     """One of the dots that count a line in goes out."""
 
-    placed: Placed
-    left: int
-    empty: Raster
-
-    @property
-    def right(self) -> int:
-        return self.left + TILE_WIDTH
-
-    def apply(self, raster: Raster) -> None:
-        top = self.placed.top - TILE_HEIGHT
-        for row, ground in zip(raster.rows[top : top + TILE_HEIGHT], self.empty.rows[top : top + TILE_HEIGHT]):
-            row[self.left : self.right] = ground[self.left : self.right]
+    def pixels(self) -> Iterator[tuple[int, bytes]]:
+        for number in range(self.placed.top - TILE_HEIGHT, self.placed.top):
+            yield number, bytes(self.placed.empty.rows[number][self.left : self.right])
 
 
 @dataclass
@@ -182,10 +198,9 @@ class Screen:
     def place(self, slot: int, letters: Letters | None, start: float, end: float, inset: int = 0) -> Placed:
         """Puts letters into a place, or makes it empty."""
         top = self.style.top(slot)
-        placed = Placed(slot, top + inset, letters, start, end, self.standing[slot])
-        first = 0 if not slot else top
-        area = range(first, top + TILE_HEIGHT * self.style.slot_rows)
-        steps = [Draw(placed, left, left + STEP, area, self.empty) for left in range(0, WIDTH, STEP)]
+        area = range(top if slot else 0, top + TILE_HEIGHT * self.style.slot_rows)
+        placed = Placed(slot, top + inset, letters, start, end, area, self.empty, self.standing[slot])
+        steps = [Draw(placed, left, left + STEP) for left in range(0, WIDTH, STEP)]
         read = placed if letters else placed.before
         placed.draws = steps[::-1] if read and is_leftward(read.text()) else steps
         self.standing[slot] = placed
@@ -240,6 +255,3 @@ def count_in(placed: Placed) -> None:
 
 def texts_of(groups: list[Group]) -> list[str]:
     return [text_of(row) for group in groups for _, row in group.rows]
-
-
-assert HEIGHT == len(DOT) * 16

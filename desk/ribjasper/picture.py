@@ -1,5 +1,7 @@
 """`picture`: the lines of a script that draw an image, in few colours and few tiles."""
 import argparse
+import functools
+import operator
 from collections import Counter
 from dataclasses import dataclass
 from pathlib import Path
@@ -165,6 +167,12 @@ def simplify(flat: Flat, most_error: float) -> None:
         put(flat.rows, left, top, bytes(change))
 
 
+@functools.lru_cache(maxsize=None)
+def weight(numbers: int) -> int:
+    """How many packs a tile takes that has the colours whose bits are set."""
+    return tile_weight(frozenset(number for number in range(COLOURS) if numbers >> number & 1))
+
+
 def numbered(flat: Flat, free: Sequence[int]) -> list[int]:
     """A number for each colour, of those that are free, so that the tiles of three and more colours take few packs."""
     sets = Counter(tuple(sorted(set(pixels_of(flat.rows, left, top)))) for left, top in tiles_of(flat.rows))
@@ -172,7 +180,10 @@ def numbered(flat: Flat, free: Sequence[int]) -> list[int]:
     numbers = list(free)
 
     def cost() -> int:
-        return sum(count * tile_weight(frozenset(numbers[place] for place in colours)) for colours, count in many.items())
+        bits, total = [1 << number for number in numbers], 0
+        for colours, count in many.items():
+            total += count * weight(functools.reduce(operator.or_, map(bits.__getitem__, colours)))
+        return total
 
     least, is_better = cost(), bool(many)
     while is_better:

@@ -1,6 +1,6 @@
 """The window of 288 by 192 pixels that a script draws on, and the lines of a script that change it."""
 from dataclasses import dataclass, field
-from typing import Iterator, NamedTuple
+from typing import Iterator, NamedTuple, Sequence
 
 from .colours import Colour
 
@@ -48,9 +48,9 @@ class Span(NamedTuple):
         return f"row {self.left} {self.top} {self.pixels.translate(AS_DIGITS).decode()}"
 
 
-def spans(before: list[bytearray], after: list[bytearray]) -> Iterator[Span]:
-    """For each row that changes the stretch from its first to its last pixel that does."""
-    for top, (old, new) in enumerate(zip(before, after)):
+def spans(before: Sequence[bytes], after: Sequence[bytes], first: int = 0) -> Iterator[Span]:
+    """For each row that changes, counted from a first one, the stretch from its first to its last pixel that does."""
+    for top, (old, new) in enumerate(zip(before, after), first):
         if old != new:
             differ = (int.from_bytes(old, "big") ^ int.from_bytes(new, "big")).to_bytes(WIDTH, "big")
             left, right = WIDTH - len(differ.lstrip(b"\0")), len(differ.rstrip(b"\0"))

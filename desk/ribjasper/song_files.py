@@ -17,6 +17,8 @@ STRETCH = re.compile("^" + TIMES.pattern, re.MULTILINE)
 ENCODING = re.compile(rb"^#ENCODING:\s*(\S+)", re.MULTILINE | re.IGNORECASE)
 MARKS = ((codecs.BOM_UTF8, "utf-8-sig"), (codecs.BOM_UTF16_LE, "utf-16"), (codecs.BOM_UTF16_BE, "utf-16"))
 WINDOWS = "cp1252"
+# The seconds that the longest disc has.
+LONGEST_SONG = 99 * 60
 NAMES = {"utf-16": "UTF-16", "utf-16-le": "UTF-16", "utf-16-be": "UTF-16", WINDOWS: "Windows-1252"}
 
 
@@ -65,12 +67,28 @@ def read_song(path: Path) -> Song:
         kinds = ((EVENTS, read_ass), (NOTES, read_ultrastar), (STRETCH, read_srt))
         reader = next((reader for mark, reader in kinds if mark.search(text)), read_lrc)
         reader(text, song)
+    put_in_order(song)
     if song.faults:
         raise Refusal(path, *song.faults)
     clip(song)
     if not song.lines:
         raise Refusal(path, "no line has a time like [00:12.50], and there are no events, notes or stretches of time")
     return song
+
+
+def put_in_order(song: Song) -> None:
+    """Lines in the order of their times; those whose words go back, or that no disc is long enough for, are faults."""
+    song.lines.sort(key=lambda line: line.start)
+    for line in song.lines:
+        starts = [syllable.start for syllable in line.syllables]
+        if starts != sorted(starts):
+            song.fault(line.number, f"the times of its words go back: {line.text}")
+        elif line.end < line.start:
+            song.fault(line.number, f"it ends before it begins: {line.text}")
+        elif line.end > LONGEST_SONG:
+            song.fault(line.number, f"is at {line.written}, and a disc ends after {LONGEST_SONG // 60} minutes")
+        for syllable in line.syllables:
+            syllable.end = max(syllable.start, syllable.end)
 
 
 def clip(song: Song) -> None:

@@ -4,13 +4,13 @@ from pathlib import Path
 from typing import Iterable, Sequence
 
 from . import times
-from .lettering import Font, Setter, named, wrapped
+from .lettering import Font, Setter, named, rows_of, wrapped
 from .library import BLOCKS_A_SECOND
 from .output import Refusal, shown
-from .pages import GOES, Draw, Group, Light, Page, Placed, Show, Step, groups_of, laid_out, still_page, texts_of
+from .pages import GOES, Draw, Group, Light, Page, Part, Placed, Show, Step, groups_of, laid_out, still_page, texts_of
 from .picture import ONE_TRACK, PLAIN, fitted, flat_of, raster_of, read, whole
 from .planning import MOST_PICTURES, Plan, plan
-from .raster import COLOURS, HEIGHT, TILE_HEIGHT, WIDTH, Raster, lines_between
+from .raster import COLOURS, HEIGHT, TILE_HEIGHT, WIDTH, Raster, joined, lines_between, spans
 from .songs import BOTH, FIRST, SECOND, Line, Song, Syllable, spelled
 from .styles import MOST_ROWS, Style
 from .timeline import Arranger, Due, Picture, Task, Timeline, Told, blocks_for, dues_of, grouped
@@ -75,6 +75,8 @@ class Made:
             number = placed.letters.line.number if placed.letters else 0
             return f"{path}: line {number} {what}: {placed.text()}"
 
+        for placed in self.told.cut:
+            yield of(placed, "is not wholly lit before the sound ends")
         for placed in self.told.lost:
             yield of(placed, "is not sung out when another has to come in its place")
         for placed, blocks in self.told.drawn_late.items():
@@ -101,26 +103,34 @@ def plan_of(lines: list[str], length: int = 400_000) -> Plan:
     return plan(ONE_TRACK, "".join(f"{line}\n" for line in lines).encode(), length)
 
 
-def steps_of(pages: list[Page], dues: list[Due]) -> list[Step]:
+def steps_of(pages: list[Page], dues: list[Due]) -> list[Part]:
     """All steps in an order in which each is drawn on what it will stand on."""
-    lights: dict[Placed, list[Step]] = {}
+    lights: dict[Placed, list[Part]] = {}
     for due in dues:
         lights.setdefault(due.placed, []).extend(due.steps)
     return [step for page in pages for placed in page.placed for step in [*placed.draws, *lights.get(placed, [])]]
 
 
-def ask_needs(steps: Sequence[Step], ground: Raster) -> None:
+def ask_needs(steps: Sequence[Part], ground: Raster) -> None:
     """Asks the plan how many packs each step needs, one after the other."""
     ground = ground.copy()
     for at in range(0, len(steps), MOST_PICTURES - 1):
         part = steps[at : at + MOST_PICTURES - 1]
-        lines, before = [*lines_between(Raster(), ground), "show 00:01:00 00:01:00"], ground.copy()
+        lines = [*lines_between(Raster(), ground), "show 00:01:00 00:01:00"]
         for number, step in enumerate(part, times.blocks("00:01:01")):
-            step.apply(ground)
-            lines += [*lines_between(before, ground), f"show {clock(number)} {clock(number)}"]
-            step.apply(before)
+            lines += [*step.lines(ground), f"show {clock(number)} {clock(number)}"]
         for step, row in zip(part, plan_of(lines).rows[1:]):
             step.need = row.need
+
+
+def ask_shows(shows: Sequence[Show], ground: Raster) -> None:
+    """The same of whole pages."""
+    lines = [*lines_between(Raster(), ground), "show 00:01:00 00:01:00"]
+    for number, show in enumerate(shows, times.blocks("00:01:01")):
+        lines += [*lines_between(ground, show.picture), f"show {clock(number)} {clock(number)}"]
+        ground = show.picture
+    for show, row in zip(shows, plan_of(lines).rows[1:]):
+        show.need = row.need
 
 
 def empty_page(style: Style, voices: int) -> Raster:
@@ -153,17 +163,16 @@ def page_of_texts(lines: list[tuple[str, int, int]], empty: Raster, font: Font, 
     between = min(2, spare // (len(rows) + 1))
     raster, top = empty.copy(), TILE_HEIGHT * ((spare - between * (len(rows) - 1)) // 2)
     for row, voice, lit in rows:
-        placed = Placed(0, top, setter.set(Line(0, row[0]), row), 0, 0)
-        Draw(placed, 0, WIDTH, range(top, top), raster).apply(raster)
-        if lit:
-            Light(placed, 0, WIDTH).apply(raster)
+        area = range(top, top + setter.height)
+        placed = Placed(0, top, setter.set(Line(0, row[0]), row), 0, 0, area, empty)
+        (Light if lit else Draw)(placed, 0, WIDTH).apply(raster)
         top += TILE_HEIGHT * (setter.tile_rows + between)
     return raster
 
 
 def broken(song: Song, font: Font) -> int:
     """How many lines need more than one row."""
-    return sum(len(wrapped(line, font)) > 1 for line in song.lines)
+    return sum(rows_of(line, font) > 1 for line in song.lines)
 
 
 def refuse_missing(song: Song, font: Font, texts: dict[str, str]) -> None:
@@ -198,7 +207,7 @@ def fonts_for(song: Song, wishes: Wishes, notes: list[str]) -> list[Font]:
             notes.append(f"{song.path}: letters of {asked} pixels are too high for {style.rows} rows a page")
     if not fonts:
         raise Refusal(song.path, f"no letters are small enough for {style.rows} rows a page")
-    rows = {font: sum(len(wrapped(line, font)) for line in song.lines) for font in fonts}
+    rows = {font: sum(rows_of(line, font) for line in song.lines) for font in fonts}
     first = next(font for font in fonts if rows[font] <= MORE_ROWS * min(rows.values()))
     first = unbroken(song, first, notes, bool(asked))
     smaller = [font for font in fonts if font.size < first.size and font.size % 4 == 0]
@@ -217,6 +226,23 @@ def unbroken(song: Song, font: Font, notes: list[str], is_asked: bool) -> Font:
         notes.append(f"{song.path}: letters of {font.size} pixels break {broken(song, font)} of {count} lines, and so "
                      f"they have {better.size}")
     return better
+
+
+def lines_of(steps: Sequence[Step], raster: Raster) -> list[str]:
+    """The lines of a picture, which then stands on the raster: only the rows that its steps change are looked at."""
+    parts = [step for step in steps if isinstance(step, Part)]
+    if len(parts) < len(steps):
+        before = raster.copy()
+        for step in steps:
+            step.apply(raster)
+        return lines_between(before, raster)
+    areas = sorted({part.placed.area for part in parts}, key=lambda area: area.start)
+    old = [[bytes(row) for row in raster.rows[area.start : area.stop]] for area in areas]
+    for part in parts:
+        part.apply(raster)
+    found = [span for area, rows in zip(areas, old)
+             for span in spans(rows, raster.rows[area.start : area.stop], area.start)]
+    return list(joined(found))
 
 
 class Maker:
@@ -293,7 +319,7 @@ class Maker:
 
     def room_for(self, shows: list[Show]) -> int:
         """How many blocks are left where these pages and then the empty one come before the first words."""
-        ask_needs([*shows, self.empty], Raster())
+        ask_shows([*shows, self.empty], Raster())
         needs: int = sum(TITLE_STANDS + blocks_for([show]) for show in shows)
         return self.page_begin - BEGIN - needs - blocks_for([self.empty])
 
@@ -313,21 +339,18 @@ class Maker:
     def script(self, pictures: list[Picture], end: int | None) -> list[str]:
         """The lines of the script; what comes after the end of the audio is left out where it only clears the page."""
         lines = [f"# {shown(str(self.song.path))}, by the lines of its lyrics.", THROUGH_PAUSE]
-        raster, before = Raster(), Raster()
+        raster = Raster()
         for number, picture in enumerate(pictures):
-            for step in picture.steps:
-                step.apply(raster)
+            lines += lines_of(picture.steps, raster)
             hold = pictures[number + 1].start if number + 1 < len(pictures) else max(picture.ready, end or 0)
-            lines += [*lines_between(before, raster), f"show {clock(picture.ready)} {clock(hold)}"]
-            for step in picture.steps:
-                step.apply(before)
+            lines.append(f"show {clock(picture.ready)} {clock(hold)}")
         return lines
 
     def in_time(self) -> tuple[list[str], Told]:
         """Schedules until the plan finds nothing late."""
         for _ in range(ROUNDS):
             pictures, told = self.arranged()
-            pictures = within(pictures, self.wishes.end)
+            pictures = within(pictures, self.wishes.end, told)
             lines = self.script(pictures, self.wishes.end)
             found = plan_of(lines)
             if not found.late():
@@ -374,12 +397,16 @@ def tasks_of(pages: list[Page], begin: int, style: Style, lead: float | None) ->
     return tasks
 
 
-def within(pictures: list[Picture], end: int | None) -> list[Picture]:
-    """Without what would clear the page, or end the song, after the end of the audio."""
-    def is_needed(picture: Picture) -> bool:
-        return any(not isinstance(step, Draw) or step.placed.letters and step.placed.is_sung for step in picture.steps)
-
-    return [picture for picture in pictures if end is None or picture.ready <= end or is_needed(picture)]
+def within(pictures: list[Picture], end: int | None, told: Told) -> list[Picture]:
+    """Without what comes after the end of the audio; where that is more than what clears the page or ends the song, its
+    lines are told."""
+    if end is None:
+        return pictures
+    for picture in pictures:
+        for step in picture.steps if picture.ready > end else ():
+            if isinstance(step, Part) and step.placed.letters and step.placed.is_sung:
+                told.cut.setdefault(step.placed)
+    return [picture for picture in pictures if picture.ready <= end]
 
 
 def end_with_sound(song: Song, end: int) -> None:

@@ -3,7 +3,8 @@ import re
 
 from .songs import Line, Song, Syllable
 
-TIMES = re.compile(r"\s*(\d+):(\d+):(\d+)[,.](\d+)\s*-->\s*(\d+):(\d+):(\d+)[,.](\d+)")
+TIME = r"(\d{1,6}):(\d{1,6}):(\d{1,6})[,.](\d{1,6})"
+TIMES = re.compile(rf"\s*{TIME}\s*-->\s*{TIME}")
 # Marks of how a text looks.
 MARKS = re.compile(r"<[^>]*>|\{[^}]*\}")
 

@@ -39,12 +39,15 @@ class Stream:
         """What stands at each frame: red, green and blue of 300 by 216 pixels."""
         with Player() as player:
             player.begin(RAW, self.lead_in)
-            done = 0
+            done, picture = 0, player.picture()
             for number in range(count):
                 until = min(self.units, self.begin + number * self.a_second() // rate)
-                (player.draw if self.is_packs() else player.feed)(self.content[self.unit * done : self.unit * until])
+                part = self.content[self.unit * done : self.unit * until]
+                change = (player.draw if self.is_packs() else player.feed)(part)
                 done = max(done, until)
-                yield player.picture()
+                if not change.is_none:
+                    picture = player.picture()
+                yield picture
 
 
 def open_stream(path: Path) -> Stream:

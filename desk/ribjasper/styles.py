@@ -43,6 +43,11 @@ class Style:
     rows: int = 4
     by_page: bool = False
     background: Path | None = None
+    path: Path | None = None
+
+    def files(self) -> list[Path]:
+        """The files that it is read from."""
+        return [path for path in (self.path, self.background, *self.fonts) if path]
 
     def voice(self, number: int) -> Voice:
         """The colours of a voice; those of the last stand for more."""
@@ -176,6 +181,7 @@ def read_style(word: str) -> Style:
         rows=table.number("rows", LEAST_ROWS, MOST_ROWS) or 4,
         by_page=table.one_of("mode", ("line", "page"), "line") == "page",
         background=table.file("background"),
+        path=path,
     )
     table.end()
     return style

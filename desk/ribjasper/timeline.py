@@ -92,20 +92,21 @@ def grouped(dues: Sequence[Due]) -> list[Due]:
 
 @dataclass
 class Told:
-    """By how many blocks lines are drawn and words are lit after their times, and the lines that are not sung out when
-    others have to come in their place."""
+    """By how many blocks lines are drawn and words are lit after their times, the lines that are not sung out when others
+    have to come in their place, and those that are not wholly lit before the audio ends."""
 
     drawn_late: dict[Placed, int] = field(default_factory=dict)
     lit_late: dict[Placed, int] = field(default_factory=dict)
     lost: list[Placed] = field(default_factory=list)
+    cut: dict[Placed, None] = field(default_factory=dict)
 
     def rows(self) -> set[Placed]:
         """The rows of which something is told."""
-        return {*self.drawn_late, *self.lit_late, *self.lost}
+        return {*self.drawn_late, *self.lit_late, *self.lost, *self.cut}
 
     def total(self) -> int:
         """How bad it is: blocks, and a minute for each line that is lost."""
-        return sum(self.drawn_late.values()) + sum(self.lit_late.values()) + A_MINUTE * len(self.lost)
+        return sum(self.drawn_late.values()) + sum(self.lit_late.values()) + A_MINUTE * len([*self.lost, *self.cut])
 
 
 class Arranger:
@@ -212,7 +213,7 @@ def fitting(steps: list[Draw], blocks: int) -> int:
 def dues_of(placed: Placed, sweep: bool) -> list[Due]:
     """When the parts of a line are lit: each syllable at its time, or column by column while it is sung; and when the dots
     go out that count it in."""
-    dues = [Due([DotOut(placed, left, placed.draws[0].empty)], nearest_block(placed.start) - BLOCKS_A_SECOND * after)
+    dues = [Due([DotOut(placed, left, left + TILE_WIDTH)], nearest_block(placed.start) - BLOCKS_A_SECOND * after)
             for after, left in zip(range(len(placed.dots) - 1, -1, -1), placed.dots)]
     letters = placed.letters
     if not letters:

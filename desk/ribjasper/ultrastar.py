@@ -1,18 +1,21 @@
 """Lyrics as UltraStar files: notes in beats, whose syllables are sung."""
+import math
 import re
 from dataclasses import dataclass
 
 from .songs import BOTH, FIRST, SECOND, Line, Song, Syllable, spelled
 
 HEADER = re.compile(r"#(\w+):(.*)")
-NOTE = re.compile(r"([:*FRG])\s*(-?\d+)\s+(-?\d+)\s+(-?\d+)(?: (.*))?$")
-BREAK = re.compile(r"-\s*(-?\d+)?(?:\s+(-?\d+))?\s*$")
+NOTE = re.compile(r"([:*FRG])\s*(-?\d{1,9})\s+(-?\d{1,9})\s+(-?\d{1,9})(?: (.*))?$")
+BREAK = re.compile(r"-\s*(-?\d{1,9})?(?:\s+(-?\d{1,9}))?\s*$")
 PLAYER = re.compile(r"#?P\s*([123])\s*$")
 VOICES = {"1": FIRST, "2": SECOND, "3": BOTH}
 # A beat of the file is a quarter of one of the music.
 BEATS = 4
 # What holds the syllable before it.
 HELD = "~"
+# The most beats a minute, and milliseconds before the first beat, that a file may tell.
+FASTEST, LONGEST_GAP = 100_000, 10_000_000
 
 
 @dataclass
@@ -74,12 +77,13 @@ def set_clock(song: Song, clock: Clock, name: str, value: str, number: int) -> N
     try:
         amount = float(value.replace(",", "."))
     except ValueError:
-        song.fault(number, f"#{name} is {value}, and no number")
-        return
-    if name == "BPM":
+        amount = math.nan
+    if name == "BPM" and 1 <= amount <= FASTEST:
         clock.beats_a_minute = amount
-    else:
+    elif name == "GAP" and abs(amount) <= LONGEST_GAP:
         clock.gap = amount
+    else:
+        song.fault(number, f"#{name} is {value}, and no number that it may be")
 
 
 def add_syllable(line: Line, text: str, start: float, end: float, voice: int) -> None:

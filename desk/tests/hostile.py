@@ -282,7 +282,7 @@ def state(folder: Path) -> dict[str, tuple[object, ...]]:
 
 
 # The names under which outputs of a call may appear.
-ENDINGS = ("", ".bin", ".toc", ".cue", ".raw", "-sheet.cue", "-01.script", ".cdg", ".zip", ".wav")
+ENDINGS = (".bin", ".toc", ".cue", ".raw", "-sheet.cue", "-01.script", ".cdg", ".zip", ".wav")
 REACHED = {"link": "target", "dangling": "nowhere", "link-to-input": "in-0"}
 
 
@@ -291,7 +291,8 @@ def may_appear(call: Made, name: str) -> bool:
         place = REACHED.get(output, output)
         if name in call.inputs:
             return False
-        if name in [place + ending for ending in ENDINGS]:
+        # A name from which several are made leads nowhere itself.
+        if name == place or name in [output + ending for ending in ENDINGS]:
             return True
         # A report is a folder, which may be made.
         if call.words[0] == "report" and place and (name == place or name.startswith(f"{place}/") or place.startswith(f"{name}/")):

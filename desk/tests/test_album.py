@@ -90,6 +90,9 @@ class AlbumTest(SongsTest):
                            ("singer", f"Singer {number}"))])
         ran = desk("album", "--new", self.folder / "1.lrc")
         self.assertIn("[[track]]", ran.out)
+        # What was written into a list is not lost.
+        ran = desk("album", "--new", self.folder / "1.lrc", "-o", self.folder / "list.toml")
+        self.assertEqual((ran.status, (self.folder / "list.toml").read_text()), (3, text), ran.told)
 
     def test_each_track_begins_clean_from_any_screen(self) -> None:
         self.album()

@@ -1,6 +1,7 @@
 """`look`: the page shows what the player shows, tells what is late, and keys move what is sung; in node and in Chromium."""
 import base64
 import json
+import os
 import re
 import shutil
 import struct
@@ -8,10 +9,12 @@ import subprocess
 import unittest
 import zlib
 from typing import Any
+from unittest import mock
 
 from fixtures import TOP, FolderTest, desk, needs_font, needs_pillow, needs_plan, needs_program, write_wav
 
 from ribjasper.library import HEIGHT, PACK, WIDTH, Player
+from ribjasper.look import web
 
 SCRIPT = TOP / "desk" / "ribjasper" / "look.js"
 CHROMIUM = shutil.which("chromium") or shutil.which("chromium-browser")
@@ -77,7 +80,8 @@ class LookTest(FolderTest):
 
     def test_changes_give_the_screens_of_the_player(self) -> None:
         """By another reader of the changes than that of the page."""
-        changes = zlib.decompress(base64.b64decode(self.part(self.page(), "changes")))
+        with mock.patch.dict(os.environ, {"RIBJASPER_WEB": str(self.folder)}):
+            changes = zlib.decompress(base64.b64decode(self.part(self.page(), "changes")))
         pixels, at, shown = bytearray(WIDTH * HEIGHT), 0, {}
         while at < len(changes):
             block, colours, place, wide, high = struct.unpack_from(">IBHHH", changes, at)
@@ -134,7 +138,19 @@ class LookTest(FolderTest):
 
     @unittest.skipUnless(CHROMIUM, "chromium is not installed")
     def test_in_a_browser(self) -> None:
-        self.page()
+        with mock.patch.dict(os.environ, {"RIBJASPER_WEB": str(self.folder)}):
+            self.check_in_a_browser(self.page())
+
+    @unittest.skipUnless(CHROMIUM, "chromium is not installed")
+    @unittest.skipUnless(web(), "lib/web is not built (make web)")
+    def test_in_a_browser_by_the_library(self) -> None:
+        page = self.page()
+        packs = zlib.decompress(base64.b64decode(self.part(page, "packs")))
+        self.assertEqual(self.part(page, "changes"), "")
+        self.check_in_a_browser(page)
+        self.assertEqual(packs, (self.folder / "b.cdg").read_bytes())
+
+    def check_in_a_browser(self, page: str) -> None:
         profile = self.folder / "profile"
         for second, block in ((7.2, 540), (11.6, 870)):
             words = [str(CHROMIUM), "--headless", "--no-sandbox", "--disable-gpu", f"--user-data-dir={profile}",

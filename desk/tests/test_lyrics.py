@@ -110,12 +110,13 @@ class ScriptTest(FolderTest):
         """What stands at each block of the program from the end of the pause on: the numbers of all pixels."""
         packs, _ = convert(self.stream(script).read_bytes(), RAW, LEAD_IN)
         with Player() as player:
-            done = 0
+            done, pixels = 0, player.screen()
             for block in range(PAUSE, len(packs) // PACK // 4 + 2):
                 # A pack has eight slots, four of them in a block: those that are whole by this block.
-                player.draw(packs[PACK * done : PACK * (4 * block - 7)])
+                if not player.draw(packs[PACK * done : PACK * (4 * block - 7)]).is_none:
+                    pixels = player.screen()
                 done = 4 * block - 7
-                yield block, player.screen()
+                yield block, pixels
 
     def check_words(self, script: Path, maker: Maker, step: int = 1) -> None:
         """That words stand in the one colour before their times, and in the other from them on."""
