@@ -24,12 +24,13 @@ SURE, COMPARABLE, AS_MUCH = 0.9, 0.7, 0.95
 LIKELY_BY_Q, LIKELY_BY_WORDS = 0.2, 0.5
 # Q tells before words do, unless it explains less than so much and words are likely.
 LITTLE = 0.05
-# The share of packs of graphics that a file of packs without parity has at least.
-LEAST_PACKS = 0.2
+# The share of packs of graphics that a file of packs without parity has at least, and of words of what is not idle.
+LEAST_PACKS, LEAST_WORDS = 0.2, 0.05
 # A header that is longer than a unit ends, up to here, where a frame is good or a block empty.
 MOST_HEADER = 4096
-# Where the length of a file does not tell its header, so many units at so many windows are tried at each byte.
-TRIED_UNITS, TRIED_WINDOWS = 30, 3
+# What is strange is tried in so many windows; where the length of a file does not tell its header, so many units of them at
+# each byte, or of sectors at each fourth one.
+STRANGE_WINDOWS, TRIED_UNITS, SECTOR_STEP = 3, 20, 4
 GRAPHICS = 9
 # The instructions of graphics that there are.
 INSTRUCTIONS = frozenset((1, 2, 6, 20, 24, 28, 30, 31, 38))
@@ -85,7 +86,7 @@ class Found(NamedTuple):
         if self.form.coding is Coding.CDG:
             is_so = it.carrying >= LEAST_PACKS * it.busy and is_no_chance(it.carrying, it.busy, CHANCE_PACK)
         else:
-            is_so = is_no_chance(it.carrying, it.words, CHANCE_WORD)
+            is_so = it.carrying >= LEAST_WORDS * it.busy and is_no_chance(it.carrying, it.words, CHANCE_WORD)
         return Explained(False, it.carrying / it.busy, it.carrying * PACK) if is_so else None
 
     def is_sure(self) -> bool:
@@ -188,10 +189,9 @@ def tried(dump: Dump, windows: Sequence[Window], forms: Sequence[Form], skips: S
 
 def offsets(windows: Sequence[Window], form: Form) -> Iterator[int]:
     """At which bytes, up to the length of a unit, units of a form may begin: where frames, or words, are good."""
-    step = max(1, len(windows) // TRIED_WINDOWS)
-    for skip in range(form.unit):
+    for skip in range(0, form.unit, SECTOR_STEP if form.is_in_sectors() else 1):
         found = 0
-        for window in windows[::step][:TRIED_WINDOWS]:
+        for window in windows:
             units = units_within(window, form, skip)[: TRIED_UNITS * form.unit]
             blocks = subcode(units, form)
             found += words_of(blocks, form.library)[0] if form.is_packs() else frames_of(blocks)[2]
@@ -247,9 +247,10 @@ def stages(dump: Dump, windows: Sequence[Window], skip: int | None) -> Iterator[
     plain = [form for form in PLAIN_FORMS if fits(dump, form)]
     yield tried(dump, windows, plain, skips)
     others = [form.ordered(order) for order in (Order.REVERSED, Order.SWAPPED) for form in plain]
-    yield tried(dump, windows, others, skips)
+    few = windows[:: max(1, len(windows) // STRANGE_WINDOWS)][:STRANGE_WINDOWS]
+    yield tried(dump, few, others, skips)
     if skip is None:
-        yield (Found(form, at, signs(windows, form, at)) for form in plain for at in offsets(windows, form))
+        yield (Found(form, at, signs(few, form, at)) for form in plain for at in offsets(few, form))
     if -(-dump.size // WINDOW) > len(windows):
         yield tried(dump, windows_of(dump, True), plain, skips)
 

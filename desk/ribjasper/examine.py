@@ -8,7 +8,7 @@ from .damage import NAMES, RUN, Damage, damages_of, draw_map, unread
 from .detection import GRAPHICS
 from .identify import identity, packs_of
 from .library import HEIGHT, PACK, WIDTH
-from .loading import Loaded, load_found
+from .loading import Asked, Loaded, load_found
 from .output import Failure, package, shown
 from .sums import Sums, sums_of
 
@@ -122,13 +122,13 @@ def with_sums(row: Row, found: Sums) -> None:
     row.update({"size": found.size, "sha256": found.sha256, "crc32": found.crc32, "md5": found.md5, "sha1": found.sha1})
 
 
-def examine(path: str, name: str, with_pictures: bool = True) -> Examined:
+def examine(path: str, name: str, with_pictures: bool = True, words: Asked = Asked()) -> Examined:
     """All that a report tells of a file, whatever it is."""
     row: Row = dict.fromkeys(COLUMNS)
     row["file"] = name
     try:
         with_sums(row, sums_of(path))
-        loaded, against = load_found(path)
+        loaded, against = load_found(path, words)
         if loaded is None:
             row["status"] = FOREIGN if row["size"] else EMPTY
             row["why"] = "; ".join(against) if row["size"] else "no byte"

@@ -12,9 +12,10 @@ from typing import Any, BinaryIO, Iterator, NamedTuple, Sequence
 from . import kinds, library, report_page
 from .examine import COLUMNS, UNREAD, Examined, Row
 from .failures import reading, writing
+from .loading import add_options, asked
 from .output import DASH, REFUSED, Outputs, Refusal, add_force, cause, package, shown, tell, write_file, write_row
 from .sums import Sums, dat
-from .workers import Task, by_cluster, here, unread
+from .workers import How, Task, by_cluster, here, unread
 
 # What a journal holds changes with this number; rows of another are read again.
 LAYOUT = 2
@@ -57,6 +58,7 @@ def add_parser(commands: Any) -> None:
     parser.add_argument("--jobs", type=jobs, default=len(os.sched_getaffinity(0)), metavar="N", help="files at a time")
     parser.add_argument("--quiet", action="store_true", help="no progress bar, which a terminal has else")
     parser.add_argument("--no-pictures", action="store_true", help="no pictures and no maps, for which Pillow is needed")
+    add_options(parser)
     parser.add_argument("--follow-links", action="store_true", help="also look into folders that are links")
     add_force(parser)
     several = parser.add_mutually_exclusive_group()
@@ -168,12 +170,13 @@ def look_at_all(
     arguments: argparse.Namespace, tasks: list[Task], known: dict[str, tuple[str, Row]], out: Path
 ) -> dict[str, Row]:
     """The rows of all files: those that are known and did not change, and the others looked at."""
-    how = not arguments.no_pictures
-    stamps = {task.name: stamp(task.path, f"{LAYOUT} {library.version()} {how}") for task in tasks}
+    how = How(not arguments.no_pictures, asked(arguments))
+    told = "".join(f" {word}" for word in how.words if word is not None)
+    stamps = {task.name: stamp(task.path, f"{LAYOUT} {library.version()} {how.with_pictures}{told}") for task in tasks}
     rows = {
         task.name: known[task.name][1]
         for task in tasks
-        if task.name in known and known[task.name][0] == stamps[task.name] and is_whole(out, known[task.name][1], how)
+        if task.name in known and known[task.name][0] == stamps[task.name] and is_whole(out, known[task.name][1], how.with_pictures)
     }
     todo = [task for task in tasks if task.name not in rows]
     found: Iterator[Examined] = iter(())

@@ -64,11 +64,12 @@ class Sheet:
             yield b"%bFLAGS %b" % (inner, b" ".join(flags))
         if ISRC.fullmatch(track.code):
             yield b"%bISRC %b" % (inner, track.code)
+        first = self.source.in_file(track.indices[1])
         for index, time in track.indices.items():
+            at = self.source.in_file(time)
             # The pause of two seconds before the file is in every disc.
-            if index or self.source.block_of(time) < self.source.block_of(track.indices[1] - PAUSE) or time > PAUSE:
-                if index or track is not self.disc.tracks[0] or time > 0:
-                    yield b"%bINDEX %02d %b" % (inner, index, spelled(self.source.in_file(time)).encode())
+            if index or at < first:
+                yield b"%bINDEX %02d %b" % (inner, index, spelled(at).encode())
 
     def cue(self) -> bytes:
         """The lines of a cue sheet. A remark tells what else `author` wants to be told."""

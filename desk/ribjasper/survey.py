@@ -16,9 +16,12 @@ GOOD_Q = range(library.Q_OTHER + 1)
 _ANY = bytes([0] + [1] * 255)
 _NO_TIME = library.NO_TIME.to_bytes(4, "little")
 _UNREAD = _NO_TIME + bytes(COLUMNS["q"] - 4) + bytes([library.Q_NONE]) + bytes(ROW - COLUMNS["q"] - 1)
-# A bit of channel Q, and one of the channels R to W, that is set.
-_Q_BIT, _RW_BIT = re.compile(rb"[\x40-\x7f\xc0-\xff]"), re.compile(rb"[^\x00\x40\x80\xc0]")
+# The bytes in which no bit of channel Q is set, and none of the channels R to W.
+_WITHOUT_Q = bytes(byte for byte in range(256) if not byte & 0x40)
+_WITHOUT_RW = bytes(byte for byte in range(256) if not byte & 0x3F)
 _SET = re.compile(rb"[^\x00]")
+# So many bytes are looked at at a time.
+AT_ONCE = 1 << 16
 _BAD_Q = bytes(1 if value in (library.Q_BAD_FIELD, library.Q_BAD_CHECK) else 0 for value in range(256))
 
 
@@ -57,17 +60,24 @@ def runs(column: bytes) -> list[Run]:
 
 def has_q(stream: bytes) -> bool:
     """Whether a bit of channel Q is set anywhere."""
-    return _Q_BIT.search(stream) is not None
+    return has_other(stream, _WITHOUT_Q)
 
 
 def has_graphics_bits(stream: bytes) -> bool:
     """Whether a bit of the channels R to W is set anywhere."""
-    return _RW_BIT.search(stream) is not None
+    return has_other(stream, _WITHOUT_RW)
+
+
+def has_other(stream: bytes, those: bytes) -> bool:
+    """Whether a stream has other bytes than those."""
+    return any(stream[start : start + AT_ONCE].translate(None, those) for start in range(0, len(stream), AT_ONCE))
 
 
 def read_part(stream: bytes) -> tuple[int, int]:
     """The first block that is not all zeros, and the one behind the last."""
-    first = _SET.search(stream)
+    parts = range(0, len(stream), AT_ONCE)
+    begin = next((start for start in parts if stream.count(0, start, start + AT_ONCE) < len(stream[start : start + AT_ONCE])), 0)
+    first = _SET.search(stream, begin)
     if first is None:
         return 0, 0
     end = len(stream) - len(stream) % BLOCK

@@ -15,6 +15,7 @@ from typing import Any, Generator, Iterator, NamedTuple, Sequence
 
 from . import library
 from .examine import COLUMNS, UNREAD, Examined, examine
+from .loading import Asked
 from .output import Refusal, package, shown, tell
 
 # Linux's call by which a process is told when the one that started it has ended.
@@ -29,8 +30,15 @@ class Task(NamedTuple):
     name: str
 
 
-def look(task: Task, with_pictures: bool) -> Examined:
-    return examine(task.path, task.name, with_pictures)
+class How(NamedTuple):
+    """How files are looked at: with pictures, and what the words of the command say of all of them."""
+
+    with_pictures: bool
+    words: Asked = Asked()
+
+
+def look(task: Task, how: How) -> Examined:
+    return examine(task.path, task.name, how.with_pictures, how.words)
 
 
 def unread(name: str, why: str) -> Examined:
@@ -51,18 +59,18 @@ def pool_of(count: int) -> ProcessPoolExecutor:
     return ProcessPoolExecutor(count, mp_context=multiprocessing.get_context("fork"), initializer=end_with_parent)
 
 
-def here(tasks: Sequence[Task], with_pictures: bool, count: int) -> Iterator[Examined]:
+def here(tasks: Sequence[Task], how: How, count: int) -> Iterator[Examined]:
     """Looks at files in so many processes on this machine. Where a process ends, the files that were being looked at are
     tried again one by one, and one that ends its process again is a row that says so."""
     waiting = collections.deque(tasks)
     while waiting:
-        suspects = yield from in_pool(waiting, with_pictures, count)
+        suspects = yield from in_pool(waiting, how, count)
         for task in suspects:
-            yield alone(task, with_pictures)
+            yield alone(task, how)
 
 
 def in_pool(
-    waiting: collections.deque[Task], with_pictures: bool, count: int
+    waiting: collections.deque[Task], how: How, count: int
 ) -> Generator[Examined, None, list[Task]]:
     """Looks at the files that wait, as many at a time as there are processes, until a process ends: then the files that
     were being looked at are returned."""
@@ -71,7 +79,7 @@ def in_pool(
     try:
         while waiting or running:
             while waiting and len(running) < count:
-                running[pool.submit(look, waiting[0], with_pictures)] = waiting[0]
+                running[pool.submit(look, waiting[0], how)] = waiting[0]
                 waiting.popleft()
             done, _ = concurrent.futures.wait(running, return_when=concurrent.futures.FIRST_COMPLETED)
             for future in done:
@@ -85,11 +93,11 @@ def in_pool(
     return []
 
 
-def alone(task: Task, with_pictures: bool) -> Examined:
+def alone(task: Task, how: How) -> Examined:
     """Looks at a file in a process of its own."""
     with pool_of(1) as pool:
         try:
-            return pool.submit(look, task, with_pictures).result()
+            return pool.submit(look, task, how).result()
         except BrokenProcessPool:
             tell(f"{shown(task.path)}: {COULD_NOT}")
             return unread(task.name, COULD_NOT)
@@ -105,7 +113,7 @@ def finder(distributed: Any, folder: str) -> Any:
     return Finder()
 
 
-def by_cluster(tasks: Sequence[Task], with_pictures: bool, address: str) -> Iterator[Examined]:
+def by_cluster(tasks: Sequence[Task], how: How, address: str) -> Iterator[Examined]:
     """Looks at files on the workers of a scheduler, which see the same files and the same checkout."""
     distributed = package("distributed", "python3-distributed")
     # What goes wrong is told in a line, and not in its own words.
@@ -119,7 +127,7 @@ def by_cluster(tasks: Sequence[Task], with_pictures: bool, address: str) -> Iter
         register = getattr(client, "register_plugin", None) or client.register_worker_plugin
         register(finder(distributed, str(library.TOP / "desk")))
         waiting = {
-            client.submit(look, Task(os.path.abspath(task.path), task.name), with_pictures, pure=False): task
+            client.submit(look, Task(os.path.abspath(task.path), task.name), how, pure=False): task
             for task in tasks
         }
         for done in distributed.as_completed(waiting):

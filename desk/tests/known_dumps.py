@@ -44,7 +44,7 @@ def q_frame(content: bytes) -> bytes:
     return content + check(content)
 
 
-@dataclass
+@dataclass(eq=False)
 class Track:
     """A track: the absolute times at which its pause, where it has one, and its music begin, and of further indexes."""
 
@@ -60,7 +60,7 @@ class Track:
         return self.start if self.pause is None else self.pause
 
 
-@dataclass
+@dataclass(eq=False)
 class Disc:
     """Tracks and the block at which the lead-out begins."""
 

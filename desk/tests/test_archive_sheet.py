@@ -80,6 +80,13 @@ class SheetOfDumpsTest(FolderTest):
         self.assertIn("INDEX 01 00:10:00", lines)
         self.assertIn("INDEX 01 00:30:00", lines)
 
+    def test_a_long_pause_before_the_first_track(self) -> None:
+        """Music may hide in it."""
+        disc = Disc([Track(1, 150 + 75 * 4, 0), Track(2, 150 + 75 * 10)], 150 + 75 * 20)
+        for stream in (program(disc, 150, disc.end, 0), known.lead_in(disc, 60) + program(disc, 0, disc.end, 0)):
+            lines, _ = self.sheet(stream)
+            self.assertEqual([line for line in lines if line.startswith("INDEX")], ["INDEX 00 00:00:00", "INDEX 01 00:04:00", "INDEX 01 00:10:00"])
+
     def test_redumper(self) -> None:
         disc = three()
         lines, _ = self.sheet(known.redumper(disc, 300, 0))

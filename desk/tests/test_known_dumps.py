@@ -1,6 +1,9 @@
 """Dumps whose truth is known, in the forms of tools of the trade: form, header, lead-in, state and damage are right for
 each."""
+import functools
+import json
 import random
+import re
 import unittest
 from typing import Callable, NamedTuple
 
@@ -24,10 +27,12 @@ class Truth(NamedTuple):
     note: str = ""  # a part of the notes
 
 
+@functools.lru_cache(maxsize=8)
 def raw(disc: known.Disc = DISC, density: float = 0.5) -> bytes:
     return program(disc, 150, disc.end, density)
 
 
+@functools.lru_cache(maxsize=8)
 def with_lead_in(blocks: int = 300) -> bytes:
     return known.lead_in(DISC, blocks) + program(DISC, 0, DISC.end)
 
@@ -63,6 +68,8 @@ def high_bits(content: bytes) -> bytes:
     return bytes(byte | chance.randrange(4) << 6 for byte in content)
 
 
+# Dumps that hold a part of the disc, or of another disc.
+PARTS = ("a block", "three blocks", "a sector", "lacks", "begun", "given up at", "sector, header")
 HEADER = random.Random(9).randbytes
 FORMS: dict[str, Truth] = {
     "raw": Truth(raw, "raw"),
@@ -158,13 +165,30 @@ class KnownDumpsTest(FolderTest):
     def test_forms(self) -> None:
         for case, truth in FORMS.items():
             with self.subTest(case):
-                content = truth.make()
-                row = self.found(content, truth.name)
+                row = self.found(truth.make(), truth.name)
                 told = row["form"], int(row["lead-in"]), row["graphics"]
                 self.assertEqual(told, (truth.form, truth.lead_in, truth.graphics), row)
                 self.assertIn(truth.note, row["notes"])
-                ran = desk("damage", self.folder / truth.name)
-                self.assertEqual(ran.status, 0 if truth.state == "good" else 1, ran)
+                self.check_sheet(case, truth)
+
+    def check_sheet(self, case: str, truth: Truth) -> None:
+        """The tracks of the disc, by a sheet; dumps that have no Q, or a part of the disc, are refused or have a part."""
+        ran = desk("sheet", self.folder / truth.name)
+        has_q = "cooked" not in truth.form and "cdg" not in truth.form and "Q: not read" not in truth.note
+        self.assertEqual(ran.status, 0 if has_q else 3, ran.told)
+        if has_q and not any(word in case for word in PARTS):
+            tracks = re.findall(r"TRACK (\d\d) AUDIO(?:(?!TRACK).)*?INDEX 01 (\S+)", ran.out, re.DOTALL)
+            self.assertEqual(tracks, [("01", "00:00:00"), ("02", "01:20:00"), ("03", "02:40:00")])
+
+    def test_states(self) -> None:
+        for number, truth in enumerate(FORMS.values()):
+            self.write(f"dumps/{number:02}-{truth.name}", truth.make())
+        out = self.folder / "report"
+        ran = desk("report", self.folder / "dumps", "-o", out, "--no-pictures", "--quiet")
+        self.assertEqual(ran.status, 0, ran.told)
+        rows = [json.loads(line) for line in (out / "table.jsonl").read_text().splitlines()]
+        found = {case: (row["form"], row["lead-in"], row["status"]) for case, row in zip(FORMS, rows)}
+        self.assertEqual(found, {case: (truth.form, truth.lead_in, truth.state) for case, truth in FORMS.items()})
 
 
 if __name__ == "__main__":

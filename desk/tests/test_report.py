@@ -272,6 +272,14 @@ class ReportTest(FolderTest):
         self.assertEqual(rows["closed"], ("unread", "the folder cannot be looked into: permission denied"))
         self.assertEqual(rows["good"][0], "good")
 
+    def test_what_the_words_say_of_all(self) -> None:
+        self.write("dumps/headed", b"x" * 7 + hello())
+        self.report("--no-pictures")
+        self.assertEqual([row["notes"] for row in self.table()], [["header: 7 bytes in front"]])
+        self.report("--no-pictures", "--form", "raw", "--skip", 7 + BLOCK * LEAD_IN, "--lead-in", 0)
+        row = self.table()[0]
+        self.assertEqual((row["form"], row["lead-in"], row["status"], row["blocks"]), ("raw", 0, "good", 1800))
+
     def test_links_to_folders(self) -> None:
         other = self.folder / "other"
         other.mkdir()
@@ -289,10 +297,10 @@ class ReportTest(FolderTest):
         dumps(self.dumps, 12)
         before = examine
 
-        def end(path: str, name: str, with_pictures: bool = True) -> Any:
+        def end(path: str, name: str, *how: Any) -> Any:
             if name.endswith("dump-005"):
                 os._exit(7)
-            return before(path, name, with_pictures)
+            return before(path, name, *how)
 
         with mock.patch("ribjasper.workers.examine", end):
             ran = self.report("--no-pictures", "--jobs", "3", status=3)
