@@ -129,7 +129,7 @@ fi
 
 # Scripts are programs.
 for script in .ci/run tools/*.sh tools/list_definitions.py tools/commands.py tools/tables.py tools/try_refusals.py \
-    tools/compare_programs.py tools/wrap_proofs.py bench/*.py examples/demo.py desk/ribjasper-desk; do
+    tools/compare_programs.py tools/wrap_proofs.py bench/*.py examples/demo.py desk/ribjasper-desk desk/manual_page.py; do
     [ -x "$script" ] || complain "$script cannot be run"
 done
 

@@ -11,7 +11,7 @@ from typing import Any, BinaryIO, Iterator, NamedTuple, Sequence
 
 from . import kinds, library, report_page
 from .examine import COLUMNS, UNREAD, Examined, Row
-from .failures import reading
+from .failures import reading, writing
 from .loading import add_options, asked
 from .output import DASH, REFUSED, Outputs, Refusal, add_force, cause, package, shown, tell, write_file, write_row
 from .sums import Sums, dat
@@ -157,9 +157,13 @@ def keep(out: Path, journal: BinaryIO, entry: Examined, stamped: str) -> None:
             (out / name).unlink(missing_ok=True)
         else:
             write_file(out / name, content, kind, force=True)
-    line = json.dumps({"stamp": stamped, "row": entry.row})
-    journal.write(line.encode() + b"\n")
-    journal.flush()
+    append(journal, json.dumps({"stamp": stamped, "row": entry.row}).encode() + b"\n")
+
+
+def append(journal: BinaryIO, line: bytes) -> None:
+    with writing(journal.name):
+        journal.write(line)
+        journal.flush()
 
 
 def look_at_all(
@@ -182,8 +186,10 @@ def look_at_all(
         found = here(todo, how, min(arguments.jobs, len(todo)))
     # Each part of several has a journal of its own, so that none writes into another's.
     own = f"journal-{arguments.part.number}-of-{arguments.part.of}.jsonl" if arguments.part else "journal.jsonl"
-    with open(out / own, "ab") as journal:
-        journal.write(b"\n" if journal.tell() else b"")
+    with writing(out / own):
+        journal = open(out / own, "ab")
+    with journal:
+        append(journal, b"\n" if journal.tell() else b"")
         for entry in progress(found, len(todo), arguments.quiet):
             name = entry.row["file"]
             # What could not be looked at is tried again by the next run.

@@ -18,7 +18,7 @@ th[aria-sort=ascending] button::after { content: " \\25B2"; }
 th[aria-sort=descending] button::after { content: " \\25BC"; }
 td.number { text-align: right; }
 img.first { width: 150px; height: 108px; border: 1px solid #888; }
-img.map { max-width: 620px; max-height: 320px; }
+img.map { max-width: 540px; max-height: 320px; }
 form { margin: 1em 0; display: flex; flex-wrap: wrap; gap: 1.2em; align-items: center; }
 form label { white-space: nowrap; }
 .name { font-weight: bold; overflow-wrap: anywhere; min-width: 14em; }

@@ -134,12 +134,12 @@ class ReadTest(FolderTest):
 
         def opened(name: str, mode: str) -> object:
             file = real(name, mode)
-            read: Callable[[], bytes] = file.read
+            read: Callable[[int], bytes] = file.read
 
-            def late() -> bytes:
-                with real(path, "ab") as other:
-                    other.write(b"more")
-                return read()
+            def late(count: int) -> bytes:
+                if path.read_bytes() == b"before":
+                    path.write_bytes(b"before and after")
+                return read(count)
 
             wrapped = mock.Mock(wraps=file, read=late, fileno=file.fileno)
             wrapped.__enter__ = lambda _: wrapped
@@ -149,6 +149,11 @@ class ReadTest(FolderTest):
         with mock.patch("builtins.open", opened), self.assertRaises(Refusal) as caught:
             output.read_file(path)
         self.assertEqual(str(caught.exception), f"{path}: was changed while it was read")
+
+    def test_a_file_without_an_end(self) -> None:
+        with mock.patch("ribjasper.output.MOST_READ", 5_000_000), self.assertRaises(Refusal) as caught:
+            output.read_file("/dev/zero")
+        self.assertEqual(str(caught.exception), "/dev/zero: has more than 5,000,000 bytes, which is too long")
 
     def test_a_file_that_is_not_there(self) -> None:
         with self.assertRaises(Refusal) as caught:
