@@ -91,8 +91,8 @@ class Made:
         pictures = sum(line.startswith("show") for line in self.lines)
         pages = sum(page.group.is_sung and bool(page.group.rows) for page in maker.pages)
         plain = "plain " * maker.font.is_plain
-        return (f"{count_of(len(maker.song.lines), 'line')} on {count_of(pages, 'page')} in {plain}letters of {maker.font.size} pixels, {words} "
-                f"words or parts of words, {pictures} pictures; none is late")
+        return (f"{count_of(len(maker.song.lines), 'line')} on {count_of(pages, 'page')} in {plain}letters of "
+                f"{maker.font.size} pixels, {words} words or parts of words, {pictures} pictures; none is late")
 
 
 def count_of(number: int, what: str) -> str:
