@@ -77,6 +77,9 @@ done
 try tools/compare_player.sh || complain "the library for programs in C is not as the program"
 try tools/test_linking.sh || complain "the library for programs in C is not linked as it should be"
 
+# The module and the page for browsers do what the program does, where they are built and Node and Chromium are there.
+try tools/compare_web.sh || complain "the player for web pages is not as the program"
+
 # The desk does what it says, where the program and the library are built.
 try tools/test_desk.sh || complain "a test of the desk fails"
 

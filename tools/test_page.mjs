@@ -48,7 +48,7 @@ class Browser {
                 }
             });
             child.on("exit", () => failed(new Error(told)));
-            setTimeout(() => failed(new Error(`Chromium does not answer: ${told}`)), 60000);
+            setTimeout(() => failed(new Error(`Chromium does not answer: ${told}`)), 60000).unref();
         });
         const tabs = await (await fetch(`http://${address}/json/list`)).json();
         const browser = new Browser();
