@@ -1,6 +1,6 @@
 # Builds the program, shows it at work, and checks the repository.
 
-.PHONY: all library example demo check bench guide definitions install uninstall deb dist clean
+.PHONY: all library web example demo check bench guide definitions install uninstall deb dist clean
 
 PREFIX ?= /usr/local
 # Where libraries go; some systems have a folder for each processor.
@@ -15,6 +15,13 @@ all:
 # newer ones alone.
 library:
 	TARGET=$(TARGET) CPU=$(CPU) tools/build_library.sh
+
+# The player for web pages: proves it, compiles it to WebAssembly, and leaves it in lib/web/ with a page (index.html) that
+# needs no server, compared with the program where node and Chromium are there. It builds the program where it is not there.
+web:
+	[ -x bin/ribjasper ] || tools/build.sh
+	tools/build_web.sh
+	tools/compare_web.sh
 
 # Builds examples/player.c, as C and as C++, compares its screens with the program's, and measures it. It builds the
 # program and the library where they are not there.

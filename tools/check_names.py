@@ -68,8 +68,8 @@ def types() -> Found:
 def items() -> Iterator[tuple[str, Path, int]]:
     """Each public item of the code but those of tests, with the place at which it stands."""
     for path in files("crates/*/src/**/*.rt"):
-        if crate_of(path) == "ribjasper_c":
-            continue  # what C calls is named by the header
+        if crate_of(path) in ("ribjasper_c", "ribjasper_web"):
+            continue  # what C calls is named by the header, what pages call by web/ribjasper.mjs
         for number, line in enumerate(path.read_text().splitlines(), 1):
             named = ITEM.match(line)
             if named:

@@ -88,6 +88,9 @@ tools/check_forgotten.sh || complain "memory may be forgotten"
 # What comes through a slow pipe goes out before more is waited for.
 try tools/test_live_stream.py || complain "a live stream is held back"
 
+# The module and the page for browsers do what the program does, where they are built and Node and Chromium are there.
+try tools/compare_web.sh || complain "the player for web pages is not as the program"
+
 # The desk does what it says, where the program and the library are built.
 try tools/test_desk.sh || complain "a test of the desk fails"
 
