@@ -16,7 +16,7 @@
    What two arguments point to may not overlap, but where a line says so; what is only read (const) must not change during
    the call. Numbers may be any: one out of its range is refused.
 
-   Memory is asked of malloc when a player is opened that is closed, 65,112 bytes in two requests, and within a call whose
+   Memory is asked of malloc when a player is opened that is closed, 65,080 bytes in one request, and within a call whose
    lines say so, which frees it before it returns. A call takes at most 16,384 bytes of the stack. */
 #ifndef RIBJASPER_H
 #define RIBJASPER_H
@@ -257,7 +257,7 @@ int32_t ribjasper_player_offsets(const ribjasper_player *player, uint8_t *across
 
 /* Writes where an open player is: how many blocks came, how many words of them were bad, the last seven slots, and
    what stands. Refused where the form is RIBJASPER_PACKS, or more than 1,000,000 blocks came since it began; packs that
-   were drawn are not counted. It asks malloc for 65,046 bytes, and answers RIBJASPER_NO_MEMORY where it is refused
+   were drawn are not counted. It asks malloc for 65,056 bytes, and answers RIBJASPER_NO_MEMORY where it is refused
    them; it frees them before it returns. Where it is not done nothing is written. */
 RIBJASPER_NODISCARD int32_t ribjasper_player_save(const ribjasper_player *player, uint8_t file[RIBJASPER_CHECKPOINT]);
 

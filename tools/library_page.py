@@ -7,8 +7,9 @@ from pathlib import Path
 TOP = Path(__file__).resolve().parent.parent
 # A comment that begins a line, which may be left out, and the lines up to the next empty one or such comment.
 PARTS = re.compile(r"^(?:/\*(.*?)\*/\n)?((?:(?!/\*|\n)[^\n]*\n)*)", re.M | re.S)
-# Lines that are for the compiler alone.
-GUARDS = re.compile(r'^(#if|#endif|#include|#define RIBJASPER_H$|extern "C"|\}$)')
+# Lines that are for the compiler alone, and a word that is.
+GUARDS = re.compile(r'^(#if|#el|#endif|#include|#define RIBJASPER_(H$|NODISCARD)|extern "C"|\}$)')
+FOR_COMPILERS = "RIBJASPER_NODISCARD "
 
 
 def roff(text: str) -> str:
@@ -33,7 +34,7 @@ def said(comment: str) -> list[str]:
 
 def entry(comment: str, code: str) -> list[str]:
     """A part of the header: what it declares, and what is said of it."""
-    lines = [line for line in code.splitlines() if not GUARDS.match(line)]
+    lines = [line.replace(FOR_COMPILERS, "") for line in code.splitlines() if not GUARDS.match(line)]
     told = [".RS", *said(comment), ".RE"] if comment else []
     if not lines:
         return told

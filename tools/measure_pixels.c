@@ -48,15 +48,15 @@ static void plain_table(const struct plain *it, uint32_t format, uint32_t table[
     }
 }
 
-static void plain_pixels(const struct plain *it, uint32_t format, int x, int y, int width, int height, uint8_t *out,
-                         size_t stride)
+static void plain_pixels(const struct plain *restrict it, uint32_t format, int x, int y, int width, int height,
+                         uint8_t *restrict out, size_t stride)
 {
     uint32_t table[16];
     uint8_t row[300];
     int i, j;
     plain_table(it, format, table);
     for (j = 0; j < height; j++) {
-        uint8_t *to = out + stride * (size_t)j;
+        uint8_t *restrict to = out + stride * (size_t)j;
         plain_row(it, y + j, row);
         switch (format) {
         case RIBJASPER_INDEXED:

@@ -38,7 +38,7 @@ static char text[RIBJASPER_ANSWER_TEXT];
 static int32_t answer;
 
 static const char sheet[] = "TITLE \"An album\"\nFILE a WAVE\nTRACK 01 AUDIO\nINDEX 01 00:00:00\n";
-static const char script[] = "show 00:02:00 00:03:00\nfill 1 0 0 300 216\nshow 00:04:00 00:05:00\n";
+static const char script[] = "colour 1 0FFF\nfill 1\nshow 00:04:00 00:05:00\nrow 3 4 0123\nshow 00:06:00 00:07:00\n";
 
 static void opens(void) { answer = ribjasper_player_open(&player); }
 static void opens_other(void) { answer = ribjasper_player_open(&other); }
@@ -97,6 +97,8 @@ static void plans(void)
 {
     answer = ribjasper_plan((const uint8_t *)sheet, sizeof sheet - 1, (const uint8_t *)script, sizeof script - 1, 500, 1000,
                             plan_rows, 8, &planned);
+    if (answer != RIBJASPER_PLANNED)
+        answer = -1;
 }
 static void reads_sheet(void)
 {
@@ -117,6 +119,10 @@ static void taken(const char *name, void (*call)(void))
     swapcontext(&here, &there);
     while (at < STACK && stack[at] == PAINT)
         at++;
+    if (answer < 0 && call != single) {
+        printf("test_stack: %s is refused\n", name);
+        failed = 1;
+    }
     if (STACK - at > MOST) {
         printf("test_stack: %s takes %zu bytes of the stack\n", name, STACK - at);
         failed = 1;
