@@ -407,7 +407,7 @@ typedef struct ribjasper_mended {
    word to the front of the `room` bytes at `packs`, 4 B - 7 of B blocks of the program (none of one or none).
    Answers RIBJASPER_CONVERTED, or RIBJASPER_DAMAGED where words have no codeword; or else, whichever holds first:
    RIBJASPER_USAGE where `lead_in` is above 450,000; RIBJASPER_TORN where the lengths differ, or are no whole blocks or
-   more than 1,000,000; RIBJASPER_NO_ROOM. Then nothing is written. It asks malloc for nothing, and takes about 70 kB of
+   more than 1,000,000; RIBJASPER_NO_ROOM. Then nothing is written. It asks malloc for nothing, and takes about 75 kB of
    the stack. The readings may be the same bytes. */
 int32_t ribjasper_mend(const uint8_t *first, size_t first_length, const uint8_t *second, size_t second_length,
                        uint32_t lead_in, uint8_t *packs, size_t room, ribjasper_mended *told);

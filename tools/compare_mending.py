@@ -1,12 +1,13 @@
 #!/usr/bin/env python3
 """Compares the library's mending with the rule as it is written here, on random readings of which the truth is known:
-compare_mending.py [--cases N] [--library lib/libribjasper.so.0]
+compare_mending.py [--cases N] [--seed N] [--library lib/libribjasper.so.0]
 
-Each case is a stream of a few blocks and two to four readings of it: whole, scratched, with noise in channels R to W, with
-zeros there (all or a part), another stream's, unread in part, or empty. For each the packs, the sources and the counts of
-ribjasper_mend_readings, and the packs of ribjasper_mend for the first two, have to be those of the rule; and the words that
-are wrong are counted beside those of the best reading alone. No line is shared with the program: codewords are found in
-a table of all errors of one or two symbols by their sums (docs/FORMATS.md). Ends with 1 where something differs."""
+Each case is a stream of a few blocks and two to four readings of it: whole, scratched, worn, with noise in channels R
+to W, with zeros there (all or a part), unread (all or a part), shifted, or another stream's. The packs, the sources and
+the counts of ribjasper_mend_readings, and the packs and counts of ribjasper_mend for the first two, have to be those of
+the rule, and the packs the same in the reverse order; and the words that are wrong are counted beside those of the best
+reading alone. No line is shared with the program: codewords are found in a table of all errors of one or two symbols by
+their sums (docs/FORMATS.md). Ends with 1 where something differs."""
 import argparse
 import binascii
 import ctypes
@@ -25,6 +26,9 @@ AGREED, NONE = 254, 255
 EXCHANGED = {1: 18, 18: 1, 2: 5, 5: 2, 3: 23, 23: 3}
 PLACES = [24 * (EXCHANGED.get(i, i) % 8) + EXCHANGED.get(i, i) for i in range(24)]
 IDLE = bytes(24)
+
+
+Errors = dict[int, tuple[tuple[int, int], ...]]
 
 
 class Told(ctypes.Structure):
@@ -63,9 +67,9 @@ def entry(place: int, symbol: int) -> int:
 ENTRIES = [[entry(place, symbol) for symbol in range(64)] for place in range(24)]
 
 
-def all_errors() -> dict[int, tuple[tuple[int, int], ...]]:
+def all_errors() -> Errors:
     """The errors of one or two symbols by their sums."""
-    found: dict[int, tuple[tuple[int, int], ...]] = {0: ()}
+    found: Errors = {0: ()}
     single = [((place, symbol), ENTRIES[place][symbol]) for place in range(24) for symbol in range(1, 64)]
     for error, sums in single:
         found[sums] = (error,)
@@ -106,7 +110,7 @@ def is_empty(block: bytes) -> bool:
     return not any(byte & 63 for byte in block) and not is_frame(block)
 
 
-def given(reading: bytes, errors: dict[int, tuple[tuple[int, int], ...]]) -> list[Optional[Given]]:
+def given(reading: bytes, errors: Errors) -> list[Optional[Given]]:
     """What a reading gives for each word; None where it was not read."""
     empty = [is_empty(reading[at : at + 96]) for at in range(0, len(reading), 96)]
     found: list[Optional[Given]] = []
@@ -131,7 +135,7 @@ def word_at(reading: bytes, n: int) -> bytes:
     return bytes(reading[24 * n + place] & 63 for place in PLACES)
 
 
-def agreement(one: bytes, other: bytes, errors: dict[int, tuple[tuple[int, int], ...]]) -> Optional[bytes]:
+def agreement(one: bytes, other: bytes, errors: Errors) -> Optional[bytes]:
     """The codeword on which two words agree: tried by changing one of them at up to four places where they differ, and
     at those where both are equally wrong."""
     apart = [place for place in range(24) if one[place] != other[place]]
@@ -142,7 +146,7 @@ def agreement(one: bytes, other: bytes, errors: dict[int, tuple[tuple[int, int],
     return search(bytearray(one), apart, left, errors)
 
 
-def search(word: bytearray, apart: list[int], left: int, errors: dict[int, tuple[tuple[int, int], ...]]) -> Optional[bytes]:
+def search(word: bytearray, apart: list[int], left: int, errors: Errors) -> Optional[bytes]:
     if len(apart) <= 2:
         # At most two places are free and two or one may be wrong beside them.
         for values in itertools.product(range(64), repeat=len(apart)):
@@ -169,10 +173,15 @@ def search(word: bytearray, apart: list[int], left: int, errors: dict[int, tuple
     return None
 
 
+def is_graphics(found: Optional[Given]) -> bool:
+    """Whether it is a codeword that is not idle, and no symbol is wrong."""
+    return found is not None and found.codeword not in (None, IDLE) and found.doubts == 0
+
+
 def dropped(all_given: Sequence[Sequence[Optional[Given]]]) -> list[list[bool]]:
     """For each reading, at which words its idle pack counts for nothing."""
     count = len(all_given[0])
-    graphics = [any(g[n] is not None and g[n].codeword not in (None, IDLE) and g[n].doubts == 0 for g in all_given) for n in range(count)]
+    graphics = [any(is_graphics(own[n]) for own in all_given) for n in range(count)]
     marks = []
     for own in all_given:
         idle = [g is not None and g.codeword == IDLE for g in own]
@@ -181,36 +190,39 @@ def dropped(all_given: Sequence[Sequence[Optional[Given]]]) -> list[list[bool]]:
     return marks
 
 
-def mend(readings: Sequence[bytes], errors: dict[int, tuple[tuple[int, int], ...]]) -> tuple[list[bytes], list[int], list[int]]:
+def mend(readings: Sequence[bytes], errors: Errors) -> tuple[list[bytes], list[int], list[int]]:
     """The pack of each word, its source, and how often each reading was left out."""
     all_given = [given(reading, errors) for reading in readings]
     marks = dropped(all_given)
     packs, sources = [], []
     for n in range(len(all_given[0])):
+        here = [own[n] for own in all_given]
         counting = {
-            r: own[n]
-            for r, own in enumerate(all_given)
-            if own[n] is not None and own[n].codeword is not None and not marks[r][n]
+            r: (found.codeword, found.doubts)
+            for r, found in enumerate(here)
+            if found is not None and found.codeword is not None and not marks[r][n]
         }
         if counting:
-            fewest = min(g.doubts for g in counting.values())
+            fewest = min(doubts for _, doubts in counting.values())
             votes: dict[bytes, int] = {}
-            for g in counting.values():
-                votes[g.codeword] = votes.get(g.codeword, 0) + 1
-            best = {g.codeword for g in counting.values() if g.doubts == fewest}
+            for word, _ in counting.values():
+                votes[word] = votes.get(word, 0) + 1
+            best = {word for word, doubts in counting.values() if doubts == fewest}
             most = max(votes[word] for word in best)
             chosen = [word for word in best if votes[word] == most]
             if len(chosen) == 1:
                 packs.append(chosen[0])
-                sources.append(min(r for r, g in counting.items() if g == Given(chosen[0], fewest)))
+                sources.append(min(r for r, found in counting.items() if found == (chosen[0], fewest)))
             else:
                 packs.append(IDLE)
                 sources.append(NONE)
             continue
-        lost = [word_at(readings[r], n) for r, own in enumerate(all_given) if own[n] is not None and own[n].codeword is None]
-        agreed = {agreement(a, b, errors) for a, b in itertools.combinations(lost, 2)} - {None}
-        packs.append(next(iter(agreed)) if len(agreed) == 1 else IDLE)
-        sources.append(AGREED if len(agreed) == 1 else NONE)
+        lost = [word_at(readings[r], n) for r, found in enumerate(here) if found is not None and found.codeword is None]
+        tried = [agreement(one, other, errors) for one, other in itertools.combinations(lost, 2)]
+        agreed = {word for word in tried if word is not None}
+        only = agreed.pop() if len(agreed) == 1 else None
+        packs.append(only or IDLE)
+        sources.append(AGREED if only else NONE)
     return packs, sources, [sum(mark) for mark in marks]
 
 
@@ -277,7 +289,24 @@ def reading(source: random.Random, truth: bytearray, kind: str, words: Sequence[
     return bytes(out)
 
 
-KINDS = {"whole": 4, "scratched": 6, "worn": 6, "noise": 1, "noise in part": 3, "zero": 3, "zero in part": 3, "unread in part": 3, "unread": 1, "shifted": 0.3, "another": 0.3}
+FOREIGN = {"shifted", "another"}
+KINDS = {
+    "whole": 4.0,
+    "scratched": 6.0,
+    "worn": 6.0,
+    "noise": 1.0,
+    "noise in part": 3.0,
+    "zero": 3.0,
+    "zero in part": 3.0,
+    "unread in part": 3.0,
+    "unread": 1.0,
+    "shifted": 0.3,
+    "another": 0.3,
+}
+
+
+def packs_of(text: bytes) -> list[bytes]:
+    return [text[at : at + 24] for at in range(0, len(text), 24)]
 
 
 class Library:
@@ -289,10 +318,11 @@ class Library:
         words = len(readings[0]) // 24 - 7
         packs, sources, told = ctypes.create_string_buffer(24 * words), ctypes.create_string_buffer(words), Told()
         size = ctypes.c_size_t
+        length, room = size(len(joined)), size(24 * words)
         status = self.calls.ribjasper_mend_readings(
-            joined, size(len(joined)), len(readings), 0, packs, size(24 * words), sources, size(words), ctypes.byref(told)
+            joined, length, len(readings), 0, packs, room, sources, size(words), ctypes.byref(told)
         )
-        return [packs.raw[24 * n : 24 * n + 24] for n in range(words)], list(sources.raw), told, status
+        return packs_of(packs.raw), list(sources.raw), told, status
 
     def pair(self, first: bytes, second: bytes) -> tuple[list[bytes], Pair, int]:
         words = len(first) // 24 - 7
@@ -301,11 +331,63 @@ class Library:
         status = self.calls.ribjasper_mend(
             first, size(len(first)), second, size(len(second)), 0, packs, size(24 * words), ctypes.byref(told)
         )
-        return [packs.raw[24 * n : 24 * n + 24] for n in range(words)], told, status
+        return packs_of(packs.raw), told, status
 
 
 def wrong(packs: Sequence[bytes], truth: Sequence[bytes]) -> int:
     return sum(one != other for one, other in zip(packs, truth))
+
+
+class Tally:
+    """Words that are wrong in what is mended, beside those of the best reading alone."""
+
+    def __init__(self) -> None:
+        self.cases = self.words = self.fewer = self.worse = self.more = 0
+
+    def add(self, words: int, mended: int, alone: int) -> None:
+        self.cases += 1
+        self.words += words
+        self.fewer += max(0, alone - mended)
+        self.worse += mended > alone
+        self.more += max(0, mended - alone)
+
+    def __str__(self) -> str:
+        return (
+            f"{self.cases} cases of {self.words} words: {self.fewer} fewer are wrong than in the best reading alone, "
+            f"and in {self.worse} cases {self.more} more"
+        )
+
+
+def differs(
+    library: Library,
+    readings: Sequence[bytes],
+    got: Sequence[bytes],
+    sources: Sequence[int],
+    told: Told,
+    status: int,
+    errors: Errors,
+) -> bool:
+    """Whether anything that the library answered is not what the rule says."""
+    packs, right_sources, left = mend(readings, errors)
+    pair_packs, pair, pair_status = library.pair(readings[0], readings[1])
+    two, two_sources, _ = mend(readings[:2], errors)
+    turned = library.readings(readings[::-1])[0]
+    count = len(readings)
+    return (
+        list(got) != packs
+        or list(sources) != right_sources
+        or status != (NONE in right_sources)
+        or list(told.dropped) != left + [0] * (MOST - count)
+        or list(told.of_reading) != [right_sources.count(r) for r in range(MOST)]
+        or (told.agreed, told.none, told.reserved) != (right_sources.count(AGREED), right_sources.count(NONE), 0)
+        or (told.bytes, told.blocks) != (24 * len(packs), len(readings[0]) // 96)
+        or pair_packs != two
+        or pair_status != (NONE in two_sources)
+        or pair.both + pair.of_first + pair.of_second != sum(source < AGREED for source in two_sources)
+        or (pair.agreed, pair.none) != (two_sources.count(AGREED), two_sources.count(NONE))
+        # The order of the readings changes no pack.
+        or turned != list(got)
+    )
 
 
 def main() -> int:
@@ -318,48 +400,24 @@ def main() -> int:
     errors = all_errors()
     words = [codeword(source) for _ in range(40)]
     library = Library(arguments.library)
-    differ = worse = lost = better = total = 0
+    own, foreign = Tally(), Tally()
+    different = 0
     for case in range(arguments.cases):
         truth = stream(source, source.randrange(3, 10), source.choice((0.1, 0.5, 1)), words)
         right = [word_at(truth, n) for n in range(len(truth) // 24 - 7)]
         kinds = source.choices(list(KINDS), list(KINDS.values()), k=source.randrange(2, 5))
         readings = [reading(source, truth, kind, words) for kind in kinds]
-        packs, sources, left = mend(readings, errors)
-        got, got_sources, told, status = library.readings(readings)
-        same = (
-            got == packs
-            and got_sources == sources
-            and status == (NONE in sources)
-            and list(told.dropped)[: len(readings)] == left
-            and not any(list(told.dropped)[len(readings) :])
-            and [told.of_reading[r] for r in range(MOST)] == [sources.count(r) for r in range(MOST)]
-            and (told.agreed, told.none, told.reserved) == (sources.count(AGREED), sources.count(NONE), 0)
-            and (told.bytes, told.blocks) == (24 * len(packs), len(truth) // 96)
-        )
-        two, two_sources, _ = mend(readings[:2], errors)
-        got_two, pair, status = library.pair(*readings[:2])
-        same &= got_two == two and status == (NONE in two_sources)
-        same &= pair.both + pair.of_first + pair.of_second == sum(s < AGREED for s in two_sources)
-        same &= (pair.agreed, pair.none) == (two_sources.count(AGREED), two_sources.count(NONE))
-        turned = library.readings(readings[::-1])[0]
-        same &= turned == got
-        if not same:
-            differ += 1
-            print(f"case {case}: {', '.join(kinds)}: differs")
-        alone = min(wrong(library.readings([own])[0], right) for own in readings)
-        mended = wrong(got, right)
-        total += len(right)
-        better += max(0, alone - mended)
-        if mended > alone:
-            worse += 1
-            lost += mended - alone
-            if worse <= 20:
-                print(f"case {case}: {', '.join(kinds)}: {mended} words are wrong, of the best reading {alone}")
-    print(
-        f"{arguments.cases} cases, {total} words: {differ} differ from the rule; {better} words fewer are wrong than in the "
-        f"best reading alone, and in {worse} cases {lost} more"
-    )
-    return 1 if differ else 0
+        got, sources, told, status = library.readings(readings)
+        if differs(library, readings, got, sources, told, status, errors):
+            different += 1
+            print(f"case {case}: {', '.join(kinds)}: differs from the rule")
+        alone = min(wrong(library.readings([one])[0], right) for one in readings)
+        tally = foreign if FOREIGN & set(kinds) else own
+        tally.add(len(right), wrong(got, right), alone)
+    print(f"readings of one stream: {own}")
+    print(f"with a reading that is shifted or another stream's: {foreign}")
+    print(f"{arguments.cases} cases, {different} differ from the rule")
+    return 1 if different else 0
 
 
 if __name__ == "__main__":

@@ -35,6 +35,7 @@ for name in test_mend test_plan test_desk_calls test_pixels test_sheets; do
     "$work/$name"
     "$work/${name}_of_cxx" >/dev/null
 done
+tools/compare_mending.py --cases 1000 >"$work/mending" || { cat "$work/mending" >&2; exit 1; }
 cp examples/hello.cue examples/hello.script "$work"
 cd "$work"
 "$top/bin/ribjasper" author --lead-in 0 --length 00:22:00 -- hello.cue hello.script >stream

@@ -4,7 +4,7 @@ use Rattle.disc_time.specs.Counts.{most_lead_in}
 use Rattle.raw_subcode.specs.Sizes.{block_bytes, most_units, symbols_a_slot}
 use Rattle.rw_interleave.specs.Interleave.{whole_packs}
 use Rattle.rw_mend.specs.Many
-use Rattle.rw_mend.specs.Many.{words_heard}
+use Rattle.rw_mend.specs.Many.{words_in_each}
 use Rattle.rw_mend.specs.Streams.{IsMendedInto}
 use Rattle.ribjasper_c.specs.declared.mending.MendedReadings.{MendedReadings}
 use Rattle.ribjasper_c.specs.declared.mending.MendedStream.{MendedStream}
@@ -20,8 +20,7 @@ refusal_of first second lead_in room =
     else None))
 
 -- The packs of both readings stand at the front of the room, and what is told of them is true.
-pub record AreMendedIntoRoom (lead_in : ℕ) (first second old new : List ℕ)
-    (told : MendedStream) : Type 0 where
+pub record AreMendedInto (lead_in : ℕ) (first second old new : List ℕ) (told : MendedStream) : Type 0 where
   pub mended : IsMendedInto lead_in first second old new told.words
   pub bytes : told.bytes ≡ symbols_a_slot * whole_packs (length first / block_bytes - lead_in)
   pub blocks : told.blocks ≡ length first / block_bytes - lead_in
@@ -43,6 +42,6 @@ readings_refusal length_of_all count lead_in room sources =
 -- of them is true.
 pub record AreReadingsMended (count lead_in : ℕ) (readings old new old_sources new_sources : List ℕ)
     (told : MendedReadings) : Type 0 where
-  pub mended : Many.AreMendedInto count lead_in readings old new old_sources new_sources told.words
-  pub bytes : told.bytes ≡ symbols_a_slot * words_heard count lead_in readings
+  pub mended : Many.AreAllMendedInto count lead_in readings old new old_sources new_sources told.words
+  pub bytes : told.bytes ≡ symbols_a_slot * words_in_each count lead_in readings
   pub blocks : told.blocks ≡ length readings / count / block_bytes - lead_in

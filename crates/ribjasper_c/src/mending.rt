@@ -1,7 +1,7 @@
 // The packs of readings of one stream in memory, each mended by the others.
 ghost use Rattle.std.specs.Prelude.{◌≡◌, ◌==◌, ◌≤◌, if◌then◌else◌, IfSome, None, length, pos};
 ghost use Rattle.disc_time.specs.Counts.{most_lead_in};
-ghost use Rattle.ribjasper_c.specs.Mending.{refusal_of, readings_refusal, AreMendedIntoRoom, AreReadingsMended};
+ghost use Rattle.ribjasper_c.specs.Mending.{refusal_of, readings_refusal, AreMendedInto, AreReadingsMended};
 
 use crate::answers::{DAMAGED, DONE, REFUSED, USAGE, WRITE_FAULT};
 use disc_time::MOST_LEAD_IN;
@@ -32,7 +32,7 @@ pub extern "C" fn ribjasper_mend(
     told: &mut MendedStream,
 ) -> i32
     ensures mended { refusal_of (length first.now) (length second.now) lead_in (length packs.old) ≡ None
-        → AreMendedIntoRoom lead_in first.now second.now packs.old packs.new told.new
+        → AreMendedInto lead_in first.now second.now packs.old packs.new told.new
         × (result ≡ (if told.new.words.none == 0 then pos 0 else pos 1)) }
     ensures refused { IfSome (refusal_of (length first.now) (length second.now) lead_in (length packs.old))
         (λ number. (result ≡ pos number) × (packs.new ≡ packs.old) × (told.new ≡ told.old)) }

@@ -2,7 +2,7 @@
 use Rattle.std.proofs.Common.{◌≡◌, ◌≢◌, ◌⊎◌, ℕ, ◌+◌, ◌<◌, List, length, refl, sym, ◌∙◌, inl, inr, subst₂, arith}
 use Rattle.std.proofs.lemmas.Bool.{cases_eq}
 use Rattle.rw_mend.specs.Choice.{IsAgreedAlone, IsPairAgreed}
-use Rattle.rw_mend.specs.Agreements.{AreMendAgreements, DiffersSomewhere, IsAloneBefore, IsEarlier}
+use Rattle.rw_mend.specs.Agreements.{ArePairAgreements, DiffersSomewhere, IsAloneBefore, IsEarlier}
 use Rattle.rw_mend.specs.declared.agreements.Agreements.{Agreements}
 use Rattle.rw_mend.specs.declared.agreements.Agreements.TheVariants.{Nothing, Alone, Several}
 use Rattle.rw_mend.specs.declared.voices.Voice.{Voice}
@@ -26,7 +26,7 @@ earlier one other i j (inr (same, lt)) =
 -- the pair agrees on nothing
 pub none_more : (voices : List Voice) (one other : ℕ) (found : Agreements)
     → ((codeword : List ℕ) → ¬ IsPairAgreed voices one other codeword)
-    → AreMendAgreements voices one other found → AreMendAgreements voices (one + 1) other found
+    → ArePairAgreements voices one other found → ArePairAgreements voices (one + 1) other found
 none_more voices one other Nothing none are =
     λ i j codeword before agreed.
     elim (earlier one other i j before) [
@@ -49,7 +49,7 @@ none_more voices one other Several none are = are
 -- the pair agrees on the first codeword
 pub first_more : (voices : List Voice) (one other : ℕ) (pack : List ℕ) → IsPairAgreed voices one other pack
     → ((another : List ℕ) → IsPairAgreed voices one other another → another ≡ pack)
-    → AreMendAgreements voices one other Nothing → IsAloneBefore voices (one + 1) other pack
+    → ArePairAgreements voices one other Nothing → IsAloneBefore voices (one + 1) other pack
 first_more voices one other pack is only none = record {
   first = one;
   second = other;
@@ -104,8 +104,8 @@ later j i k lt (inl less) =
     ]
 later j i k lt (inr (same, none)) = absurd (omega (arith, none))
 
-pub row_done : (voices : List Voice) (j : ℕ) (found : Agreements) → AreMendAgreements voices j j found
-    → AreMendAgreements voices 0 (j + 1) found
+pub row_done : (voices : List Voice) (j : ℕ) (found : Agreements) → ArePairAgreements voices j j found
+    → ArePairAgreements voices 0 (j + 1) found
 row_done voices j Nothing are =
     λ i k codeword before agreed. are i k codeword (later j i k agreed.before before) agreed
 row_done voices j (Alone pack) are = record {
@@ -116,12 +116,12 @@ row_done voices j (Alone pack) are = record {
 }
 row_done voices j Several are = are
 
-pub nothing_before : (voices : List Voice) → AreMendAgreements voices 0 0 Nothing
+pub nothing_before : (voices : List Voice) → ArePairAgreements voices 0 0 Nothing
 nothing_before voices i j codeword (inl lt) agreed = omega (arith, lt)
 nothing_before voices i j codeword (inr (same, lt)) agreed = omega (arith, lt)
 
 -- all pairs are looked at
-pub alone_is : (voices : List Voice) (pack : List ℕ) → AreMendAgreements voices 0 (length voices) (Alone pack)
+pub alone_is : (voices : List Voice) (pack : List ℕ) → ArePairAgreements voices 0 (length voices) (Alone pack)
     → IsAgreedAlone voices pack
 alone_is voices pack are = record {
   one = are.first;
@@ -130,7 +130,7 @@ alone_is voices pack are = record {
   alone = λ i j another agreed. are.alone i j another (inl agreed.within) agreed;
 }
 
-pub not_alone : (voices : List Voice) (found : Agreements) → AreMendAgreements voices 0 (length voices) found
+pub not_alone : (voices : List Voice) (found : Agreements) → ArePairAgreements voices 0 (length voices) found
     → ((pack : List ℕ) → found ≢ Alone pack) → (codeword : List ℕ) → ¬ IsAgreedAlone voices codeword
 not_alone voices Nothing are other codeword is =
     are is.one is.other codeword (inl is.agreed.within) is.agreed

@@ -13,7 +13,7 @@ use Rattle.rw_mend.specs.Choice.{IsFirstBest, IsMending, IsMendedBy, is_best, st
 use Rattle.rw_mend.specs.Drops.{IsDropped, IsSaid}
 use Rattle.rw_mend.specs.Laws.{AllGive, AreEnough}
 use Rattle.rw_mend.specs.Streams.{AreMended, mended_bytes, mended_text}
-use Rattle.rw_mend.specs.Voices.{speaks_idle, is_idle_pack}
+use Rattle.rw_mend.specs.Voices.{is_idle_voice, is_idle_pack}
 use Rattle.rw_mend.specs.Words.{given_at}
 use Rattle.rw_mend.specs.declared.choice.Mended.{Mended}
 use Rattle.rw_mend.specs.declared.choice.WordSource.{WordSource}
@@ -176,7 +176,7 @@ none_drops words programs packs r n is within dropped =
     let same : busy.0 ≡ get_or packs m [] =
     one_near busy.0 (get_or packs m []) 0 (is.doubts m s) (sym busy.1 ∙ there) in
     let idle : is_idle_pack (get_or packs m []) ≡ true =
-    ap speaks_idle (sym (is.gives m r lt within)) ∙ misses.idle in
+    ap is_idle_voice (sym (is.gives m r lt within)) ∙ misses.idle in
     false≢true (sym busy.2 ∙ ap is_idle_pack same ∙ idle)
 
 pub all_enough : (words : ℕ) (programs packs : List (List ℕ)) → AllGive words programs packs

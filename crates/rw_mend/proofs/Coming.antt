@@ -6,14 +6,14 @@ use Rattle.std.proofs.lemmas.Bool.{cases_eq}
 use Rattle.std.proofs.lemmas.List.{get_or-replicate, get_or-set_other, get_or-set_same, get_or-take}
 use Rattle.rw_mend.specs.Choice.{voice_of_reading}
 use Rattle.rw_mend.specs.Drops.{AreDropCounts}
-use Rattle.rw_mend.specs.Mender.{HasComeTo, IsHearing, no_voice_row}
-use Rattle.rw_mend.specs.Readings.{AreJoinedReadings, programs_in}
-use Rattle.rw_mend.specs.Rows.{AreLastMissed, AreTrails, IsLastMissed, IsRow, is_left, voiced_by}
+use Rattle.rw_mend.specs.Mender.{HasComeTo, IsHearing, no_given_row}
+use Rattle.rw_mend.specs.Readings.{AreHeldReadings, programs_in}
+use Rattle.rw_mend.specs.Rows.{AreLastMissed, AreTrails, IsLastMissed, IsRow, is_left, said_after}
 use Rattle.rw_mend.specs.Words.{given_at}
 use Rattle.rw_mend.specs.declared.cover.Trail.{Trail}
 use Rattle.rw_mend.specs.declared.mender.Mender.{Mender}
 use Rattle.rw_mend.specs.declared.readings.Readings.{Readings}
-use Rattle.rw_mend.specs.declared.rows.VoiceRow.{VoiceRow}
+use Rattle.rw_mend.specs.declared.rows.GivenRow.{GivenRow}
 use Rattle.rw_mend.specs.declared.voices.Voice.{Voice}
 use Rattle.rw_mend.specs.declared.voices.Voice.TheVariants.{Silent}
 use Rattle.rw_mend.proofs.Missing.{dropped_more, left_is, none_dropped, said_is}
@@ -28,7 +28,7 @@ zero_missed programs r missed is = record {
   none_later = λ m from to. absurd (omega (arith, to));
 }
 
-pub none_missed : (readings : Readings) → AreJoinedReadings readings
+pub none_missed : (readings : Readings) → AreHeldReadings readings
     → AreLastMissed (programs_in readings) 0 (replicate 254 0)
 none_missed readings are = record {
   each =
@@ -37,7 +37,7 @@ none_missed readings are = record {
       (get_or-replicate 254 r 0 0 (omega (arith, lt, count_is readings, are.few)));
 }
 
-pub zero_dropped : (readings : Readings) (words : ℕ) → AreJoinedReadings readings
+pub zero_dropped : (readings : Readings) (words : ℕ) → AreHeldReadings readings
     → AreDropCounts words (programs_in readings) 0 (replicate 254 0)
 zero_dropped readings words are = record {
   each =
@@ -60,28 +60,28 @@ row_taken readings m voices is = record {
 apart : (m k n : ℕ) → n ≤ k → k < m → m < n + 8 → k % 8 ≢ m % 8
 apart m k n from to near same = omega (arith, from, to, near, same)
 
-row_set : (programs : List (List ℕ)) (n m : ℕ) (rows : List VoiceRow) (row : VoiceRow) → length rows ≡ 8
+row_set : (programs : List (List ℕ)) (n m : ℕ) (rows : List GivenRow) (row : GivenRow) → length rows ≡ 8
     → m < n + 8
     → IsRow programs m (row.voices)
-    → ((k : ℕ) → n ≤ k → k < m → IsRow programs k ((get_or rows (k % 8) no_voice_row).voices))
+    → ((k : ℕ) → n ≤ k → k < m → IsRow programs k ((get_or rows (k % 8) no_given_row).voices))
     → (k : ℕ) → n ≤ k → k < m + 1
-    → IsRow programs k ((get_or (set rows (m % 8) row) (k % 8) no_voice_row).voices)
+    → IsRow programs k ((get_or (set rows (m % 8) row) (k % 8) no_given_row).voices)
 row_set programs n m rows row size near is was k from to =
     elim (cases_eq k m) [
       | inl same ↦
-          let here : get_or (set rows (m % 8) row) (k % 8) no_voice_row ≡ row =
-          ap (λ j. get_or (set rows (m % 8) row) (j % 8) no_voice_row) same
-          ∙ get_or-set_same rows (m % 8) row no_voice_row (omega (arith, size)) in
+          let here : get_or (set rows (m % 8) row) (k % 8) no_given_row ≡ row =
+          ap (λ j. get_or (set rows (m % 8) row) (j % 8) no_given_row) same
+          ∙ get_or-set_same rows (m % 8) row no_given_row (omega (arith, size)) in
           subst (λ r. IsRow programs k (r.voices)) (sym here)
           (subst (λ j. IsRow programs j (row.voices)) (sym same) is)
       | inr differs ↦
           let before : k < m = omega (arith, to, differs) in
-          let there : get_or (set rows (m % 8) row) (k % 8) no_voice_row ≡ get_or rows (k % 8) no_voice_row =
-          get_or-set_other rows (m % 8) (k % 8) row no_voice_row (apart m k n from before near) in
+          let there : get_or (set rows (m % 8) row) (k % 8) no_given_row ≡ get_or rows (k % 8) no_given_row =
+          get_or-set_other rows (m % 8) (k % 8) row no_given_row (apart m k n from before near) in
           subst (λ r. IsRow programs k (r.voices)) (sym there) (was k from before)
     ]
 
-pub heard_more : (readings : Readings) (n m : ℕ) (mender : Mender) (trails : List Trail) (row : VoiceRow)
+pub heard_more : (readings : Readings) (n m : ℕ) (mender : Mender) (trails : List Trail) (row : GivenRow)
     (missed : List ℕ) → IsHearing readings n mender → mender.heard ≡ m → m < mender.words → m < n + 8
     → length trails ≡ length mender.trails → length missed ≡ length mender.missed
     → AreTrails (programs_in readings) m trails → IsRow (programs_in readings) m (row.voices)
@@ -123,10 +123,10 @@ reached n words heard within (inr all) = omega (arith, all)
 pub at_word : (readings : Readings) (n : ℕ) (mender : Mender) (row : List Voice) (said : List Voice)
     (dropped : List ℕ) → IsHearing readings n mender → n < mender.words
     → (mender.words ≤ mender.heard) ⊎ (n + 8 ≤ mender.heard)
-    → row ≡ take readings.count ((get_or mender.rows (n % 8) no_voice_row).voices)
+    → row ≡ take readings.count ((get_or mender.rows (n % 8) no_given_row).voices)
     → length said ≡ length mender.said
     → ((r : ℕ) → r < readings.count
-    → voice_of_reading said r ≡ voiced_by (get_or mender.missed r 0) n (voice_of_reading row r))
+    → voice_of_reading said r ≡ said_after (get_or mender.missed r 0) n (voice_of_reading row r))
     → length dropped ≡ length mender.dropped
     → ((r : ℕ) → r < readings.count
     → get_or dropped r 0 ≡ get_or mender.dropped r 0
@@ -146,7 +146,7 @@ at_word readings n mender row said dropped is within all row_is size each droppe
     → voice_of_reading row r ≡ given_at (programs_in readings) r n =
     λ (r : ℕ) (lt : r < length (programs_in readings)).
     ap (λ (l : List Voice). voice_of_reading l r) row_is
-    ∙ (row_taken readings n ((get_or mender.rows (n % 8) no_voice_row).voices)
+    ∙ (row_taken readings n ((get_or mender.rows (n % 8) no_given_row).voices)
     (is.rows n (omega arith) heard)).each r lt in
     record {
       hearing = record {

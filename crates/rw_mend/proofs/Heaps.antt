@@ -6,7 +6,7 @@ use Rattle.std.proofs.lemmas.List.{drop-drop, ext_get_or, get_or-map, length-map
 use Rattle.bit_lists.specs.Counting.{parts}
 use Rattle.rw_interleave.specs.Interleave.{whole_packs}
 use Rattle.rw_mend.specs.Drops.{AreDropCounts, AreVoices}
-use Rattle.rw_mend.specs.Many.{AreMendedInto, words_heard}
+use Rattle.rw_mend.specs.Many.{AreAllMendedInto, words_in_each}
 use Rattle.rw_mend.specs.Readings.{program_in, programs_in, size_in}
 use Rattle.rw_mend.specs.Steps.{AreTold, IsMendedTo}
 use Rattle.rw_mend.specs.Streams.{mended_text}
@@ -94,12 +94,12 @@ pub many_mended : (readings : Readings) (count lead_in : ℕ)
     (AreTold old_sources (whole_packs (size_in readings / 96)) new_sources tallies)
     → AreDropCounts (whole_packs (size_in readings / 96)) (programs_in readings)
     (whole_packs (size_in readings / 96)) tallies.dropped
-    → AreMendedInto count lead_in bytes old new old_sources new_sources tallies
+    → AreAllMendedInto count lead_in bytes old new old_sources new_sources tallies
 many_mended readings count lead_in bytes old new old_sources new_sources tallies same long whole first others
     first_size start done dropped =
     let size : ℕ = length bytes / count in
     let programs = many_programs readings count size lead_in bytes same long first others first_size start in
-    let words : whole_packs (size_in readings / 96) ≡ words_heard count lead_in bytes =
+    let words : whole_packs (size_in readings / 96) ≡ words_in_each count lead_in bytes =
     ap (λ n. whole_packs ((n - readings.start) / 96)) first_size
     ∙ ap whole_packs (blocks_left size lead_in readings.start whole start) in
     record {
@@ -158,7 +158,7 @@ pub split_mended : (readings : Readings) (lead_in : ℕ)
     (AreTold old_sources (whole_packs (size_in readings / 96)) new_sources tallies)
     → AreDropCounts (whole_packs (size_in readings / 96)) (programs_in readings)
     (whole_packs (size_in readings / 96)) tallies.dropped
-    → AreMendedInto readings.count lead_in bytes old new old_sources new_sources tallies
+    → AreAllMendedInto readings.count lead_in bytes old new old_sources new_sources tallies
 split_mended readings lead_in bytes old new old_sources new_sources tallies size_is is some others whole start
     done dropped =
     let first : List ℕ = readings.first.now in

@@ -12,9 +12,9 @@ use Rattle.rw_code.specs.Packs.{idle_pack}
 use Rattle.rw_code.proofs.Differing.{differences_none, differences_self}
 use Rattle.rw_mend.specs.Choice.{IsMending, voice_of_reading}
 use Rattle.rw_mend.specs.Drops.{AreVoices, IsDropped, IsSaid}
-use Rattle.rw_mend.specs.Laws.{IsCleanBeside, alone_bytes, given_text}
+use Rattle.rw_mend.specs.Laws.{IsCleanBeside, voice_bytes, given_text}
 use Rattle.rw_mend.specs.Streams.{AreMended, mended_bytes, mended_text}
-use Rattle.rw_mend.specs.Voices.{speaks_graphics, speaks_idle, is_idle_pack}
+use Rattle.rw_mend.specs.Voices.{is_clean_graphics, is_idle_voice, is_idle_pack}
 use Rattle.rw_mend.specs.Words.{given_at}
 use Rattle.rw_mend.specs.declared.choice.Mended.{Mended}
 use Rattle.rw_mend.specs.declared.voices.Voice.{Voice}
@@ -37,7 +37,7 @@ both_of true b is = (refl, is)
 both_of false b is = absurd (false≢true is)
 
 -- graphics are a clean codeword that is not idle
-pub graphics_are : (voice : Voice) → speaks_graphics voice ≡ true
+pub graphics_are : (voice : Voice) → is_clean_graphics voice ≡ true
     → (pack : List ℕ) × (voice ≡ Near pack 0) × (is_idle_pack pack ≡ false)
 graphics_are Silent is = absurd (false≢true is)
 graphics_are (Lost word) is = absurd (false≢true is)
@@ -48,7 +48,7 @@ graphics_are (Near pack doubts) is =
       | inr some ↦ absurd (false≢true (sym some.0 ∙ tests.0))
     ]
 
-clean_graphics : (pack : List ℕ) → is_idle_pack pack ≡ false → speaks_graphics (Near pack 0) ≡ true
+clean_graphics : (pack : List ℕ) → is_idle_pack pack ≡ false → is_clean_graphics (Near pack 0) ≡ true
 clean_graphics pack other = ap not other
 
 -- ---- What is said.
@@ -73,7 +73,7 @@ clean_kept words programs r n is dropped =
     let s : ℕ = misses.graphics.reading in
     let found = graphics_are (given_at programs s m) misses.graphics.graphics in
     let idle : is_idle_pack (is.codeword m) ≡ true =
-    ap speaks_idle (sym (is.clean m dropped.drops.within)) ∙ misses.idle in
+    ap is_idle_voice (sym (is.clean m dropped.drops.within)) ∙ misses.idle in
     elim (is.others m s found.0 dropped.drops.within misses.graphics.within found.1) [
       | inl same ↦ false≢true (sym found.2 ∙ ap is_idle_pack same ∙ idle)
       | inr zeros ↦ false≢true (sym found.2 ∙ ap is_idle_pack zeros ∙ idle_is)
@@ -104,18 +104,18 @@ only_clean words programs r n s voice other is lt within said near =
             | inr busy ↦
                 absurd
                 (given.0 (record {
-                  idle = ap speaks_idle given.1 ∙ ap is_idle_pack zeros ∙ idle_is;
+                  idle = ap is_idle_voice given.1 ∙ ap is_idle_pack zeros ∙ idle_is;
                   drops = record {
                     word = n;
                     within = lt;
                     after = omega arith;
                     before = omega arith;
                     misses = record {
-                      idle = ap speaks_idle given.1 ∙ ap is_idle_pack zeros ∙ idle_is;
+                      idle = ap is_idle_voice given.1 ∙ ap is_idle_pack zeros ∙ idle_is;
                       graphics = record {
                         reading = r;
                         within = is.within;
-                        graphics = ap speaks_graphics (is.clean n lt) ∙ clean_graphics (is.codeword n) busy;
+                        graphics = ap is_clean_graphics (is.clean n lt) ∙ clean_graphics (is.codeword n) busy;
                       };
                     };
                   };
@@ -127,7 +127,7 @@ only_clean words programs r n s voice other is lt within said near =
 
 clean_word : (words : ℕ) (programs : List (List ℕ)) (r n : ℕ) (voices : List Voice) (found : Option Mended)
     (is : IsCleanBeside words programs r) → n < words → AreVoices words programs n voices
-    → IsMending voices found → mended_bytes found ≡ alone_bytes (given_at programs r n)
+    → IsMending voices found → mended_bytes found ≡ voice_bytes (given_at programs r n)
 clean_word words programs r n voices found is lt said mended =
     let here : voice_of_reading voices r ≡ Near (is.codeword n) 0 =
     said_kept words programs n r (voice_of_reading voices r) (said.each r is.within)
@@ -137,7 +137,7 @@ clean_word words programs r n voices found is lt said mended =
     let within : s < length programs = omega (arith, inside, said.count) in
     only_clean words programs r n s (voice_of_reading voices s) other is lt within (said.each s within) near)
     mended
-    ∙ ap alone_bytes (sym (is.clean n lt))
+    ∙ ap voice_bytes (sym (is.clean n lt))
 
 pub flat_joined : {X : Type 0} (f : X → List ℕ) (xs : List X) → flat_map f xs ≡ concat (map f xs)
 flat_joined f [] = refl
@@ -146,10 +146,10 @@ flat_joined f (x ∷ xs) = ap (λ l. f x ++ l) (flat_joined f xs)
 -- a list of texts, one for each word
 pub each_text : (words : ℕ) (programs : List (List ℕ)) (r : ℕ) (found : List (Option Mended))
     → length found ≡ words
-    → ((n : ℕ) → n < words → mended_bytes (get_or found n None) ≡ alone_bytes (given_at programs r n))
+    → ((n : ℕ) → n < words → mended_bytes (get_or found n None) ≡ voice_bytes (given_at programs r n))
     → mended_text found ≡ given_text words programs r
 each_text words programs r found size each =
-    let given : ℕ → List ℕ = λ (n : ℕ). alone_bytes (given_at programs r n) in
+    let given : ℕ → List ℕ = λ (n : ℕ). voice_bytes (given_at programs r n) in
     let same : map mended_bytes found ≡ map given (below words) =
     ext_get_or [] (map mended_bytes found) (map given (below words))
     (length-map found mended_bytes ∙ size ∙ sym (length-map-range_with_len given 0 words)) (λ n lt.

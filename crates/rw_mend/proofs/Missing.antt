@@ -11,8 +11,8 @@ use Rattle.std.proofs.lemmas.List.Folds.{list_any_at}
 use Rattle.rw_mend.proofs.Counting.{count_push}
 use Rattle.rw_mend.specs.Choice.{voice_of_reading}
 use Rattle.rw_mend.specs.Drops.{HasGraphics, IsDropCount, IsDropped, IsSaid, Misses}
-use Rattle.rw_mend.specs.Rows.{AreLastMissed, IsLastMissed, IsRow, is_left, voiced_by}
-use Rattle.rw_mend.specs.Voices.{speaks_graphics, speaks_idle}
+use Rattle.rw_mend.specs.Rows.{AreLastMissed, IsLastMissed, IsRow, is_left, said_after}
+use Rattle.rw_mend.specs.Voices.{is_clean_graphics, is_idle_voice}
 use Rattle.rw_mend.specs.Words.{given_at}
 use Rattle.rw_mend.specs.declared.voices.Voice.{Voice}
 use Rattle.rw_mend.specs.declared.voices.Voice.TheVariants.{Silent}
@@ -44,14 +44,14 @@ some_passes p (x ∷ xs) d is =
     ]
 
 has_graphics : (programs : List (List ℕ)) (n : ℕ) (row : List Voice) → length programs ≡ length row
-    → IsRow programs n row → list_any speaks_graphics row ≡ true → HasGraphics programs n
+    → IsRow programs n row → list_any is_clean_graphics row ≡ true → HasGraphics programs n
 has_graphics programs n row size is some =
-    let found = some_passes speaks_graphics row Silent some in
+    let found = some_passes is_clean_graphics row Silent some in
     let within : found.0 < length programs = omega (arith, size, found.1) in
     record {
       reading = found.0;
       within = within;
-      graphics = ap speaks_graphics (sym (is.each found.0 within)) ∙ found.2;
+      graphics = ap is_clean_graphics (sym (is.each found.0 within)) ∙ found.2;
     }
 
 missed_here : (programs : List (List ℕ)) (n r missed : ℕ) → missed ≡ n + 1 → Misses programs r n
@@ -77,20 +77,20 @@ missed_before programs n r missed before is none was = record {
 }
 
 pub noted : (programs : List (List ℕ)) (n : ℕ) (row : List Voice) (missed before : List ℕ)
-    → length programs ≡ length row → IsRow programs n row → list_any speaks_graphics row ≡ true
-    → ((k : ℕ) → k < length row → speaks_idle (voice_of_reading row k) ≡ true → get_or missed k 0 ≡ n + 1)
-    → ((k : ℕ) → k < length row → speaks_idle (voice_of_reading row k) ≡ false
+    → length programs ≡ length row → IsRow programs n row → list_any is_clean_graphics row ≡ true
+    → ((k : ℕ) → k < length row → is_idle_voice (voice_of_reading row k) ≡ true → get_or missed k 0 ≡ n + 1)
+    → ((k : ℕ) → k < length row → is_idle_voice (voice_of_reading row k) ≡ false
     → get_or missed k 0 ≡ get_or before k 0)
     → AreLastMissed programs n before → AreLastMissed programs (n + 1) missed
 noted programs n row missed before size is some idle other was = record {
   each =
       λ r lt.
       let within : r < length row = omega (arith, size, lt) in
-      let same : speaks_idle (voice_of_reading row r) ≡ speaks_idle (given_at programs r n) =
-      ap speaks_idle (is.each r lt) in
-      elim (told (speaks_idle (voice_of_reading row r))) [
-        | inl speaks_idle ↦ missed_here programs n r (get_or missed r 0) (idle r within speaks_idle)
-            (record { idle = sym same ∙ speaks_idle; graphics = has_graphics programs n row size is some })
+      let same : is_idle_voice (voice_of_reading row r) ≡ is_idle_voice (given_at programs r n) =
+      ap is_idle_voice (is.each r lt) in
+      elim (told (is_idle_voice (voice_of_reading row r))) [
+        | inl is_idle_voice ↦ missed_here programs n r (get_or missed r 0) (idle r within is_idle_voice)
+            (record { idle = sym same ∙ is_idle_voice; graphics = has_graphics programs n row size is some })
         | inr is_other ↦
             missed_before programs n r (get_or missed r 0) (get_or before r 0) (other r within is_other)
             (λ misses. false≢true (sym is_other ∙ same ∙ misses.idle)) (was.each r lt)
@@ -98,7 +98,7 @@ noted programs n row missed before size is some idle other was = record {
 }
 
 pub none_noted : (programs : List (List ℕ)) (n : ℕ) (row : List Voice) (missed : List ℕ)
-    → length programs ≡ length row → IsRow programs n row → list_any speaks_graphics row ≡ false
+    → length programs ≡ length row → IsRow programs n row → list_any is_clean_graphics row ≡ false
     → AreLastMissed programs n missed → AreLastMissed programs (n + 1) missed
 none_noted programs n row missed size is none was = record {
   each =
@@ -107,9 +107,9 @@ none_noted programs n row missed size is none was = record {
       (λ misses.
       let s = misses.graphics.reading in
       let within : s < length row = omega (arith, size, misses.graphics.within) in
-      let here : speaks_graphics (voice_of_reading row s) ≡ true =
-      ap speaks_graphics (is.each s misses.graphics.within) ∙ misses.graphics.graphics in
-      false≢true (sym none ∙ list_any_at speaks_graphics row s Silent within here))
+      let here : is_clean_graphics (voice_of_reading row s) ≡ true =
+      ap is_clean_graphics (is.each s misses.graphics.within) ∙ misses.graphics.graphics in
+      false≢true (sym none ∙ list_any_at is_clean_graphics row s Silent within here))
       (was.each r lt);
 }
 
@@ -118,7 +118,7 @@ none_noted programs n row missed size is none was = record {
 -- a reading drops where the last word at which it misses graphics is near enough
 is_dropped : (words : ℕ) (programs : List (List ℕ)) (r n heard missed : ℕ)
     → IsLastMissed programs r heard missed → heard ≤ words → heard ≤ n + 8
-    → speaks_idle (given_at programs r n) ≡ true → n - 7 < missed
+    → is_idle_voice (given_at programs r n) ≡ true → n - 7 < missed
     → IsDropped words programs r n
 is_dropped words programs r n heard missed is few near idle reaches = record {
   idle = idle;
@@ -139,7 +139,7 @@ not_far words programs r n heard missed is all far dropped =
     (reached words n heard dropped.drops.word all dropped.drops.within dropped.drops.before)
     dropped.drops.misses
 
-not_idle : (words : ℕ) (programs : List (List ℕ)) (r n : ℕ) → speaks_idle (given_at programs r n) ≡ false
+not_idle : (words : ℕ) (programs : List (List ℕ)) (r n : ℕ) → is_idle_voice (given_at programs r n) ≡ false
     → ¬ IsDropped words programs r n
 not_idle words programs r n other dropped = false≢true (sym other ∙ dropped.idle)
 
@@ -163,20 +163,21 @@ pub left_is : (words : ℕ) (programs : List (List ℕ)) (r n heard missed : ℕ
 left_is words programs r n heard missed given is few near all given_is =
     elim (leb_tells (suc (n - 7)) missed) [
       | inl close ↦
-          elim (told (speaks_idle given)) [
+          elim (told (is_idle_voice given)) [
             | inl idle ↦
                 subst (λ b. MatchBool b (IsDropped words programs r n) (¬ IsDropped words programs r n))
-                (sym (both (nat_lt (n - 7) missed) (speaks_idle given) close.0 idle))
-                (is_dropped words programs r n heard missed is few near (ap speaks_idle (sym given_is) ∙ idle)
+                (sym (both (nat_lt (n - 7) missed) (is_idle_voice given) close.0 idle))
+                (is_dropped words programs r n heard missed is few near
+                (ap is_idle_voice (sym given_is) ∙ idle)
                 (omega (arith, close.1)))
             | inr other ↦
                 subst (λ b. MatchBool b (IsDropped words programs r n) (¬ IsDropped words programs r n))
-                (sym (second_fails (nat_lt (n - 7) missed) (speaks_idle given) other))
-                (not_idle words programs r n (ap speaks_idle (sym given_is) ∙ other))
+                (sym (second_fails (nat_lt (n - 7) missed) (is_idle_voice given) other))
+                (not_idle words programs r n (ap is_idle_voice (sym given_is) ∙ other))
           ]
       | inr far ↦
           subst (λ b. MatchBool b (IsDropped words programs r n) (¬ IsDropped words programs r n))
-          (sym (first_fails (nat_lt (n - 7) missed) (speaks_idle given) far.0))
+          (sym (first_fails (nat_lt (n - 7) missed) (is_idle_voice given) far.0))
           (not_far words programs r n heard missed is all (omega (arith, far.1)))
     ]
 
@@ -189,7 +190,7 @@ said_by_case words programs r n given said false is given_is is_said = inr (is, 
 -- what is said by a reading
 pub said_is : (words : ℕ) (programs : List (List ℕ)) (r n heard missed : ℕ) (given said : Voice)
     → IsLastMissed programs r heard missed → heard ≤ words → heard ≤ n + 8
-    → (words ≤ heard) ⊎ (n + 8 ≤ heard) → given ≡ given_at programs r n → said ≡ voiced_by missed n given
+    → (words ≤ heard) ⊎ (n + 8 ≤ heard) → given ≡ given_at programs r n → said ≡ said_after missed n given
     → IsSaid words programs n r said
 said_is words programs r n heard missed given said is few near all given_is is_said =
     said_by_case words programs r n given said (is_left missed n given)

@@ -30,8 +30,8 @@ pub record IsAloneBefore (voices : List Voice) (one other : ℕ) (codeword : Lis
       → another ≡ codeword
 
 -- what is known after the pairs before these two
-abbrev pub AreMendAgreements : List Voice → ℕ → ℕ → Agreements → Type 0
-AreMendAgreements voices one other Nothing = (i j : ℕ) (codeword : List ℕ) → IsEarlier one other i j
+abbrev pub ArePairAgreements : List Voice → ℕ → ℕ → Agreements → Type 0
+ArePairAgreements voices one other Nothing = (i j : ℕ) (codeword : List ℕ) → IsEarlier one other i j
     → ¬ IsPairAgreed voices i j codeword
-AreMendAgreements voices one other (Alone pack) = IsAloneBefore voices one other pack
-AreMendAgreements voices one other Several = DiffersSomewhere voices
+ArePairAgreements voices one other (Alone pack) = IsAloneBefore voices one other pack
+ArePairAgreements voices one other Several = DiffersSomewhere voices

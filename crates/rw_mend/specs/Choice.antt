@@ -27,8 +27,8 @@ votes voices codeword = count_by (is_of codeword) voices
 -- stand against it; or as many, and it is the same codeword, or one that fewer voices are.
 abbrev pub stands : List Voice → List ℕ → ℕ → Voice → Bool
 stands voices pack doubts (Near other more) = nat_lt doubts more
-    || ((doubts == more) && ((differences pack other == 0)
-    || nat_lt (votes voices other) (votes voices pack)))
+    || ((doubts == more)
+    && ((differences pack other == 0) || nat_lt (votes voices other) (votes voices pack)))
 stands voices pack doubts voice = true
 
 -- whether a voice is a codeword that stands beside each of the voices

@@ -1,7 +1,7 @@
 -- Where a reading carries no graphics though another does: its idle packs count for nothing there.
 use Rattle.std.specs.Prelude.{◌≡◌, ◌⊎◌, ℕ, ◌+◌, ◌<◌, ◌≤◌, Bool, true, false, MatchBool, List, length, count_by, slice_index_or}
 use Rattle.rw_mend.specs.Choice.{voice_of_reading}
-use Rattle.rw_mend.specs.Voices.{speaks_graphics, speaks_idle}
+use Rattle.rw_mend.specs.Voices.{is_clean_graphics, is_idle_voice}
 use Rattle.rw_mend.specs.Words.{given_at}
 use Rattle.rw_mend.specs.declared.voices.Voice.{Voice}
 use Rattle.rw_mend.specs.declared.voices.Voice.TheVariants.{Silent}
@@ -14,11 +14,11 @@ reach = 7
 pub record HasGraphics (programs : List (List ℕ)) (m : ℕ) : Type 0 where
   pub reading : ℕ
   pub within : reading < length programs
-  pub graphics : speaks_graphics (given_at programs reading m) ≡ true
+  pub graphics : is_clean_graphics (given_at programs reading m) ≡ true
 
 -- Reading r misses graphics at word m: it gives the idle pack where another gives graphics.
 pub record Misses (programs : List (List ℕ)) (r m : ℕ) : Type 0 where
-  pub idle : speaks_idle (given_at programs r m) ≡ true
+  pub idle : is_idle_voice (given_at programs r m) ≡ true
   pub graphics : HasGraphics programs m
 
 -- Reading r drops at word n of so many: it misses graphics within seven words.
@@ -31,7 +31,7 @@ pub record Drops (words : ℕ) (programs : List (List ℕ)) (r n : ℕ) : Type 0
 
 -- Its idle pack counts for nothing there.
 pub record IsDropped (words : ℕ) (programs : List (List ℕ)) (r n : ℕ) : Type 0 where
-  pub idle : speaks_idle (given_at programs r n) ≡ true
+  pub idle : is_idle_voice (given_at programs r n) ≡ true
   pub drops : Drops words programs r n
 
 -- what reading r says at word n: nothing where its idle pack counts for nothing, or else what it gives

@@ -9,13 +9,13 @@ use Rattle.rw_mend.specs.declared.voices.Voice.{Voice}
 use Rattle.rw_mend.specs.declared.voices.Voice.TheVariants.{Near}
 
 -- the symbols of the codeword that is given, or zeros
-abbrev pub alone_bytes : Voice → List ℕ
-alone_bytes (Near pack doubts) = pack
-alone_bytes voice = idle_pack
+abbrev pub voice_bytes : Voice → List ℕ
+voice_bytes (Near pack doubts) = pack
+voice_bytes voice = idle_pack
 
 -- what reading r gives by itself for each word, as text
 abbrev pub given_text : ℕ → List (List ℕ) → ℕ → List ℕ
-given_text words programs r = flat_map (λ n. alone_bytes (given_at programs r n)) (below words)
+given_text words programs r = flat_map (λ n. voice_bytes (given_at programs r n)) (below words)
 
 -- Reading r is without a wrong symbol, and whatever another gives without a wrong symbol is the same codeword or the idle
 -- pack: so it is with noise, with scratches, and with readings without channels R to W.

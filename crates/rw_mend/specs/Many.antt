@@ -16,21 +16,22 @@ abbrev pub programs_of : ℕ → ℕ → List ℕ → List (List ℕ)
 programs_of count lead_in readings = map (program_of lead_in) (parts count (length readings / count) readings)
 
 -- how many words each of them has
-abbrev pub words_heard : ℕ → ℕ → List ℕ → ℕ
-words_heard count lead_in readings = whole_packs (length readings / count / block_bytes - lead_in)
+abbrev pub words_in_each : ℕ → ℕ → List ℕ → ℕ
+words_in_each count lead_in readings = whole_packs (length readings / count / block_bytes - lead_in)
 
 -- The words of all readings are mended: their text stands at the front of a buffer, and where there is room for them
 -- the bytes that name their sources at the front of another. What is behind them stays.
-pub record AreMendedInto (count lead_in : ℕ) (readings old new old_sources new_sources : List ℕ)
+pub record AreAllMendedInto (count lead_in : ℕ) (readings old new old_sources new_sources : List ℕ)
     (tallies : Tallies) : Type 0 where
   pub said : List (List Voice)
   pub found : List (Option Mended)
-  pub mended : AreMended (words_heard count lead_in readings) (programs_of count lead_in readings) said found
+  pub mended : AreMended (words_in_each count lead_in readings) (programs_of count lead_in readings) said
+      found
   pub tallies_are : AreTallies found tallies
-  pub dropped : AreDropCounts (words_heard count lead_in readings) (programs_of count lead_in readings)
-      (words_heard count lead_in readings) tallies.dropped
-  pub size : length (mended_text found) ≡ symbols_a_slot * words_heard count lead_in readings
+  pub dropped : AreDropCounts (words_in_each count lead_in readings) (programs_of count lead_in readings)
+      (words_in_each count lead_in readings) tallies.dropped
+  pub size : length (mended_text found) ≡ symbols_a_slot * words_in_each count lead_in readings
   pub text : new ≡ mended_text found ++ drop (length (mended_text found)) old
   pub sources_size : length new_sources ≡ length old_sources
-  pub sources : words_heard count lead_in readings ≤ length old_sources
-      → new_sources ≡ map source_byte found ++ drop (words_heard count lead_in readings) old_sources
+  pub sources : words_in_each count lead_in readings ≤ length old_sources
+      → new_sources ≡ map source_byte found ++ drop (words_in_each count lead_in readings) old_sources

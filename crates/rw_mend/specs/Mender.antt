@@ -3,19 +3,19 @@ use Rattle.std.specs.Prelude.{◌≡◌, ℕ, ◌+◌, ◌-◌, ◌/◌, ◌%◌
 use Rattle.raw_subcode.specs.Sizes.{block_bytes}
 use Rattle.rw_interleave.specs.Interleave.{whole_packs}
 use Rattle.rw_mend.specs.Drops.{AreDropCounts, AreVoices}
-use Rattle.rw_mend.specs.Readings.{AreJoinedReadings, programs_in, size_in}
+use Rattle.rw_mend.specs.Readings.{AreHeldReadings, programs_in, size_in}
 use Rattle.rw_mend.specs.Rows.{AreLastMissed, AreTrails, IsRow}
-use Rattle.rw_mend.specs.declared.rows.VoiceRow.{VoiceRow}
+use Rattle.rw_mend.specs.declared.rows.GivenRow.{GivenRow}
 use Rattle.rw_mend.specs.declared.readings.Readings.{Readings}
 use Rattle.rw_mend.specs.declared.mender.Mender.{Mender}
 
 -- a row where there is none
-abbrev pub no_voice_row : VoiceRow
-no_voice_row = record { voices = [] }
+abbrev pub no_given_row : GivenRow
+no_given_row = record { voices = [] }
 
 -- The words before `heard` were heard, and of those from n on the rows are kept.
 pub record IsHearing (readings : Readings) (n : ℕ) (mender : Mender) : Type 0 where
-  pub are : AreJoinedReadings readings
+  pub are : AreHeldReadings readings
   pub words : mender.words ≡ whole_packs (size_in readings / block_bytes)
   pub few : mender.words ≤ 4000000
   pub heard : mender.heard ≤ mender.words
@@ -29,7 +29,7 @@ pub record IsHearing (readings : Readings) (n : ℕ) (mender : Mender) : Type 0 
   pub dropped_kept : length mender.dropped ≡ 254
   pub dropped : AreDropCounts mender.words (programs_in readings) n mender.dropped
   pub rows : (m : ℕ) → n ≤ m → m < mender.heard
-      → IsRow (programs_in readings) m ((slice_index_or mender.rows (m % 8) no_voice_row).voices)
+      → IsRow (programs_in readings) m ((slice_index_or mender.rows (m % 8) no_given_row).voices)
 
 -- It has come to word n: the voices of its readings are said, and it can go on to the next.
 pub record HasComeTo (readings : Readings) (n : ℕ) (mender : Mender) : Type 0 where

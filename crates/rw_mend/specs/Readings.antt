@@ -8,7 +8,7 @@ abbrev pub size_in : Readings → ℕ
 size_in readings = length readings.first.now - readings.start
 
 -- there are some readings, but no more than can be told apart, and all are as long as the first
-pub record AreJoinedReadings (readings : Readings) : Type 0 where
+pub record AreHeldReadings (readings : Readings) : Type 0 where
   pub some : 0 < readings.count
   pub few : readings.count ≤ 254
   pub start : readings.start ≤ length readings.first.now

@@ -3,7 +3,7 @@ use Rattle.std.specs.Prelude.{◌≡◌, ℕ, ◌+◌, ◌-◌, ◌<◌, ◌≤�
 use Rattle.rw_mend.specs.Choice.{voice_of_reading}
 use Rattle.rw_mend.specs.Drops.{Misses}
 use Rattle.rw_mend.specs.Trails.{IsTrail}
-use Rattle.rw_mend.specs.Voices.{speaks_idle}
+use Rattle.rw_mend.specs.Voices.{is_idle_voice}
 use Rattle.rw_mend.specs.declared.voices.Voice.TheVariants.{Silent}
 use Rattle.rw_mend.specs.Words.{given_at}
 use Rattle.rw_mend.specs.declared.cover.Trail.{Trail}
@@ -36,8 +36,8 @@ pub record AreLastMissed (programs : List (List ℕ)) (words : ℕ) (missed : Li
 -- Whether what a reading gives at word n counts for nothing: it is the idle pack, and the last word at which the reading
 -- misses graphics is not more than seven words before.
 abbrev pub is_left : ℕ → ℕ → Voice → Bool
-is_left missed n given = nat_lt (n - 7) missed && speaks_idle given
+is_left missed n given = nat_lt (n - 7) missed && is_idle_voice given
 
 -- what it says then
-abbrev pub voiced_by : ℕ → ℕ → Voice → Voice
-voiced_by missed n given = if is_left missed n given then Silent else given
+abbrev pub said_after : ℕ → ℕ → Voice → Voice
+said_after missed n given = if is_left missed n given then Silent else given

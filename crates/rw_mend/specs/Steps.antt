@@ -30,9 +30,8 @@ abbrev pub AreCounted : MendCounts → List (List Voice) → List (Option Mended
 AreCounted counts said found = AreCounts (ways_of said found) counts
 
 -- what is told of them, and the bytes that name their sources, where there is room for all words
-pub record AreTold (before : List ℕ) (words : ℕ) (sources : List ℕ) (tallies : Tallies) (said : List
-    (List Voice))
-    (found : List (Option Mended)) : Type 0 where
+pub record AreTold (before : List ℕ) (words : ℕ) (sources : List ℕ) (tallies : Tallies)
+    (said : List (List Voice)) (found : List (Option Mended)) : Type 0 where
   pub tallies_are : AreTallies found tallies
   pub size : length sources ≡ length before
   pub put : words ≤ length before → sources ≡ map source_byte found ++ drop (length found) before

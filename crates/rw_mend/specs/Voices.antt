@@ -34,11 +34,11 @@ unfoldable pub voice_of : WordReading → Voice
 voice_of reading = voice_covered reading.coverage reading
 
 -- whether a voice is the idle pack
-abbrev pub speaks_idle : Voice → Bool
-speaks_idle (Near pack doubts) = is_idle_pack pack
-speaks_idle voice = false
+abbrev pub is_idle_voice : Voice → Bool
+is_idle_voice (Near pack doubts) = is_idle_pack pack
+is_idle_voice voice = false
 
 -- whether it is another codeword, and no symbol stands against it
-abbrev pub speaks_graphics : Voice → Bool
-speaks_graphics (Near pack doubts) = (doubts == 0) && not (is_idle_pack pack)
-speaks_graphics voice = false
+abbrev pub is_clean_graphics : Voice → Bool
+is_clean_graphics (Near pack doubts) = (doubts == 0) && not (is_idle_pack pack)
+is_clean_graphics voice = false

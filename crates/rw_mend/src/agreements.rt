@@ -3,7 +3,7 @@ ghost use Rattle.std.specs.Prelude.{◌≡◌, ◌≢◌, ◌+◌, ◌<◌, ◌�
 ghost use Rattle.rw_code.specs.Codeword.{IsWord};
 ghost use Rattle.rw_merge.specs.Agreement.{IsAgreed};
 ghost use Rattle.rw_mend.specs.Choice.{AreAgreed, IsAgreedAlone, IsPairAgreed, voice_of_reading};
-ghost use Rattle.rw_mend.specs.Agreements.{AreMendAgreements};
+ghost use Rattle.rw_mend.specs.Agreements.{ArePairAgreements};
 ghost use Rattle.rw_mend.specs.declared.voices.Voice.{Voice};
 ghost use Rattle.rw_mend.specs.declared.voices.Voice.TheVariants;
 
@@ -46,8 +46,8 @@ impl Agreements {
     fn add(&mut self, voices: &[Voice], i: usize, j: usize)
         requires before { i < j }
         requires within { j < length voices.now }
-        ensures { AreMendAgreements voices.now i j self.old
-            → AreMendAgreements voices.now (i + 1) j self.new }
+        ensures { ArePairAgreements voices.now i j self.old
+            → ArePairAgreements voices.now (i + 1) j self.new }
     {
         if let Some(pack) = of_pair(&voices[i], &voices[j]) {
             *self = self.and(&pack);
@@ -58,7 +58,7 @@ impl Agreements {
     fn and(&self, pack: &Pack) -> Agreements
         ensures { (voices : List Voice) (i j : ℕ) → IsPairAgreed voices i j pack.now
             → ((another : List ℕ) → IsPairAgreed voices i j another → another ≡ pack.now)
-            → AreMendAgreements voices i j self.now → AreMendAgreements voices (i + 1) j result }
+            → ArePairAgreements voices i j self.now → ArePairAgreements voices (i + 1) j result }
     {
         match self {
             Agreements::Nothing => Agreements::Alone { pack: *pack },

@@ -22,8 +22,8 @@ pub fn a_clean_codeword_is_mended()
 /// A law: a reading without a wrong symbol comes out whole, as if it were alone, beside any readings which, where no
 /// symbol of a word of theirs is wrong, give the same codeword or the idle pack: noise, scratches, no channels R to W.
 pub fn a_clean_reading_comes_out()
-    ensures { (words r : ℕ) (programs : List (List ℕ)) (said : List (List Voice)) (found : List
-        (Option Mended))
+    ensures { (words r : ℕ) (programs : List (List ℕ)) (said : List (List Voice))
+        (found : List (Option Mended))
         → IsCleanBeside words programs r → AreMended words programs said found
         → mended_text found ≡ given_text words programs r }
 {}

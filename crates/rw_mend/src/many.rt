@@ -3,8 +3,8 @@ ghost use Rattle.std.specs.Prelude.{◌≡◌, ◌≤◌, ◌<◌, ◌+◌, ◌-
 ghost use Rattle.raw_subcode.specs.Sizes.{block_bytes, most_units, symbols_a_slot};
 ghost use Rattle.rw_interleave.specs.Interleave.{whole_packs};
 ghost use Rattle.rw_mend.specs.Drops.{AreDropCounts};
-ghost use Rattle.rw_mend.specs.Many.{AreMendedInto};
-ghost use Rattle.rw_mend.specs.Readings.{AreJoinedReadings, programs_in, size_in};
+ghost use Rattle.rw_mend.specs.Many.{AreAllMendedInto};
+ghost use Rattle.rw_mend.specs.Readings.{AreHeldReadings, programs_in, size_in};
 ghost use Rattle.rw_mend.specs.Steps.{AreTold, IsMendedTo};
 
 use crate::mend;
@@ -31,7 +31,7 @@ pub fn mend_readings(
     requires short { length readings.now / count ≤ block_bytes * most_units }
     requires room { symbols_a_slot * whole_packs
         (length readings.now / count / block_bytes - lead_in) ≤ length packs.old }
-    ensures { AreMendedInto count lead_in readings.now packs.old packs.new sources.old sources.new result }
+    ensures { AreAllMendedInto count lead_in readings.now packs.old packs.new sources.old sources.new result }
 {
     let size = readings.len() / count;
     mend_split(
@@ -58,11 +58,11 @@ fn mend_split(
     requires equal { length others.now ≡ length first.now * (count - 1) }
     requires whole { length first.now % block_bytes ≡ 0 }
     requires short { length first.now ≤ block_bytes * most_units }
-    requires room { symbols_a_slot * whole_packs (length first.now / block_bytes - lead_in)
-        ≤ length packs.old }
+    requires room { symbols_a_slot * whole_packs
+        (length first.now / block_bytes - lead_in) ≤ length packs.old }
     ensures { (readings : List ℕ) → length readings / count ≡ length first.now
         → readings ≡ first.now ++ others.now
-        → AreMendedInto count lead_in readings packs.old packs.new sources.old sources.new result }
+        → AreAllMendedInto count lead_in readings packs.old packs.new sources.old sources.new result }
 {
     let all = Readings {
         first,
@@ -75,16 +75,14 @@ fn mend_split(
 
 // The same of readings in a struct.
 fn mend_all(readings: &Readings, packs: &mut [u8], sources: &mut [u8]) -> Tallies
-    requires readings { AreJoinedReadings readings.now }
+    requires readings { AreHeldReadings readings.now }
     requires few { size_in readings.now ≤ block_bytes * most_units }
     requires room { symbols_a_slot * whole_packs (size_in readings.now / block_bytes) ≤ length packs.old }
     ensures mended { IsMendedTo readings.now (whole_packs (size_in readings.now / block_bytes))
         (whole_packs (size_in readings.now / block_bytes)) packs.old packs.new
-        (AreTold sources.old (whole_packs
-        (size_in readings.now / block_bytes)) sources.new result) }
+        (AreTold sources.old (whole_packs (size_in readings.now / block_bytes)) sources.new result) }
     ensures dropped { AreDropCounts (whole_packs (size_in readings.now / block_bytes))
-        (programs_in readings.now)
-        (whole_packs (size_in readings.now / block_bytes)) result.dropped }
+        (programs_in readings.now) (whole_packs (size_in readings.now / block_bytes)) result.dropped }
 {
     let mut mender = Mender::new(readings);
     let mut tallies = Tallies::new();

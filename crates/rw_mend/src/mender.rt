@@ -2,16 +2,16 @@
 ghost use Rattle.std.specs.Prelude.{◌≡◌, ◌<◌, ◌≤◌, ◌+◌, ◌-◌, ◌*◌, ◌/◌, ◌%◌, ℕ, length, take, slice_index_or, slice_set, if◌then◌else◌};
 ghost use Rattle.raw_subcode.specs.Sizes.{block_bytes, most_units};
 ghost use Rattle.rw_mend.specs.Choice.{voice_of_reading};
-ghost use Rattle.rw_mend.specs.Mender.{HasComeTo, IsHearing, no_voice_row};
-ghost use Rattle.rw_mend.specs.Readings.{AreJoinedReadings, programs_in, size_in};
-ghost use Rattle.rw_mend.specs.Rows.{AreLastMissed, AreTrails, IsRow, is_left, voiced_by};
-ghost use Rattle.rw_mend.specs.declared.rows.VoiceRow.{VoiceRow};
+ghost use Rattle.rw_mend.specs.Mender.{HasComeTo, IsHearing, no_given_row};
+ghost use Rattle.rw_mend.specs.Readings.{AreHeldReadings, programs_in, size_in};
+ghost use Rattle.rw_mend.specs.Rows.{AreLastMissed, AreTrails, IsRow, is_left, said_after};
+ghost use Rattle.rw_mend.specs.declared.rows.GivenRow.{GivenRow};
 
 use crate::Voice;
 use crate::choice::MOST_READINGS;
 use crate::cover::Trail;
 use crate::readings::Readings;
-use crate::rows::{VoiceRow, count_left, hear_all, note_missed, say_all};
+use crate::rows::{GivenRow, count_left, hear_all, note_missed, say_all};
 use raw_subcode::{BLOCK_BYTES, SLOTS_A_BLOCK};
 use rw_interleave::PACKS_KEPT_BACK;
 
@@ -28,7 +28,7 @@ pub(crate) struct Mender {
     // 1 more than the last word at which a reading misses graphics, or 0.
     missed: [usize; MOST_READINGS],
     // What the readings give for word n by themselves, at n modulo 8.
-    rows: [VoiceRow; KEPT],
+    rows: [GivenRow; KEPT],
     said: [Voice; MOST_READINGS],
     // At how many words what a reading gives counts for nothing.
     dropped: [u32; MOST_READINGS],
@@ -37,7 +37,7 @@ pub(crate) struct Mender {
 impl Mender {
     /// Before the first word.
     pub(crate) fn new(readings: &Readings) -> Mender
-        requires readings { AreJoinedReadings readings.now }
+        requires readings { AreHeldReadings readings.now }
         requires few { size_in readings.now ≤ block_bytes * most_units }
         ensures { IsHearing readings.now 0 result }
     {
@@ -47,7 +47,7 @@ impl Mender {
             heard: 0,
             trails: [Trail::new(); MOST_READINGS],
             missed: [0; MOST_READINGS],
-            rows: [VoiceRow::new(); KEPT],
+            rows: [GivenRow::new(); KEPT],
             said: [Voice::Silent; MOST_READINGS],
             dropped: [0; MOST_READINGS],
         }
@@ -110,9 +110,9 @@ fn hear_next(
     m: usize,
     trails: &mut [Trail],
     missed: &mut [usize],
-    rows: &mut [VoiceRow],
+    rows: &mut [GivenRow],
 )
-    requires readings { AreJoinedReadings readings.now }
+    requires readings { AreHeldReadings readings.now }
     requires within { block_bytes * ((m + 7) / 4) + block_bytes ≤ size_in readings.now }
     requires trails_size { length trails.old ≡ 254 }
     requires missed_size { length missed.old ≡ 254 }
@@ -124,7 +124,7 @@ fn hear_next(
     ensures missed_size { length missed.new ≡ length missed.old }
     ensures trails { AreTrails (programs_in readings.now) m trails.new }
     ensures missed { AreLastMissed (programs_in readings.now) (m + 1) missed.new }
-    ensures rows { (row : VoiceRow) × IsRow (programs_in readings.now) m (row.voices)
+    ensures rows { (row : GivenRow) × IsRow (programs_in readings.now) m (row.voices)
         × (rows.new ≡ slice_set rows.old (m % 8) row) }
 {
     let row = &mut rows[m % KEPT];
@@ -134,7 +134,7 @@ fn hear_next(
 
 // Says what the readings say at word n, and counts what counts for nothing.
 fn say_next(
-    rows: &[VoiceRow],
+    rows: &[GivenRow],
     count: usize,
     n: usize,
     missed: &[usize],
@@ -150,12 +150,12 @@ fn say_next(
     ensures said_size { length said.new ≡ length said.old }
     ensures dropped_size { length dropped.new ≡ length dropped.old }
     ensures said { (r : ℕ) → r < count → voice_of_reading said.new r
-        ≡ voiced_by (slice_index_or missed.now r 0) n
-        (voice_of_reading (take count ((slice_index_or rows.now (n % 8) no_voice_row).voices)) r) }
+        ≡ said_after (slice_index_or missed.now r 0) n
+        (voice_of_reading (take count ((slice_index_or rows.now (n % 8) no_given_row).voices)) r) }
     ensures dropped { (r : ℕ) → r < count → slice_index_or dropped.new r 0
         ≡ slice_index_or dropped.old r 0 + (if is_left (slice_index_or missed.now r 0) n
-        (voice_of_reading (take count ((slice_index_or rows.now
-        (n % 8) no_voice_row).voices)) r) then 1 else 0) }
+        (voice_of_reading (take count ((slice_index_or rows.now (n % 8) no_given_row).voices)) r)
+        then 1 else 0) }
 {
     let given = rows[n % KEPT].voices(count);
     say_all(given, missed, n, said);

@@ -1,6 +1,6 @@
 // Readings of one stream in memory.
 ghost use Rattle.std.specs.Prelude.{◌≡◌, ◌<◌, length};
-ghost use Rattle.rw_mend.specs.Readings.{AreJoinedReadings, program_in, size_in};
+ghost use Rattle.rw_mend.specs.Readings.{AreHeldReadings, program_in, size_in};
 
 /// Readings of equal length: the first, and all others one behind another.
 #[derive(Clone, Copy)]
@@ -17,7 +17,7 @@ impl<'a> Readings<'a> {
     /// The program of a reading.
     pub(crate) fn program(&self, r: usize) -> &'a [u8]
         requires within { r < self.now.count }
-        requires readings { AreJoinedReadings self.now }
+        requires readings { AreHeldReadings self.now }
         ensures program { result.now ≡ program_in self.now r }
         ensures size { length result.now ≡ size_in self.now }
     {

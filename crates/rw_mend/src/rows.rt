@@ -5,11 +5,11 @@ ghost use Rattle.raw_subcode.specs.Sizes.{block_bytes, symbols_a_slot};
 ghost use Rattle.rw_interleave.specs.Interleave.{word_of};
 ghost use Rattle.std.specs.List.{list_any};
 ghost use Rattle.rw_mend.specs.Choice.{voice_of_reading};
-ghost use Rattle.rw_mend.specs.Voices.{speaks_graphics, voice_of};
-ghost use Rattle.rw_mend.specs.Readings.{AreJoinedReadings, programs_in, size_in};
+ghost use Rattle.rw_mend.specs.Voices.{is_clean_graphics, voice_of};
+ghost use Rattle.rw_mend.specs.Readings.{AreHeldReadings, programs_in, size_in};
 ghost use Rattle.rw_mend.specs.Trails.{IsTrail};
 ghost use Rattle.rw_mend.specs.Words.{given_at, reading_at};
-ghost use Rattle.rw_mend.specs.Rows.{AreTrails, IsRow, AreLastMissed, is_left, voiced_by};
+ghost use Rattle.rw_mend.specs.Rows.{AreTrails, IsRow, AreLastMissed, is_left, said_after};
 
 use crate::choice::MOST_READINGS;
 use crate::cover::Trail;
@@ -23,14 +23,14 @@ const REACH: usize = 7;
 
 /// What each reading gives for a word.
 #[derive(Clone, Copy)]
-pub(crate) struct VoiceRow {
+pub(crate) struct GivenRow {
     voices: [Voice; MOST_READINGS],
 }
 
-impl VoiceRow {
+impl GivenRow {
     /// Of no word yet.
-    pub(crate) fn new() -> VoiceRow {
-        VoiceRow {
+    pub(crate) fn new() -> GivenRow {
+        GivenRow {
             voices: [Voice::Silent; MOST_READINGS],
         }
     }
@@ -46,8 +46,8 @@ impl VoiceRow {
 }
 
 /// Hears what each reading gives for word n, to which the trails come from the word before.
-pub(crate) fn hear_all(readings: &Readings, n: usize, trails: &mut [Trail], row: &mut VoiceRow)
-    requires readings { AreJoinedReadings readings.now }
+pub(crate) fn hear_all(readings: &Readings, n: usize, trails: &mut [Trail], row: &mut GivenRow)
+    requires readings { AreHeldReadings readings.now }
     requires trails_size { readings.now.count ≤ length trails.old }
     requires within { block_bytes * ((n + 7) / 4) + block_bytes ≤ size_in readings.now }
     requires trails { 0 < n → AreTrails (programs_in readings.now) (n - 1) trails.old }
@@ -83,7 +83,7 @@ pub(crate) fn note_missed(row: &[Voice], n: usize, missed: &mut [usize])
         return;
     }
     for r in 0..row.len() {
-        if row[r].speaks_idle() {
+        if row[r].is_idle() {
             missed[r] = n + 1;
         }
     }
@@ -95,8 +95,8 @@ pub(crate) fn say_all(row: &[Voice], missed: &[usize], n: usize, said: &mut [Voi
     requires said { length row.now ≤ length said.old }
     ensures size { length said.new ≡ length said.old }
     ensures each { (r : ℕ) → r < length row.now
-        → voice_of_reading said.new r ≡ voiced_by (slice_index_or missed.now r 0) n
-        (voice_of_reading row.now r) }
+        → voice_of_reading said.new r
+        ≡ said_after (slice_index_or missed.now r 0) n (voice_of_reading row.now r) }
 {
     for r in 0..row.len() {
         said[r] = say(row[r], missed[r], n);
@@ -106,7 +106,7 @@ pub(crate) fn say_all(row: &[Voice], missed: &[usize], n: usize, said: &mut [Voi
 // What one reading says.
 #[inline]
 fn say(given: Voice, missed: usize, n: usize) -> Voice
-    ensures { result ≡ voiced_by missed n given }
+    ensures { result ≡ said_after missed n given }
 {
     if is_left(&given, missed, n) {
         Voice::Silent
@@ -120,7 +120,7 @@ fn say(given: Voice, missed: usize, n: usize) -> Voice
 fn is_left(given: &Voice, missed: usize, n: usize) -> bool
     ensures { result ≡ is_left missed n given.now }
 {
-    n.saturating_sub(REACH) < missed && given.speaks_idle()
+    n.saturating_sub(REACH) < missed && given.is_idle()
 }
 
 /// Counts for each reading that what it gives at word n counts for nothing, where it does.
@@ -142,9 +142,9 @@ pub(crate) fn count_left(row: &[Voice], missed: &[usize], n: usize, counts: &mut
 
 // Whether some reading gives graphics.
 fn has_graphics(row: &[Voice]) -> bool
-    ensures { result ≡ list_any speaks_graphics row.now }
+    ensures { result ≡ list_any is_clean_graphics row.now }
 {
-    row.iter().any(|voice| voice.speaks_graphics())
+    row.iter().any(|voice| voice.is_graphics())
 }
 
 // The reading of word n.

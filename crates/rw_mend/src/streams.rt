@@ -4,7 +4,7 @@ ghost use Rattle.std.specs.declared.option.Option.{Option};
 ghost use Rattle.raw_subcode.specs.Sizes.{block_bytes, most_units, symbols_a_slot};
 ghost use Rattle.rw_interleave.specs.Interleave.{whole_packs};
 ghost use Rattle.rw_mend.specs.declared.ways.Way.{Way};
-ghost use Rattle.rw_mend.specs.Readings.{AreJoinedReadings, size_in};
+ghost use Rattle.rw_mend.specs.Readings.{AreHeldReadings, size_in};
 ghost use Rattle.rw_mend.specs.Steps.{AreCounted, IsMendedTo};
 ghost use Rattle.rw_mend.specs.Streams.{AreCounts, IsMendedInto, mended_bytes};
 
@@ -52,7 +52,7 @@ pub fn mend_streams(first: &[u8], second: &[u8], lead_in: u32, packs: &mut [u8])
 
 // The same of readings that lie one behind another.
 fn mend_two(readings: &Readings, packs: &mut [u8]) -> MendCounts
-    requires readings { AreJoinedReadings readings.now }
+    requires readings { AreHeldReadings readings.now }
     requires few { size_in readings.now ≤ block_bytes * most_units }
     requires room { symbols_a_slot * whole_packs (size_in readings.now / block_bytes) ≤ length packs.old }
     ensures { IsMendedTo readings.now (whole_packs (size_in readings.now / block_bytes))

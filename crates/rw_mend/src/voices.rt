@@ -1,7 +1,7 @@
 // What a reading of a word gives.
 ghost use Rattle.std.specs.Prelude.{◌≡◌, List, ℕ};
 ghost use Rattle.rw_code.specs.Codeword.{differences};
-ghost use Rattle.rw_mend.specs.Voices.{doubts_of, speaks_graphics, speaks_idle, is_idle_pack, voice_of};
+ghost use Rattle.rw_mend.specs.Voices.{doubts_of, is_clean_graphics, is_idle_voice, is_idle_pack, voice_of};
 
 use rw_code::{Fixed, Pack, Word, correct};
 
@@ -84,8 +84,8 @@ fn is_idle_pack(pack: &Pack) -> bool
 
 impl Voice {
     /// Whether it is near the idle pack.
-    pub(crate) fn speaks_idle(&self) -> bool
-        ensures { result ≡ speaks_idle self.now }
+    pub(crate) fn is_idle(&self) -> bool
+        ensures { result ≡ is_idle_voice self.now }
     {
         match self {
             Voice::Near { pack, .. } => is_idle_pack(pack),
@@ -94,8 +94,8 @@ impl Voice {
     }
 
     /// Whether it is another codeword, and no symbol is wrong.
-    pub(crate) fn speaks_graphics(&self) -> bool
-        ensures { result ≡ speaks_graphics self.now }
+    pub(crate) fn is_graphics(&self) -> bool
+        ensures { result ≡ is_clean_graphics self.now }
     {
         match self {
             Voice::Near { pack, doubts: 0 } => !is_idle_pack(pack),

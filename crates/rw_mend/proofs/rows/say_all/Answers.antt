@@ -2,7 +2,7 @@ use Rattle.std.proofs.Common.{◌≡◌, ◌∙◌, ◌<◌, ap, arith, length, 
 use Rattle.std.proofs.Math.ListN.{set, length-set}
 use Rattle.std.proofs.lemmas.List.{get_or_default, get_or-set_other, get_or-set_same}
 use Rattle.rw_mend.specs.Choice.{voice_of_reading}
-use Rattle.rw_mend.specs.Rows.{voiced_by}
+use Rattle.rw_mend.specs.Rows.{said_after}
 use Rattle.rw_mend.specs.declared.voices.Voice.TheVariants.{Silent}
 use Rattle.rw_mend.proofs.rows.say_all.Goals as goal
 
@@ -21,9 +21,9 @@ loop-r-preserved c =
       size = length-set said r new ∙ c.loop-r.invariant.size;
       each = below_more
           (λ k. voice_of_reading (set said r new) k
-          ≡ voiced_by (get_or missed k 0) c.args.n (voice_of_reading row k)) r
+          ≡ said_after (get_or missed k 0) c.args.n (voice_of_reading row k)) r
           (λ k lt. get_or-set_other said r k new Silent (λ e. omega (arith, e, lt))
           ∙ c.loop-r.invariant.each k lt)
           (get_or-set_same said r new Silent long ∙ c.say.ensures
-          ∙ ap (voiced_by (get_or missed r 0) c.args.n) here);
+          ∙ ap (said_after (get_or missed r 0) c.args.n) here);
     }

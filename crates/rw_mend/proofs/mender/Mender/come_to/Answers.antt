@@ -1,9 +1,9 @@
 use Rattle.std.proofs.Common.{◌≡◌, ◌⊎◌, ◌≤◌, ◌+◌, ◌%◌, List, ℕ, take, get_or, min, refl, sym, subst, arith, inl, inr}
 use Rattle.std.proofs.lemmas.Bool.Decides.{leb_tells}
-use Rattle.rw_mend.specs.Mender.{IsHearing, no_voice_row}
+use Rattle.rw_mend.specs.Mender.{IsHearing, no_given_row}
 use Rattle.rw_mend.specs.Readings.{programs_in}
 use Rattle.rw_mend.specs.Rows.{AreLastMissed}
-use Rattle.rw_mend.specs.declared.rows.VoiceRow.{VoiceRow}
+use Rattle.rw_mend.specs.declared.rows.GivenRow.{GivenRow}
 use Rattle.rw_mend.proofs.Coming.{at_word, heard_more}
 use Rattle.rw_mend.proofs.Missing.{few_dropped}
 use Rattle.rw_mend.proofs.Reading.{count_is}
@@ -32,7 +32,7 @@ loop-m-preserved c =
     c.hear_next.ensures.missed in
     record {
       hearing = subst
-          (λ (rows : List VoiceRow). IsHearing readings c.args.n (record {
+          (λ (rows : List GivenRow). IsHearing readings c.args.n (record {
             words = mender.words;
             heard = m + 1;
             trails = new.trails;
@@ -74,7 +74,7 @@ returns-clause-at c =
     let mender = c.loop-m.self in
     let n = c.args.n in
     let was = c.loop-m.invariant.hearing in
-    at_word readings n mender (take readings.count ((get_or mender.rows (n % 8) no_voice_row).voices))
+    at_word readings n mender (take readings.count ((get_or mender.rows (n % 8) no_given_row).voices))
     c.say_next.new.said c.say_next.new.dropped was
     (omega (arith, c.requires.within, c.loop-m.invariant.words))
     (enough mender.words c.args.self.now.words mender.heard n c.min-m-end.result c.loop-m.m
