@@ -8,15 +8,18 @@ import functools
 import itertools
 import math
 import operator
+import site
 import sys
 import wave
 from array import array
 from pathlib import Path
 from typing import Iterator, NamedTuple
 
-# The package of the desk, to which a link leads from here.
-from ribjasper.song_files import read_song
-from ribjasper.songs import Song
+# The package of the checkout, whether or not it is installed.
+site.addsitedir(str(Path(__file__).resolve().parents[2] / "desk"))
+
+from ribjasper.song_files import read_song  # noqa: E402
+from ribjasper.songs import Song  # noqa: E402
 
 HERE = Path(__file__).resolve().parent
 
