@@ -20,7 +20,7 @@ compiler=${CC:-${prefix}cc}
 for tool in "$compiler" "${prefix}ld" "${prefix}objcopy" "${prefix}ar"; do
     command -v "$tool" >/dev/null || { echo "build_library: there is no $tool" >&2; exit 1; }
 done
-if [ -z "$OVER_GATE" ] || ! tools/build_over_gate.py ribjasper_c "$cpu" ${JOBS:+"$JOBS"}; then
+if [ -z "$OVER_GATE" ] || ! tools/build_over_gate.py ribjasper_c --cpu "$cpu" ${JOBS:+--jobs "$JOBS"}; then
     tools/prove_crates.py ribjasper_c
     (cd crates/ribjasper_c && rt lib --target "$target" --cpu "$cpu" ${JOBS:+--jobs "$JOBS"})
 fi

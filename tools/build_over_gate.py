@@ -1,5 +1,5 @@
 #!/usr/bin/env python3
-"""Builds a static library over what the gate proved: build_over_gate.py CRATE CPU [JOBS]
+"""Builds a static library over what the gate proved: build_over_gate.py CRATE (--cpu CPU | --target TARGET) [--jobs N]
 
 `rt ci` leaves the libraries that it proved from nothing in crates/*/out/rlib, without the stamp by which `rt lib` knows its
 own, so `rt lib` would prove all of them again. This calls the kit's compiler over them with the kit's own words: CRATE
@@ -42,8 +42,10 @@ def left_by_the_gate(rlib: str) -> bool:
 def main() -> int:
     parser = argparse.ArgumentParser(description="Builds a static library over what the gate proved.")
     parser.add_argument("crate", help="the crate, as crates.txt names it")
-    parser.add_argument("cpu", help="the oldest processor that it has to run on")
-    parser.add_argument("jobs", nargs="?", default="2", help="how many processes prove it (default: 2)")
+    where = parser.add_mutually_exclusive_group(required=True)
+    where.add_argument("--cpu", help="the oldest processor that it has to run on")
+    where.add_argument("--target", help="what it is built for, if not this kind of machine")
+    parser.add_argument("--jobs", default="2", help="how many processes prove it (default: 2)")
     arguments = parser.parse_args()
     folder = TOP / "crates" / arguments.crate
     os.chdir(folder)
@@ -52,7 +54,8 @@ def main() -> int:
     if not all(left_by_the_gate(it.rlib) for it in crate.below()):
         print("build_over_gate: the gate did not leave each library that this one stands on", file=sys.stderr)
         return NOT_THERE
-    words = crate.words(["--jobs", arguments.jobs, "--cpu", arguments.cpu], keeps=False)
+    place = ["--cpu", arguments.cpu] if arguments.cpu else ["--target", arguments.target]
+    words = crate.words(["--jobs", arguments.jobs, *place], keeps=False)
     words += ["--toolchain", f"{rtlib.KIT}/toolchain", "--backend", "llvm", "-o", f"out/lib{arguments.crate}.a"]
     os.makedirs("out", exist_ok=True)
     status: int = crate.call(rtlib.RATTLE, "build", *words)

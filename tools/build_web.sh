@@ -1,13 +1,16 @@
 #!/bin/sh
 # Proves the calls for web pages, compiles them to WebAssembly and leaves in lib/web: ribjasper.wasm, ribjasper.mjs with
-# its types, and index.html, the page of examples/web with both inside, which needs no server.
+# its types, and index.html, the page of examples/web with both inside, which needs no server. With OVER_GATE=1 it stands on
+# what `rt ci` has just proved, if that is all there.
 set -e
 cd "$(dirname "$0")/.."
 target=wasm64-unknown-unknown
 command -v wasm-ld-14 >/dev/null || command -v wasm-ld >/dev/null ||
     { echo "build_web: there is no wasm-ld (Debian: lld)" >&2; exit 1; }
-tools/prove_crates.py ribjasper_web
-(cd crates/ribjasper_web && rt lib --target "$target" ${JOBS:+--jobs "$JOBS"})
+if [ -z "$OVER_GATE" ] || ! tools/build_over_gate.py ribjasper_web --target "$target" ${JOBS:+--jobs "$JOBS"}; then
+    tools/prove_crates.py ribjasper_web
+    (cd crates/ribjasper_web && rt lib --target "$target" ${JOBS:+--jobs "$JOBS"})
+fi
 
 kit=$(dirname "$(readlink -f "$(command -v rt)")")
 mkdir -p lib/web

@@ -3,7 +3,7 @@
 # Python, a font, compilers, and the programs that ours are compared with. Whatever comes of it, it ends well: checks that
 # lack a package are skipped, and counted.
 packages="python3-pil python3-tqdm python3-distributed python3-hypothesis mypy fonts-dejavu-core ffmpeg cdrdao cdrskin
-libburn-dev valgrind gcc g++ binutils pkg-config"
+libburn-dev valgrind gcc g++ binutils pkg-config lld nodejs"
 [ "$(id -u)" = 0 ] && command -v apt-get >/dev/null && command -v dpkg-query >/dev/null || exit 0
 lacking=
 for package in $packages; do
