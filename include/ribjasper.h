@@ -203,6 +203,9 @@ typedef struct ribjasper_counts {
 } ribjasper_counts;
 int32_t ribjasper_player_counts(const ribjasper_player *player, ribjasper_counts *counts);
 
+/* Looking. The calls below that take a const player leave it as it is, but each has to be the only call of that player: two
+   that look at one player at the same time, in two threads, spoil it. Look at a copy, or take turns. */
+
 /* Writes the number of the colour, 0 to 15, of the pixel `x` from the left (0 to 299), `y` from the top (0 to 215). */
 int32_t ribjasper_player_pixel(const ribjasper_player *player, uint32_t x, uint32_t y, uint8_t *pixel);
 
@@ -256,9 +259,10 @@ int32_t ribjasper_player_offsets(const ribjasper_player *player, uint8_t *across
 #define RIBJASPER_NO_CHECKPOINT 3  /* what ribjasper_player_load answers where the bytes are no such file */
 
 /* Writes where an open player is: how many blocks came, how many words of them were bad, the last seven slots, and
-   what stands. Refused where the form is RIBJASPER_PACKS, or more than 1,000,000 blocks came since it began; packs that
-   were drawn are not counted. It asks malloc for 65,056 bytes, and answers RIBJASPER_NO_MEMORY where it is refused
-   them; it frees them before it returns. Where it is not done nothing is written. */
+   what stands. It has to be the only call of the player, though it is const. Refused where the form is RIBJASPER_PACKS, or
+   more than 1,000,000 blocks came since it began; packs that were drawn are not counted. It asks malloc for 65,056 bytes,
+   and answers RIBJASPER_NO_MEMORY where it is refused them; it frees them before it returns. Where it is not done nothing
+   is written. */
 RIBJASPER_NODISCARD int32_t ribjasper_player_save(const ribjasper_player *player, uint8_t file[RIBJASPER_CHECKPOINT]);
 
 /* Brings an open player to where a file was saved, in a stream of the form RIBJASPER_RAW: blocks that come from now on
@@ -450,7 +454,7 @@ typedef struct ribjasper_plan_row {
     uint32_t need;  /* the packs that its change needs, at most 3,076 */
     uint32_t free;  /* the packs that are free for it */
     uint32_t first; /* the first of them */
-    uint8_t late;   /* 1 where the change has no room before the picture is ready, or else 0 */
+    uint8_t late;   /* 1 where the change has no room before the picture is ready, also one that needs no pack; or else 0 */
 } ribjasper_plan_row;
 
 /* What is told of a plan. */
