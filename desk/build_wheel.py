@@ -20,7 +20,8 @@ def metadata() -> str:
     """What the package is called, what it needs, and its page."""
     extras = PROJECT["optional-dependencies"]
     lines = ["Metadata-Version: 2.1", f"Name: {PROJECT['name']}", f"Version: {VERSION}",
-             f"Summary: {PROJECT['description']}", f"Requires-Python: {PROJECT['requires-python']}"]
+             f"Summary: {PROJECT['description']}", f"License: {PROJECT['license']}",
+             f"Requires-Python: {PROJECT['requires-python']}"]
     for extra, needs in extras.items():
         lines += [f"Provides-Extra: {extra}", *(f"Requires-Dist: {need}; extra == '{extra}'" for need in needs)]
     lines += ["Description-Content-Type: text/markdown", "", (DESK / PROJECT["readme"]).read_text()]

@@ -1,4 +1,5 @@
-/* The proved player of CD subcode graphics, for programs in C and C++.
+/* The proved player of CD subcode graphics, for programs in C and C++. Licensed under MIT or Apache-2.0, as you like it:
+   (c) 2026 The Ribjasper authors.
 
    Link with -lribjasper (pkg-config --cflags --libs ribjasper tells the rest).
 

@@ -135,6 +135,7 @@ def manual(formats: str, commands: list[Row]) -> str:
     out += [".SH EXAMPLES"]
     for said, lines in examples(formats):
         out += [roff(said), ".PP", ".nf", ".RS", *map(roff, lines), ".RE", ".fi", ".PP"]
+    out += [".SH LICENCE", "MIT or Apache-2.0, as you like it: 2026 The Ribjasper authors."]
     out += [".SH SEE ALSO", "Formats, byte by byte, and the guide: docs/FORMATS.md and docs/GUIDE.md of the project."]
     return "\n".join(out) + "\n"
 
