@@ -156,14 +156,24 @@ NUMBERS = ("5", "12", "0", "1", "2", "30", "150", "-1", "", "x", "1.5", "nan", "
 TIMES = ("00:22:00", "00:10:00", "00:04:00", "00:00:00", "99:59:74", "1:2:3", "00:60:00", "x")
 LEAD_IN = Option("--lead-in", NUMBERS)
 FORCE = Option("--force")
+FORM = Option("--form", ("raw", "planar", "sector", "cooked", "cdg", "pq", "raw-swapped", "x"))
+SKIP = Option("--skip", ("0", "96", "44", "1", "999999", "-1", "x"))
+PLACE = ("00:00:10", "20", "0", "00:10:00", "99:59:74", "-1", "x")
 COMMANDS = (
-    Command(("identify",), ("dump", "dump"), (LEAD_IN,)),
-    Command(("damage",), ("dump",), (Option("--map", writes=True), LEAD_IN, Option("--form", ("raw", "sector", "cooked", "x")),
-                                     FORCE)),
-    Command(("mend",), ("dump", "dump"), (Option("-o", writes=True), LEAD_IN, FORCE)),
+    Command(("identify",), ("dump", "dump"), (LEAD_IN, FORM, SKIP)),
+    Command(("damage",), ("dump",), (Option("--map", writes=True), LEAD_IN, FORM, SKIP, FORCE)),
+    Command(("mend",), ("dump", "dump"), (Option("-o", writes=True), Option("--map", writes=True), Option("--ddrescue-map", writes=True),
+                                          LEAD_IN, FORM, FORCE)),
+    Command(("mend", "--compare"), ("dump", "dump"), (LEAD_IN, FORM), 2),
     Command(("mend",), ("dump", "dump", "dump"), (Option("-o", writes=True), FORCE), 2),
-    Command(("sheet",), ("dump",), (Option("-o", writes=True), LEAD_IN, FORCE)),
-    Command(("texts",), ("dump",), (Option("--packs", writes=True), Option("--header"), LEAD_IN, FORCE)),
+    Command(("q-fix",), ("dump",), (Option("-o", writes=True), Option("--sbi", writes=True), FORM, SKIP, FORCE)),
+    Command(("convert",), ("dump",), (Option("-o", writes=True, is_needed=True), Option("--as", FORM.values), Option("--from", PLACE),
+                                      Option("--to", PLACE), Option("--silent"), Option("--audio", reads="audio"),
+                                      Option("--sheet", reads="sheet"), FORCE)),
+    Command(("sums",), ("dump", "dump"), (Option("--dat", writes=True), Option("--check", reads="sheet"), FORCE)),
+    Command(("sheet",), ("dump",), (Option("-o", writes=True), Option("--toc"), Option("--ccd"), Option("--latin-1"), LEAD_IN, SKIP, FORCE)),
+    Command(("sheet",), ("dump",), (Option("--compare", reads="sheet", is_needed=True), LEAD_IN), 2),
+    Command(("texts",), ("dump",), (Option("--packs", writes=True), Option("--header"), Option("--all"), LEAD_IN, FORCE)),
     Command(("texts", "--back"), ("packs",), (Option("--blocks", writes=True), FORCE)),
     Command(("plan",), ("sheet", "script"), (Option("--length", TIMES, is_needed=True), Option("--chart", writes=True),
                                              Option("--latin-1", writes=True), Option("--audio", reads="audio"), FORCE)),
