@@ -209,6 +209,8 @@ class Made(NamedTuple):
     words: tuple[str, ...]
     inputs: dict[str, bytes]
     outputs: tuple[str, ...]
+    # Those of the inputs that the call reads.
+    reads: frozenset[str]
 
     def __repr__(self) -> str:
         """The words, and of each input its length, its checksum and its beginning; KEEP is a folder where they are left."""
@@ -226,6 +228,7 @@ def calls(draw: st.DrawFn, commands: tuple[Command, ...] = COMMANDS) -> Made:
     care = draw(st.sampled_from((9, 9, 7, 0)))
     inputs: dict[str, bytes] = {}
     outputs: list[str] = []
+    reads: set[str] = set()
     words = list(command.words)
 
     def is_careful() -> bool:
@@ -234,11 +237,14 @@ def calls(draw: st.DrawFn, commands: tuple[Command, ...] = COMMANDS) -> Made:
     def read(kind: str) -> str:
         if kind == "folder":
             for number in range(draw(st.integers(0, 3))):
+                reads.add(f"dumps/{number}")
                 inputs[f"dumps/{number}"] = an_input(draw, draw(st.sampled_from(("dump", "cdg", "journal"))), is_careful())
             return "@dumps"
         name = f"in-{len(inputs)}"
         inputs[name] = an_input(draw, kind, is_careful())
-        return f"@{name}" if is_careful() else draw(st.sampled_from((f"@{name}",) * 6 + ("@none", "@folder", "@notes", "@null")))
+        named = name if is_careful() else draw(st.sampled_from((name,) * 6 + ("none", "folder", "notes", "null")))
+        reads.add(named)
+        return f"@{named}"
 
     def written() -> str:
         place = "new" if is_careful() else draw(st.sampled_from(PLACES))
@@ -261,7 +267,7 @@ def calls(draw: st.DrawFn, commands: tuple[Command, ...] = COMMANDS) -> Made:
                 words.append(read(option.reads))
             elif option.values:
                 words.append(draw(st.sampled_from(option.values[:RIGHT] if is_careful() else option.values)))
-    return Made(tuple(words), inputs, tuple(outputs))
+    return Made(tuple(words), inputs, tuple(outputs), frozenset(reads))
 
 
 def lay(folder: Path, call: Made) -> None:
@@ -304,7 +310,7 @@ REACHED = {"link": "target", "dangling": "nowhere", "link-to-input": "in-0"}
 def may_appear(call: Made, name: str) -> bool:
     for output in call.outputs:
         place = REACHED.get(output, output)
-        if name in call.inputs:
+        if name in call.reads:
             return False
         # A name from which several are made leads nowhere itself.
         if name == place or name in [output + ending for ending in ENDINGS]:
