@@ -1,19 +1,20 @@
 """Where a dump is damaged: runs of blocks, jumps of its time, and a map."""
 import argparse
-from typing import Iterator, NamedTuple
+from typing import Any, Iterator, NamedTuple
 
-from . import damage_map, kinds
-from .dump import FORMS, Dump, Form
-from .identify import form_of, survey_of
-from .library import BLOCKS_A_SECOND, LONGEST_LEAD_IN
-from .output import FOUND, Outputs, Refusal, add_force, shown, tell
+from . import damage_map, kinds, library
+from .identify import has_parity
+from .library import BLOCKS_A_SECOND
+from .loading import Loaded, add_options, asked, load
+from .output import FOUND, Outputs, add_force, shown, tell
 from .survey import Clock, Run, Survey, either, runs, spelled
 
 NAMES = ("kind", "first", "last", "from", "to", "track", "bad", "corrected", "q-bad", "empty")
+RUN, JUMP, UNREAD = "run", "jump", "unread"
 
 
 class Damage(NamedTuple):
-    """A line of the table: damaged neighbours, or a jump to its first block."""
+    """A line of the table: damaged neighbours, a jump to its first block, or blocks that were not read."""
 
     kind: str
     first: int
@@ -26,6 +27,10 @@ class Damage(NamedTuple):
     q_bad: int = 0
     empty: int = 0
 
+    def place(self) -> str:
+        """Where it is, in a word."""
+        return f"jump {self.first}" if self.kind == JUMP else f"{self.first}-{self.last}"
+
 
 def damaged(survey: Survey) -> bytes:
     """A byte for each block, not zero where anything is wrong with it."""
@@ -37,7 +42,7 @@ def run_of(survey: Survey, clock: Clock, run: Run) -> Damage:
     track = clock.track(run.first)
     q_bad, empty = survey.bad_frames, survey.empty
     return Damage(
-        "run",
+        RUN,
         run.first,
         run.last,
         spelled(clock.time(run.first)),
@@ -55,7 +60,7 @@ def jumps(survey: Survey, clock: Clock) -> Iterator[Damage]:
     tracks = survey.column("track")
     for _, before, after in clock.jumps():
         track = f"{tracks[after.first]:02}"
-        yield Damage("jump", after.first, after.first, spelled(before), spelled(after.time), track)
+        yield Damage(JUMP, after.first, after.first, spelled(before), spelled(after.time), track)
 
 
 def damages(survey: Survey) -> list[Damage]:
@@ -63,6 +68,20 @@ def damages(survey: Survey) -> list[Damage]:
     clock = Clock(survey)
     found = [run_of(survey, clock, run) for run in runs(damaged(survey))]
     return sorted([*found, *jumps(survey, clock)], key=lambda it: (it.first, it.kind))
+
+
+def unread(survey: Survey) -> list[Damage]:
+    """The blocks before the first that was read, and behind the last, which are no damage."""
+    clock = Clock(survey)
+    return [
+        Damage(UNREAD, run.first, run.last, spelled(clock.time(run.first)), spelled(clock.time(run.last)), "-")
+        for run in survey.unread()
+    ]
+
+
+def damages_of(loaded: Loaded) -> list[Damage]:
+    """All that is damaged in a dump. Of packs without parity nothing can be told."""
+    return damages(loaded.survey) if loaded.form.library != library.PACKS or has_parity(loaded) else []
 
 
 def seconds(survey: Survey) -> bytes:
@@ -77,11 +96,18 @@ def seconds(survey: Survey) -> bytes:
     ):
         for run in runs(column):
             worst[run.first : run.last + 1] = bytes([state]) * (run.last - run.first + 1)
-    starts = range(0, survey.blocks, BLOCKS_A_SECOND)
-    return bytes(max(worst[start : start + BLOCKS_A_SECOND]) for start in starts)
+    cells = bytearray(
+        max(worst[start : start + BLOCKS_A_SECOND]) for start in range(0, survey.blocks, BLOCKS_A_SECOND)
+    )
+    for run in survey.unread():
+        # A second of which a part was read is what that part is.
+        first, end = -(-run.first // BLOCKS_A_SECOND), (run.last + 1) // BLOCKS_A_SECOND
+        last = -(-survey.blocks // BLOCKS_A_SECOND) if run.last + 1 == survey.blocks else end
+        cells[first:last] = bytes([damage_map.UNREAD]) * max(0, last - first)
+    return bytes(cells)
 
 
-def draw_map(survey: Survey):
+def draw_map(survey: Survey) -> Any:
     """The map of a dump, a picture: a row a minute, a cell a second. Rows are marked by the absolute time of their
     first block, or where there is no Q by its place in the file."""
     clock = Clock(survey)
@@ -95,53 +121,31 @@ def draw_map(survey: Survey):
     return damage_map.draw(cells, jumped, marks)
 
 
-def add_parser(commands) -> None:
+def add_parser(commands: Any) -> None:
     parser = commands.add_parser(
         "damage",
         help="tell where a dump is damaged",
         description="Writes a line for each run of damaged neighbours and each jump of the absolute time. Blocks are "
         "numbered from 0 in the file, words are counted at the block that completes them. An empty block is 96 zeros, "
-        "as drives give them up. Exit 1 where there is any.",
+        "as drives give them up; before the first block that was read and behind the last they are unread, which has a "
+        "line of its own and is no damage. Exit 1 where there is damage.",
     )
     parser.add_argument("file", metavar="FILE")
-    parser.add_argument("--lead-in", type=lead_in, metavar="N", help="blocks of the lead-in; else Q tells them")
-    parser.add_argument("--form", choices=FORMS, metavar="F", help=f"the form: {', '.join(FORMS)}; else it is found")
+    add_options(parser)
     parser.add_argument("--map", metavar="FILE.png", help="also draw a map of the damage")
     add_force(parser)
     parser.set_defaults(run=run)
 
 
-def lead_in(word: str) -> int:
-    """A number of lead-in blocks, of the command line."""
-    number = int(word) if word.isascii() and word.isdigit() else -1
-    if not 0 <= number <= LONGEST_LEAD_IN:
-        raise argparse.ArgumentTypeError(f"{word} is not a number from 0 to {LONGEST_LEAD_IN}")
-    return number
-
-
-def form_or_refuse(dump: Dump, named: str | None) -> Form:
-    """The form that is named, or the one that a dump has."""
-    if named is not None:
-        return FORMS[named]
-    form, against = form_of(dump, allow_torn=True)
-    if form is None:
-        raise Refusal(dump.path, "; ".join(["is no dump", *against]))
-    return form
-
-
-def run(arguments) -> int:
+def run(arguments: argparse.Namespace) -> int:
     with Outputs([arguments.file], [(arguments.map, kinds.PNG)], arguments.force) as outputs:
-        dump = Dump(arguments.file)
-        form = form_or_refuse(dump, arguments.form)
-        if not dump.units(form):
-            raise Refusal(dump.path, f"has no whole block of {form.unit} bytes")
-        survey = survey_of(dump.blocks(form), form, arguments.lead_in)
-        found = damages(survey)
+        loaded = load(arguments.file, asked(arguments))
+        found = damages_of(loaded)
         outputs.row(NAMES)
-        for damage in found:
+        for damage in sorted([*found, *unread(loaded.survey)], key=lambda it: it.first):
             outputs.row(damage)
-        if dump.rest(form):
-            tell(f"{shown(dump.path)}: {dump.rest(form)} bytes behind the last whole block are not looked at")
+        for note in loaded.notes():
+            tell(f"{shown(arguments.file)}: {note}")
         if arguments.map:
-            outputs.write_png(arguments.map, draw_map(survey))
-        return FOUND if found or dump.rest(form) else 0
+            outputs.write_png(arguments.map, draw_map(loaded.survey))
+        return FOUND if found or loaded.rest else 0

@@ -1,25 +1,26 @@
 """The map of a dump: what each of its seconds is, as a picture."""
-from typing import Sequence
+from typing import Any, Sequence
 
 from .output import package
 
 # What a second of a dump is, the worse the higher. Colours that colour-blind readers tell apart (Okabe and Ito).
-GOOD, CORRECTED, Q_BAD, BAD, EMPTY = range(5)
+GOOD, CORRECTED, Q_BAD, BAD, EMPTY, UNREAD = range(6)
 STATES = {
     GOOD: ("whole", (222, 222, 222)),
     CORRECTED: ("corrected", (86, 180, 233)),
     Q_BAD: ("Q is bad", (240, 228, 66)),
     BAD: ("words are lost", (213, 94, 0)),
     EMPTY: ("empty", (0, 0, 0)),
+    UNREAD: ("unread", (255, 255, 255)),
 }
 JUMP = ("the time jumps", (0, 114, 178))
 SECONDS_A_ROW = 60
 CELL, GAP, LEFT, TOP = 9, 1, 64, 20
 LINE = 16
-INK, PAPER = (0, 0, 0), (255, 255, 255)
+INK, PAPER, FRAME = (0, 0, 0), (255, 255, 255), (200, 200, 200)
 
 
-def draw(cells: bytes, jumped: set[int], marks: Sequence[str]):
+def draw(cells: bytes, jumped: set[int], marks: Sequence[str]) -> Any:
     """A row a minute with the time at its left, a cell a second, and what the colours mean below."""
     drawing, images = package("PIL.ImageDraw", "python3-pil"), package("PIL.Image", "python3-pil")
     rows = max(1, len(marks))
@@ -35,7 +36,8 @@ def draw(cells: bytes, jumped: set[int], marks: Sequence[str]):
             pen.text((6, TOP + row * CELL - 1), mark, fill=INK)
     for number, state in enumerate(cells):
         x, y = LEFT + number % SECONDS_A_ROW * CELL, TOP + number // SECONDS_A_ROW * CELL
-        pen.rectangle((x, y, x + CELL - 1 - GAP, y + CELL - 1 - GAP), fill=STATES[state][1])
+        frame = FRAME if state == UNREAD else None
+        pen.rectangle((x, y, x + CELL - 1 - GAP, y + CELL - 1 - GAP), fill=STATES[state][1], outline=frame)
         if number in jumped:
             pen.rectangle((x, y, x + 2, y + CELL - 1 - GAP), fill=JUMP[1])
     for place, (name, colour) in enumerate([*STATES.values(), JUMP]):

@@ -1,20 +1,22 @@
-"""What is told of one dump in a report: a row, a thumbnail of its first picture and a map of its damage."""
-import hashlib
+"""What is told of one dump in a report: a row, a thumbnail of its first picture, a map of its damage and a list of its
+places."""
 import io
-import re
-from typing import NamedTuple
+from typing import Any, Iterable, NamedTuple
 
 from . import library
-from .damage import damages, draw_map
-from .dump import Dump, Form
-from .identify import GRAPHICS, form_of, survey_of, yes
-from .library import BLOCK, HEIGHT, PACK, RAW, WIDTH
-from .output import Refusal, package
-from .survey import Survey
+from .damage import NAMES, RUN, Damage, damages_of, draw_map, unread
+from .detection import GRAPHICS
+from .identify import identity, packs_of
+from .library import HEIGHT, PACK, WIDTH
+from .loading import Asked, Loaded, load_found
+from .output import Failure, package, shown
+from .sums import Sums, sums_of
 
+Row = dict[str, Any]
 COLUMNS = (
     "file", "status", "form", "lead-in", "blocks", "rest", "graphics", "texts", "q-good", "clean", "one", "two", "bad",
-    "q-bad", "empty", "runs", "jumps", "damage", "size", "sha256", "why",
+    "q-bad", "empty", "runs", "jumps", "damage", "size", "sha256", "why", "unread", "notes", "crc32", "md5", "sha1",
+    "picture",
 )  # fmt: skip
 # What a row's status says.
 GOOD, DAMAGED, TORN, EMPTY, FOREIGN, UNREAD = "good", "damaged", "torn", "empty", "foreign", "unread"
@@ -22,23 +24,19 @@ GOOD, DAMAGED, TORN, EMPTY, FOREIGN, UNREAD = "good", "damaged", "torn", "empty"
 PAUSE, LONGEST = 300, 3000
 # So many packs of graphics are drawn at most until a picture shows.
 MOST_DRAWN = 30_000
-READ_AT_ONCE = 1 << 20
+# So many places stand in a row; a list has all.
+MOST_PLACES = 20
 
 
 class Examined(NamedTuple):
-    """A row by the names of its columns, and two pictures, PNG files, where there are any."""
+    """A row by the names of its columns; two pictures, PNG files, where there are any; and a list of places, where there is
+    damage."""
 
-    row: dict
-    first_picture: bytes | None
-    map: bytes | None
-
-
-def checksum(path: str) -> str:
-    digest = hashlib.sha256()
-    with open(path, "rb") as file:
-        while part := file.read(READ_AT_ONCE):
-            digest.update(part)
-    return digest.hexdigest()
+    row: Row
+    first_picture: bytes | None = None
+    map: bytes | None = None
+    places: bytes | None = None
+    was_lost: bool = False  # the process that looked at it ended
 
 
 def shows_something(picture: bytes) -> bool:
@@ -48,92 +46,108 @@ def shows_something(picture: bytes) -> bool:
     return window != window[:3] * (len(window) // 3)
 
 
-def first_picture(packs: bytes) -> bytes | None:
-    """Red, green and blue of the first picture that shows something and stands for a second."""
-    kinds = packs[::PACK]
-    graphics = bytes([GRAPHICS])
-    pauses = re.compile(b"[^\\x%02x]{%d}" % (GRAPHICS, PAUSE))
-    drawn = 0
+def first_picture(parts: Iterable[bytes]) -> bytes | None:
+    """Red, green and blue of the first picture that shows something and stands for a second, of packs that come in
+    parts."""
+    drawn = waited = since = 0
     with library.Player() as player:
-        start = kinds.find(graphics)
-        while start >= 0 and drawn < MOST_DRAWN:
-            pause = pauses.search(kinds, start, start + LONGEST)
-            end = pause.start() if pause else min(start + LONGEST, len(kinds))
-            while 0 <= start < end:
-                player.draw(packs[PACK * start : PACK * (start + 1)])
-                drawn += 1
-                start = kinds.find(graphics, start + 1)
-            picture = player.picture()
-            if shows_something(picture):
-                return picture
-    return None
+        for packs in parts:
+            kinds = packs[::PACK]
+            at = 0
+            while at < len(kinds) and drawn < MOST_DRAWN:
+                found = kinds.find(GRAPHICS, at)
+                waited += (found if found >= 0 else len(kinds)) - at
+                if since and (waited >= PAUSE or since >= LONGEST):
+                    picture = player.picture()
+                    if shows_something(picture):
+                        return picture
+                    since = 0
+                if found < 0:
+                    break
+                player.draw(bytes(packs[PACK * found : PACK * (found + 1)]))
+                drawn, waited, since, at = drawn + 1, 0, since + 1 + waited, found + 1
+        picture = player.picture()
+    return picture if shows_something(picture) else None
 
 
-def image_of(picture: bytes):
+def image_of(picture: bytes) -> Any:
     """The picture of a player as one of Pillow."""
     return package("PIL.Image", "python3-pil").frombytes("RGB", (WIDTH, HEIGHT), picture)
 
 
-def png(image) -> bytes:
+def png(image: Any) -> bytes:
     out = io.BytesIO()
     image.save(out, "PNG", optimize=True)
     return out.getvalue()
 
 
-def status_of(dump: Dump, form: Form, found: list) -> str:
-    if dump.rest(form):
+def status_of(loaded: Loaded, found: list[Damage]) -> str:
+    if loaded.rest:
         return TORN
     return DAMAGED if found else GOOD
 
 
-def row_of(dump: Dump, form: Form, survey: Survey, stream: bytes, packs: bytes) -> dict:
+def row_of(loaded: Loaded, found: list[Damage]) -> Row:
     """The columns of a dump whose form is known."""
-    found = damages(survey)
-    runs = [it for it in found if it.kind == "run"]
-    texts = library.texts(stream[: BLOCK * survey.lead_in], survey.lead_in) if form.library == RAW else ""
-    frames = survey.blocks if form.library == RAW else 0
+    survey, told = loaded.survey, identity(loaded)
+    runs = [it for it in found if it.kind == RUN]
+    more = [f"and {len(found) - MOST_PLACES} more"] if len(found) > MOST_PLACES else []
     return {
-        "status": status_of(dump, form, found),
-        "form": form.name,
+        "status": status_of(loaded, found),
+        "form": loaded.form.name,
         "lead-in": survey.lead_in,
         "blocks": survey.blocks,
-        "rest": dump.rest(form),
-        "graphics": yes(packs[::PACK].count(GRAPHICS)),
-        "texts": [line for line in texts.splitlines() if not line.startswith("packs ")],
-        "q-good": round(survey.good_frames() / frames, 6) if frames else None,
+        "rest": loaded.rest,
+        "graphics": told.graphics,
+        "texts": [line for line in told.texts.splitlines() if not line.startswith("packs ")],
+        "q-good": round(told.good / told.frames, 6) if told.frames else None,
         **{name: survey.total(name) for name in ("clean", "one", "two", "bad")},
         "q-bad": sum(survey.bad_frames),
         "empty": sum(survey.empty),
         "runs": len(runs),
         "jumps": len(found) - len(runs),
-        "damage": [f"{it.first}-{it.last}" if it.kind == "run" else f"jump {it.first}" for it in found],
+        "damage": [it.place() for it in found[:MOST_PLACES]] + more,
+        "unread": sum(run.last - run.first + 1 for run in survey.unread()),
+        "notes": list(loaded.notes()),
     }
 
 
-def examine(path: str, name: str, with_pictures: bool = True) -> Examined:
+def list_of(places: Iterable[Damage]) -> bytes:
+    """The table of `damage`."""
+    rows = ("\t".join(shown(str(cell)) for cell in row) for row in (NAMES, *places))
+    return "".join(f"{row}\n" for row in rows).encode()
+
+
+def with_sums(row: Row, found: Sums) -> None:
+    row.update({"size": found.size, "sha256": found.sha256, "crc32": found.crc32, "md5": found.md5, "sha1": found.sha1})
+
+
+def examine(path: str, name: str, with_pictures: bool = True, words: Asked = Asked()) -> Examined:
     """All that a report tells of a file, whatever it is."""
-    row = dict.fromkeys(COLUMNS)
+    row: Row = dict.fromkeys(COLUMNS)
     row["file"] = name
-    first = mapped = None
     try:
-        dump = Dump(path)
-        row["size"] = dump.size
-        row["sha256"] = checksum(path)
-        form, against = form_of(dump, allow_torn=True)
-        if form is None:
-            row["status"] = FOREIGN if dump.size else EMPTY
-            row["why"] = "; ".join(against) if dump.size else "no byte"
-            return Examined(row, None, None)
-        stream = dump.blocks(form)
-        survey = survey_of(stream, form)
-        packs, _ = library.convert(stream, form.library, survey.lead_in)
-        row.update(row_of(dump, form, survey, stream, packs))
-        if with_pictures:
-            picture = first_picture(packs)
-            first = png(image_of(picture)) if picture else None
-            mapped = png(draw_map(survey))
-    except Refusal as refusal:
-        row["status"], row["why"] = UNREAD, refusal.cause
-    except OSError as error:
-        row["status"], row["why"] = UNREAD, (error.strerror or str(error)).lower()
-    return Examined(row, first, mapped)
+        with_sums(row, sums_of(path))
+        loaded, against = load_found(path, words)
+        if loaded is None:
+            row["status"] = FOREIGN if row["size"] else EMPTY
+            row["why"] = "; ".join(against) if row["size"] else "no byte"
+            return Examined(row)
+        found = damages_of(loaded)
+        row.update(row_of(loaded, found))
+        places = list_of(sorted([*found, *unread(loaded.survey)], key=lambda it: it.first)) if found else None
+        if not with_pictures:
+            return Examined(row, places=places)
+        picture = first_picture(packs_of(loaded)) if row["graphics"] == "yes" else None
+        row["picture"] = "shown" if picture else why_no_picture(row["graphics"])
+        first = png(image_of(picture)) if picture else None
+        return Examined(row, first, png(draw_map(loaded.survey)), places)
+    except Failure as failure:
+        row["status"], row["why"] = UNREAD, getattr(failure, "cause", str(failure))
+    return Examined(row)
+
+
+def why_no_picture(graphics: str) -> str:
+    """Why there is no first picture."""
+    reasons = {"no": "no graphics", "not read": "graphics not read"}
+    return reasons.get(graphics, "no picture stands: the screen has one colour")

@@ -1,43 +1,23 @@
-"""What a dump is: its form, its lead-in, and what it carries. By trying each form that fits its size."""
-import functools
-import math
-from typing import NamedTuple
+"""What a dump is: its form, its lead-in, and what it carries."""
+import argparse
+from typing import Any, Iterator, NamedTuple
 
 from . import library
-from .dump import FORMS, Dump, Form
+from .detection import GRAPHICS
 from .library import BLOCK, PACK, RAW
+from .loading import Asked, Loaded, add_options, asked, load_found
 from .output import REFUSED, Refusal, shown, tell, write_row
-from .survey import Survey
 
-NAMES = ("file", "form", "lead-in", "graphics", "texts", "q-good")
-# A form is tried at the beginning, in the middle and at the end of a dump, in so many blocks each.
-TRIED = 3000
-# Of random bytes one frame, or word, in so many is good by chance; and how unlikely chance has to be.
-CHANCE, UNLIKELY = 65_536, 1e-5
-# The first symbol of a pack of graphics.
-GRAPHICS = 9
-
-
-class Signs(NamedTuple):
-    """What speaks for a form: of how many Q frames how many are good, of how many words how many carry something."""
-
-    frames: int
-    good: int
-    words: int
-    carrying: int
-
-    def __add__(self, other: "Signs") -> "Signs":
-        return Signs(*(a + b for a, b in zip(self, other)))
-
-    def against(self) -> str:
-        frames = f"{self.good} of {self.frames} Q frames are good, " if self.frames else "there is no Q, "
-        return f"{frames}{self.carrying} of {self.words} words carry something"
+NAMES = ("file", "form", "lead-in", "graphics", "texts", "q-good", "notes")
+# So many blocks are turned into packs at a time, and the words of so many blocks reach into the next ones.
+AT_ONCE, SPREAD = 10_000, 2
+NOT_READ = "not read"
 
 
 class Identity(NamedTuple):
-    form: Form
-    lead_in: int
-    graphics: int  # packs
+    """What a dump carries."""
+
+    graphics: str  # yes, no or not read
     texts: str  # the lines of the lead-in's texts
     frames: int
     good: int
@@ -48,129 +28,87 @@ class Identity(NamedTuple):
         return f"{10_000 * self.good // self.frames / 10_000:.4f}" if self.frames else "-"
 
 
-def is_no_chance(count: int, of: int) -> bool:
-    """Whether so many good ones are more than random bytes have."""
-    expected = of / CHANCE
-    return count > expected and count * math.log(expected) - math.lgamma(count + 1) < math.log(UNLIKELY)
+def packs_of(loaded: Loaded) -> Iterator[bytes]:
+    """The packs of the program, in parts."""
+    if loaded.form.library != RAW:
+        for start in range(0, len(loaded.stream), BLOCK * AT_ONCE):
+            yield corrected(loaded, loaded.stream[start : start + BLOCK * AT_ONCE])
+        return
+    for first in range(loaded.survey.lead_in, loaded.survey.blocks, AT_ONCE):
+        # Each part begins with the blocks over which the last words before it are spread.
+        start = max(loaded.survey.lead_in, first - SPREAD)
+        packs, _ = library.convert(loaded.stream[BLOCK * start : BLOCK * (first + AT_ONCE)], RAW, 0)
+        skipped = PACK if start < first else 0
+        yield packs[skipped:]
 
 
-def signs(stream: bytes, form: Form) -> Signs:
-    """What speaks for blocks in this form."""
-    survey = Survey(stream, form.library, 0)
-    packs, told = library.convert(stream, form.library, 0)
-    firsts = packs[::PACK]
-    frames = survey.blocks if form.library == RAW else 0
-    return Signs(frames, survey.good_frames(), len(firsts), len(firsts) - firsts.count(0))
+def corrected(loaded: Loaded, blocks: bytes) -> bytes:
+    """Packs with their errors corrected; of a file without parity as they are."""
+    if not has_parity(loaded):
+        return blocks
+    return library.convert(blocks + bytes(-len(blocks) % BLOCK), library.PACKS, 0)[0][: len(blocks)]
 
 
-def windows(blocks: int) -> list[tuple[int, int]]:
-    """Where a dump is tried: the first block and the number of blocks of each window."""
-    if blocks <= 3 * TRIED:
-        return [(0, blocks)]
-    return [(0, TRIED), ((blocks - TRIED) // 2, TRIED), (blocks - TRIED, TRIED)]
+def has_parity(loaded: Loaded) -> bool:
+    """Whether the packs of a file are words of the code, most of those that are not idle at least."""
+    survey = loaded.survey
+    words = sum(survey.total(name) for name in ("clean", "one", "two", "bad"))
+    idle = sum(loaded.stream[start : start + PACK] == bytes(PACK) for start in range(0, len(loaded.stream), PACK))
+    return 2 * (survey.total("clean") - idle) >= words - idle
 
 
-def best(dump: Dump, forms: list[Form], is_whole: bool) -> tuple[Form | None, dict[str, Signs]]:
-    """The form for which most speaks, in the windows or in all of the dump, and what was found of each."""
-    found = {}
-    for form in forms:
-        blocks = dump.units(form)
-        parts = [(0, blocks)] if is_whole else windows(blocks)
-        each = [signs(dump.blocks(form, *part), form) for part in parts]
-        found[form.name] = functools.reduce(Signs.__add__, each)
-    for sign, of in (("good", "frames"), ("carrying", "words")):
-        # Packs behind silent audio are found without the sectors too, among more words.
-        counts = {form: (getattr(found[form.name], sign), -getattr(found[form.name], of)) for form in forms}
-        most = max(forms, key=counts.get, default=None)
-        if most and is_no_chance(counts[most][0], -counts[most][1]):
-            return most, found
-    return None, found
+def graphics_of(loaded: Loaded) -> str:
+    """Whether a dump carries packs of graphics; or that it has no bit of R to W at all."""
+    if not loaded.has_graphics_bits():
+        return NOT_READ
+    return yes(any(GRAPHICS in packs[::PACK] for packs in packs_of(loaded)))
 
 
-def fitting(dump: Dump, allow_torn: bool) -> list[Form]:
-    """The forms that fit the size of a dump; where torn ones are allowed, those with a whole block."""
-    sized = (form for form in FORMS.values() if 0 < dump.units(form) <= library.MOST_BLOCKS)
-    return [form for form in sized if allow_torn or not dump.rest(form)]
-
-
-def form_of(dump: Dump, allow_torn: bool = False) -> tuple[Form | None, list[str]]:
-    """The form of a dump, or none and what speaks against each."""
-    forms = fitting(dump, allow_torn)
-    form, found = best(dump, forms, False)
-    if form is None and any(dump.units(it) > 3 * TRIED for it in forms):
-        form, found = best(dump, forms, True)
-    if form is not None:
-        return form, []
-    against = []
-    for it in FORMS.values():
-        if it.name in found:
-            against.append(f"{it.name}: {found[it.name].against()}")
-        else:
-            size = f"{dump.units(it)} blocks of {it.unit} bytes and {dump.rest(it)} more"
-            against.append(f"{it.name}: the size is {size}")
-    return None, against
-
-
-def lead_in_of(stream: bytes) -> int:
-    """The blocks before that whose absolute time is zero, by the first block whose time is known."""
-    for start in range(0, len(stream) // BLOCK, TRIED):
-        stretches = Survey(stream[BLOCK * start : BLOCK * (start + TRIED)], RAW, 0).stretches()
-        if stretches:
-            return max(0, start - stretches[0].shift)
-    return 0
-
-
-def survey_of(stream: bytes, form: Form, lead_in: int | None = None) -> Survey:
-    """The survey of a stream; where no lead-in is given, with that which its Q frames tell."""
-    if lead_in is None:
-        told = lead_in_of(stream) if form.library == RAW else 0
-        lead_in = told if told <= library.LONGEST_LEAD_IN else 0
-    return Survey(stream, form.library, lead_in)
-
-
-def identity(stream: bytes, form: Form, survey: Survey) -> Identity:
-    packs, _ = library.convert(stream, form.library, survey.lead_in)
-    frames = survey.blocks if form.library == RAW else 0
-    texts = library.texts(stream[: BLOCK * survey.lead_in], survey.lead_in) if frames else ""
-    return Identity(form, survey.lead_in, packs[::PACK].count(GRAPHICS), texts, frames, survey.good_frames())
+def identity(loaded: Loaded) -> Identity:
+    survey = loaded.survey
+    frames = survey.read if loaded.form.library == RAW else 0
+    lead_in = loaded.stream[: BLOCK * survey.lead_in]
+    texts = library.texts(lead_in, len(lead_in) // BLOCK) if frames else ""
+    return Identity(graphics_of(loaded), texts, frames, survey.good_frames() if frames else 0)
 
 
 def yes(is_so: object) -> str:
     return "yes" if is_so else "no"
 
 
-def add_parser(commands) -> None:
+def add_parser(commands: Any) -> None:
     parser = commands.add_parser(
         "identify",
         help="tell the form of dumps, their lead-in, and what they carry",
         description="Writes a line for each dump: its form, the blocks of its lead-in, whether it carries graphics and "
-        "texts, and the share of good Q frames. Of a file that is no dump it tells on standard error what speaks "
-        "against each form.",
+        "texts, the share of good Q frames, and what else there is to tell: a torn end, a header, blocks that were not "
+        "read, files beside it. Of a file that is no dump it tells on standard error what speaks against each form.",
     )
     parser.add_argument("files", nargs="+", metavar="FILE")
+    add_options(parser)
     parser.set_defaults(run=run)
 
 
-def cells(path: str) -> tuple:
+def cells(path: str, words: Asked) -> tuple[object, ...]:
     """The line of a dump, or a refusal."""
-    dump = Dump(path)
-    form, against = form_of(dump)
-    if form is None:
+    loaded, against = load_found(path, words)
+    if loaded is None:
         for reason in against:
             tell(f"{shown(path)}: {reason}")
-        return (path, "none", "-", "-", "-", "-")
-    stream = dump.blocks(form)
-    found = identity(stream, form, survey_of(stream, form))
+        return (path, "none", *"-----")
+    found = identity(loaded)
     texts = any(line.split(" ", 1)[0] != "packs" for line in found.texts.splitlines())
-    return (path, form.name, found.lead_in, yes(found.graphics), yes(texts), found.q_good)
+    notes = "; ".join(loaded.notes()) or "-"
+    return (path, loaded.form.name, loaded.survey.lead_in, found.graphics, yes(texts), found.q_good, notes)
 
 
-def run(arguments) -> int:
+def run(arguments: argparse.Namespace) -> int:
     status = 0
+    library.loaded()
     write_row(NAMES)
     for path in arguments.files:
         try:
-            row = cells(path)
+            row = cells(path, asked(arguments))
         except Refusal as refusal:
             tell(str(refusal))
             status = REFUSED

@@ -82,3 +82,10 @@ ZIP = Kind("a ZIP file", begins(b"PK\3\4"))
 # A list that is there already was written on, and a sound may be the only one of its kind.
 ALBUM = Kind("a list of songs")
 SOUND = Kind("a sound of this song")
+CCD = Kind("a sheet of CloneCD", begins(b"[CloneCD]"))
+TABLE_OF_BLOCKS = Kind("a table of blocks", begins(b"block\ttime\tblocks\n"))
+# A map of a rescue by ddrescue itself begins otherwise.
+DDRESCUE = Kind("a map of a mended stream", begins(b"# Mapfile of the mended stream"))
+SBI = Kind("a list of changed frames", begins(b"SBI\0"))
+DAT = Kind("a list of checksums", lambda head, _: head.startswith(b"<?xml") and b"<datafile>" in head)
+LIST_OF_PLACES = Kind("a list of places", begins(b"kind\tfirst\tlast\t"))

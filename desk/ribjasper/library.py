@@ -21,6 +21,8 @@ WIDTH, HEIGHT, PICTURE, COLOURS = 300, 216, 194_400, 16
 BLOCKS_A_SECOND, PACKS_A_BLOCK = 75, 4
 MOST_BLOCKS, LONGEST_LEAD_IN = 1_000_000, 450_000
 RAW, PACKS, SECTORS = 0, 1, 2
+# The most readings that are mended at once; in place of a reading's number that readings agree, and that none gives a word.
+READINGS, AGREED, NO_READING = 254, 254, 255
 DONE, DAMAGED, USAGE, TORN, NO_ROOM, NO_MEMORY = 0, 1, 2, 3, 6, 7
 NO_TIME = 0xFFFF_FFFF
 # The pixels of a tile, the most index lines that a sheet has, and the kinds of its texts by their numbers.
@@ -71,6 +73,12 @@ class Row(Structure):
     ]
 
 
+class Pack(Structure):
+    """A pack as it was read, and how many of its symbols were wrong, or -1."""
+
+    _fields_ = [("symbols", c_uint8 * PACK), ("wrong", c_int32)]
+
+
 class Surveyed(Structure):
     _fields_ = [("blocks", c_uint32), ("rest", c_uint32)]
 
@@ -88,6 +96,20 @@ class Mended(Structure):
         ("of_second", c_uint32),
         ("agreed", c_uint32),
         ("none", c_uint32),
+    ]
+
+
+class MendedReadings(Structure):
+    """What is told of readings that were mended."""
+
+    _fields_ = [
+        ("bytes", c_uint64),
+        ("blocks", c_uint32),
+        ("agreed", c_uint32),
+        ("none", c_uint32),
+        ("reserved", c_uint32),
+        ("of_reading", c_uint32 * READINGS),
+        ("dropped", c_uint32 * READINGS),
     ]
 
 
@@ -179,12 +201,14 @@ CALLS = {
     "ribjasper_player_begin": ([_PLAYER, c_uint32, c_uint32], c_int32),
     "ribjasper_player_feed_all": ([_PLAYER, _BYTES, c_size_t, POINTER(Change)], c_int32),
     "ribjasper_player_draw_all": ([_PLAYER, _BYTES, c_size_t, POINTER(Change)], c_int32),
+    "ribjasper_player_take": ([_PLAYER, _BYTES, Pack * PACKS_A_BLOCK], c_int32),
     "ribjasper_player_screen": ([_PLAYER, _BYTES], c_int32),
     "ribjasper_player_picture": ([_PLAYER, _BYTES], c_int32),
     "ribjasper_player_colours": ([_PLAYER, c_uint16 * COLOURS], c_int32),
     "ribjasper_text_pack_matches": ([_BYTES], c_int32),
     "ribjasper_text_pack_symbols": ([_BYTES, _BYTES], None),
     "ribjasper_q_decode": ([_BYTES, POINTER(QFrame), POINTER(c_uint8)], c_int32),
+    "ribjasper_q_encode": ([POINTER(QFrame), _BYTES], c_int32),
     "ribjasper_block_to_planar": ([_BYTES, _BYTES], None),
     "ribjasper_block_from_planar": ([_BYTES, _BYTES], None),
     "ribjasper_block_text_packs": ([_BYTES, _BYTES], None),
@@ -192,6 +216,10 @@ CALLS = {
     "ribjasper_survey": ([_BYTES, c_size_t, c_uint32, c_uint32, _BYTES, c_size_t, POINTER(Surveyed)], c_int32),
     "ribjasper_texts": ([_BYTES, c_size_t, c_uint32, c_uint32, _BYTES, c_size_t, POINTER(Listed)], c_int32),
     "ribjasper_mend": ([_BYTES, c_size_t, _BYTES, c_size_t, c_uint32, _BYTES, c_size_t, POINTER(Mended)], c_int32),
+    "ribjasper_mend_readings": (
+        [_BYTES, c_size_t, c_uint32, c_uint32, _BYTES, c_size_t, _BYTES, c_size_t, POINTER(MendedReadings)],
+        c_int32,
+    ),
     "ribjasper_sheet": ([_BYTES, c_size_t, POINTER(SheetRow), c_size_t, POINTER(SheetTold)], c_int32),
     "ribjasper_sheet_text": ([_BYTES, c_size_t, c_uint32, c_uint32, _BYTES, c_size_t, POINTER(c_uint32)], c_int32),
     "ribjasper_tile_weight": ([c_uint8 * TILE], c_int32),
@@ -237,6 +265,11 @@ def call(name: str) -> Any:
     return function
 
 
+def address(content: bytes) -> int:
+    """Where bytes stand, for a call that is to read from one of them on."""
+    return ctypes.cast(ctypes.c_char_p(content), ctypes.c_void_p).value or 0
+
+
 def version() -> str:
     number: int = call("ribjasper_version")()
     return f"{number >> 16}.{number >> 8 & 255}.{number & 255}"
@@ -271,6 +304,12 @@ class Player:
         change = Change()
         call("ribjasper_player_feed_all")(self._handle, blocks, len(blocks) // BLOCK, change)
         return change
+
+    def take(self, block: bytes) -> list[Pack]:
+        """Feeds a block, and returns the packs that came with it."""
+        packs = (Pack * PACKS_A_BLOCK)()
+        count = call("ribjasper_player_take")(self._handle, block, packs)
+        return list(packs[: max(0, count)])
 
     def screen(self) -> bytes:
         """The numbers of the colours of all pixels, row by row."""

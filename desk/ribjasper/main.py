@@ -10,14 +10,16 @@ import sys
 from types import FrameType
 from typing import Any, Iterator, NoReturn, Sequence
 
-from . import failures, output
+from . import beside, failures, output
 from .failures import Failure, failure_of
 from .library import version
 
 # Each module has `add_parser(subparsers)`, which adds its command with set_defaults(run=run), and
 # `run(arguments) -> int`, the exit number.
-COMMANDS = ("identify", "damage", "mend", "report", "sheets", "texts", "plan", "picture", "lyrics", "image", "film",
-            "album", "pair", "look")
+COMMANDS = (
+    "identify", "damage", "mend", "q_fix", "convert", "sums", "report", "sheets", "texts",
+    "plan", "picture", "lyrics", "image", "film", "album", "pair", "look",
+)  # fmt: skip
 
 
 class Version(argparse.Action):
@@ -69,7 +71,7 @@ class Stopped(KeyboardInterrupt):
 
 def _stop(number: int, _: FrameType | None) -> NoReturn:
     """The first request to end is followed, and those that come while files are put away are not."""
-    for other in output.STOPS:
+    for other in beside.STOPS:
         signal.signal(other, signal.SIG_IGN)
     raise Stopped(number)
 
@@ -77,7 +79,7 @@ def _stop(number: int, _: FrameType | None) -> NoReturn:
 @contextlib.contextmanager
 def stopping() -> Iterator[None]:
     """Requests to end are taken as an exception, but for those that whoever started the desk wants ignored (nohup)."""
-    before = {number: signal.getsignal(number) for number in output.STOPS}
+    before = {number: signal.getsignal(number) for number in beside.STOPS}
     for number, handler in before.items():
         if handler is not signal.SIG_IGN:
             signal.signal(number, _stop)
@@ -152,7 +154,7 @@ def main(words: Sequence[str] | None = None) -> int:
         output.tell("stopped")
         status = failures.STOPPED + getattr(stop, "number", signal.SIGINT)
     finally:
-        output.sweep()
+        beside.sweep()
     try:
         output.flush()
     except Failure:

@@ -1,46 +1,40 @@
 """What the desk writes. There is one way for all commands: `Outputs` takes the files that a call reads and those that it
 is to write, refuses what would cost the user a file, and lets all outputs appear together or none of them."""
 import argparse
-import atexit
 import contextlib
-import errno
 import io
 import os
-import signal
 import socket
 import stat
 import sys
 import tempfile
 from types import TracebackType
-from typing import Any, Iterable, Iterator, Sequence, TextIO
+from typing import Any, Iterable, Sequence, TextIO
 
-from . import kinds
+from .beside import Part, forget, give_name, held_back, keep_folder, link_or_move, made_beside, new_mode
 from .failures import FOUND as FOUND
 from .failures import LATE as LATE
 from .failures import MISSING as MISSING
 from .failures import REFUSED as REFUSED
 from .failures import Failure as Failure
 from .failures import Missing as Missing
-from .failures import Name, Several, Unwritten, failure_of, reading, writing
+from .failures import Name, Several, reading, writing
 from .failures import Refusal as Refusal
 from .failures import cause as cause
 from .failures import shown as shown
 from .kinds import Kind
+from .targets import DASH as DASH
+from .targets import Target, against_standard_output, inputs_of, standard_output
 
-# The name that stands for standard output, and how it is called in a line.
-DASH, STANDARD_OUTPUT = "-", "standard output"
-# What is written waits under such a name beside where it is to stand.
-PREFIX = ".ribjasper-"
+# How it is called in a line.
+STANDARD_OUTPUT = "standard output"
 # Programs that write a file themselves go by its ending, if it is one.
 LONGEST_ENDING = 16
 # Outputs that are no files wait in memory up to so many bytes, and in a file without a name beyond.
 KEPT_IN_MEMORY = 1 << 26
 COPIED_AT_ONCE = 1 << 20
-# What a user ends a command with.
-STOPS = (signal.SIGINT, signal.SIGTERM, signal.SIGHUP)
-# Why a file system has no hard links.
-NO_LINKS = (errno.EPERM, errno.EOPNOTSUPP, errno.ENOSYS, errno.EMLINK, errno.EXDEV)
-WRITABLE = stat.S_IWUSR | stat.S_IWGRP | stat.S_IWOTH
+# What is read as a whole is never longer: a device would have no end.
+MOST_READ = 1 << 28
 ALL_MODES = stat.S_IRWXU | stat.S_IRWXG | stat.S_IRWXO
 
 
@@ -80,178 +74,20 @@ def read_file(path: Name) -> bytes:
     """The bytes of a file, or a refusal that names it."""
     with reading(path), open(path, "rb") as file:
         before = os.fstat(file.fileno())
-        content = file.read()
+        parts, size = list[bytes](), 0
+        while part := file.read(COPIED_AT_ONCE):
+            parts.append(part)
+            size += len(part)
+            if size > MOST_READ:
+                raise Refusal(path, f"has more than {MOST_READ:,} bytes, which is too long")
         check_unchanged(path, before, os.fstat(file.fileno()))
-        return content
+        return b"".join(parts)
 
 
 def check_unchanged(path: Name, before: os.stat_result, after: os.stat_result) -> None:
     """Refuses a file that another program wrote while it was read."""
     if stat.S_ISREG(after.st_mode) and (before.st_size, before.st_mtime_ns) != (after.st_size, after.st_mtime_ns):
         raise Refusal(path, "was changed while it was read")
-
-
-# Files that wait beside, and the process that made them: a child of it leaves them alone.
-_waiting: dict[str, int] = {}
-
-
-def sweep() -> None:
-    """Removes what still waits beside; for the end of a command that was stopped at an unlucky moment."""
-    for part, process in list(_waiting.items()):
-        if process == os.getpid():
-            with contextlib.suppress(OSError):
-                os.unlink(part)
-        _waiting.pop(part, None)
-
-
-atexit.register(sweep)
-
-
-@contextlib.contextmanager
-def held_back() -> Iterator[None]:
-    """What is done here is not cut off by a signal, which comes right after."""
-    before = signal.pthread_sigmask(signal.SIG_BLOCK, ())
-    try:
-        signal.pthread_sigmask(signal.SIG_BLOCK, STOPS)
-        yield
-    finally:
-        signal.pthread_sigmask(signal.SIG_SETMASK, before)
-
-
-def _made_beside(folder: str, ending: str = "") -> tuple[int, str]:
-    """A new file that waits in a folder, and its name."""
-    with held_back():
-        number, part = tempfile.mkstemp(prefix=PREFIX, suffix=ending, dir=folder)
-        _waiting[part] = os.getpid()
-    return number, part
-
-
-def _new_mode() -> int:
-    """The permissions of a new file."""
-    mask = os.umask(0)
-    os.umask(mask)
-    return 0o666 & ~mask
-
-
-class Part(io.BufferedIOBase):
-    """Where an output is written to; what the system refuses names the output."""
-
-    def __init__(self, name: str, file: Any) -> None:
-        self.name, self._file = name, file
-
-    def writable(self) -> bool:
-        return True
-
-    def seekable(self) -> bool:
-        return True
-
-    def write(self, content: Any) -> int:
-        with writing(self.name):
-            return int(self._file.write(content))
-
-    def seek(self, place: int, whence: int = 0) -> int:
-        with writing(self.name):
-            self._file.seek(place, whence)
-            return int(self._file.tell())
-
-    def tell(self) -> int:
-        return int(self._file.tell())
-
-    def flush(self) -> None:
-        if not self._file.closed:
-            with writing(self.name):
-                self._file.flush()
-
-    def close(self) -> None:
-        if not self._file.closed:
-            with writing(self.name):
-                self._file.close()
-        super().close()
-
-
-class Target:
-    """What the name of an output stands for."""
-
-    def __init__(self, name: Name) -> None:
-        self.name = os.fsdecode(name)
-        self.is_dash = self.name == DASH
-        if not self.is_dash and not self.name:
-            raise Refusal("''", "is no name of a file")
-        with reading(self.name):
-            self.found = None if self.is_dash else _found(self.name)
-        # Where the links lead that are in the name: they stay, and what they name is replaced.
-        self.path = os.path.realpath(self.name)
-        self.folder = os.path.dirname(self.path)
-
-    @property
-    def is_stream(self) -> bool:
-        """Whether it is written to as it stands: standard output, a pipe, a device or a socket."""
-        return self.is_dash or (self.found is not None and not stat.S_ISREG(self.found.st_mode))
-
-    def identity(self) -> tuple[object, ...]:
-        """What two names of one file have in common, also of one that is still to come."""
-        if self.is_dash:
-            return (DASH,)
-        if self.found is not None:
-            return self.found.st_dev, self.found.st_ino
-        folder, name = _found(self.folder), os.path.basename(self.path)
-        return (folder.st_dev, folder.st_ino, name) if folder else (self.path,)
-
-    def against(self, kind: Kind, force: bool) -> str | None:
-        """Why it is not to be written, if there is a reason."""
-        if self.is_dash:
-            return None
-        if self.found is None:
-            return "names a folder" if self.name.endswith("/") else None
-        mode = self.found.st_mode
-        if stat.S_ISDIR(mode):
-            return "is a directory"
-        if stat.S_ISBLK(mode):
-            return None if force else "is a disk or a part of one; --force writes to it"
-        if not stat.S_ISREG(mode) or force:
-            return None
-        if not mode & WRITABLE or not os.access(self.path, os.W_OK):
-            return "is write-protected; --force replaces it"
-        with reading(self.name):
-            if kind.has(self.path):
-                return None
-        why = f"is not {kind.name}" if kind.can_be_known else f"nobody can tell whether {kind.name} can be made again"
-        return f"is there already, and {why}; --force replaces it"
-
-
-def _found(path: str) -> os.stat_result | None:
-    try:
-        return os.stat(path)
-    except (FileNotFoundError, NotADirectoryError):
-        return None
-
-
-def _standard_output() -> os.stat_result | None:
-    """The file that standard output is, if it is one."""
-    try:
-        found = os.fstat(sys.stdout.fileno())
-    except (OSError, ValueError, AttributeError):
-        return None
-    return found if stat.S_ISREG(found.st_mode) else None
-
-
-def _inputs(names: list[str]) -> dict[tuple[object, ...], str]:
-    """The files that a call reads. A character device is none that could be lost."""
-    found: dict[tuple[object, ...], str] = {}
-    for name in names:
-        # Whatever is wrong with an input is told when it is read.
-        with contextlib.suppress(Failure, OSError):
-            target = Target(name if name != DASH else f"./{DASH}")
-            if target.found is None or not stat.S_ISCHR(target.found.st_mode):
-                found[target.identity()] = name
-    return found
-
-
-def _against_standard_output(inputs: dict[tuple[object, ...], str]) -> list[Failure]:
-    """A refusal if standard output is written to a file that is read, and which holds something still."""
-    out = _standard_output()
-    read = inputs.get((out.st_dev, out.st_ino)) if out is not None and out.st_size else None
-    return [] if read is None else [Refusal(read, "is read here, and standard output is written to it")]
 
 
 class Output:
@@ -291,7 +127,7 @@ class Output:
     def _beside(self, folder: str, ending: str = "") -> int:
         with writing(self.name):
             own = os.path.splitext(self.target.path)[1]
-            number, self.waits = _made_beside(folder, own if 0 < len(own) <= LONGEST_ENDING else ending)
+            number, self.waits = made_beside(folder, own if 0 < len(own) <= LONGEST_ENDING else ending)
         return number
 
     def finish(self) -> None:
@@ -323,7 +159,7 @@ class Output:
         assert self.waits is not None
         with writing(self.name):
             found = self.target.found
-            os.chmod(self.waits, found.st_mode & ALL_MODES if found else _new_mode())
+            os.chmod(self.waits, found.st_mode & ALL_MODES if found else new_mode())
             if found and (found.st_uid, found.st_gid) != (os.geteuid(), os.getegid()):
                 with contextlib.suppress(OSError):
                     os.chown(self.waits, found.st_uid, found.st_gid)
@@ -332,20 +168,15 @@ class Output:
                     self._keep()
                 os.replace(self.waits, self.target.path)
             else:
-                _name(self.waits, self.target.path)
+                give_name(self.waits, self.target.path)
             self.is_put = True
             self.target.found = os.stat(self.target.path)
 
     def _keep(self) -> None:
-        number, self.kept = _made_beside(self.target.folder)
+        number, self.kept = made_beside(self.target.folder)
         os.close(number)
         os.unlink(self.kept)
-        try:
-            os.link(self.target.path, self.kept)
-        except OSError as error:
-            if error.errno not in NO_LINKS:
-                raise
-            os.rename(self.target.path, self.kept)
+        link_or_move(self.target.path, self.kept)
 
     def take_back(self) -> None:
         """Puts back what was there before."""
@@ -362,20 +193,8 @@ class Output:
                 self.part.close()
         for beside in (self.waits, self.kept):
             if beside is not None:
-                with contextlib.suppress(OSError):
-                    os.unlink(beside)
-                _waiting.pop(beside, None)
+                forget(beside)
         self.part = self.waits = self.kept = None
-
-
-def _name(part: str, path: str) -> None:
-    """Gives a file a name that no other has."""
-    try:
-        os.link(part, path)
-    except OSError as error:
-        if error.errno not in NO_LINKS or os.path.lexists(path):
-            raise
-        os.rename(part, path)
 
 
 def _copy(file: Any, target: Target) -> None:
@@ -405,8 +224,8 @@ class Outputs:
                  folders: bool = False) -> None:
         self.folders, self.made = folders, list[str]()
         self.all: dict[str, Output] = {}
-        inputs = _inputs([os.fsdecode(name) for name in reads if name is not None])
-        failures: list[Failure] = _against_standard_output(inputs)
+        inputs = inputs_of([os.fsdecode(name) for name in reads if name is not None])
+        failures: list[Failure] = against_standard_output(inputs)
         for name, kind in writes:
             if name is not None:
                 try:
@@ -431,7 +250,7 @@ class Outputs:
         for other in self.all.values():
             if other.target.identity() == target.identity():
                 raise Refusal(output.name, f"is the same file as another output, {shown(other.name)}")
-        if target.found is not None and (out := _standard_output()) is not None and os.path.samestat(target.found, out):
+        if target.found is not None and (out := standard_output()) is not None and os.path.samestat(target.found, out):
             raise Refusal(output.name, f"is what standard output is written to; {DASH} stands for it")
 
     @property
@@ -515,17 +334,7 @@ class Outputs:
                     output.take_back()
                 raise
             for folder in {output.target.folder for output in put}:
-                _keep_folder(folder)
-
-
-def _keep_folder(folder: str) -> None:
-    """Brings the names in a folder to the disk, if the file system does so."""
-    with contextlib.suppress(OSError):
-        number = os.open(folder, os.O_RDONLY | os.O_DIRECTORY)
-        try:
-            os.fsync(number)
-        finally:
-            os.close(number)
+                keep_folder(folder)
 
 
 def stem_of(name: Name) -> str:

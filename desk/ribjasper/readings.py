@@ -1,102 +1,96 @@
 """Readings of one disc, put side by side by the times that their Q frames tell."""
+import functools
 import re
-from typing import NamedTuple, Sequence
+from dataclasses import dataclass, field
+from typing import Sequence
 
-from .dump import Dump
-from .identify import form_of, survey_of
-from .library import BLOCK, RAW
+from .library import BLOCK
+from .loading import Asked, Loaded, load_raw
 from .output import Refusal
-from .survey import Clock, Survey
+from .pieces import Piece, pieces_of
+from .survey import Clock, Run, either
 
-# Fewer blocks than these with a time of their own are taken for frames that are wrong, where a longer piece is there.
-FEWEST = 3
 _NOT = bytes([1] + [0] * 255)
 
 
-class Piece(NamedTuple):
-    """Neighbouring blocks of a reading, from the first up to the end, and what is added to their numbers for their
-    times."""
+@dataclass
+class Reading:
+    """A reading, its parts by their times, and the blocks of the disc at which it is left out."""
 
-    first: int
-    end: int
-    shift: int
-    known: int
+    loaded: Loaded
+    parts: list[Piece]
+    left_out: list[Run] = field(default_factory=list)
 
+    @property
+    def path(self) -> str:
+        return self.loaded.path
 
-class Reading(NamedTuple):
-    dump: Dump
-    stream: bytes
-    survey: Survey
-
-
-def read(path: str) -> Reading:
-    """A reading as raw blocks."""
-    dump = Dump(path)
-    form, against = form_of(dump, allow_torn=True)
-    if form is None:
-        raise Refusal(path, "; ".join(["is no dump", *against]))
-    if form.library != RAW:
-        raise Refusal(path, f"is {form.name}: its packs are gathered already, and two readings need their blocks")
-    stream = dump.blocks(form)
-    return Reading(dump, stream, survey_of(stream, form))
+    @functools.cached_property
+    def full(self) -> bytes:
+        """A byte for each block, 1 where it was read."""
+        survey = self.loaded.survey
+        return either(survey.column("empty"), survey.unread_column()).translate(_NOT)
 
 
-def joined(pieces: Sequence[Piece]) -> list[Piece]:
-    """Pieces in turn, those with the same shift as one."""
-    found: list[Piece] = []
-    for piece in pieces:
-        if found and found[-1].shift == piece.shift:
-            before = found.pop()
-            piece = Piece(before.first, piece.end, piece.shift, before.known + piece.known)
-        found.append(piece)
-    return found
+@dataclass
+class Laid:
+    """Readings side by side: the absolute time of the first block, where they tell one, how many blocks there are, and
+    how many of these are lead-in."""
 
-
-def pieces(reading: Reading) -> list[Piece]:
-    """The parts of a reading whose times are known. What stands between two of different shift is left out, for
-    nothing tells to which it belongs; what stands before the first and behind the last goes with it."""
-    stretches = Clock(reading.survey).stretches
-    found = joined([Piece(it.first, it.last + 1, it.shift, it.last - it.first + 1) for it in stretches])
-    found = joined([it for it in found if it.known >= FEWEST]) or found
-    if not found:
-        return []
-    # The lead-in, which has no time, stays out.
-    found[0] = found[0]._replace(first=max(0, -found[0].shift))
-    found[-1] = found[-1]._replace(end=reading.survey.blocks)
-    return found
-
-
-class Aligned(NamedTuple):
-    """Streams of one length that begin at one time, blocks that a reading lacks as zeros; and their lead-in."""
-
-    streams: list[bytes]
+    readings: list[Reading]
     time: int
+    blocks: int
     lead_in: int
 
+    def window(self, reading: Reading, first: int, end: int) -> bytearray:
+        """The blocks of a reading; zeros where it has none; where one was read twice the first that is not empty."""
+        stream, filled = bytearray(BLOCK * (end - first)), bytearray(end - first)
+        for part in reading.parts:
+            move = part.shift - self.time - first
+            begin, stop = max(part.first, -move), min(part.end, end - first - move)
+            if begin >= stop:
+                continue
+            for free in re.finditer(rb"\x00+", bytes(filled[begin + move : stop + move])):
+                source = slice(begin + free.start(), begin + free.end())
+                target = slice(source.start + move, source.stop + move)
+                content = reading.loaded.stream[BLOCK * source.start : BLOCK * source.stop]
+                stream[BLOCK * target.start : BLOCK * target.stop] = content
+                filled[target] = reading.full[source]
+        return stream
 
-def placed(reading: Reading, parts: Sequence[Piece], start: int, blocks: int) -> bytes:
-    """The blocks of a reading at their times; where one was read twice the first that is not empty."""
-    stream, filled = bytearray(BLOCK * blocks), bytearray(blocks)
-    full = reading.survey.empty.translate(_NOT)
-    for part in parts:
-        move = part.shift - start
-        for free in re.finditer(rb"\x00+", bytes(filled[part.first + move : part.end + move])):
-            first, end = part.first + free.start(), part.first + free.end()
-            stream[BLOCK * (first + move) : BLOCK * (end + move)] = reading.stream[BLOCK * first : BLOCK * end]
-            filled[first + move : end + move] = full[first:end]
-    return bytes(stream)
+    def mended_window(self, reading: Reading, first: int, end: int) -> bytes:
+        """The blocks of a reading for mending: zeros also where it is left out."""
+        stream = self.window(reading, first, end)
+        for run in reading.left_out:
+            begin, stop = max(run.first, first), min(run.last + 1, end)
+            if begin < stop:
+                stream[BLOCK * (begin - first) : BLOCK * (stop - first)] = bytes(BLOCK * (stop - begin))
+        return bytes(stream)
 
 
-def side_by_side(readings: Sequence[Reading], lead_in: int | None) -> Aligned:
+def read(path: str, words: Asked) -> Reading:
+    """A reading as raw blocks."""
+    loaded = load_raw(path, words, "blocks that could be mended: its packs are gathered already")
+    parts = pieces_of(Clock(loaded.survey).stretches)
+    if parts:
+        survey = loaded.survey
+        # What stands between two parts of different shift is left out, for nothing tells to which it belongs; what stands
+        # before the first and behind the last goes with it. The lead-in, which has no time, stays out.
+        parts[0] = parts[0]._replace(first=max(survey.first, -parts[0].shift))
+        parts[-1] = parts[-1]._replace(end=survey.end)
+    return Reading(loaded, parts)
+
+
+def side_by_side(readings: Sequence[Reading]) -> Laid:
     """Readings by their times; where one tells none, as they are if they are equally long."""
-    parts = [pieces(reading) for reading in readings]
-    without = [reading for reading, found in zip(readings, parts) if not found]
+    without = [reading for reading in readings if not reading.parts]
     if without:
-        if len({len(reading.stream) for reading in readings}) > 1:
-            raise Refusal(without[0].dump.path, "its Q frames tell no time, and it is not as long as the others")
-        told = max(reading.survey.lead_in for reading in readings)
-        return Aligned([reading.stream for reading in readings], 0, told if lead_in is None else lead_in)
-    start = min(part.first + part.shift for found in parts for part in found)
-    end = max(part.end + part.shift for found in parts for part in found)
-    streams = [placed(reading, found, start, end - start) for reading, found in zip(readings, parts)]
-    return Aligned(streams, start, 0)
+        if len({reading.loaded.survey.blocks for reading in readings}) > 1:
+            raise Refusal(without[0].path, "its Q frames tell no time, and it is not as long as the others")
+        blocks = readings[0].loaded.survey.blocks
+        for reading in readings:
+            reading.parts = [Piece(0, blocks, 0, 0)]
+        return Laid(list(readings), 0, blocks, max(reading.loaded.survey.lead_in for reading in readings))
+    start = min(part.time for reading in readings for part in reading.parts)
+    end = max(part.end + part.shift for reading in readings for part in reading.parts)
+    return Laid(list(readings), start, end - start, 0)

@@ -1,37 +1,28 @@
 """A report on all dumps below a folder, which goes on where it was stopped."""
 import argparse
-import concurrent.futures
-import ctypes
+import contextlib
 import hashlib
 import json
-import multiprocessing
 import os
 import re
-import signal
-import site
 import sys
-from concurrent.futures.process import BrokenProcessPool
 from pathlib import Path
-from typing import Iterator, NamedTuple
+from typing import Any, BinaryIO, Iterator, NamedTuple, Sequence
 
 from . import kinds, library, report_page
-from .examine import COLUMNS, UNREAD, Examined, examine
-from .failures import reading
+from .examine import COLUMNS, UNREAD, Examined, Row
+from .failures import reading, writing
+from .loading import add_options, asked
 from .output import DASH, REFUSED, Outputs, Refusal, add_force, cause, package, shown, tell, write_file, write_row
+from .sums import Sums, dat
+from .workers import How, Task, by_cluster, here, unread
 
 # What a journal holds changes with this number; rows of another are read again.
-LAYOUT = 1
+LAYOUT = 2
 JOURNALS = "journal*.jsonl"
-PICTURE_NAME = re.compile(r"[0-9a-f]{20}-(first|map)\.png")
-# Linux's call by which a process is told when the one that started it has ended.
-PR_SET_PDEATHSIG = 1
-
-
-class Task(NamedTuple):
-    """A file to be looked at: where it is, and its name in the report."""
-
-    path: str
-    name: str
+OWN_NAME = re.compile(r"[0-9a-f]{20}-(first\.png|map\.png|places\.tsv)")
+# No cell of the table is longer: programs for tables cut at 32,767 characters.
+LONGEST_CELL = 32_000
 
 
 class Part(NamedTuple):
@@ -53,12 +44,13 @@ def part(word: str) -> Part:
     raise argparse.ArgumentTypeError(f"{word} is not K/M with K from 1 to M")
 
 
-def add_parser(commands) -> None:
+def add_parser(commands: Any) -> None:
     parser = commands.add_parser(
         "report",
         help="make a report on all dumps below a folder",
         description="Looks at every file below a folder and writes to DIR a table (table.tsv, table.jsonl) and a page "
-        "(index.html) with a picture and a map of each dump. A second run goes on where the first was stopped, and "
+        "(index.html) that sorts and filters, with a picture, a map and a list of the damaged places of each dump, and a list "
+        "of checksums (dumps.dat). A second run goes on where the first was stopped, and "
         "reads only what changed. Exit 3 where a file could not be read.",
     )
     parser.add_argument("folder", metavar="FOLDER")
@@ -66,6 +58,8 @@ def add_parser(commands) -> None:
     parser.add_argument("--jobs", type=jobs, default=len(os.sched_getaffinity(0)), metavar="N", help="files at a time")
     parser.add_argument("--quiet", action="store_true", help="no progress bar, which a terminal has else")
     parser.add_argument("--no-pictures", action="store_true", help="no pictures and no maps, for which Pillow is needed")
+    add_options(parser)
+    parser.add_argument("--follow-links", action="store_true", help="also look into folders that are links")
     add_force(parser)
     several = parser.add_mutually_exclusive_group()
     several.add_argument("--cluster", metavar="ADDRESS", help="send the files to the workers of a Dask scheduler")
@@ -81,20 +75,31 @@ def jobs(word: str) -> int:
     raise argparse.ArgumentTypeError(f"{word} is not a number from 1 on")
 
 
-def files_below(folder: str, out: str) -> list[Task]:
-    """All files below a folder in the order of their names, but for those of the report."""
+class Below(NamedTuple):
+    """What there is below a folder: files, and folders that cannot be looked into with the reason."""
+
+    files: list[Task]
+    closed: list[tuple[str, str]]
+
+
+def files_below(folder: str, out: str, follow_links: bool) -> Below:
+    """All files below a folder in the order of their names, but for those of the report. Links to folders are followed where
+    that is asked for, each folder once."""
     if not os.path.isdir(folder):
         raise Refusal(folder, "is not a folder" if os.path.exists(folder) else "no such folder")
-    found, kept_out = [], os.path.realpath(out)
-    for at, folders, names in os.walk(folder, onerror=refuse):
-        folders[:] = sorted(it for it in folders if os.path.realpath(os.path.join(at, it)) != kept_out)
-        found += [os.path.join(at, name) for name in names]
-    return [Task(path, os.path.relpath(path, folder)) for path in sorted(found)]
+    below, seen = Below([], []), {os.path.realpath(out)}
 
+    def closed(error: OSError) -> None:
+        tell(f"{shown(error.filename)}: {cause(error)}")
+        below.closed.append((os.path.relpath(error.filename, folder), cause(error)))
 
-def refuse(error: OSError) -> None:
-    """A folder that cannot be looked into is told; the others go on."""
-    tell(f"{shown(error.filename)}: {cause(error)}")
+    for at, folders, names in os.walk(folder, onerror=closed, followlinks=follow_links):
+        if follow_links:
+            seen.add(os.path.realpath(at))
+        folders[:] = sorted(it for it in folders if os.path.realpath(os.path.join(at, it)) not in seen)
+        below.files.extend(Task(path, os.path.relpath(path, folder)) for path in (os.path.join(at, name) for name in names))
+    below.files.sort()
+    return below
 
 
 def stamp(path: str, settings: str) -> str:
@@ -106,176 +111,138 @@ def stamp(path: str, settings: str) -> str:
     return f"{settings} {found.st_size} {found.st_mtime_ns} {found.st_ino}"
 
 
-def known_rows(out: Path) -> dict[str, tuple[str, dict]]:
+def known_rows(out: Path) -> dict[str, tuple[str, Row]]:
     """What earlier runs found: the stamp and the row of each file. A line that was cut off is passed over."""
     known = {}
     for journal in sorted(out.glob(JOURNALS)):
         for line in journal.read_bytes().splitlines():
-            try:
+            with contextlib.suppress(ValueError, KeyError, TypeError):
                 entry = json.loads(line)
                 known[entry["row"]["file"]] = (entry["stamp"], entry["row"])
-            except (ValueError, KeyError, TypeError):
-                continue
     return known
 
 
-def picture_names(name: str) -> tuple[str, str]:
-    """The names of the files of a dump's first picture and of its map."""
+class Names(NamedTuple):
+    """The files of a dump in a report: its first picture, its map, and the list of its places."""
+
+    first: str
+    map: str
+    places: str
+
+
+def names_of(name: str) -> Names:
     digest = hashlib.sha256(os.fsencode(name)).hexdigest()[:20]
-    return f"pictures/{digest}-first.png", f"pictures/{digest}-map.png"
+    return Names(f"pictures/{digest}-first.png", f"pictures/{digest}-map.png", f"places/{digest}-places.tsv")
 
 
-def has_pictures(out: Path, row: dict, wanted: bool) -> bool:
-    """Whether the map of a dump is there, where one is wanted."""
-    return not wanted or row["form"] is None or (out / picture_names(row["file"])[1]).exists()
-
-
-def look(task: Task, with_pictures: bool) -> Examined:
-    return examine(task.path, task.name, with_pictures)
-
-
-def end_with_parent() -> None:
-    """A worker ends with the run that started it, and leaves Ctrl-C to it."""
-    signal.signal(signal.SIGINT, signal.SIG_IGN)
-    signal.signal(signal.SIGTERM, signal.SIG_DFL)
-    signal.signal(signal.SIGHUP, signal.SIG_DFL)
-    if sys.platform == "linux":
-        ctypes.CDLL(None).prctl(PR_SET_PDEATHSIG, signal.SIGTERM)
-
-
-def here(tasks: list[Task], with_pictures: bool, count: int) -> Iterator[Examined]:
-    """Looks at files in so many processes on this machine."""
-    if count == 1:
-        yield from (look(task, with_pictures) for task in tasks)
-        return
-    how = multiprocessing.get_context("fork")
-    pool = concurrent.futures.ProcessPoolExecutor(count, mp_context=how, initializer=end_with_parent)
-    try:
-        waiting = [pool.submit(look, task, with_pictures) for task in tasks]
-        for done in concurrent.futures.as_completed(waiting):
-            yield done.result()
-    except BrokenProcessPool:
-        raise Refusal(tasks[0].path, "a process ended while it looked at a file; the next run goes on") from None
-    finally:
-        pool.shutdown(wait=True, cancel_futures=True)
-
-
-def finder(distributed, folder: str):
-    """What a worker does first, also one that comes later: it learns where the desk is."""
-
-    class Finder(distributed.WorkerPlugin):
-        def setup(self, worker) -> None:
-            site.addsitedir(folder)
-
-    return Finder()
-
-
-def by_cluster(tasks: list[Task], with_pictures: bool, address: str) -> Iterator[Examined]:
-    """Looks at files on the workers of a scheduler, which see the same files and the same checkout."""
-    distributed = package("distributed", "python3-distributed")
-    try:
-        client = distributed.Client(address, timeout=10)
-    except (OSError, ValueError) as error:
-        raise Refusal(address, f"no scheduler answers: {error}") from None
-    try:
-        register = getattr(client, "register_plugin", None) or client.register_worker_plugin
-        register(finder(distributed, str(library.TOP / "desk")))
-        waiting = {
-            client.submit(look, Task(os.path.abspath(task.path), task.name), with_pictures, pure=False): task
-            for task in tasks
-        }
-        for done in distributed.as_completed(waiting):
-            if done.status == "finished":
-                yield done.result()
-            else:
-                row = dict.fromkeys(COLUMNS) | {"file": waiting[done].name, "status": UNREAD, "why": str(done.exception())}
-                yield Examined(row, None, None)
-            done.release()
-    finally:
-        client.close()
+def is_whole(out: Path, row: Row, wants_pictures: bool) -> bool:
+    """Whether the files of a row are there: the map, where one is wanted, and the list of places, where it has some."""
+    names = names_of(row["file"])
+    has_map = not wants_pictures or row["form"] is None or (out / names.map).exists()
+    return has_map and (not row["damage"] or (out / names.places).exists())
 
 
 def progress(found: Iterator[Examined], total: int, is_quiet: bool) -> Iterator[Examined]:
     if is_quiet or not sys.stderr.isatty():
         return found
-    return package("tqdm", "python3-tqdm").tqdm(found, total=total, unit="file")
+    shown_as: Iterator[Examined] = package("tqdm", "python3-tqdm").tqdm(found, total=total, unit="file")
+    return shown_as
 
 
-def keep(out: Path, journal, entry: Examined, stamped: str) -> None:
-    """Writes the pictures of a dump and then its line of the journal."""
-    for name, content in zip(picture_names(entry.row["file"]), (entry.first_picture, entry.map)):
+def keep(out: Path, journal: BinaryIO, entry: Examined, stamped: str) -> None:
+    """Writes the files of a dump and then its line of the journal."""
+    contents = (entry.first_picture, entry.map, entry.places)
+    for name, content, kind in zip(names_of(entry.row["file"]), contents, (kinds.PNG, kinds.PNG, kinds.LIST_OF_PLACES)):
         if content is None:
             (out / name).unlink(missing_ok=True)
         else:
-            write_file(out / name, content, kinds.PNG, force=True)
-    line = json.dumps({"stamp": stamped, "row": entry.row})
-    journal.write(line.encode() + b"\n")
-    journal.flush()
+            write_file(out / name, content, kind, force=True)
+    append(journal, json.dumps({"stamp": stamped, "row": entry.row}).encode() + b"\n")
 
 
-def look_at_all(arguments, tasks: list[Task], known: dict, out: Path) -> dict[str, dict]:
+def append(journal: BinaryIO, line: bytes) -> None:
+    with writing(journal.name):
+        journal.write(line)
+        journal.flush()
+
+
+def look_at_all(
+    arguments: argparse.Namespace, tasks: list[Task], known: dict[str, tuple[str, Row]], out: Path
+) -> dict[str, Row]:
     """The rows of all files: those that are known and did not change, and the others looked at."""
-    how = not arguments.no_pictures
-    stamps = {task.name: stamp(task.path, f"{LAYOUT} {library.version()} {how}") for task in tasks}
+    how = How(not arguments.no_pictures, asked(arguments))
+    told = "".join(f" {word}" for word in how.words if word is not None)
+    stamps = {task.name: stamp(task.path, f"{LAYOUT} {library.version()} {how.with_pictures}{told}") for task in tasks}
     rows = {
         task.name: known[task.name][1]
         for task in tasks
-        if known.get(task.name, ("",))[0] == stamps[task.name] and has_pictures(out, known[task.name][1], how)
+        if task.name in known and known[task.name][0] == stamps[task.name] and is_whole(out, known[task.name][1], how.with_pictures)
     }
     todo = [task for task in tasks if task.name not in rows]
-    if not todo:
-        found = iter(())
-    elif arguments.cluster:
+    found: Iterator[Examined] = iter(())
+    if todo and arguments.cluster:
         found = by_cluster(todo, how, arguments.cluster)
-    else:
+    elif todo:
         found = here(todo, how, min(arguments.jobs, len(todo)))
     # Each part of several has a journal of its own, so that none writes into another's.
     own = f"journal-{arguments.part.number}-of-{arguments.part.of}.jsonl" if arguments.part else "journal.jsonl"
-    with open(out / own, "ab") as journal:
-        journal.write(b"\n" if journal.tell() else b"")
+    with writing(out / own):
+        journal = open(out / own, "ab")
+    with journal:
+        append(journal, b"\n" if journal.tell() else b"")
         for entry in progress(found, len(todo), arguments.quiet):
             name = entry.row["file"]
-            keep(out, journal, entry, stamps[name])
+            # What could not be looked at is tried again by the next run.
+            keep(out, journal, entry, "" if entry.was_lost else stamps[name])
             rows[name] = entry.row
     tell(f"{len(todo)} files read, {len(tasks) - len(todo)} known")
     return rows
 
 
 def cell(value: object) -> str:
-    """A value in the table: a dash for none, the parts of a list with semicolons between."""
+    """A value in the table: a dash for none, the parts of a list with semicolons between, and no more than a cell takes."""
     if value is None or value == []:
         return "-"
-    return "; ".join(value) if isinstance(value, list) else str(value)
+    text = "; ".join(map(str, value)) if isinstance(value, list) else str(value)
+    return text if len(text) <= LONGEST_CELL else f"{text[:LONGEST_CELL]} .."
 
 
-def plain(row: dict) -> dict:
+def plain(row: Row) -> Row:
     """A row for other programs: bytes of a name that are no text are written as \\xHH."""
     return row | {"file": os.fsencode(row["file"]).decode("utf-8", "backslashreplace")}
 
 
-def clear_pictures(out: Path, rows: list[dict]) -> None:
-    """Removes the pictures of dumps that are gone, and nothing else."""
-    wanted = {name for row in rows for name in picture_names(row["file"])}
-    for path in (out / "pictures").iterdir():
-        if PICTURE_NAME.fullmatch(path.name) and f"pictures/{path.name}" not in wanted:
-            path.unlink()
+def clear_files(out: Path, rows: Sequence[Row]) -> None:
+    """Removes the pictures and lists of dumps that are gone, and nothing else."""
+    wanted = {name for row in rows for name in names_of(row["file"])}
+    for folder in ("pictures", "places"):
+        for path in (out / folder).iterdir():
+            if OWN_NAME.fullmatch(path.name) and f"{folder}/{path.name}" not in wanted:
+                path.unlink()
 
 
 def tables(out: Path, force: bool) -> Outputs:
     """The files of a report that every run writes anew."""
-    writes = ((out / "table.tsv", kinds.TABLE), (out / "table.jsonl", kinds.ROWS), (out / "index.html", kinds.PAGE))
+    writes = (
+        (out / "table.tsv", kinds.TABLE),
+        (out / "table.jsonl", kinds.ROWS),
+        (out / "index.html", kinds.PAGE),
+        (out / "dumps.dat", kinds.DAT),
+    )
     return Outputs([], writes, force)
 
 
-def write_tables(outputs: Outputs, out: Path, rows: list[dict]) -> None:
+def write_tables(outputs: Outputs, out: Path, rows: Sequence[Row]) -> None:
     lines = ["\t".join(COLUMNS), *("\t".join(shown(cell(row[name])) for name in COLUMNS) for row in rows)]
     table = "".join(f"{line}\n" for line in lines).encode(errors="surrogateescape")
     outputs.write(out / "table.tsv", table)
     outputs.write(out / "table.jsonl", "".join(json.dumps(plain(row)) + "\n" for row in rows).encode())
-    outputs.write(out / "index.html", report_page.html(rows, out, picture_names))
+    outputs.write(out / "index.html", report_page.html([(row, names_of(row["file"])) for row in rows], out))
+    summed = [(row["file"], Sums(*(row[field] for field in Sums._fields))) for row in rows if row["sha256"]]
+    outputs.write(out / "dumps.dat", dat("dumps", summed))
 
 
-def run(arguments) -> int:
+def run(arguments: argparse.Namespace) -> int:
     out = Path(folder_of(arguments.output))
     check_folder(out, arguments.folder, arguments.force)
     with tables(out, arguments.force) as outputs:
@@ -297,20 +264,21 @@ def check_folder(out: Path, folder: str, force: bool) -> None:
             raise Refusal(out, "has files in it and is no folder of a report; --force puts one there")
 
 
-def report(arguments, outputs: Outputs, out: Path) -> int:
-    tasks = files_below(arguments.folder, arguments.output)
-    if arguments.part:
-        tasks = [task for task in tasks if arguments.part.has(task.name)]
+def report(arguments: argparse.Namespace, outputs: Outputs, out: Path) -> int:
+    below = files_below(arguments.folder, arguments.output, arguments.follow_links)
+    tasks = [task for task in below.files if not arguments.part or arguments.part.has(task.name)]
     if not arguments.no_pictures:
         package("PIL.Image", "python3-pil")
     try:
-        (out / "pictures").mkdir(parents=True, exist_ok=True)
+        for folder in ("pictures", "places"):
+            (out / folder).mkdir(parents=True, exist_ok=True)
     except OSError as error:
         raise Refusal(out, cause(error)) from None
     rows = look_at_all(arguments, tasks, known_rows(out), out)
-    ordered = [rows[task.name] for task in tasks]
+    closed = [unread(name, f"the folder cannot be looked into: {why}").row for name, why in below.closed]
+    ordered = sorted([*(rows[task.name] for task in tasks), *closed], key=lambda row: os.fsencode(row["file"]))
     if not arguments.part:
-        clear_pictures(out, ordered)
+        clear_files(out, ordered)
         write_tables(outputs, out, ordered)
     write_row(("status", "files"))
     for status in sorted({row["status"] for row in ordered}):

@@ -1,185 +1,24 @@
-"""The cue sheet of a dump: what its Q channel and its lead-in say, as the program's `author` takes it."""
-import collections
+"""The sheet of a dump: what its Q channel and its lead-in say, as the program's `author`, cdrdao or CloneCD take it."""
+import argparse
 import os
 import re
-from typing import Iterator, NamedTuple
+from typing import Any, Callable, Iterator
 
-from . import kinds, library
-from .damage import lead_in
-from .dump import Dump
-from .identify import form_of, survey_of
-from .library import BLOCK, RAW, QFrame
-from .output import DASH, Outputs, Refusal, add_force, shown, tell
-from .survey import Clock, Survey, spelled
+from . import comparing, kinds
+from .loading import Loaded, add_options, asked, load_raw
+from .output import FOUND, Outputs, Refusal, add_force, read_file, shown, tell
+from .q_disc import CATALOGUE, DATA, ISRC, PAUSE, Disc, Source, Track, disc
+from .q_disc import unescaped as unescaped
+from .survey import Clock, spelled
 
-# The blocks from the start of the program to that of the audio file.
-PAUSE = 150
 # The bits of CONTROL, and what a sheet calls them.
 FLAGS = ((2, b"DCP"), (8, b"4CH"), (1, b"PRE"))
-DATA = 4
-# So many frames that tell the same are looked at.
-ENOUGH = 50
-# So many blocks of a lead-in are looked at for the table of contents.
-MOST_OF_LEAD_IN = 20_000
+PRE_EMPHASIS, COPY, FOUR_CHANNELS = 1, 2, 8
 # The texts that a sheet has a command for, and those that it can only mention.
 COMMANDS = {"title": b"TITLE", "performer": b"PERFORMER", "songwriter": b"SONGWRITER"}
 MENTIONED = {"composer": b"COMPOSER", "arranger": b"ARRANGER", "message": b"MESSAGE"}
-
-
-class Track(NamedTuple):
-    number: int
-    control: int
-    indices: dict[int, int]  # the absolute time at which each index begins
-    code: bytes  # the recording code, or nothing
-
-
-class Disc(NamedTuple):
-    tracks: list[Track]
-    blocks: int  # of the program
-    catalogue: bytes
-    texts: dict[tuple[str, int], bytes]  # by kind and track, 0 the album
-
-
-class Source:
-    """A stream whose Q frames are looked at one by one, where its survey says that they tell something."""
-
-    def __init__(self, stream: bytes, survey: Survey):
-        self.stream, self.survey, self.clock = stream, survey, Clock(survey)
-
-    def frame(self, block: int) -> QFrame | None:
-        return library.q_frame(self.stream[BLOCK * block : BLOCK * (block + 1)])
-
-    def frames(self, kind: int) -> Iterator[tuple[int, QFrame]]:
-        """The frames of a kind, each with the number of its block."""
-        for found in re.finditer(re.escape(bytes([kind])), self.survey.column("q")):
-            if frame := self.frame(found.start()):
-                yield found.start(), frame
-
-    def has_p(self, block: int) -> bool:
-        """Whether most of a block's P bits are set."""
-        return sum(byte >> 7 for byte in self.stream[BLOCK * block : BLOCK * (block + 1)]) > BLOCK // 2
-
-
-def changes(source: Source) -> Iterator[tuple[int, int, int]]:
-    """Where a track or an index is first met: the block, the track and the index."""
-    tracks, indices = source.survey.column("track"), source.survey.column("index")
-    last = None
-    for stretch in source.clock.stretches:
-        ends = {(tracks[at], indices[at]) for at in (stretch.first, stretch.last)}
-        inside = range(stretch.first, stretch.last + 1) if len(ends) > 1 else (stretch.first,)
-        for block in inside:
-            found = tracks[block], indices[block]
-            if found != last:
-                yield block, *found
-                last = found
-
-
-def starts(source: Source) -> dict[int, dict[int, tuple[int, int]]]:
-    """For each track the indices that are met, each with its first block and the absolute time."""
-    found: dict[int, dict[int, tuple[int, int]]] = {}
-    for block, track, index in changes(source):
-        time = source.survey.absolute(block)
-        known = found.setdefault(track, {})
-        if index not in known or time < known[index][1]:
-            known[index] = block, time
-    return found
-
-
-def first_index(source: Source, known: dict[int, tuple[int, int]]) -> int | None:
-    """The time of a track's index 01: frames of the track count from it, in its pause down to it."""
-    for index, (block, time) in sorted(known.items(), reverse=True):
-        frame = source.frame(block)
-        if frame is not None:
-            return time - frame.time if index else time + frame.time
-    return None
-
-
-def pause(source: Source, known: tuple[int, int], first: int) -> int:
-    """The time at which the pause of a track begins. Where the frames right before tell no time, P is set from there
-    on, if it is two seconds long at least; a shorter pause has P before it too."""
-    block, time = known
-    back = 0
-    while block > back and source.survey.absolute(block - back - 1) == library.NO_TIME and source.has_p(block - back - 1):
-        back += 1
-    return time - back if first - time + back >= PAUSE else time
-
-
-def codes(source: Source) -> dict[int, bytes]:
-    """The recording code of each track that has one."""
-    counts: dict[int, collections.Counter] = {}
-    for block, frame in source.frames(library.Q_ISRC):
-        track = source.clock.track(block)
-        counted = counts.setdefault(track or 0, collections.Counter())
-        if sum(counted.values()) < ENOUGH:
-            counted[bytes(frame.text)[:12]] += 1
-    return {track: counted.most_common(1)[0][0] for track, counted in counts.items()}
-
-
-def catalogue(source: Source) -> bytes:
-    counted: collections.Counter = collections.Counter()
-    for _, frame in source.frames(library.Q_CATALOGUE):
-        counted[bytes(frame.text)] += 1
-        if sum(counted.values()) == ENOUGH:
-            break
-    return counted.most_common(1)[0][0] if counted else b""
-
-
-def contents(source: Source) -> tuple[dict[int, QFrame], int | None]:
-    """What the table of contents in the lead-in says: its tracks, and where the lead-out begins."""
-    tracks, end = {}, None
-    for block in range(min(source.survey.lead_in, MOST_OF_LEAD_IN)):
-        frame = source.frame(block)
-        if frame is not None and frame.kind == library.Q_TRACK:
-            tracks.setdefault(frame.track, frame)
-        elif frame is not None and frame.kind == library.Q_LEAD_OUT:
-            end = frame.absolute
-    return tracks, end
-
-
-def last_time(source: Source) -> int:
-    """The absolute time of the last block of the program that is there: frames with a code follow one with a time."""
-    last = max(source.clock.stretches, key=lambda it: it.last + it.shift)
-    kinds, block = source.survey.column("q"), last.last
-    while block + 1 < source.survey.blocks and kinds[block + 1] in (library.Q_CATALOGUE, library.Q_ISRC):
-        block += 1
-    return block + last.shift
-
-
-def unescaped(text: str) -> bytes:
-    """The bytes of a text as `text` writes it."""
-    return re.sub(rb"\\([0-9A-Fa-f]{2})", lambda found: bytes.fromhex(found[1].decode()), text.encode())
-
-
-def texts(source: Source) -> dict[tuple[str, int], bytes]:
-    blocks = source.survey.lead_in
-    found = {}
-    for line in library.texts(source.stream[: BLOCK * blocks], blocks).splitlines():
-        kind, number, *rest = line.split(" ", 2)
-        if kind != "packs":
-            found[kind, int(number)] = unescaped("".join(rest))
-    return found
-
-
-def disc(source: Source) -> Disc:
-    """All that a sheet says, of the frames of the program and else of the lead-in."""
-    met, found_texts = starts(source), texts(source)
-    listed, end = contents(source)
-    isrc, tracks = codes(source), []
-    for number in sorted({*met, *listed}):
-        known = met.get(number, {})
-        first = listed[number].absolute if number in listed else first_index(source, known)
-        if first is None:
-            continue
-        indices = {index: time for index, (_, time) in known.items() if index > 1} | {1: first}
-        if 0 in known:
-            indices[0] = pause(source, known[0], first)
-        frame = source.frame(next(iter(known.values()))[0]) if known else listed[number]
-        control = frame.control if frame else 0
-        code = isrc.get(number) or found_texts.get(("code", number), b"")
-        tracks.append(Track(number, control, dict(sorted(indices.items())), code))
-    if end is None:
-        end = last_time(source) + 1
-    return Disc(tracks, end, catalogue(source) or found_texts.get(("code", 0), b""), found_texts)
+# The absolute time of the first sector of an image, and the points of the table of contents beside tracks.
+FIRST_SECTOR, FIRST_TRACK, LAST_TRACK, LEAD_OUT = 150, 0xA0, 0xA1, 0xA2
 
 
 def quoted(text: bytes) -> bytes | None:
@@ -191,52 +30,142 @@ def quoted(text: bytes) -> bytes | None:
     return text if text == text.strip(b" ") and not text.startswith(b'"') else None
 
 
-def text_lines(found: Disc, number: int, margin: bytes) -> Iterator[bytes]:
-    """The texts of a track, or of the album; those that a sheet cannot say are mentioned."""
-    for kind, command in {**COMMANDS, **MENTIONED}.items():
-        text = found.texts.get((kind, number))
-        if not text:
-            continue
-        spelling = quoted(text)
-        if spelling is None:
-            tell(f"the {kind} of track {number:02} cannot be spelled in a sheet: {text!r}")
-        else:
-            remark = b"" if kind in COMMANDS else b"REM "
-            yield b"%b%b%b %b" % (margin, remark, command, spelling)
+class Sheet:
+    """A disc with the name of its audio file, and how its texts are written."""
+
+    def __init__(self, source: Source, found: Disc, name: bytes, is_latin_1: bool) -> None:
+        self.source, self.disc, self.is_latin_1 = source, found, is_latin_1
+        self.file = re.sub(rb'["\x00-\x1f\x7f]', b"_", name)
+
+    def encoded(self, text: bytes) -> bytes:
+        """A text of a disc, which is Latin-1, as the sheet has it."""
+        return text if self.is_latin_1 else text.decode("latin-1").encode("utf-8")
+
+    def text_lines(self, number: int, margin: bytes) -> Iterator[bytes]:
+        """The texts of a track, or of the album; those that a sheet cannot say are mentioned."""
+        for kind, command in {**COMMANDS, **MENTIONED}.items():
+            text = self.disc.texts.get((kind, number))
+            if not text:
+                continue
+            spelling = quoted(self.encoded(text))
+            if spelling is None:
+                tell(f"the {kind} of track {number:02} cannot be spelled in a sheet: {text!r}")
+            else:
+                remark = b"" if kind in COMMANDS else b"REM "
+                yield b"%b%b%b %b" % (margin, remark, command, spelling)
+
+    def track_lines(self, track: Track, margin: bytes = b"  ") -> Iterator[bytes]:
+        kind = b"MODE1/2352" if track.control & DATA else b"AUDIO"
+        yield b"%bTRACK %02d %b" % (margin, track.number, kind)
+        inner = 2 * margin
+        yield from self.text_lines(track.number, inner)
+        flags = [name for bit, name in FLAGS if track.control & bit]
+        if flags:
+            yield b"%bFLAGS %b" % (inner, b" ".join(flags))
+        if ISRC.fullmatch(track.code):
+            yield b"%bISRC %b" % (inner, track.code)
+        first = self.source.in_file(track.indices[1])
+        for index, time in track.indices.items():
+            at = self.source.in_file(time)
+            # The pause of two seconds before the file is in every disc.
+            if index or at < first:
+                yield b"%bINDEX %02d %b" % (inner, index, spelled(at).encode())
+
+    def cue(self) -> bytes:
+        """The lines of a cue sheet. A remark tells what else `author` wants to be told."""
+        length = spelled(max(self.disc.blocks - PAUSE, 0))
+        lines = [f"REM ribjasper author --lead-in {self.source.survey.lead_in} --length {length}".encode()]
+        if CATALOGUE.fullmatch(self.disc.catalogue):
+            lines.append(b"CATALOG " + self.disc.catalogue)
+        lines += self.text_lines(0, b"")
+        lines.append(b'FILE "%b" WAVE' % self.file)
+        sessions = {track.session for track in self.disc.tracks}
+        session = 0
+        for track in self.disc.tracks:
+            if len(sessions) > 1 and track.session != session:
+                session = track.session
+                lines.append(b"REM SESSION %02d" % session)
+            lines += self.track_lines(track)
+        return b"".join(line + b"\n" for line in lines)
+
+    def toc(self) -> bytes:
+        """A sheet for cdrdao, whose audio file begins with the first sector."""
+        lines = [b"CD_DA" if not any(track.control & DATA for track in self.disc.tracks) else b"CD_ROM"]
+        if CATALOGUE.fullmatch(self.disc.catalogue):
+            lines.append(b'CATALOG "%b"' % self.disc.catalogue)
+        has_texts = any(self.disc.texts.get((kind, number)) for kind in COMMANDS for number in range(100))
+        if has_texts:
+            lines += [b"CD_TEXT {", b"  LANGUAGE_MAP { 0 : 9 }", b"  LANGUAGE 0 {", *self.toc_texts(0, b"    "), b"  }", b"}"]
+        begins = [self.source.in_file(min(track.indices.values())) for track in self.disc.tracks]
+        ends = [*begins[1:], self.source.in_file(self.disc.blocks)]
+        for track, begin, end in zip(self.disc.tracks, begins, ends):
+            lines += [b"", b"TRACK " + (b"MODE1_RAW" if track.control & DATA else b"AUDIO")]
+            lines.append(b"COPY" if track.control & COPY else b"NO COPY")
+            if not track.control & DATA:
+                lines.append(b"PRE_EMPHASIS" if track.control & PRE_EMPHASIS else b"NO PRE_EMPHASIS")
+                lines.append(b"FOUR_CHANNEL_AUDIO" if track.control & FOUR_CHANNELS else b"TWO_CHANNEL_AUDIO")
+            if ISRC.fullmatch(track.code):
+                lines.append(b'ISRC "%b"' % track.code)
+            if has_texts:
+                lines += [b"CD_TEXT {", b"  LANGUAGE 0 {", *self.toc_texts(track.number, b"    "), b"  }", b"}"]
+            word = b"DATAFILE" if track.control & DATA else b"FILE"
+            lines.append(b'%b "%b" %b %b' % (word, self.file, spelled(begin).encode(), spelled(end - begin).encode()))
+            first = self.source.in_file(track.indices[1])
+            if first > begin:
+                lines.append(b"START " + spelled(first - begin).encode())
+            for index, time in track.indices.items():
+                if index > 1:
+                    lines.append(b"INDEX " + spelled(self.source.in_file(time) - first).encode())
+        return b"".join(line + b"\n" for line in lines)
+
+    def toc_texts(self, number: int, margin: bytes) -> Iterator[bytes]:
+        for kind, command in COMMANDS.items():
+            text = self.disc.texts.get((kind, number), b"")
+            spelling = self.encoded(text).replace(b"\\", b"\\\\").replace(b'"', b'\\"')
+            if not any(byte < 0x20 or byte == 0x7F for byte in text):
+                yield b'%b%b "%b"' % (margin, command, spelling)
+
+    def ccd(self) -> bytes:
+        """A sheet of CloneCD, whose image begins with the first sector."""
+        entries = [entry for session in sorted({track.session for track in self.disc.tracks}) for entry in self.entries(session)]
+        sessions = sorted({track.session for track in self.disc.tracks})
+        lines = ["[CloneCD]", "Version=3", "[Disc]", f"TocEntries={len(entries)}", f"Sessions={len(sessions)}"]
+        lines += ["DataTracksScrambled=0", "CDTextLength=0"]
+        if CATALOGUE.fullmatch(self.disc.catalogue):
+            lines.append(f"CATALOG={self.disc.catalogue.decode()}")
+        for session in sessions:
+            first = next(track for track in self.disc.tracks if track.session == session)
+            lines += [f"[Session {session}]", f"PreGapMode={int(bool(first.control & DATA))}", "PreGapSubC=0"]
+        for number, (session, point, bits, (minute, second, frame)) in enumerate(entries):
+            place = 4500 * minute + 75 * second + frame - FIRST_SECTOR
+            lines += [f"[Entry {number}]", f"Session={session}", f"Point=0x{point:02x}", "ADR=0x01", f"Control=0x{bits:02x}"]
+            lines += ["TrackNo=0", "AMin=0", "ASec=0", "AFrame=0", "ALBA=-150", "Zero=0"]
+            lines += [f"PMin={minute}", f"PSec={second}", f"PFrame={frame}", f"PLBA={place}"]
+        for track in self.disc.tracks:
+            lines += [f"[TRACK {track.number}]", f"MODE={int(bool(track.control & DATA))}"]
+            if ISRC.fullmatch(track.code):
+                lines.append(f"ISRC={track.code.decode()}")
+            lines += [f"INDEX {index}={time - FIRST_SECTOR}" for index, time in track.indices.items() if time >= FIRST_SECTOR]
+        return "".join(f"{line}\r\n" for line in lines).encode()
+
+    def entries(self, session: int) -> Iterator[tuple[int, int, int, tuple[int, int, int]]]:
+        """The entries of a table of contents: session, point, control bits, and a time or what stands in its place."""
+        own = [track for track in self.disc.tracks if track.session == session]
+        later = [track for track in self.disc.tracks if track.session > session]
+        yield session, FIRST_TRACK, own[0].control, (own[0].number, 0, 0)
+        yield session, LAST_TRACK, own[-1].control, (own[-1].number, 0, 0)
+        end = min(later[0].indices.values()) if later else self.disc.blocks
+        yield session, LEAD_OUT, own[-1].control, parts_of(end)
+        for track in own:
+            yield session, track.number, track.control, parts_of(track.indices[1])
 
 
-def track_lines(found: Disc, track: Track, margin: bytes = b"  ") -> Iterator[bytes]:
-    kind = b"MODE1/2352" if track.control & DATA else b"AUDIO"
-    yield b"%bTRACK %02d %b" % (margin, track.number, kind)
-    inner = 2 * margin
-    yield from text_lines(found, track.number, inner)
-    flags = [name for bit, name in FLAGS if track.control & bit]
-    if flags:
-        yield b"%bFLAGS %b" % (inner, b" ".join(flags))
-    if re.fullmatch(rb"[A-Z]{2}[A-Z0-9]{3}[0-9]{7}", track.code):
-        yield b"%bISRC %b" % (inner, track.code)
-    for index, time in track.indices.items():
-        # The pause of two seconds before the file is in every disc.
-        at = max(time - PAUSE, 0)
-        if index or at < track.indices[1] - PAUSE:
-            yield b"%bINDEX %02d %b" % (inner, index, spelled(at).encode())
+def parts_of(time: int) -> tuple[int, int, int]:
+    return time // 4500, time // 75 % 60, time % 75
 
 
-def sheet(found: Disc, name: bytes, blocks: int) -> bytes:
-    """The lines of a cue sheet. A remark tells what else `author` wants to be told."""
-    words = f"--lead-in {blocks} --length {spelled(max(found.blocks - PAUSE, 0))}"
-    lines = [b"REM ribjasper author " + words.encode()]
-    if re.fullmatch(rb"[0-9]{13}", found.catalogue):
-        lines.append(b"CATALOG " + found.catalogue)
-    lines += text_lines(found, 0, b"")
-    lines.append(b'FILE "%b" WAVE' % re.sub(rb'["\x00-\x1f\x7f]', b"_", name))
-    for track in found.tracks:
-        lines += track_lines(found, track)
-    return b"".join(line + b"\n" for line in lines)
-
-
-def remarks(path: str, found: Disc) -> Iterator[str]:
-    """What a sheet cannot say of a disc, or what is missing."""
+def remarks(loaded: Loaded, source: Source, found: Disc) -> Iterator[str]:
+    """What a sheet cannot say of a disc, what is missing, and what not all frames say."""
     numbers = [track.number for track in found.tracks]
     missing = sorted(set(range(numbers[0], numbers[-1] + 1)) - set(numbers))
     if missing:
@@ -246,44 +175,73 @@ def remarks(path: str, found: Disc) -> Iterator[str]:
             yield f"track {track.number:02} is data, which `author` refuses"
     if found.tracks[0].indices[1] < PAUSE:
         yield "the first track begins before 00:02:00, which no sheet can say"
+    if len({track.session for track in found.tracks}) > 1:
+        yield f"{max(track.session for track in found.tracks)} sessions"
+    yield from found.votes
+    yield from cuts(source, found)
 
 
-def add_parser(commands) -> None:
+def cuts(source: Source, found: Disc) -> Iterator[str]:
+    """Where the dump lacks a part of the disc: then the times of the sheet are those of the file."""
+    begin = source.pieces[0].shift + source.survey.first
+    if source.pieces[0].shift > PAUSE:
+        yield f"the file begins at the absolute time {spelled(begin)}; times of the sheet count from there"
+    for _, before, after in Clock(source.survey).jumps():
+        if source.is_in_order(after):
+            yield f"the time jumps from {spelled(before)} to {spelled(after.time)}; times of the sheet are those of the file"
+    last = source.pieces[-1].end + source.pieces[-1].shift
+    if found.end is not None and last < found.end:
+        yield f"the file ends at the absolute time {spelled(last)}, before the lead-out at {spelled(found.end)}"
+
+
+def add_parser(commands: Any) -> None:
     parser = commands.add_parser(
         "sheet",
         help="write the cue sheet of a dump",
         description="Writes a cue sheet of what the Q channel and the lead-in of a dump say: tracks, indices and pauses, "
-        "flags, the catalogue number, recording codes and texts. The program's author takes it again, with the words in "
-        "its first line. Gaps that no file has stand as pauses within the file.",
+        "flags, the catalogue number, recording codes, texts and sessions. The program's author takes it again, with the "
+        "words in its first line. Gaps that no file has stand as pauses within the file. --compare lists in what the table "
+        "of contents, Q and a cue sheet differ, and ends with 1 where they do.",
     )
     parser.add_argument("file", metavar="DUMP")
-    parser.add_argument("-o", "--output", metavar="OUT.cue", help="the file to write; else standard output")
-    parser.add_argument("--lead-in", type=lead_in, metavar="N", help="blocks of the lead-in; else Q tells them")
+    parser.add_argument("-o", "--output", metavar="OUT", help="the file to write; else standard output")
+    what = parser.add_mutually_exclusive_group()
+    what.add_argument("--toc", action="store_true", help="write a sheet for cdrdao")
+    what.add_argument("--ccd", action="store_true", help="write a sheet of CloneCD")
+    what.add_argument("--compare", metavar="CUE", help="list what differs, and write no sheet")
+    parser.add_argument("--latin-1", action="store_true", help="texts as bytes of Latin-1, as author wants them; else UTF-8")
+    add_options(parser)
     add_force(parser)
-    parser.set_defaults(run=run)
+    parser.set_defaults(run=run, error=parser.error)
 
 
-def run(arguments) -> int:
-    out = arguments.output or DASH
-    with Outputs([arguments.file], [(out, kinds.CUE)], arguments.force) as outputs:
-        outputs.write(out, sheet_of(arguments.file, arguments.lead_in))
-    return 0
-
-
-def sheet_of(path: str, told: int | None) -> bytes:
-    """The lines of the sheet of a dump."""
-    dump = Dump(path)
-    form, against = form_of(dump, allow_torn=True)
-    if form is None:
-        raise Refusal(path, "; ".join(["is no dump", *against]))
-    if form.library != RAW:
-        raise Refusal(path, f"is {form.name}, which has no Q channel")
-    stream = dump.blocks(form)
-    source = Source(stream, survey_of(stream, form, told))
-    if not source.clock.stretches:
+def read_source(path: str, loaded: Loaded) -> Source:
+    source = Source(loaded)
+    if not source.stretches:
         raise Refusal(path, "no Q frame tells a track")
-    found = disc(source)
-    for remark in remarks(path, found):
-        tell(f"{shown(path)}: {remark}")
-    stem = os.path.splitext(os.path.basename(path))[0]
-    return sheet(found, os.fsencode(f"{stem}.wav"), source.survey.lead_in)
+    return source
+
+
+def run(arguments: argparse.Namespace) -> int:
+    path = arguments.file
+    if arguments.compare and arguments.output:
+        arguments.error("--compare writes no sheet")
+    kind = kinds.TOC if arguments.toc else kinds.CCD if arguments.ccd else kinds.CUE
+    out: str = arguments.output or "-"
+    writes = [] if arguments.compare else [(out, kind)]
+    with Outputs([path, arguments.compare], writes, arguments.force) as outputs:
+        loaded = load_raw(path, asked(arguments), "Q channel")
+        source = read_source(path, loaded)
+        found = disc(source, loaded.companions.session_tracks)
+        for remark in remarks(loaded, source, found):
+            tell(f"{shown(path)}: {remark}")
+        if arguments.compare:
+            cue = comparing.read_cue(arguments.compare, read_file(arguments.compare))
+            return FOUND if comparing.write_differences(outputs, found, cue) else 0
+        stem = os.path.splitext(os.path.basename(path))[0]
+        sheet = Sheet(source, found, os.fsencode(f"{stem}.wav"), arguments.latin_1)
+        if any(not text.isascii() for text in found.texts.values()):
+            tell(f"{shown(path)}: texts are written in {'Latin-1' if arguments.latin_1 else 'UTF-8; author wants --latin-1'}")
+        write: Callable[[], bytes] = sheet.toc if arguments.toc else sheet.ccd if arguments.ccd else sheet.cue
+        outputs.write(out, write())
+    return 0

@@ -3,10 +3,11 @@ from dataclasses import dataclass
 from pathlib import Path
 from typing import Iterator
 
+from .detection import form_of
 from .dump import Dump
-from .identify import form_of
-from .library import BLOCK, BLOCKS_A_SECOND, PACK, PACKS_A_BLOCK, RAW, SECTOR, Player
+from .library import BLOCK, BLOCKS_A_SECOND, PACK, PACKS_A_BLOCK, RAW, Player
 from .output import Refusal, read_file
+from .pieces import pieces_of
 from .survey import Survey
 from .times import PAUSE
 
@@ -53,15 +54,19 @@ def open_stream(path: Path) -> Stream:
     """A raw stream, an image of sectors, or a `.cdg` file, by what is in it. A stream that begins with the audio, as
     that of an image does, has no pause."""
     dump = Dump(path)
-    form, _ = form_of(dump)
-    if form and form.library == RAW:
-        blocks = dump.blocks(form)
-        stretches = Survey(blocks, RAW, 0).stretches()
-        if not stretches:
-            raise Refusal(path, "is all lead-in")
-        zero = -stretches[0].shift
-        return Stream(blocks, BLOCK, max(0, zero + PAUSE), max(0, zero))
-    packs = dump.blocks(form) if form and form.unit == SECTOR else read_file(path)
-    if not packs or len(packs) % PACK:
-        raise Refusal(path, f"is no stream and no .cdg file: {len(packs)} bytes are no whole packs of {PACK}")
-    return Stream(packs, PACK, 0, 0)
+    found, _ = form_of(dump)
+    if found is None:
+        packs = read_file(path)
+        if not packs or len(packs) % PACK:
+            raise Refusal(path, f"is no stream and no .cdg file: {len(packs)} bytes are no whole packs of {PACK}")
+        return Stream(packs, PACK, 0, 0)
+    dump.skip = found.skip
+    blocks = dump.blocks(found.form)
+    if found.form.is_packs():
+        packs = blocks[: PACK * dump.units(found.form)] if found.form.unit == PACK else blocks
+        return Stream(packs, PACK, 0, 0)
+    pieces = pieces_of(Survey(blocks, RAW, 0).stretches())
+    if not pieces:
+        raise Refusal(path, "is all lead-in")
+    zero = -pieces[0].shift
+    return Stream(blocks, BLOCK, max(0, zero + PAUSE), max(0, zero))

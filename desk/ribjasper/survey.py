@@ -1,4 +1,5 @@
-"""What the library's survey says of a stream, column by column, with no loop over its blocks in Python."""
+"""What the library's survey says of a stream, column by column, with no loop over its blocks in Python. Blocks before the
+first and behind the last one that was read are not surveyed: they are unread, and nothing is wrong with them."""
 import bisect
 import ctypes
 import functools
@@ -6,13 +7,21 @@ import re
 from typing import Iterator, NamedTuple
 
 from . import library
-from .library import BLOCKS_A_SECOND, Row, Surveyed
+from .library import BLOCK, BLOCKS_A_SECOND, RAW, Row, Surveyed
 
 ROW = ctypes.sizeof(Row)
 # Where the columns of one byte stand in a row.
 COLUMNS = {name: getattr(Row, name).offset for name, *_ in Row._fields_}
 GOOD_Q = range(library.Q_OTHER + 1)
 _ANY = bytes([0] + [1] * 255)
+_NO_TIME = library.NO_TIME.to_bytes(4, "little")
+_UNREAD = _NO_TIME + bytes(COLUMNS["q"] - 4) + bytes([library.Q_NONE]) + bytes(ROW - COLUMNS["q"] - 1)
+# The bytes in which no bit of channel Q is set, and none of the channels R to W.
+_WITHOUT_Q = bytes(byte for byte in range(256) if not byte & 0x40)
+_WITHOUT_RW = bytes(byte for byte in range(256) if not byte & 0x3F)
+_SET = re.compile(rb"[^\x00]")
+# So many bytes are looked at at a time.
+AT_ONCE = 1 << 16
 _BAD_Q = bytes(1 if value in (library.Q_BAD_FIELD, library.Q_BAD_CHECK) else 0 for value in range(256))
 
 
@@ -49,20 +58,69 @@ def runs(column: bytes) -> list[Run]:
     return [Run(found.start(), found.end() - 1) for found in re.finditer(rb"[^\x00]+", column)]
 
 
+def has_q(stream: bytes) -> bool:
+    """Whether a bit of channel Q is set anywhere."""
+    return has_other(stream, _WITHOUT_Q)
+
+
+def has_graphics_bits(stream: bytes) -> bool:
+    """Whether a bit of the channels R to W is set anywhere."""
+    return has_other(stream, _WITHOUT_RW)
+
+
+def has_other(stream: bytes, those: bytes) -> bool:
+    """Whether a stream has other bytes than those."""
+    return any(stream[start : start + AT_ONCE].translate(None, those) for start in range(0, len(stream), AT_ONCE))
+
+
+def read_part(stream: bytes) -> tuple[int, int]:
+    """The first block that is not all zeros, and the one behind the last."""
+    parts = range(0, len(stream), AT_ONCE)
+    begin = next((start for start in parts if stream.count(0, start, start + AT_ONCE) < len(stream[start : start + AT_ONCE])), 0)
+    first = _SET.search(stream, begin)
+    if first is None:
+        return 0, 0
+    end = len(stream) - len(stream) % BLOCK
+    while end and not any(stream[end - BLOCK : end]):
+        end -= BLOCK
+    return first.start() // BLOCK, end // BLOCK
+
+
 class Survey:
     """The rows of a stream, one for each block."""
 
-    def __init__(self, stream: bytes, form: int, lead_in: int):
+    def __init__(self, stream: bytes, form: int, lead_in: int, is_trimmed: bool = True):
         self.form, self.lead_in = form, lead_in
-        self.blocks = len(stream) // library.BLOCK
-        room = ctypes.create_string_buffer(max(1, ROW * self.blocks))
-        status = library.call("ribjasper_survey")(
-            stream, len(stream), form, lead_in, room, self.blocks, Surveyed()
-        )
+        self.blocks = len(stream) // BLOCK
+        self.has_q = form == RAW and has_q(stream)
+        self.first, self.end = read_part(stream) if is_trimmed and self.has_q else (0, self.blocks)
+        self.rows = _UNREAD * self.first + self._surveyed(stream) + _UNREAD * (self.blocks - self.end)
+        self.columns: dict[str, bytes] = {}
+
+    def _surveyed(self, stream: bytes) -> bytes:
+        """The rows of the blocks that were read."""
+        count = self.end - self.first
+        room = ctypes.create_string_buffer(max(1, ROW * count))
+        start = library.address(stream) + BLOCK * self.first
+        lead_in = max(0, self.lead_in - self.first)
+        status = library.call("ribjasper_survey")(start, BLOCK * count, self.form, lead_in, room, count, Surveyed())
         if status != library.DONE:
             raise ValueError(f"ribjasper_survey answers {status}")
-        self.rows = ctypes.string_at(room, ROW * self.blocks)
-        self.columns: dict[str, bytes] = {}
+        return ctypes.string_at(room, ROW * count)
+
+    @property
+    def read(self) -> int:
+        """How many blocks there are from the first that was read to the last."""
+        return self.end - self.first
+
+    def unread_column(self) -> bytes:
+        """A byte for each block, 1 where it is unread."""
+        return b"\1" * self.first + bytes(self.read) + b"\1" * (self.blocks - self.end)
+
+    def unread(self) -> list[Run]:
+        """The blocks before the first that was read and behind the last."""
+        edges = Run(0, self.first - 1), Run(self.end, self.blocks - 1)
+        return [run for run in edges if run.last >= run.first]
 
     def column(self, name: str) -> bytes:
         if name not in self.columns:
@@ -78,13 +136,13 @@ class Survey:
 
     @functools.cached_property
     def bad_frames(self) -> bytes:
-        """A byte for each block, 1 where its Q frame is bad."""
-        return self.column("q").translate(_BAD_Q)
+        """A byte for each block, 1 where its Q frame is bad; none is where Q was not read at all."""
+        return self.column("q").translate(_BAD_Q) if self.has_q else bytes(self.blocks)
 
     @functools.cached_property
     def empty(self) -> bytes:
         """A byte for each block, 1 where all of it is zero; idle packs without Q are no sign of damage."""
-        return bytes(self.blocks) if self.form == library.PACKS else self.column("empty")
+        return self.column("empty") if self.has_q else bytes(self.blocks)
 
     def corrected(self, run: Run) -> int:
         return self.within(run, "one") + self.within(run, "two")

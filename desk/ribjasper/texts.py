@@ -1,11 +1,11 @@
 """The text packs of a lead-in, as other tools take them, and back."""
+import argparse
 import ctypes
+from typing import Any
 
-from . import kinds, library
-from .damage import lead_in
-from .dump import Dump
-from .identify import form_of, survey_of
-from .library import BLOCK, PACKS_A_BLOCK, RAW, TEXT_PACK
+from . import kinds, library, text_packs
+from .library import BLOCK, PACKS_A_BLOCK, TEXT_PACK
+from .loading import Asked, add_options, asked, load_raw
 from .output import Outputs, Refusal, add_force, read_file, shown, tell, write_text
 
 # Some tools write four bytes in front of the packs: how many follow these two, and two zeros.
@@ -60,7 +60,7 @@ def lead_in_of_packs(packs: bytes) -> bytes:
     return b"".join(slots[place % len(slots)] for place in range(count))
 
 
-def add_parser(commands) -> None:
+def add_parser(commands: Any) -> None:
     parser = commands.add_parser(
         "texts",
         help="list the texts of a lead-in, and copy its packs for other tools and back",
@@ -69,29 +69,33 @@ def add_parser(commands) -> None:
         "it.",
     )
     parser.add_argument("file", metavar="FILE", help="a dump, or with --back a file of packs")
+    parser.add_argument(
+        "--all", action="store_true", help="a table of all languages and kinds, in UTF-8; what is no text in hexadecimal digits"
+    )
     parser.add_argument("--packs", metavar="OUT", help="write the packs whose checks match, each once, in order")
     parser.add_argument("--header", action="store_true", help="with the four bytes in front that some tools want")
-    parser.add_argument("--lead-in", type=lead_in, metavar="N", help="blocks of the lead-in; else Q tells them")
+    add_options(parser)
     parser.add_argument("--back", action="store_true", help="read a file of packs")
     parser.add_argument("--blocks", metavar="OUT", help="with --back: write raw lead-in blocks that carry the packs")
     add_force(parser)
     parser.set_defaults(run=run, error=parser.error)
 
 
-def lead_in_of_dump(path: str, told: int | None) -> bytes:
-    dump = Dump(path)
-    form, against = form_of(dump, allow_torn=True)
-    if form is None:
-        raise Refusal(path, "; ".join(["is no dump", *against]))
-    if form.library != RAW:
-        raise Refusal(path, f"is {form.name}, which has no lead-in")
-    stream = dump.blocks(form)
-    blocks = survey_of(stream, form).lead_in if told is None else told
-    return stream[: BLOCK * blocks]
+def lead_in_of_dump(path: str, words: Asked) -> bytes:
+    loaded = load_raw(path, words, "lead-in")
+    return loaded.stream[BLOCK * loaded.survey.first : BLOCK * loaded.survey.lead_in]
 
 
-def run(arguments) -> int:
-    if arguments.back and (arguments.packs or arguments.header or arguments.lead_in is not None):
+def write_all(outputs: Outputs, packs: list[bytes]) -> None:
+    """The table of all that packs say."""
+    names = {language.number: language.name for language in text_packs.languages(packs)}
+    outputs.row(("language", "kind", "track", "text"))
+    for said in text_packs.said(packs):
+        outputs.row((names[said.language], said.kind, f"{said.track:02}", said.text))
+
+
+def run(arguments: argparse.Namespace) -> int:
+    if arguments.back and (arguments.packs or arguments.header or any(it is not None for it in asked(arguments))):
         arguments.error("--back goes with --blocks alone")
     if arguments.blocks and not arguments.back:
         arguments.error("--blocks needs --back")
@@ -100,7 +104,7 @@ def run(arguments) -> int:
         if arguments.back:
             blocks = lead_in_of_packs(without_header(arguments.file, read_file(arguments.file)))
         else:
-            blocks = lead_in_of_dump(arguments.file, arguments.lead_in)
+            blocks = lead_in_of_dump(arguments.file, asked(arguments))
         found = packs_of(blocks)
         if not found:
             tell(f"{shown(arguments.file)}: there is no text pack")
@@ -109,5 +113,10 @@ def run(arguments) -> int:
             outputs.write(arguments.packs, with_header(packs) if arguments.header else packs)
         if arguments.blocks:
             outputs.write(arguments.blocks, blocks)
+        if arguments.all:
+            write_all(outputs, found)
+            return 0
         write_text(library.texts(blocks, len(blocks) // BLOCK), outputs.table)
+        if more := text_packs.beyond(found):
+            tell(f"{shown(arguments.file)}: there is more, which --all prints: {more}")
     return 0

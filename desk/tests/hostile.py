@@ -53,6 +53,8 @@ LRC = b"[ti:A song]\n[ar:Somebody]\n[00:01.00]<00:01.10>One <00:01.60>two\n[00:0
 ASS = (b"[Script Info]\nTitle: Two\n[Events]\nFormat: Layer, Start, End, Style, Name, MarginL, MarginR, MarginV, Effect, Text\n"
        b"Dialogue: 0,0:00:01.00,0:00:03.00,Default,,0,0,0,,{\\k50}One, {\\kf70}two\\N{\\k30}three\n")
 ALBUM = (b'title = "All"\nsinger = "Somebody"\ngap = 1\n[[track]]\nlyrics = "in-1"\nsound = "in-2"\ntitle = "One"\nsinger = ""\n')
+DAT = (b'<?xml version="1.0"?>\n<datafile><header><name>x</name></header><game name="in-0"><rom name="in-0" size="5" '
+       b'crc="00000000" md5="d41d8cd98f00b204e9800998ecf8427e"/></game></datafile>\n')
 JOURNAL = b'{"stamp": "1 1.1.0 True 5 5 5", "row": {"file": "x", "status": "good", "form": null, "texts": null, "why": null}}\n'
 
 
@@ -75,6 +77,7 @@ def samples() -> dict[str, tuple[bytes, ...]]:
         "packs": (text_packs(), text_packs() + b"\0", b"\0\x24\0\0" + text_packs()[:34]),
         "journal": (JOURNAL, b'{"stamp": 3, "row": []}\n'),
         "font": (b"no font",),
+        "dat": (DAT, b"<?xml version='1.0'?><datafile><game><rom name='x' size='a'/></game></datafile>"),
         "album": (ALBUM, ALBUM.replace(b"gap = 1", b"gap = 1e400"), ALBUM + b'title = "\\q"\n'),
     }
 
@@ -154,16 +157,25 @@ class Command(NamedTuple):
 RIGHT = 2
 NUMBERS = ("5", "12", "0", "1", "2", "30", "150", "-1", "", "x", "1.5", "nan", "1e999", "999999999999999999999", "٣")
 TIMES = ("00:22:00", "00:10:00", "00:04:00", "00:00:00", "99:59:74", "1:2:3", "00:60:00", "x")
-LEAD_IN = Option("--lead-in", NUMBERS)
+LEAD_IN, SKIP = Option("--lead-in", NUMBERS), Option("--skip", ("0", "1", "17", "-1", "x", "999999999999"))
+FORM = Option("--form", ("raw", "sector", "cooked", "planar", "cdg", "x", ""))
+PLACES_IN_A_DUMP = ("00:02:00", "00:03:00", "0", "10", "99:59:74", "-1", "x", "")
 FORCE = Option("--force")
 COMMANDS = (
-    Command(("identify",), ("dump", "dump"), (LEAD_IN,)),
-    Command(("damage",), ("dump",), (Option("--map", writes=True), LEAD_IN, Option("--form", ("raw", "sector", "cooked", "x")),
-                                     FORCE)),
-    Command(("mend",), ("dump", "dump"), (Option("-o", writes=True), LEAD_IN, FORCE)),
-    Command(("mend",), ("dump", "dump", "dump"), (Option("-o", writes=True), FORCE), 2),
-    Command(("sheet",), ("dump",), (Option("-o", writes=True), LEAD_IN, FORCE)),
-    Command(("texts",), ("dump",), (Option("--packs", writes=True), Option("--header"), LEAD_IN, FORCE)),
+    Command(("identify",), ("dump", "dump"), (LEAD_IN, FORM, SKIP)),
+    Command(("damage",), ("dump",), (Option("--map", writes=True), LEAD_IN, FORM, SKIP, FORCE)),
+    Command(("mend",), ("dump", "dump"), (Option("-o", writes=True), Option("--map", writes=True), LEAD_IN, FORM, FORCE)),
+    Command(("mend",), ("dump", "dump", "dump"), (Option("-o", writes=True), Option("--ddrescue-map", writes=True), FORCE), 2),
+    Command(("mend", "--compare"), ("dump", "dump"), (FORM,), 1),
+    Command(("q-fix",), ("dump",), (Option("-o", writes=True), Option("--sbi", writes=True), LEAD_IN, FORM, FORCE)),
+    Command(("convert",), ("dump",), (Option("-o", writes=True), Option("--as", ("raw", "sector", "planar", "cooked", "cdg", "x")),
+                                      Option("--from", PLACES_IN_A_DUMP), Option("--to", PLACES_IN_A_DUMP), Option("--silent"),
+                                      Option("--audio", reads="audio"), Option("--sheet", reads="sheet"), LEAD_IN, FORCE)),
+    Command(("sums",), ("dump", "dump"), (Option("--dat", writes=True), Option("--check", reads="dat"), FORCE), 2),
+    Command(("sheet",), ("dump",), (Option("-o", writes=True), Option("--toc"), Option("--latin-1"), LEAD_IN, FORM, FORCE)),
+    Command(("sheet", "--ccd"), ("dump",), (Option("-o", writes=True), LEAD_IN, FORCE), 1),
+    Command(("sheet",), ("dump",), (Option("--compare", reads="sheet", is_needed=True), LEAD_IN), 1),
+    Command(("texts",), ("dump",), (Option("--packs", writes=True), Option("--header"), LEAD_IN, FORM, FORCE)),
     Command(("texts", "--back"), ("packs",), (Option("--blocks", writes=True), FORCE)),
     Command(("plan",), ("sheet", "script"), (Option("--length", TIMES, is_needed=True), Option("--chart", writes=True),
                                              Option("--latin-1", writes=True), Option("--audio", reads="audio"), FORCE)),
@@ -230,7 +242,7 @@ def calls(draw: st.DrawFn, commands: tuple[Command, ...] = COMMANDS) -> Made:
         if place == "input" and inputs:
             place = draw(st.sampled_from(sorted(inputs)))
         elif place == "new":
-            place = f"new-{len(outputs)}" + draw(st.sampled_from(("", ".cdg", ".png", ".script")))
+            place = f"new-{len(outputs)}" + draw(st.sampled_from(("", ".cdg", ".png", ".raw", ".sub")))
         outputs.append(place)
         return place if place in ("-", "") else f"@{place}"
 

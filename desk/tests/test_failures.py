@@ -9,7 +9,7 @@ import wave
 from typing import Callable
 from unittest import mock
 
-from fixtures import FolderTest, Word, desk, needs_library, needs_pillow
+from fixtures import FolderTest, Word, desk, hello, needs_library, needs_pillow
 
 from ribjasper import main, output
 from ribjasper.failures import Failure, Fault, Missing, NoMemory, Refusal, Refusals, Several, Unwritten, failure_of, reading
@@ -77,7 +77,7 @@ class MainTest(FolderTest):
     def ended(self, error: BaseException) -> tuple[int, str]:
         """What a command ends with in which this happens."""
         path = self.write("x", b"dump")
-        with mock.patch("ribjasper.identify.Dump", side_effect=error):
+        with mock.patch("ribjasper.loading.Dump", side_effect=error):
             ran = desk("identify", path)
         self.assertEqual(ran.told.count("\n"), 1)
         return ran.status, ran.told.removeprefix(f"ribjasper-desk: {path}: ").rstrip("\n")
@@ -111,7 +111,8 @@ class MemoryTest(FolderTest):
         """Dumps of a whole disc, where there is memory for the desk and little more."""
         dump = self.folder / "dump"
         with open(dump, "wb") as file:
-            file.truncate(96_000_000)
+            for _ in range(96_000_000 // len(hello())):
+                file.write(hello())
 
         def little() -> None:
             resource.setrlimit(resource.RLIMIT_AS, (150 << 20, 150 << 20))
@@ -133,12 +134,12 @@ class ReadTest(FolderTest):
 
         def opened(name: str, mode: str) -> object:
             file = real(name, mode)
-            read: Callable[[], bytes] = file.read
+            read: Callable[[int], bytes] = file.read
 
-            def late() -> bytes:
-                with real(path, "ab") as other:
-                    other.write(b"more")
-                return read()
+            def late(count: int) -> bytes:
+                if path.read_bytes() == b"before":
+                    path.write_bytes(b"before and after")
+                return read(count)
 
             wrapped = mock.Mock(wraps=file, read=late, fileno=file.fileno)
             wrapped.__enter__ = lambda _: wrapped
@@ -148,6 +149,11 @@ class ReadTest(FolderTest):
         with mock.patch("builtins.open", opened), self.assertRaises(Refusal) as caught:
             output.read_file(path)
         self.assertEqual(str(caught.exception), f"{path}: was changed while it was read")
+
+    def test_a_file_without_an_end(self) -> None:
+        with mock.patch("ribjasper.output.MOST_READ", 5_000_000), self.assertRaises(Refusal) as caught:
+            output.read_file("/dev/zero")
+        self.assertEqual(str(caught.exception), "/dev/zero: has more than 5,000,000 bytes, which is too long")
 
     def test_a_file_that_is_not_there(self) -> None:
         with self.assertRaises(Refusal) as caught:

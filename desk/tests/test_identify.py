@@ -7,96 +7,95 @@ from archivists import (
     BLOCK, LEAD_IN, FolderTest, as_sectors, author, blocks, desk, hello, hello_packs, needs_library, program, with_burst,
 )  # fmt: skip
 
-NAMES = ["file", "form", "lead-in", "graphics", "texts", "q-good"]
+NAMES = ["file", "form", "lead-in", "graphics", "texts", "q-good", "notes"]
 
 
 @needs_library
 class IdentifyTest(FolderTest):
     def told(self, content: bytes, status: int = 0) -> list[str]:
-        """The cells behind the name of a dump."""
+        """The cells behind the name of a dump, but for the notes."""
         path = self.write("dump", content)
         ran = desk("identify", path)
         self.assertEqual(ran.status, status, ran.told)
         names, row = (line.split("\t") for line in ran.out.splitlines())
         self.assertEqual(names, NAMES)
         self.assertEqual(row[0], str(path))
-        return row[1:]
+        return row[1:-1]
 
-    def test_raw(self):
+    def test_raw(self) -> None:
         self.assertEqual(self.told(hello()), ["raw", "30", "yes", "yes", "1.0000"])
 
-    def test_planar(self):
+    def test_planar(self) -> None:
         self.assertEqual(self.told(program("planar", stdin=hello())), ["planar", "30", "yes", "yes", "1.0000"])
 
-    def test_sector(self):
+    def test_sector(self) -> None:
         self.assertEqual(self.told(as_sectors(hello())), ["sector", "30", "yes", "yes", "1.0000"])
 
-    def test_cooked(self):
+    def test_cooked(self) -> None:
         packs = hello_packs() + bytes(-len(hello_packs()) % BLOCK)
         self.assertEqual(self.told(packs), ["cooked", "0", "yes", "no", "-"])
         self.assertEqual(self.told(as_sectors(packs)), ["cooked-sector", "0", "yes", "no", "-"])
 
-    def test_dump_from_the_first_sector(self):
+    def test_dump_from_the_first_sector(self) -> None:
         self.assertEqual(self.told(hello()[BLOCK * (LEAD_IN + 150) :]), ["raw", "0", "yes", "no", "1.0000"])
 
-    def test_lead_in_is_found_by_any_frame(self):
+    def test_lead_in_is_found_by_any_frame(self) -> None:
         """Where the first frames of the program are bad the later ones tell N."""
         zeros = bytes(BLOCK * 40)
         stream = hello()[: BLOCK * LEAD_IN] + zeros + hello()[BLOCK * (LEAD_IN + 40) :]
         self.assertEqual(self.told(stream)[1], "30")
 
-    def test_share_of_good_frames(self):
+    def test_share_of_good_frames(self) -> None:
         stream = hello()
         for block in range(100, 283):
             stream = stream[: BLOCK * block + 5] + bytes([stream[BLOCK * block + 5] ^ 0x40]) + stream[BLOCK * block + 6 :]
         self.assertEqual(self.told(stream)[-1], "0.9000")
 
-    def test_without_q_the_words_tell(self):
+    def test_without_q_the_words_tell(self) -> None:
         stream = bytes(byte & 63 for byte in hello()[BLOCK * LEAD_IN :])
         self.assertEqual(self.told(stream), ["raw", "0", "yes", "no", "0.0000"])
 
-    def test_without_graphics(self):
+    def test_without_graphics(self) -> None:
         sheet = b'FILE "a.wav" WAVE\nTRACK 01 AUDIO\nINDEX 01 00:00:00\n'
-        self.assertEqual(self.told(author(sheet, "00:04:00", self.folder)), ["raw", "60", "no", "no", "1.0000"])
+        self.assertEqual(self.told(author(sheet, "00:04:00", self.folder)), ["raw", "60", "not read", "no", "1.0000"])
 
-    def test_damage_in_each_block(self):
+    def test_damage_in_each_block(self) -> None:
         stream = program("scratch", "--lead-in", LEAD_IN, "--seed", 3, stdin=hello())
         self.assertEqual(self.told(stream)[:4], ["raw", "30", "yes", "yes"])
         for block in range(LEAD_IN, len(stream) // BLOCK):
             stream = with_burst(stream, block, 30, block)
         self.assertEqual(self.told(stream)[0], "raw")
 
-    def test_long_dump(self):
+    def test_long_dump(self) -> None:
         """A dump that is tried in windows alone: its beginning and its end are damaged."""
         clean = blocks(hello()[BLOCK * LEAD_IN :])
         stream = b"".join([bytes(BLOCK * 4000), *clean * 3, bytes(BLOCK * 4000)])
         self.assertEqual(self.told(stream)[0], "raw")
 
-    def test_what_is_no_dump(self):
+    def test_what_is_no_dump(self) -> None:
         chance = random.Random(5)
         for content, cause in (
             (chance.randbytes(96 * 500), "of 500 Q frames are good"),
             (chance.randbytes(2448 * 50), "sector"),
-            (hello()[:-17], "1829 blocks of 96 bytes and 79 more"),
-            (b"", "0 blocks"),
-            (bytes(96 * 100), "0 of 393 words carry something"),
+            (b"", "0 units"),
+            (bytes(96 * 100), "all bytes are zeros"),
         ):
             path = self.write("dump", content)
             ran = desk("identify", path)
             self.assertEqual(ran.status, 3)
             self.assertEqual(ran.rows()[0]["form"], "none")
-            self.assertEqual(len(ran.told.splitlines()), 5)
+            self.assertEqual(len(ran.told.splitlines()), 9)
             self.assertIn(cause, ran.told)
             self.assertTrue(all(str(path) in line for line in ran.told.splitlines()))
 
-    def test_file_that_is_too_long(self):
+    def test_file_that_is_too_long(self) -> None:
         path = self.folder / "long"
         with open(path, "wb") as file:
             file.truncate(2448 * 96 * 10_500)
         ran = desk("identify", path)
         self.assertEqual((ran.status, ran.rows()[0]["form"]), (3, "none"))
 
-    def test_other_files_go_on(self):
+    def test_other_files_go_on(self) -> None:
         good = self.write("good", hello())
         locked = self.write("locked", hello())
         locked.chmod(0)
@@ -110,7 +109,7 @@ class IdentifyTest(FolderTest):
         if os.geteuid() != 0:
             self.assertIn(f"{locked}: permission denied", desk("identify", locked).told)
 
-    def test_names_are_bytes(self):
+    def test_names_are_bytes(self) -> None:
         path = os.fsencode(self.folder) + b"/na\xffme\tof"
         with open(path, "wb") as file:
             file.write(hello())
@@ -118,7 +117,7 @@ class IdentifyTest(FolderTest):
         row = ran.out.splitlines()[1].encode(errors="surrogateescape")
         self.assertTrue(row.startswith(os.fsencode(self.folder) + b"/na\xffme\\tof\traw\t"))
 
-    def test_wrong_words(self):
+    def test_wrong_words(self) -> None:
         self.assertEqual(desk("identify").status, 2)
         self.assertEqual(desk("nothing").status, 2)
         self.assertEqual(desk("damage", "a", "b").status, 2)

@@ -1,11 +1,18 @@
-"""`mend`: the best of two readings and more, put side by side by their times."""
+"""`mend`: the best of any number of readings, put side by side by their times; never less than the better one."""
 import random
+import re
 import unittest
+from pathlib import Path
 
+import known_dumps as known
 from archivists import (
-    BLOCK, LEAD_IN, PACK, PROGRAM_BLOCKS, FolderTest, as_sectors, desk, hello, hello_packs, needs_library, program,
+    BLOCK, LEAD_IN, PACK, PROGRAM_BLOCKS, FolderTest, Word, as_sectors, desk, hello, hello_packs, needs_library, program,
     with_bad_q, with_burst, with_zeros, without,
 )  # fmt: skip
+from fixtures import has
+
+NAMES = ["reading", "words", "of-reading", "gives", "missed", "left-out"]
+needs_mending = unittest.skipUnless(has("ribjasper_mend_readings"), "lib/ has no ribjasper_mend_readings")
 
 
 def noisy(stream: bytes, places: range, seed: int, length: int = 60) -> bytes:
@@ -15,62 +22,70 @@ def noisy(stream: bytes, places: range, seed: int, length: int = 60) -> bytes:
     return stream
 
 
-@needs_library
-class MendTest(FolderTest):
-    def mended(self, *readings: bytes, status: int = 0) -> bytes:
+def wrong(packs: bytes, truth: bytes) -> int:
+    """How many packs are not as they should be."""
+    return sum(packs[at : at + PACK] != truth[at : at + PACK] for at in range(0, len(truth), PACK))
+
+
+class MendCase(FolderTest):
+    def mended(self, *readings: bytes, status: int = 0, words: tuple[Word, ...] = (), name: str = "out.cdg") -> bytes:
         names = [self.write(f"reading-{number}", content) for number, content in enumerate(readings)]
-        out = self.folder / "out.cdg"
-        self.ran = desk("mend", *names, "-o", out)
-        self.assertEqual(self.ran.status, status, self.ran.told)
+        out = self.folder / name
+        self.ran = desk("mend", *names, "-o", out, "--force", *words)
+        self.assertEqual(self.ran.status, status, self.ran)
         return out.read_bytes()
 
-    def test_two_noisy_readings(self):
+
+@needs_library
+@needs_mending
+class MendTest(MendCase):
+    def test_two_noisy_readings(self) -> None:
         first = noisy(hello(), range(100, 1800, 40), 1)
         second = noisy(hello(), range(120, 1800, 40), 2)
         for reading in (first, second):
             lost = program("check", "--lead-in", LEAD_IN, stdin=reading, statuses=(1,)).decode()
             self.assertGreater(int(dict(line.split() for line in lost.splitlines())["bad"]), 50)
         self.assertEqual(self.mended(first, second), hello_packs())
-        (row,) = self.ran.rows()
-        self.assertEqual(int(row["words"]), 4 * PROGRAM_BLOCKS - 7)
-        self.assertEqual(row["none"], "0")
-        self.assertGreater(int(row["of-first"]), 50)
-        self.assertGreater(int(row["of-second"]), 50)
-        self.assertEqual(sum(int(row[name]) for name in ("both", "of-first", "of-second", "together")), int(row["words"]))
+        rows = self.ran.rows()
+        self.assertEqual(list(rows[0]), NAMES)
+        self.assertEqual([int(row["words"]) for row in rows], [4 * PROGRAM_BLOCKS - 7] * 2)
+        self.assertGreater(int(rows[0]["of-reading"]), 50)
+        self.assertGreater(int(rows[1]["of-reading"]), 50)
+        self.assertEqual(sum(int(row["of-reading"]) for row in rows), 4 * PROGRAM_BLOCKS - 7)
 
-    def test_a_lost_second_beside_a_whole_reading(self):
+    def test_a_lost_second_beside_a_whole_reading(self) -> None:
         self.assertEqual(self.mended(without(hello(), 700, 774), hello()), hello_packs())
         self.assertEqual(self.mended(hello(), without(hello(), 700, 774)), hello_packs())
 
-    def test_a_lost_second_beside_a_noisy_reading(self):
+    def test_a_lost_second_beside_a_noisy_reading(self) -> None:
         second = noisy(hello(), range(1000, 1800, 40), 2)
         self.assertEqual(self.mended(without(hello(), 700, 774), second), hello_packs())
 
-    def test_other_starts_and_forms(self):
+    def test_other_starts_and_forms(self) -> None:
         """A dump with its lead-in, one from the first sector on, and one that is planar."""
         first = noisy(hello(), range(300, 1800, 40), 1)
         late = noisy(hello(), range(320, 1800, 40), 2)[BLOCK * (LEAD_IN + 150) :]
         self.assertEqual(self.mended(first, as_sectors(late)), hello_packs())
         self.assertEqual(self.mended(program("planar", stdin=first), late), hello_packs())
 
-    def test_a_shorter_reading(self):
+    def test_a_shorter_reading(self) -> None:
         self.assertEqual(self.mended(hello()[: BLOCK * 1000], hello()), hello_packs())
         self.assertEqual(self.mended(hello()[: BLOCK * 1200], hello()[BLOCK * 1000 :]), hello_packs())
 
-    def test_blocks_that_a_drive_gave_up(self):
+    def test_blocks_that_a_drive_gave_up(self) -> None:
         self.assertEqual(self.mended(with_zeros(hello(), 600, 700), with_zeros(hello(), 900, 1000)), hello_packs())
 
-    def test_repeated_sectors(self):
+    def test_repeated_sectors(self) -> None:
         stream = hello()[: BLOCK * 1200] + hello()[BLOCK * 1150 :]
         self.assertEqual(self.mended(stream, hello()), hello_packs())
 
-    def test_frames_that_are_bad(self):
+    def test_frames_that_are_bad(self) -> None:
         first = hello()
         for block in range(400, 1400, 2):
             first = with_bad_q(first, block)
         self.assertEqual(self.mended(first, without(hello(), 700, 774)), hello_packs())
 
-    def test_without_any_time(self):
+    def test_without_any_time(self) -> None:
         """Readings whose Q says nothing are put side by side as they are, if they are equally long. Where all is zero
         nobody can tell whether it was read."""
         bare = bytes(byte & 63 for byte in hello()[BLOCK * LEAD_IN :])
@@ -82,7 +97,7 @@ class MendTest(FolderTest):
         self.assertIn("its Q frames tell no time", ran.told)
         self.assertFalse((self.folder / "none.cdg").exists())
 
-    def test_three_readings(self):
+    def test_three_readings(self) -> None:
         """What each pair of three readings has lost, all three have."""
         chance, readings = random.Random(4), []
         for number in range(3):
@@ -97,14 +112,25 @@ class MendTest(FolderTest):
         self.assertEqual(self.mended(both_lost, noisy(hello(), range(800, 1000, 40), 3), third), hello_packs())
         self.assertEqual(len(self.ran.rows()), 3)
 
-    def test_what_none_has(self):
+    def test_what_none_has(self) -> None:
         lost = noisy(hello(), range(800, 810), 1, 96), noisy(hello(), range(800, 810), 2, 96)
-        packs = self.mended(*lost, status=1)
+        map_of, ddrescue = self.folder / "map", self.folder / "ddrescue"
+        packs = self.mended(*lost, status=1, words=("--map", map_of, "--ddrescue-map", ddrescue))
         self.assertEqual(len(packs), len(hello_packs()))
         self.assertEqual(packs[: PACK * 3000], hello_packs()[: PACK * 3000])
-        self.assertGreater(int(self.ran.rows()[0]["none"]), 0)
+        self.assertRegex(self.ran.told, r"\d+ words have no codeword")
+        names, *rows = [line.split("\t") for line in map_of.read_text().splitlines()]
+        self.assertEqual(names, ["block", "time", "blocks"])
+        first, count = int(rows[0][0]), sum(int(row[2]) for row in rows)
+        # The first lost words begin up to two blocks before the damage.
+        self.assertTrue(800 - LEAD_IN - 2 <= first <= 800 - LEAD_IN and 10 <= count <= 14, rows)
+        self.assertEqual(rows[0][1], f"00:{first // 75:02}:{first % 75:02}")
+        parts = [line.split() for line in ddrescue.read_text().splitlines() if not line.startswith("#")][1:]
+        self.assertEqual([part[2] for part in parts][:2], ["+", "-"])
+        self.assertEqual(int(parts[1][0], 16), BLOCK * first)
+        self.assertEqual(sum(int(part[1], 16) for part in parts), BLOCK * PROGRAM_BLOCKS)
 
-    def test_refusals(self):
+    def test_refusals(self) -> None:
         whole = self.write("whole", hello())
         packs = self.write("packs", hello_packs() + bytes(-len(hello_packs()) % BLOCK))
         self.assertEqual(desk("mend", whole, "-o", self.folder / "out").status, 2)
@@ -115,6 +141,163 @@ class MendTest(FolderTest):
             self.assertIn(f"{other}: ", ran.told)
             self.assertIn(cause, ran.told)
         self.assertFalse((self.folder / "out").exists())
+
+
+@needs_library
+@needs_mending
+class KnownReadingsTest(MendCase):
+    """Readings of a disc whose packs are known."""
+
+    def setUp(self) -> None:
+        super().setUp()
+        self.disc = known.album(1, 2)
+        self.whole = known.program(self.disc, 0, self.disc.end)
+        self.truth = program("convert", "--lead-in", 0, stdin=self.whole)
+
+    def test_a_reading_without_graphics(self) -> None:
+        bare = known.without_rw(self.whole)
+        for readings in ((self.whole, bare), (bare, self.whole), (bare, self.whole, bare)):
+            self.assertEqual(self.mended(*readings), self.truth)
+            self.assertRegex(self.ran.told, rf"reading {readings.index(bare) + 1} carries no graphics from 00:00:\d\d to \d\d:\d\d:\d\d; left out there")
+
+    def test_a_reading_without_graphics_in_a_part(self) -> None:
+        first, end = 1000, 3000
+        part = self.whole[: BLOCK * first] + known.without_rw(self.whole[BLOCK * first : BLOCK * end]) + self.whole[BLOCK * end :]
+        self.assertEqual(self.mended(part, self.whole), self.truth)
+        found = re.search(r"reading 1 carries no graphics from (\S+) to (\S+);", self.ran.told)
+        assert found
+        begin, stop = (4500 * int(at[:2]) + 75 * int(at[3:5]) + int(at[6:]) for at in found.groups())
+        self.assertTrue(abs(begin - first) < 12 and abs(stop - end) < 12, found.groups())
+
+    def test_a_scratched_reading_beside_one_without_graphics(self) -> None:
+        worn = known.scratched(self.whole, 3, 10, 60)
+        alone = program("convert", "--lead-in", 0, stdin=worn, statuses=(0, 1))
+        packs = self.mended(worn, known.without_rw(self.whole), status=1)
+        self.assertLessEqual(wrong(packs, self.truth), wrong(alone, self.truth))
+
+    def test_a_perfect_reading_beside_noise(self) -> None:
+        chance = random.Random(5)
+        noise = bytes(byte & 0xC0 | chance.randrange(64) for byte in self.whole)
+        self.assertEqual(self.mended(self.whole, noise), self.truth)
+        self.assertEqual(self.mended(noise, known.scratched(self.whole, 6), self.whole), self.truth)
+
+    def test_idle_beside_noise(self) -> None:
+        """Where the disc has no graphics, noise of another reading does not make any."""
+        disc = known.album(1, 1)
+        quiet = known.program(disc, 0, disc.end, 0.002)
+        truth = program("convert", "--lead-in", 0, stdin=quiet)
+        chance = random.Random(6)
+        noise = bytes(byte & 0xC0 | chance.randrange(64) for byte in quiet)
+        self.assertEqual(self.mended(quiet, noise), truth)
+        self.assertNotIn("carries no graphics", self.ran.told)
+
+    def test_never_less_than_the_better_reading(self) -> None:
+        chance = random.Random(7)
+        for case in range(12):
+            readings = [self.reading(chance) for _ in range(chance.randrange(2, 5))]
+            alone = [wrong(program("convert", "--lead-in", 0, stdin=it, statuses=(0, 1)), self.truth) for it in readings]
+            names = [self.write(f"{case}-{number}", content) for number, content in enumerate(readings)]
+            out = self.folder / f"{case}.cdg"
+            ran = desk("mend", *names, "-o", out)
+            self.assertIn(ran.status, (0, 1), ran.told)
+            self.assertLessEqual(wrong(out.read_bytes(), self.truth), min(alone), (case, alone, ran.told))
+            if ran.status == 0:
+                self.assertEqual(out.read_bytes(), self.truth)
+
+    def reading(self, chance: random.Random) -> bytes:
+        """A reading with one of the faults that readings have."""
+        kind = chance.randrange(5)
+        if kind == 0:
+            return known.scratched(self.whole, chance.randrange(1000), chance.choice((5, 40)), 60)
+        if kind == 1:
+            return known.without_rw(self.whole)
+        if kind == 2:
+            first = chance.randrange(len(self.whole) // BLOCK - 300)
+            return self.whole[: BLOCK * first] + bytes(BLOCK * 300) + self.whole[BLOCK * (first + 300) :]
+        if kind == 3:
+            first = chance.randrange(2000)
+            return self.whole[: BLOCK * first] + known.without_rw(self.whole[BLOCK * first :])
+        return known.scratched(self.whole, chance.randrange(1000), 15, 90)
+
+    def test_another_disc_is_refused(self) -> None:
+        other = known.Disc([known.Track(5, 150, 0), known.Track(6, 2000)], self.disc.end)
+        for stream in (known.program(other, 0, other.end, 0.5), known.program(other, 0, other.end, 0)):
+            names = self.write("one", self.whole), self.write("two", stream)
+            ran = desk("mend", *names, "-o", self.folder / "out.cdg")
+            self.assertEqual(ran.status, 3, ran.told)
+            self.assertIn("readings 1 and 2 seem not to be of one disc", ran.told)
+            self.assertFalse((self.folder / "out.cdg").exists())
+            ran = desk("mend", *names, "-o", self.folder / "out.cdg", "--force")
+            self.assertIn(ran.status, (0, 1), ran.told)
+            (self.folder / "out.cdg").unlink()
+
+    def test_graphics_of_another_disc(self) -> None:
+        symbols = known.symbols_of(0.5, seed=77)
+        other = b"".join(
+            known.with_q(symbols[BLOCK * (block % 300) : BLOCK * (block % 300) + BLOCK], self.disc.frame(block))
+            for block in range(self.disc.end)
+        )
+        ran = desk("mend", self.write("one", self.whole), self.write("two", other), "-o", self.folder / "out.cdg")
+        self.assertEqual(ran.status, 3, ran.told)
+        self.assertIn("seem not to be of one disc", ran.told)
+
+    def test_compare(self) -> None:
+        later = known.scratched(self.whole[BLOCK * 150 :], 3, 500, 10)
+        ran = desk("mend", self.write("one", self.whole), self.write("two", later), "--compare")
+        self.assertEqual(ran.status, 1)
+        self.assertIn("the dumps seem to be of one disc", ran.told)
+        self.assertIn("block n of the first is block n - 150 of the second", ran.told)
+        rows = ran.rows()
+        self.assertEqual((rows[0]["first"], rows[0]["last"], rows[0]["from"]), ("0", "149", "00:00:00"))
+        differing = sum(int(row["last"]) - int(row["first"]) + 1 for row in rows)
+        wanted = sum(self.whole[BLOCK * (150 + k) : BLOCK * (151 + k)] != later[BLOCK * k : BLOCK * (k + 1)] for k in range(len(later) // BLOCK))
+        self.assertEqual(differing, 150 + wanted)
+        ran = desk("mend", self.write("one", self.whole), self.write("two", known.as_planar(self.whole)), "--compare")
+        self.assertEqual((ran.status, ran.rows()), (0, []))
+
+
+@needs_library
+@needs_mending
+class MendedStreamTest(MendCase):
+    def setUp(self) -> None:
+        super().setUp()
+        self.disc = known.album(1, 2)
+        self.whole = known.lead_in(self.disc, 60) + known.program(self.disc, 0, self.disc.end)
+
+    def test_streams(self) -> None:
+        first = known.scratched(self.whole, 1, 40)
+        second = self.whole[: BLOCK * 20] + known.scratched(self.whole[BLOCK * 20 :], 1, 40)
+        first = self.whole[: BLOCK * 100] + first[BLOCK * 100 :]
+        for name in ("out.raw", "out.subcode"):
+            stream = self.mended(first, second, name=name)
+            self.assertIn("the lead-in of 60 blocks is that of reading 1", self.ran.told)
+            self.assertIn(f"block 60 of {self.folder / name} is of the absolute time 00:00:00", self.ran.told)
+            # What is no part of a whole word, in the last two blocks, is that of a reading; P is never corrected.
+            bits = bytes(byte & 0x7F for byte in range(256))
+            self.assertEqual(stream[: -2 * BLOCK].translate(bits), self.whole[: -2 * BLOCK].translate(bits))
+        planar = self.mended(first, second, name="out.sub")
+        self.assertEqual(planar, known.as_planar(stream))
+
+    def test_packs_of_a_stream_are_the_mended_ones(self) -> None:
+        """Also where words have none: those are bad in the stream too."""
+        first, second = known.scratched(self.whole, 1, 12, 70), known.scratched(self.whole, 2, 13, 70)
+        packs = self.mended(first, second, status=1)
+        stream = self.mended(first, second, status=1, name="out.raw")
+        again = program("convert", "--lead-in", 60, stdin=stream, statuses=(0, 1))
+        self.assertEqual(again, packs)
+        checked = program("check", "--lead-in", 60, stdin=stream, statuses=(0, 1)).decode()
+        counts = dict(line.split() for line in checked.splitlines())
+        self.assertEqual((counts["one"], counts["two"]), ("0", "0"))
+        none = int(re.search(r"(\d+) words have no codeword", self.ran.told)[1])  # type: ignore[index]
+        self.assertEqual(int(counts["bad"]), none)
+
+    def test_q_of_a_reading_that_is_left_out(self) -> None:
+        """A reading without graphics gives its Q where the other's is bad."""
+        bare, other = known.without_rw(self.whole), self.whole
+        for block in range(1000, 1100):
+            other = with_bad_q(other, block)
+        stream = self.mended(bare, other, name="out.raw")
+        self.assertEqual(stream[: -2 * BLOCK], self.whole[: -2 * BLOCK])
 
 
 if __name__ == "__main__":

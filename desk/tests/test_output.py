@@ -13,7 +13,7 @@ from unittest import mock
 
 from support import TOP, FolderTest
 
-from ribjasper import kinds, output
+from ribjasper import beside, kinds, output
 from ribjasper.failures import Failure, Name, Refusal, Unwritten
 from ribjasper.output import Outputs, write_file
 
@@ -44,7 +44,7 @@ class OutputTest(FolderTest):
             outputs.write(self.path("a"), b"one")
             self.assertFalse(self.path("a").exists())
         self.assertEqual(self.path("a").read_bytes(), b"one")
-        self.assertEqual(stat.S_IMODE(os.stat(self.path("a")).st_mode), output._new_mode())
+        self.assertEqual(stat.S_IMODE(os.stat(self.path("a")).st_mode), beside.new_mode())
         self.assertEqual(self.names(), ["a"])
 
     def test_what_is_not_opened_does_not_appear(self) -> None:
@@ -257,14 +257,14 @@ class OutputTest(FolderTest):
     def test_names_that_the_file_system_takes_for_one(self) -> None:
         """As where large and small letters are not told apart: the second name is there once the first is put."""
         one, two = self.path("a"), self.path("A")
-        real = output._name
+        real = beside.give_name
 
         def name(part: str, path: str) -> None:
             real(part, path)
             if path == os.path.realpath(one):
                 os.link(path, two)
 
-        with mock.patch.object(output, "_name", name):
+        with mock.patch.object(output, "give_name", name):
             with self.assertRaises(Refusal), Outputs([], [(one, ANY), (two, ANY)]) as outputs:
                 outputs.write(one, b"one")
                 outputs.write(two, b"two")

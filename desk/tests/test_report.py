@@ -11,11 +11,16 @@ import sys
 import time
 import unittest
 from pathlib import Path
+from typing import Any, Callable
+from unittest import mock
+
+import known_dumps as known
 
 from archivists import (
-    BLOCK, DESK, LEAD_IN, FolderTest, as_sectors, desk, hello, hello_packs, needs, needs_library, needs_pillow, program,
+    BLOCK, DESK, LEAD_IN, FolderTest, Ran, Word, as_sectors, desk, hello, hello_packs, needs, needs_library, needs_pillow, program,
     with_bad_q, with_burst, with_zeros, without,
 )  # fmt: skip
+from ribjasper.examine import examine
 
 
 class Links(html.parser.HTMLParser):
@@ -26,14 +31,14 @@ class Links(html.parser.HTMLParser):
         self.found: list[str] = []
         self.feed(page.read_text())
 
-    def handle_starttag(self, tag, attributes):
-        self.found += [value for name, value in attributes if name in ("src", "href")]
+    def handle_starttag(self, tag: str, attributes: list[tuple[str, str | None]]) -> None:
+        self.found += [value for name, value in attributes if value and name in ("src", "href")]
 
 
 def dumps(folder: Path, count: int) -> None:
     """A folder of dumps of thirteen kinds over and over, each with damage of its own."""
     packs = hello_packs() + bytes(-len(hello_packs()) % BLOCK)
-    kinds = [
+    kinds: list[Callable[[int], bytes]] = [
         lambda seed: hello(),
         lambda seed: with_burst(hello(), 300 + seed, 200, seed),
         lambda seed: with_zeros(hello(), 400 + seed, 420 + seed),
@@ -56,21 +61,21 @@ def dumps(folder: Path, count: int) -> None:
 
 @needs_library
 class ReportTest(FolderTest):
-    def setUp(self):
+    def setUp(self) -> None:
         super().setUp()
         self.dumps, self.out = self.folder / "dumps", self.folder / "out"
         self.dumps.mkdir()
 
-    def report(self, *words: object, status: int = 0, out: Path | None = None, **options):
+    def report(self, *words: Word, status: int = 0, out: Path | None = None, **options: Any) -> Ran:
         ran = desk("report", self.dumps, "-o", out or self.out, *words, **options)
         self.assertEqual(ran.status, status, ran.told)
         return ran
 
-    def table(self, out: Path | None = None) -> list[dict]:
+    def table(self, out: Path | None = None) -> list[dict[str, Any]]:
         return [json.loads(line) for line in ((out or self.out) / "table.jsonl").read_text().splitlines()]
 
     @needs_pillow
-    def test_a_row_for_every_file(self):
+    def test_a_row_for_every_file(self) -> None:
         dumps(self.dumps, 26)
         self.report()
         rows = self.table()
@@ -90,7 +95,7 @@ class ReportTest(FolderTest):
         self.assertEqual(by_number[0]["sha256"], summed.split()[0])
 
     @needs_pillow
-    def test_the_page_needs_no_network(self):
+    def test_the_page_needs_no_network(self) -> None:
         dumps(self.dumps, 13)
         self.report()
         links = Links(self.out / "index.html").found
@@ -100,7 +105,7 @@ class ReportTest(FolderTest):
             self.assertTrue((self.out / link).is_file(), link)
 
     @needs_pillow
-    def test_first_picture_is_that_of_the_program(self):
+    def test_first_picture_is_that_of_the_program(self) -> None:
         from PIL import Image
 
         self.write("dumps/hello", hello())
@@ -110,7 +115,7 @@ class ReportTest(FolderTest):
         self.assertEqual(Image.open(picture).convert("RGB").tobytes(), pixmap[15:])
 
     @needs_pillow
-    def test_pictures_that_are_gone(self):
+    def test_pictures_that_are_gone(self) -> None:
         dumps(self.dumps, 2)
         self.report()
         before = {path.name for path in self.out.glob("pictures/*")}
@@ -122,13 +127,13 @@ class ReportTest(FolderTest):
         self.report()
         self.assertEqual(len(list(self.out.glob("pictures/*"))), 2)
 
-    def test_without_pictures_no_package_is_asked_for(self):
+    def test_without_pictures_no_package_is_asked_for(self) -> None:
         dumps(self.dumps, 3)
         self.report("--no-pictures", env={**os.environ, "PYTHONNOUSERSITE": "1"})
         self.assertEqual(len(self.table()), 3)
         self.assertEqual(list(self.out.glob("pictures/*")), [])
 
-    def test_only_what_changed_is_read(self):
+    def test_only_what_changed_is_read(self) -> None:
         dumps(self.dumps, 8)
         self.assertIn("8 files read, 0 known", self.report("--no-pictures").told)
         before = (self.out / "table.tsv").read_bytes()
@@ -141,11 +146,11 @@ class ReportTest(FolderTest):
         rows = {row["file"]: row["status"] for row in self.table()}
         self.assertEqual((rows["box-1/dump-001"], rows["new"], len(rows)), ("good", "damaged", 8))
 
-    def test_a_run_that_is_killed_is_gone_on_with(self):
+    def test_a_run_that_is_killed_is_gone_on_with(self) -> None:
         dumps(self.dumps, 50)
         whole = self.folder / "whole"
         self.report("--no-pictures", out=whole)
-        words = [sys.executable, DESK, "report", self.dumps, "-o", self.out, "--no-pictures", "--jobs", "2"]
+        words: list[str | Path] = [sys.executable, DESK, "report", self.dumps, "-o", self.out, "--no-pictures", "--jobs", "2"]
         running = subprocess.Popen(words, stdout=subprocess.DEVNULL, stderr=subprocess.DEVNULL)
         journal = self.out / "journal.jsonl"
         until = time.monotonic() + 300
@@ -153,8 +158,8 @@ class ReportTest(FolderTest):
             time.sleep(0.002)
         running.send_signal(signal.SIGKILL)
         running.wait()
-        known = journal.read_bytes().count(b"\n")
-        self.assertLess(known, 50, "it had ended before it was killed")
+        done = journal.read_bytes().count(b"\n")
+        self.assertLess(done, 50, "it had ended before it was killed")
         # The line that was being written is cut off.
         journal.write_bytes(journal.read_bytes()[:-7])
         ran = self.report("--no-pictures")
@@ -164,9 +169,9 @@ class ReportTest(FolderTest):
         for name in ("table.tsv", "table.jsonl"):
             self.assertEqual((self.out / name).read_bytes(), (whole / name).read_bytes())
 
-    def test_a_run_that_is_stopped_leaves_no_half_file(self):
+    def test_a_run_that_is_stopped_leaves_no_half_file(self) -> None:
         dumps(self.dumps, 30)
-        words = [sys.executable, DESK, "report", self.dumps, "-o", self.out, "--no-pictures", "--jobs", "2"]
+        words: list[str | Path] = [sys.executable, DESK, "report", self.dumps, "-o", self.out, "--no-pictures", "--jobs", "2"]
         running = subprocess.Popen(words, stdout=subprocess.DEVNULL, stderr=subprocess.PIPE)
         journal = self.out / "journal.jsonl"
         while not (journal.exists() and journal.read_bytes().count(b"\n") >= 5) and running.poll() is None:
@@ -177,7 +182,7 @@ class ReportTest(FolderTest):
         self.assertEqual(told, "ribjasper-desk: stopped\n")
         self.assertEqual([path.name for path in self.out.rglob(".ribjasper-*")], [])
 
-    def test_parts_make_the_same_report(self):
+    def test_parts_make_the_same_report(self) -> None:
         dumps(self.dumps, 20)
         whole = self.folder / "whole"
         self.report("--no-pictures", out=whole)
@@ -187,7 +192,7 @@ class ReportTest(FolderTest):
         self.assertEqual((self.out / "table.tsv").read_bytes(), (whole / "table.tsv").read_bytes())
         self.assertEqual(desk("report", self.dumps, "-o", self.out, "--part", "4/3").status, 2)
 
-    def test_files_that_cannot_be_read_are_rows(self):
+    def test_files_that_cannot_be_read_are_rows(self) -> None:
         self.write("dumps/good", hello())
         (self.dumps / "broken").symlink_to("nowhere")
         os.mkfifo(self.dumps / "pipe")
@@ -198,13 +203,116 @@ class ReportTest(FolderTest):
         self.assertIn("no such file", rows["broken"][1])
         self.assertIn("not a regular file", rows["pipe"][1])
 
-    def test_the_report_may_lie_in_the_folder(self):
+    def test_the_report_may_lie_in_the_folder(self) -> None:
         self.write("dumps/good", hello())
         for _ in range(2):
             self.report("--no-pictures", out=self.dumps / "out")
         self.assertEqual([row["file"] for row in self.table(self.dumps / "out")], ["good"])
 
-    def test_refusals(self):
+    @needs_pillow
+    def test_places_are_in_a_file_of_their_own(self) -> None:
+        """A dump with more places than a cell takes, and one with a few."""
+        disc = known.album(6, 1)
+        stream = known.program(disc, 150, disc.end, 0)
+        parts = known.split(stream)
+        for block in range(10, len(parts), 4):
+            parts[block] = bytes([parts[block][0] ^ 0x40]) + parts[block][1:]
+        self.write("dumps/many", b"".join(parts))
+        self.write("dumps/few", with_bad_q(hello(), 600))
+        self.report()
+        rows = {row["file"]: row for row in self.table()}
+        self.assertGreater(rows["many"]["runs"], 6000)
+        self.assertEqual(len(rows["many"]["damage"]), 21)
+        self.assertIn("more", rows["many"]["damage"][-1])
+        for line in (self.out / "table.tsv").read_text().splitlines():
+            self.assertLess(max(map(len, line.split("\t"))), 32_767)
+        page = Links(self.out / "index.html")
+        lists = [link for link in page.found if link.startswith("places/")]
+        self.assertEqual(len(lists), 2)
+        longest = max(((self.out / link).read_text().splitlines() for link in lists), key=len)
+        self.assertEqual(len(longest), rows["many"]["runs"] + 1)
+        self.assertEqual(longest[0].split("\t")[:3], ["kind", "first", "last"])
+        few = desk("damage", self.dumps / "few").out
+        self.assertIn(few, [(self.out / link).read_text() for link in lists])
+
+    @needs_pillow
+    def test_why_a_picture_is_missing(self) -> None:
+        disc = known.album(0.3, 1)
+        self.write("dumps/bare", known.program(disc, 150, disc.end, 0))
+        self.write("dumps/hello", hello())
+        self.report()
+        rows = {row["file"]: row["picture"] for row in self.table()}
+        self.assertEqual(rows, {"bare": "graphics not read", "hello": "shown"})
+        self.assertIn('<div class="none">graphics not read</div>', (self.out / "index.html").read_text())
+
+    def test_checksums(self) -> None:
+        dumps(self.dumps, 4)
+        self.report("--no-pictures")
+        files = sorted(path for path in self.dumps.rglob("dump-*"))
+        ran = desk("sums", *files, "--check", self.out / "dumps.dat")
+        self.assertEqual(ran.status, 0, ran.told)
+        row = self.table()[0]
+        said = desk("sums", self.dumps / row["file"]).rows()[0]
+        self.assertEqual([row[name] for name in ("crc32", "md5", "sha1", "sha256")], [said[name] for name in ("crc32", "md5", "sha1", "sha256")])
+
+    def test_a_folder_that_cannot_be_entered_is_a_row(self) -> None:
+        self.write("dumps/good", hello())
+        self.write("dumps/closed/other", hello())
+        before = os.scandir
+
+        def scan(path: str) -> Any:
+            if os.fspath(path).endswith("closed"):
+                raise PermissionError(13, "Permission denied", path)
+            return before(path)
+
+        with mock.patch("os.scandir", scan):
+            ran = self.report("--no-pictures", status=3)
+        self.assertIn("closed: permission denied", ran.told)
+        rows = {row["file"]: (row["status"], row["why"]) for row in self.table()}
+        self.assertEqual(rows["closed"], ("unread", "the folder cannot be looked into: permission denied"))
+        self.assertEqual(rows["good"][0], "good")
+
+    def test_what_the_words_say_of_all(self) -> None:
+        self.write("dumps/headed", b"x" * 7 + hello())
+        self.report("--no-pictures")
+        self.assertEqual([row["notes"] for row in self.table()], [["header: 7 bytes in front"]])
+        self.report("--no-pictures", "--form", "raw", "--skip", 7 + BLOCK * LEAD_IN, "--lead-in", 0)
+        row = self.table()[0]
+        self.assertEqual((row["form"], row["lead-in"], row["status"], row["blocks"]), ("raw", 0, "good", 1800))
+
+    def test_links_to_folders(self) -> None:
+        other = self.folder / "other"
+        other.mkdir()
+        (other / "dump").write_bytes(hello())
+        self.write("dumps/good", hello())
+        (self.dumps / "link").symlink_to(other)
+        (self.dumps / "round").symlink_to(self.dumps)
+        self.report("--no-pictures")
+        self.assertEqual([row["file"] for row in self.table()], ["good"])
+        self.report("--no-pictures", "--follow-links")
+        self.assertEqual([row["file"] for row in self.table()], ["good", "link/dump"])
+
+    def test_a_file_that_ends_its_worker_each_time(self) -> None:
+        """Such a file is a row and is named; all others are looked at."""
+        dumps(self.dumps, 12)
+        before = examine
+
+        def end(path: str, name: str, *how: Any) -> Any:
+            if name.endswith("dump-005"):
+                os._exit(7)
+            return before(path, name, *how)
+
+        with mock.patch("ribjasper.workers.examine", end):
+            ran = self.report("--no-pictures", "--jobs", "3", status=3)
+        self.assertIn("dump-005: could not be looked at", ran.told)
+        rows = {row["file"][-3:]: row for row in self.table()}
+        self.assertEqual(len(rows), 12)
+        self.assertEqual([name for name, row in rows.items() if row["status"] == "unread"], ["005"])
+        self.assertIn("could not be looked at", rows["005"]["why"])
+        self.report("--no-pictures")
+        self.assertEqual([row["status"] for row in self.table() if row["status"] == "unread"], [])
+
+    def test_refusals(self) -> None:
         ran = desk("report", self.folder / "missing", "-o", self.out)
         self.assertEqual(ran.status, 3)
         self.assertIn("no such folder", ran.told)
@@ -216,7 +324,14 @@ class ReportTest(FolderTest):
 def free_port() -> int:
     with socket.socket() as it:
         it.bind(("127.0.0.1", 0))
-        return it.getsockname()[1]
+        port: int = it.getsockname()[1]
+        return port
+
+
+def is_connected(port: int) -> bool:
+    """Whether somebody is connected to a port of this machine."""
+    rows = [line.split() for line in Path("/proc/net/tcp").read_text().splitlines()[1:]]
+    return any(row[1].endswith(f":{port:04X}") and row[3] == "01" for row in rows)
 
 
 def wait_for(port: int) -> None:
@@ -233,12 +348,20 @@ class ClusterTest(FolderTest):
     """A scheduler and two workers on this machine."""
 
     def start(self, module: str, *words: object) -> None:
-        how = dict(stdout=subprocess.DEVNULL, stderr=subprocess.DEVNULL, cwd=self.folder)
-        process = subprocess.Popen([sys.executable, "-m", module, *map(str, words)], **how)
+        self.started(module, *words)
+
+    def started(self, module: str, *words: object) -> "subprocess.Popen[bytes]":
+        call = [sys.executable, "-m", module, *map(str, words)]
+        process = subprocess.Popen(call, stdout=subprocess.DEVNULL, stderr=subprocess.DEVNULL, cwd=self.folder)
         self.addCleanup(process.wait)
         self.addCleanup(process.terminate)
+        return process
 
-    def test_the_same_table_as_one_process(self):
+    def by_itself(self, *words: Word) -> Ran:
+        """A run as a process of its own, whose threads end with it."""
+        return desk(*words, env=dict(os.environ), timeout=120)
+
+    def test_the_same_table_as_one_process(self) -> None:
         dumps(self.folder / "dumps", 26)
         one, several = self.folder / "one", self.folder / "several"
         self.assertEqual(desk("report", self.folder / "dumps", "-o", one, "--no-pictures", "--jobs", "1").status, 0)
@@ -248,16 +371,36 @@ class ClusterTest(FolderTest):
         wait_for(port)
         for _ in range(2):
             self.start("distributed.cli.dask_worker", address, "--nthreads", "1", "--no-dashboard")
-        ran = desk("report", self.folder / "dumps", "-o", several, "--no-pictures", "--cluster", address)
+        ran = self.by_itself("report", self.folder / "dumps", "-o", several, "--no-pictures", "--cluster", address)
         self.assertEqual(ran.status, 0, ran.told)
         for name in ("table.tsv", "table.jsonl"):
             self.assertEqual((several / name).read_bytes(), (one / name).read_bytes())
 
-    def test_no_scheduler(self):
+    def test_a_scheduler_that_goes_away_is_one_line(self) -> None:
+        dumps(self.folder / "dumps", 40)
+        port = free_port()
+        address = f"tcp://127.0.0.1:{port}"
+        scheduler = self.started("distributed.cli.dask_scheduler", "--host", address, "--no-dashboard")
+        wait_for(port)
+        call: list[str | Path] = [sys.executable, DESK, "report", self.folder / "dumps", "-o", self.folder / "out"]
+        call += ["--no-pictures", "--cluster", address]
+        running = subprocess.Popen(call, stdout=subprocess.DEVNULL, stderr=subprocess.PIPE)
+        # With no worker it waits, once it is connected.
+        until = time.monotonic() + 60
+        while not is_connected(port) and running.poll() is None and time.monotonic() < until:
+            time.sleep(0.1)
+        time.sleep(3)
+        scheduler.kill()
+        told = running.communicate(timeout=100)[1].decode()
+        self.assertEqual(running.returncode, 3, told)
+        self.assertEqual(len(told.splitlines()), 1, told)
+        self.assertIn(f"{address}: the scheduler went away", told)
+
+    def test_no_scheduler(self) -> None:
         (self.folder / "dumps").mkdir()
         (self.folder / "dumps" / "a").write_bytes(hello())
         address = f"tcp://127.0.0.1:{free_port()}"
-        ran = desk("report", self.folder / "dumps", "-o", self.folder / "out", "--no-pictures", "--cluster", address)
+        ran = self.by_itself("report", self.folder / "dumps", "-o", self.folder / "out", "--no-pictures", "--cluster", address)
         self.assertEqual(ran.status, 3)
         self.assertIn(f"{address}: no scheduler answers", ran.told)
 

@@ -81,7 +81,7 @@ class SheetTest(FolderTest):
         self.assertEqual(words[:3], ["REM", "ribjasper", "author"])
         return author(sheet, words[6], self.folder, int(words[4]))
 
-    def test_the_sheet_that_was_given(self):
+    def test_the_sheet_that_was_given(self) -> None:
         for given, length in ((RICH, "00:50:00"), (PLAIN, "00:09:00")):
             stream = author(given, length, self.folder, 60)
             back = self.sheet(stream)
@@ -89,13 +89,13 @@ class SheetTest(FolderTest):
             self.assertEqual(self.again(back), stream)
             self.assertEqual(self.ran.told, "")
 
-    def test_gaps_are_pauses(self):
+    def test_gaps_are_pauses(self) -> None:
         stream = author(GAPS, "00:12:00", self.folder)
         back = self.sheet(stream)
         self.assertNotIn(b"PREGAP", back)
         self.assertEqual(self.again(back), stream)
 
-    def test_every_place_of_an_index(self):
+    def test_every_place_of_an_index(self) -> None:
         """Blocks that carry a code tell no index; wherever a pause or an index begins, the stream comes again."""
         for place in (*range(40, 54), *range(95, 104)):
             given = (
@@ -106,24 +106,24 @@ class SheetTest(FolderTest):
             stream = author(given, "00:12:00", self.folder)
             self.assertEqual(self.again(self.sheet(stream)), stream, place)
 
-    def test_other_forms(self):
+    def test_other_forms(self) -> None:
         wanted = in_order(HELLO[0].read_bytes())
         for stream in (program("planar", stdin=hello()), as_sectors(hello())):
             self.assertEqual(in_order(self.sheet(stream)), wanted)
 
-    def test_without_a_lead_in(self):
+    def test_without_a_lead_in(self) -> None:
         back = self.sheet(hello()[BLOCK * (LEAD_IN + 150) :])
         self.assertIn(b"--lead-in 0 --length 00:22:00", back)
         lines = [line for line in plain(HELLO[0].read_bytes()) if not re.match(rb"TITLE|PERFORMER|SONGWRITER", line)]
         self.assertEqual(plain(back), lines)
 
-    def test_damage_does_not_matter(self):
+    def test_damage_does_not_matter(self) -> None:
         stream = hello()
         for block in (30, 31, 180, 181, 930, 931, 932, 1080, 1081):
             stream = with_bad_q(stream, block)
         self.assertEqual(in_order(self.sheet(stream)), in_order(HELLO[0].read_bytes()))
 
-    def test_refusals(self):
+    def test_refusals(self) -> None:
         packs = hello_packs() + bytes(-len(hello_packs()) % BLOCK)
         for content, cause in ((packs, "no Q channel"), (b"x" * 960, "is no dump")):
             path = self.write("dump", content)

@@ -3,19 +3,19 @@ import subprocess
 import sys
 import unittest
 
-from archivists import BLOCK, LEAD_IN, TOP, FolderTest, as_sectors, author, desk, hello, needs_library, program
+from archivists import BLOCK, LEAD_IN, TOP, FolderTest, Word, as_sectors, author, desk, hello, needs_library, program
 
 
 @needs_library
 class TextsTest(FolderTest):
-    def packs(self, stream: bytes, *words: object) -> bytes:
+    def packs(self, stream: bytes, *words: Word) -> bytes:
         out = self.folder / "packs"
         ran = desk("texts", self.write("dump", stream), "--packs", out, *words)
         self.assertEqual(ran.status, 0, ran.told)
         self.listed = ran.out
         return out.read_bytes()
 
-    def test_the_texts_are_those_of_the_program(self):
+    def test_the_texts_are_those_of_the_program(self) -> None:
         packs = self.packs(hello())
         said = program("text", "--lead-in", LEAD_IN, stdin=hello()).decode()
         self.assertEqual(self.listed, said)
@@ -24,17 +24,17 @@ class TextsTest(FolderTest):
         self.assertEqual(packs, cycle)
         self.assertEqual(self.packs(as_sectors(hello())), cycle)
 
-    def test_four_bytes_in_front(self):
+    def test_four_bytes_in_front(self) -> None:
         packs, headed = self.packs(hello()), self.packs(hello(), "--header")
         self.assertEqual(headed, (len(packs) + 2).to_bytes(2, "big") + bytes(2) + packs)
 
-    def test_damaged_packs_are_taken_from_another_copy(self):
+    def test_damaged_packs_are_taken_from_another_copy(self) -> None:
         packs, stream = self.packs(hello()), bytearray(hello())
         for place in range(5, BLOCK * 6, 24):
             stream[place] ^= 1
         self.assertEqual(self.packs(bytes(stream)), packs)
 
-    def test_back(self):
+    def test_back(self) -> None:
         packs, listed = self.packs(hello()), self.listed
         length = (len(packs) + 2).to_bytes(2, "big") + bytes(2)
         for content in (packs, length + packs, length + packs + b"\0", packs + b"\0"):
@@ -48,13 +48,13 @@ class TextsTest(FolderTest):
             said = program("text", "--lead-in", len(blocks) // BLOCK, stdin=blocks).decode()
             self.assertEqual(said, ran.out)
 
-    def test_no_texts(self):
+    def test_no_texts(self) -> None:
         sheet = b'FILE "a.wav" WAVE\nTRACK 01 AUDIO\nINDEX 01 00:00:00\n'
         ran = desk("texts", self.write("dump", author(sheet, "00:01:00", self.folder)))
         self.assertEqual(ran.status, 0)
         self.assertIn("there is no text pack", ran.told)
 
-    def test_refusals(self):
+    def test_refusals(self) -> None:
         for content in (b"", bytes(17), bytes(19) + b"x", bytes(18 * 3 + 7)):
             path = self.write("given", content)
             ran = desk("texts", "--back", path)

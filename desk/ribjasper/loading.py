@@ -1,0 +1,132 @@
+"""A dump as the commands read it: its form, its lead-in and its survey, found or as the words of the command say."""
+import argparse
+from typing import Iterator, NamedTuple
+
+from . import library
+from .companions import Companions, beside_dump
+from .detection import form_of
+from .dump import Dump
+from .forms import FORMS, PLAIN_FORMS, Form, Order
+from .library import BLOCK, RAW
+from .output import Refusal
+from .pieces import lead_in_of
+from .survey import Survey, has_graphics_bits
+from .words import lead_in, number_in
+
+# No header is longer.
+MOST_SKIPPED = 1 << 32
+
+
+class Asked(NamedTuple):
+    """What the words of a command say of a dump; none where it is to be found."""
+
+    form: str | None = None
+    lead_in: int | None = None
+    skip: int | None = None
+
+
+class Loaded(NamedTuple):
+    """A dump that was read: blocks of 96 bytes, and what is found of each."""
+
+    dump: Dump
+    form: Form
+    stream: bytes
+    survey: Survey
+    companions: Companions
+
+    @property
+    def path(self) -> str:
+        return self.dump.path
+
+    @property
+    def rest(self) -> int:
+        """The bytes behind the last whole unit, of a dump that is torn."""
+        return self.dump.rest(self.form)
+
+    def has_graphics_bits(self) -> bool:
+        """Whether a bit of R to W is set in the program."""
+        return self.form.has_graphics() and has_graphics_bits(self.stream)
+
+    def notes(self) -> Iterator[str]:
+        """What is told of a dump beside its form, in a few words each."""
+        if self.rest:
+            yield f"torn: {self.rest} bytes behind the last whole unit"
+        if self.dump.skip:
+            yield f"header: {self.dump.skip} bytes in front"
+        if self.form.order is Order.REVERSED:
+            yield "the bits of each byte stand in reverse"
+        if self.form.order is Order.SWAPPED:
+            yield "the bytes of each pair are exchanged"
+        first, behind = self.survey.first, self.survey.blocks - self.survey.end
+        if first or behind:
+            yield f"unread: {first} blocks in front, {behind} behind"
+        if self.form.library == RAW and not self.survey.has_q:
+            yield "Q: not read"
+        yield from self.companions.notes()
+
+
+def add_options(parser: argparse.ArgumentParser) -> None:
+    """The words with which each command is told what a dump is."""
+    names = ", ".join(form.name for form in PLAIN_FORMS)
+    parser.add_argument(
+        "--form",
+        type=form_name,
+        metavar="F",
+        help=f"the form: {names}, each also with -reversed or -swapped behind it; else it is found",
+    )
+    parser.add_argument("--lead-in", type=lead_in, metavar="N", help="blocks of the lead-in; else Q tells them")
+    parser.add_argument("--skip", type=number_in(0, MOST_SKIPPED), metavar="BYTES", help="bytes of a header in front; else they are found")
+
+
+def form_name(word: str) -> str:
+    if word not in FORMS:
+        raise argparse.ArgumentTypeError(f"{word} is no form")
+    return word
+
+
+def asked(arguments: argparse.Namespace) -> Asked:
+    return Asked(arguments.form, arguments.lead_in, arguments.skip)
+
+
+def survey_of(stream: bytes, form: Form, told: int | None = None, companions: Companions | None = None) -> Survey:
+    """The survey of a stream; where no lead-in is told, with that which its Q frames tell, or else the files beside it."""
+    survey = Survey(stream, form.library, told or 0)
+    if told is not None or form.library != RAW:
+        return survey
+    found = lead_in_of(survey)
+    if found is None:
+        found = -min(0, companions.begin or 0) if companions else 0
+    return Survey(stream, form.library, found) if 0 < found <= library.LONGEST_LEAD_IN else survey
+
+
+def load_found(path: str, words: Asked = Asked()) -> tuple[Loaded | None, list[str]]:
+    """A dump with its form, or none and what speaks against each."""
+    dump = Dump(path)
+    if words.form is not None:
+        form, dump.skip = FORMS[words.form], words.skip or 0
+    else:
+        found, against = form_of(dump, words.skip)
+        if found is None:
+            return None, against
+        form, dump.skip = found.form, found.skip
+    if not dump.units(form):
+        raise Refusal(path, f"has no whole unit of {form.unit} bytes")
+    stream = dump.blocks(form)
+    companions = beside_dump(dump.path, len(stream) // BLOCK)
+    return Loaded(dump, form, stream, survey_of(stream, form, words.lead_in, companions), companions), []
+
+
+def load(path: str, words: Asked = Asked()) -> Loaded:
+    """A dump with its form, or a refusal that says what speaks against each."""
+    loaded, against = load_found(path, words)
+    if loaded is None:
+        raise Refusal(path, "; ".join(["is no dump", *against]))
+    return loaded
+
+
+def load_raw(path: str, words: Asked, wants: str) -> Loaded:
+    """A dump that has blocks and not packs alone."""
+    loaded = load(path, words)
+    if loaded.form.library != RAW:
+        raise Refusal(path, f"is {loaded.form.name}, which has no {wants}")
+    return loaded

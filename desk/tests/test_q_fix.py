@@ -1,0 +1,156 @@
+"""`q-fix`: what can stand in a block alone is filled in, what cannot is left; changed frames of copy protection; P and order."""
+import unittest
+from typing import Callable
+
+import known_dumps as known
+from archivists import BLOCK, FolderTest, Ran, desk, needs_library
+from known_dumps import Disc, Track, program
+
+
+def disc() -> Disc:
+    tracks = [Track(1, 150, 0, isrc="DEXYZ2600001"), Track(2, 150 + 75 * 20, 150 + 75 * 18), Track(3, 150 + 75 * 40)]
+    return Disc(tracks, 150 + 75 * 60)
+
+
+def with_frame(stream: bytes, block: int, frame: bytes) -> bytes:
+    own = stream[BLOCK * block : BLOCK * (block + 1)].translate(bytes(byte & 0xBF for byte in range(256)))
+    return stream[: BLOCK * block] + known.with_q(own, frame) + stream[BLOCK * (block + 1) :]
+
+
+def in_sectors(stream: bytes) -> bytes:
+    return known.in_sectors(known.split(stream))
+
+
+def spoiled(stream: bytes, block: int, bits: int = 1 << 3) -> bytes:
+    """A stream in which bits of a block's Q frame are turned."""
+    frame = int.from_bytes(known.planar(stream[BLOCK * block : BLOCK * (block + 1)])[12:24], "big") ^ bits
+    return with_frame(stream, block, frame.to_bytes(12, "big"))
+
+
+@needs_library
+class QFixTest(FolderTest):
+    def setUp(self) -> None:
+        super().setUp()
+        self.disc = disc()
+        self.whole = program(self.disc, 150, self.disc.end)
+
+    def fixed(self, content: bytes, status: int = 0) -> tuple[bytes, list[dict[str, str]]]:
+        out = self.folder / "fixed"
+        self.ran: Ran = desk("q-fix", self.write("dump", content), "-o", out)
+        self.assertEqual(self.ran.status, status, self.ran)
+        content = out.read_bytes()
+        out.unlink()
+        return content, self.ran.rows()
+
+    def test_nothing_to_do(self) -> None:
+        copy, rows = self.fixed(self.whole)
+        self.assertEqual((copy, rows), (self.whole, []))
+
+    def test_frames_between_good_ones(self) -> None:
+        stream = self.whole
+        for block in (500, 501, 502, 700, 1360, 2000):
+            stream = spoiled(stream, block, 0x5A5A << 30)
+        stream = stream[: BLOCK * 900] + bytes(BLOCK * 10) + stream[BLOCK * 910 :]
+        forms: list[Callable[[bytes], bytes]] = [bytes, known.as_planar, known.bytes_swapped, in_sectors]
+        for form in forms:
+            copy, rows = self.fixed(form(stream))
+            self.assertEqual([row["kind"] for row in rows], ["filled"] * 16)
+            self.assertEqual([int(row["block"]) for row in rows], [500, 501, 502, 700, *range(900, 910), 1360, 2000])
+            wanted = form(self.whole)
+            if form is bytes:
+                # Of blocks that were given up Q alone comes back.
+                for block in range(900, 910):
+                    wanted = wanted[: BLOCK * block] + known.with_q(bytes(BLOCK), self.disc.program_frame(150 + block)) + wanted[BLOCK * (block + 1) :]
+                self.assertEqual(copy, wanted)
+            self.assertEqual(len(copy), len(wanted))
+
+    def test_a_bad_code_becomes_a_code(self) -> None:
+        """A frame with the recording code of its track, of which a bit is wrong, is that frame again."""
+        block = next(at for at in range(300, 600) if self.disc.frame(150 + at) != self.disc.program_frame(150 + at))
+        copy, rows = self.fixed(spoiled(self.whole, block))
+        self.assertEqual(copy, self.whole)
+        self.assertEqual(len(rows), 1)
+
+    def test_where_a_track_begins_nothing_is_filled_in(self) -> None:
+        stream = spoiled(spoiled(self.whole, 75 * 20), 75 * 40 - 1)
+        copy, rows = self.fixed(stream, status=1)
+        self.assertEqual(copy, stream)
+        self.assertEqual([row["kind"] for row in rows], ["left", "left"])
+        self.assertIn("begins within", rows[0]["what"])
+
+    def test_where_the_time_jumps_nothing_is_filled_in(self) -> None:
+        stream = spoiled(self.whole, 600)
+        stream = stream[: BLOCK * 601] + stream[BLOCK * 650 :]
+        copy, rows = self.fixed(stream, status=1)
+        self.assertEqual((copy, rows[0]["kind"]), (stream, "left"))
+        self.assertIn("jumps", rows[0]["what"])
+
+    def protected(self) -> tuple[bytes, dict[int, bytes]]:
+        """A dump with eight pairs of changed frames: the times are other by a bit or two, and the checks too."""
+        stream, changed = self.whole, {}
+        for pair in range(8):
+            for block in (400 + 60 * pair, 405 + 60 * pair):
+                right = self.disc.program_frame(150 + block)
+                content = right[:5] + bytes([right[5] ^ 0x02]) + right[6:9] + bytes([right[9] ^ 0x02])
+                check = known.check(content)
+                frame = content + bytes([check[0] ^ 0x80, check[1] ^ 0x01])
+                changed[150 + block] = frame
+                stream = with_frame(stream, block, frame)
+        return stream, changed
+
+    def test_copy_protection(self) -> None:
+        stream, changed = self.protected()
+        copy, rows = self.fixed(spoiled(stream, 2000))
+        self.assertEqual(copy, stream)
+        self.assertEqual([row["kind"] for row in rows], ["changed"] * 16 + ["filled"])
+        self.assertIn("16 frames are changed in pairs, as LibCrypt changes them", self.ran.told)
+        out = self.folder / "dump.sbi"
+        ran = desk("q-fix", self.write("dump", stream), "--sbi", out)
+        self.assertEqual(ran.status, 0, ran.told)
+        content = out.read_bytes()
+        self.assertEqual((content[:4], len(content)), (b"SBI\0", 4 + 14 * 16))
+        first = min(changed)
+        self.assertEqual(content[4:18], known.time(first) + b"\1" + changed[first][:10])
+
+    def test_no_copy_protection(self) -> None:
+        stream = self.whole
+        for block in range(400, 1200, 37):
+            stream = spoiled(stream, block, 2 << 20)
+        _, rows = self.fixed(stream)
+        self.assertEqual({row["kind"] for row in rows}, {"filled"})
+        ran = desk("q-fix", self.write("dump", stream), "--sbi", self.folder / "out.sbi")
+        self.assertEqual(ran.status, 3)
+        self.assertFalse((self.folder / "out.sbi").exists())
+
+    def test_order_of_indexes(self) -> None:
+        other = disc()
+        other.tracks[2].indexes = {4: 150 + 75 * 50}
+        _, rows = self.fixed(program(other, 150, other.end), status=1)
+        self.assertEqual([row["kind"] for row in rows], ["order"])
+        self.assertIn("track 03 index 04 comes behind track 03 index 01", rows[0]["what"])
+
+    def test_p(self) -> None:
+        """P is set through the pause and falls with index 01."""
+        parts = known.split(self.whole)
+        for block in range(75 * 18, 75 * 20):
+            parts[block] = bytes(byte | 0x80 for byte in parts[block])
+        for block in range(75 * 40 - 150, 75 * 40):
+            parts[block] = bytes(byte | 0x80 for byte in parts[block])
+        right = [bytes(byte & 0x7F for byte in part) if block in (75 * 40,) else part for block, part in enumerate(parts)]
+        _, rows = self.fixed(b"".join(right))
+        self.assertEqual(rows, [])
+        late = list(right)
+        for block in range(75 * 20, 75 * 20 + 30):
+            late[block] = bytes(byte | 0x80 for byte in late[block])
+        _, rows = self.fixed(b"".join(late), status=1)
+        self.assertEqual([(row["kind"], row["block"]) for row in rows], [("p", str(75 * 20))])
+
+    def test_refusals(self) -> None:
+        bare = self.write("bare", self.whole.translate(bytes(byte & 63 for byte in range(256))))
+        ran = desk("q-fix", bare)
+        self.assertEqual(ran.status, 3)
+        self.assertIn("Q was not read", ran.told)
+
+
+if __name__ == "__main__":
+    unittest.main()
