@@ -438,6 +438,11 @@ class ReadableTest(ScriptTest):
         _, script, maker = self.made(self.write("a.lrc", text))
         rest = next(page.placed[-1] for page in maker.pages if not page.group.is_sung)
         self.assertEqual(rest.text(), "instrumental 1:05")
+        style = self.write("a.toml", 'rest = "Zwischenspiel"\n[[voice]]\nunsung = "#FFF"\nsung = "#28F"\n')
+        _, _, german = self.made(self.folder / "a.lrc", "--style", style)
+        self.assertEqual(next(page.placed[-1] for page in german.pages if not page.group.is_sung).text(),
+                         "Zwischenspiel 1:05")
+        _, script, maker = self.made(self.folder / "a.lrc")
         ink = {(x, rest.top + y) for y, row in enumerate(self.letters(rest)) for x in range(288) if row[x]}
         stands = {second: self.shown(pixels, maker, rest.slot) for second, pixels in
                   ((block / 75 - 2, pixels) for block, pixels in self.screens(script)) if second in (11, 16, 60, 72)}
