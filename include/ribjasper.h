@@ -18,7 +18,8 @@
    the call. Numbers may be any: one out of its range is refused.
 
    Memory is asked of malloc when a player is opened that is closed, 65,080 bytes in one request, and within a call whose
-   lines say so, which frees it before it returns. A call takes at most 16,384 bytes of the stack. */
+   lines say so, which frees it before it returns. A call takes at most 16,384 bytes of the stack, one
+   that mends 81,920. */
 #ifndef RIBJASPER_H
 #define RIBJASPER_H
 
@@ -412,8 +413,8 @@ typedef struct ribjasper_mended {
    word to the front of the `room` bytes at `packs`, 4 B - 7 of B blocks of the program (none of one or none).
    Answers RIBJASPER_CONVERTED, or RIBJASPER_DAMAGED where words have no codeword; or else, whichever holds first:
    RIBJASPER_USAGE where `lead_in` is above 450,000; RIBJASPER_TORN where the lengths differ, or are no whole blocks or
-   more than 1,000,000; RIBJASPER_NO_ROOM. Then nothing is written. It asks malloc for nothing, and takes about 75 kB of
-   the stack. The readings may be the same bytes. */
+   more than 1,000,000; RIBJASPER_NO_ROOM. Then nothing is written. It asks malloc for nothing. The readings may be the
+   same bytes. */
 int32_t ribjasper_mend(const uint8_t *first, size_t first_length, const uint8_t *second, size_t second_length,
                        uint32_t lead_in, uint8_t *packs, size_t room, ribjasper_mended *told);
 
@@ -441,7 +442,7 @@ typedef struct ribjasper_mended_readings {
    Answers RIBJASPER_CONVERTED, or RIBJASPER_DAMAGED where words have no codeword; or else, whichever holds first:
    RIBJASPER_USAGE where `lead_in` is above 450,000 or `count` is 0 or above 254; RIBJASPER_TORN where the readings are not
    whole blocks of equal length, or more than 1,000,000 each; RIBJASPER_NO_ROOM where there is room for fewer packs, or
-   `words` is neither 0 nor as many as the words. Then nothing is written. It takes memory as the call above. */
+   `words` is neither 0 nor as many as the words. Then nothing is written. It asks malloc for nothing. */
 int32_t ribjasper_mend_readings(const uint8_t *readings, size_t length, uint32_t count, uint32_t lead_in,
                                 uint8_t *packs, size_t room, uint8_t *sources, size_t words,
                                 ribjasper_mended_readings *told);

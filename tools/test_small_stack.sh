@@ -1,6 +1,6 @@
 #!/bin/sh
-# How much of a stack is taken. Each call of lib/libribjasper.a is run on a painted stack and may touch 16 KiB of it
-# (tools/test_small_stack.c), and commands of bin/ribjasper run with a stack of 64 KiB as with an ample one. Skipped where
+# How much of a stack is taken. Each call of lib/libribjasper.a is run on a painted stack and may touch 16 KiB of it,
+# one that mends 80 (tools/test_small_stack.c), and commands of bin/ribjasper run with a stack of 64 KiB as with an ample one. Skipped where
 # a compiler or what make builds is missing.
 set -e
 cd "$(dirname "$0")/.."
