@@ -59,16 +59,16 @@ def checked(arguments: argparse.Namespace, disc: Disc) -> bytes:
 
 
 def loses_pictures(program: bytes) -> str | None:
-    """Why pictures are not whole on the image, if the packs that begin in the pause and are not whole on it leave more than
-    a black screen: what is to be done is another thing for a .cdg file that was pressed, which sends nothing earlier."""
+    """Why pictures are not whole on the image, if the packs that begin in the pause and are not whole on it leave more
+    than a black screen. What is to be done is another thing for a .cdg file that was pressed: it sends nothing earlier."""
     packs, _ = convert(program[: BLOCK * (PAUSE + 2)], RAW, 0)
     with Player() as player:
         player.draw(packs[: PACK * PACKS_A_BLOCK * PAUSE])
         if not any(player.screen()) and not any(player.colours()):
             return None
     if not any(packs[: PACK * FIRST_OF_AUDIO]):
-        return ("the first seven packs of its .cdg file begin in the first pause and are not on an image: let them be idle, or "
-                "say once more behind them what they say, as the files of `pair` do")
+        return ("the first seven packs of its .cdg file begin in the first pause and are not on an image: let them be idle, "
+                "or say once more behind them what they say, as the files of `pair` do")
     return ("what is sent in the first pause is not on an image, and the pictures that need it will not be whole; "
             "--hold-through-pause SCRIPT puts a black picture before them")
 
@@ -81,11 +81,12 @@ def tell_texts(arguments: argparse.Namespace, disc: Disc) -> None:
     theirs, ours = (
         [line for line in texts(content[: BLOCK * lead_in], lead_in).splitlines() if not line.startswith("packs ")]
         for content, lead_in in ((stream.content, stream.lead_in), (disc.stream, disc.lead_in)))
-    differ = [("stream", line) for line in theirs if line not in ours] + [("sheet", line) for line in ours if line not in theirs]
+    differ = [("stream", line) for line in theirs if line not in ours]
+    differ += [("sheet", line) for line in ours if line not in theirs]
     if differ:
         of, line = differ[0]
-        tell(f"{arguments.stream}: its texts are not those of {arguments.sheet}, which {arguments.output}.toc and .cue have: "
-             f"{len(differ)} differ, as `{line}` of the {of}")
+        tell(f"{arguments.stream}: its texts are not those of {arguments.sheet}, which {arguments.output}.toc and .cue "
+             f"have: {len(differ)} differ, as `{line}` of the {of}")
 
 
 def held(arguments: argparse.Namespace, disc: Disc) -> bytes:

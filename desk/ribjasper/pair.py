@@ -39,7 +39,8 @@ def add_parser(commands: Commands) -> None:
 def sound_of(arguments: argparse.Namespace) -> Path:
     sound = arguments.audio or audio.beside(arguments.song)
     if not sound:
-        raise Refusal(arguments.song, f"has no sound of its name beside it ({', '.join(audio.ENDINGS)}); --audio names one")
+        endings = ", ".join(audio.ENDINGS)
+        raise Refusal(arguments.song, f"has no sound of its name beside it ({endings}); --audio names one")
     return Path(sound)
 
 
@@ -84,7 +85,7 @@ def write_sound(outputs: Outputs, name: str, sound: Path, song: Song, as_mp3: bo
 def make_mp3(sound: Path, song: Song, out: str) -> None:
     """Writes the sound as MP3, with its title and singer."""
     if not shutil.which("ffmpeg"):
-        raise Missing("this needs the program ffmpeg (apt-get install ffmpeg); without --mp3 the sound is copied as it is")
+        raise Missing("this needs the program ffmpeg (apt-get install ffmpeg); without --mp3 the sound stays as it is")
     tags = [word for key, text in (("title", song.title), ("artist", song.performer)) if text
             for word in ("-metadata", f"{key}={text}")]
     words = ["ffmpeg", "-v", "error", "-nostdin", "-y", "-i", os.fspath(sound), *tags, *MP3_FORM, out]
