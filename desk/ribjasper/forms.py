@@ -94,7 +94,8 @@ def swapped(content: bytes) -> bytes:
 
 
 def turned(blocks: bytes, call: str) -> bytes:
-    """Blocks, each turned by a call of the library that reads one and writes one."""
+    """Whole blocks, each turned by a call of the library that reads one and writes one; what is left is left out."""
+    blocks = blocks[: len(blocks) - len(blocks) % BLOCK]
     room = ctypes.create_string_buffer(max(1, len(blocks)))
     source = library.address(blocks)
     target = ctypes.addressof(room)
@@ -153,7 +154,9 @@ def in_order(content: bytes, order: Order) -> bytes:
 
 
 def subcode(units: bytes, form: Form) -> bytes:
-    """The subcode of whole units of a file: raw blocks, or blocks of four packs, the last of which is filled up."""
+    """The subcode of the whole units of a part of a file: raw blocks, or blocks of four packs, the last of which is filled
+    up."""
+    units = units[: len(units) - len(units) % form.unit]
     if form.is_in_sectors():
         ends = range(form.unit, len(units) + 1, form.unit)
         units = b"".join([units[end - form.size : end] for end in ends])
