@@ -129,12 +129,13 @@ def packed(content: bytes) -> str:
 
 
 def picture_parts(packs: bytes) -> dict[str, str]:
-    """What draws the picture: the library and the packs, or otherwise its changes."""
-    parts = dict.fromkeys(("module", "wasm", "packs", "changes"), "")
+    """What draws the picture: its changes; and before them the library and the packs, where it is built, since not every
+    browser knows modules with addresses of 64 bits."""
+    parts = {"module": "", "wasm": "", "packs": "", "changes": packed(b"".join(changes_of(packs)))}
     if found := web():
-        return parts | {"module": packed(found.script.read_bytes()), "wasm": packed(found.module.read_bytes()),
-                        "packs": packed(packs)}
-    return parts | {"changes": packed(b"".join(changes_of(packs)))}
+        parts |= {"module": packed(found.script.read_bytes()), "wasm": packed(found.module.read_bytes()),
+                  "packs": packed(packs)}
+    return parts
 
 
 def page_of(sung: Sung) -> str:
