@@ -6,7 +6,7 @@ from typing import Iterator, NamedTuple, Sequence
 from . import library
 from .dump import Dump
 from .forms import FORMS, PLAIN_FORMS, Coding, Form, Order, subcode
-from .library import PACK, RAW
+from .library import BLOCK, PACK, RAW
 from .survey import Survey
 
 # A form is tried in windows of so many bytes, the same bytes for each form. Windows of a few places are looked at, until
@@ -26,6 +26,8 @@ LIKELY_BY_Q, LIKELY_BY_WORDS = 0.2, 0.5
 LITTLE = 0.05
 # The share of packs of graphics that a file of packs without parity has at least, and of words of what is not idle.
 LEAST_PACKS, LEAST_WORDS = 0.2, 0.05
+# The share of frames with fields of what is not empty, where their checks may be missing.
+LEAST_UNCHECKED = 0.25
 # A header that is longer than a unit ends, up to here, where a frame is good or a block empty.
 MOST_HEADER = 4096
 # What is strange is tried in so many windows; where the length of a file does not tell its header, so many units of them at
@@ -60,7 +62,7 @@ class Signs(NamedTuple):
 
 
 class Explained(NamedTuple):
-    """Whether Q tells, or the words do; the share that is good of what is not empty; and how many bytes of subcode it is."""
+    """Whether Q tells, or the words do; the share that is good of what is not empty; and how many frames, or words, are."""
 
     by_q: bool
     share: float
@@ -79,19 +81,22 @@ class Found(NamedTuple):
         it = self.signs
         if self.form.coding is Coding.PQ:
             # A check that is not there is right in any unit: here the fields tell.
-            is_so = 2 * it.fields >= it.frames and is_no_chance(it.fields, it.frames, CHANCE_UNCHECKED)
-            return Explained(True, it.fields / it.frames, it.fields * self.form.size) if is_so else None
+            is_so = it.fields >= LEAST_UNCHECKED * it.frames and is_no_chance(it.fields, it.frames, CHANCE_UNCHECKED)
+            return Explained(True, it.fields / it.frames, it.fields) if is_so else None
         if is_no_chance(it.good, it.frames, CHANCE_FRAME) or is_no_chance(it.fields, it.frames, CHANCE_FIELDS):
-            return Explained(True, it.good / max(it.frames, it.good), it.good * self.form.size)
+            return Explained(True, it.good / max(it.frames, it.good), it.good)
         if self.form.coding is Coding.CDG:
             is_so = it.carrying >= LEAST_PACKS * it.busy and is_no_chance(it.carrying, it.busy, CHANCE_PACK)
         else:
             is_so = it.carrying >= LEAST_WORDS * it.busy and is_no_chance(it.carrying, it.words, CHANCE_WORD)
-        return Explained(False, it.carrying / it.busy, it.carrying * PACK) if is_so else None
+        return Explained(False, it.carrying / it.busy, it.carrying) if is_so else None
 
-    def is_sure(self) -> bool:
+    def is_sure_among(self, others: Sequence["Found"]) -> bool:
+        """Whether nothing better can come: it explains nearly all, and no less than the others that were tried."""
         found = self.explained()
-        return found is not None and found.by_q and found.share >= SURE
+        if found is None or not found.by_q or found.share < SURE:
+            return False
+        return all(found.size >= AS_MUCH * it.size for other in others if (it := other.explained()))
 
     def is_likely(self) -> bool:
         """Whether nothing else has to be tried."""
@@ -111,7 +116,7 @@ def frames_of(blocks: bytes) -> tuple[int, int, int]:
     """How many Q frames are not empty, how many are good, and how many of these have fields."""
     survey = Survey(blocks, RAW, 0, is_trimmed=False)
     good = survey.good_frames()
-    return survey.blocks - sum(survey.empty), good, good - survey.column("q").count(library.Q_OTHER)
+    return survey.blocks - sum(survey.column("empty")), good, good - survey.column("q").count(library.Q_OTHER)
 
 
 def words_of(blocks: bytes, form: int) -> tuple[int, int, int]:
@@ -217,8 +222,9 @@ def any_of(content: bytes) -> bool:
 
 
 def past_header(dump: Dump, found: Found) -> Found:
-    """The same form behind the whole of a header that is longer than a unit."""
-    if not found.skip or found.form.is_packs() or found.form.is_in_sectors():
+    """The same form behind the whole of a header that is longer than a unit, where what comes first is unlikely to be damage."""
+    told = found.explained()
+    if not found.skip or found.form.unit != BLOCK or told is None or not told.by_q or told.share < SURE:
         return found
     blocks = subcode(dump.read(found.skip, MOST_HEADER // found.form.unit * found.form.unit), found.form)
     survey = Survey(blocks, RAW, 0, is_trimmed=False)
@@ -266,10 +272,10 @@ def form_of(dump: Dump, skip: int | None = None) -> tuple[Found | None, list[str
     for stage in stages(dump, windows, skip):
         for candidate in stage:
             seen.append(candidate)
-            if candidate.is_sure():
+            if candidate.is_sure_among(seen):
                 break
-        found = seen[-1] if seen and seen[-1].is_sure() else best(seen)
-        if found is not None and (found.is_sure() or found.is_likely()):
+        found = best(seen)
+        if found is not None and found.is_likely():
             break
     if found is not None:
         return as_named(dump, found if skip is not None else past_header(dump, found)), []
