@@ -77,6 +77,9 @@ done
 try tools/compare_player.sh || complain "the library for programs in C is not as the program"
 try tools/test_linking.sh || complain "the library for programs in C is not linked as it should be"
 
+# Each function of Python has types, and they fit.
+try tools/check_types.sh || complain "the types of Python are not in order"
+
 # The desk does what it says, where the program and the library are built.
 try tools/test_desk.sh || complain "a test of the desk fails"
 
@@ -114,7 +117,7 @@ fi
 
 # Scripts are programs.
 for script in .ci/run tools/*.sh tools/list_definitions.py tools/commands.py tools/tables.py tools/try_refusals.py \
-    tools/compare_programs.py tools/wrap_proofs.py bench/*.py examples/demo.py desk/ribjasper-desk; do
+    tools/compare_programs.py tools/wrap_proofs.py bench/*.py examples/demo.py desk/ribjasper-desk desk/manual_page.py; do
     [ -x "$script" ] || complain "$script cannot be run"
 done
 

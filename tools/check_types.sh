@@ -3,9 +3,12 @@
 cd "$(dirname "$0")/.." || exit 1
 command -v mypy >/dev/null || { echo "check_types: skipped, mypy is not installed"; exit 0; }
 check() {
-    MYPYPATH=$path mypy --config-file desk/pyproject.toml --cache-dir "${TMPDIR:-/tmp}/ribjasper-mypy-$(id -u)" "$@"
+    MYPYPATH=$path mypy --config-file desk/pyproject.toml "$@"
 }
-path=desk:tools:examples check $(git ls-files --cached --others --exclude-standard 'tools/*.py' 'bench/*.py' 'examples/*.py')
+files() { git ls-files --cached --others --exclude-standard "$@" | sort -u; }
+# Modules are looked for beside those that import them, as Python does.
+path=desk:desk/tests:$(files 'tools/*.py' 'tests/*.py' 'examples/*.py' | xargs -n 1 dirname | sort -u | paste -sd :)
+check $(files 'tools/*.py' 'tests/*.py' 'bench/*.py' 'examples/*.py')
 tools=$?
-path=desk:desk/tests:tools check $(git ls-files --cached --others --exclude-standard 'desk/*.py')
+check $(files 'desk/*.py')
 [ "$tools$?" = 00 ]

@@ -46,8 +46,8 @@ class Letters:
 
 
 class Font:
-    """The letters of some files in one size, those that the first lacks from the next; plain ones have no levels between
-    the ground and the full colour."""
+    """The letters of some files in one size, those that the first lacks from the next; plain ones have no levels
+    between the ground and the full colour."""
 
     def __init__(self, paths: Sequence[Path], size: int, is_plain: bool = False):
         self.paths = [*(paths or [DEFAULT_FONT]), *(path for path in FALLBACKS if path.exists())]

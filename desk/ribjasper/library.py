@@ -57,7 +57,7 @@ class Converted(Structure):
     _fields_ = [("bytes", c_uint64), ("blocks", c_uint32), ("bad", c_uint32)]
 
 
-class Row(Structure):
+class SurveyRow(Structure):
     """What is found of a block."""
 
     _fields_ = [

@@ -162,12 +162,20 @@ async function inflated(name) {
   return new Uint8Array(await new Response(stream).arrayBuffer());
 }
 
-/** What draws the picture: the library where the page holds it, or otherwise its changes. */
+/** What draws the picture: the library, if the page holds it and the browser takes it, or otherwise its changes. */
 async function drawn() {
-  if (!document.getElementById("module").textContent.trim()) return new Screen(new Changes(await inflated("changes")), 300, 216);
-  const script = URL.createObjectURL(new Blob([await inflated("module")], { type: "text/javascript" }));
-  const library = await (await import(script)).load(await inflated("wasm"));
-  return new Played(library.player({ form: "packs" }), await inflated("packs"));
+  if (document.getElementById("module").textContent.trim()) {
+    try {
+      const script = URL.createObjectURL(new Blob([await inflated("module")], { type: "text/javascript" }));
+      const library = await (await import(script)).load(await inflated("wasm"));
+      document.body.dataset.drawn = "library";
+      return new Played(library.player({ form: "packs" }), await inflated("packs"));
+    } catch (error) {
+      console.log(`the library cannot be loaded: ${error}`);
+    }
+  }
+  document.body.dataset.drawn = "changes";
+  return new Screen(new Changes(await inflated("changes")), 300, 216);
 }
 
 /** The page: the picture, the line of time, the lines, and the keys. */

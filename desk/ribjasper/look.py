@@ -1,5 +1,5 @@
-"""`look`: one page that plays a song before its film is made: sound, picture, a line of time, and keys that move what is
-sung."""
+"""`look`: one page that plays a song before its film is made: sound, picture, a line of time, and keys that move what
+is sung."""
 import argparse
 import base64
 import html
@@ -13,7 +13,7 @@ from pathlib import Path
 from typing import Any, Iterator, NamedTuple
 
 from . import audio, kinds
-from .album import Album, Sung, Track, sing
+from .album import Album, Sung, ListedTrack, sing
 from .library import BLOCKS_A_SECOND, COLOURS, HEIGHT, PACK, PACKS_A_BLOCK, WIDTH, Player, checkout
 from .lyrics import add_wishes, reads_of, wishes_of
 from .output import Outputs, add_force, tell
@@ -31,9 +31,9 @@ PART = re.compile(r"\{\{(\w+)\}\}")
 def add_parser(commands: Commands) -> None:
     parser = commands.add_parser(
         "look", help="make a page that plays a song, to hear and see before the film",
-        description="Makes one HTML page that plays a song: its sound, its picture as the proved player shows it, and its "
-        "lines on a line of time, those that are late marked. A click jumps there, keys move a line or a syllable by 0.05 "
-        "seconds, the space bar sets times anew, and the lyrics are saved as LRC.")
+        description="Makes one HTML page that plays a song: its sound, its picture as the proved player shows it, and "
+        "its lines on a line of time, those that are late marked. A click jumps there, keys move a line or a syllable by "
+        "0.05 seconds, the space bar sets times anew, and the lyrics are saved as LRC.")
     parser.add_argument("song", type=Path, metavar="SONG", help="the lyrics")
     parser.add_argument("--audio", type=Path, metavar="SOUND", help="the sound (the one beside SONG that has its name)")
     add_wishes(parser)
@@ -59,7 +59,8 @@ def changes_of(packs: bytes) -> Iterator[bytes]:
                 continue
             left, top, right, bottom = box_of(before, pixels)
             rows = [pixels[WIDTH * y + left : WIDTH * y + right] for y in range(top, bottom)]
-            head = struct.pack(">IBHHH", EVERY * number, shown != colours, WIDTH * top + left, right - left, bottom - top)
+            head = struct.pack(">IBHHH", EVERY * number, shown != colours, WIDTH * top + left, right - left,
+                               bottom - top)
             yield head + struct.pack(">16H", *shown) * (shown != colours) + b"".join(rows)
             before, colours = pixels, shown
 
@@ -86,7 +87,8 @@ def song_of(sung: Sung) -> dict[str, Any]:
             late[int(number)] = why.rpartition(":")[0]
     lines = [{
         "number": line.number, "voice": line.voice, "whole": line.is_whole, "late": late.get(line.number, ""),
-        "syllables": [{"text": one.text, "start": round(one.start, 3), "end": round(one.end, 3)} for one in line.syllables],
+        "syllables": [{"text": one.text, "start": round(one.start, 3), "end": round(one.end, 3)}
+                      for one in line.syllables],
     } for line in sung.song.lines]
     return {"title": sung.song.title, "performer": sung.song.performer, "name": f"{sung.track.lyrics.stem}.lrc",
             "seconds": sung.blocks / BLOCKS_A_SECOND, "lines": lines}
@@ -127,12 +129,13 @@ def packed(content: bytes) -> str:
 
 
 def picture_parts(packs: bytes) -> dict[str, str]:
-    """What draws the picture: the library and the packs, or otherwise its changes."""
-    parts = dict.fromkeys(("module", "wasm", "packs", "changes"), "")
+    """What draws the picture: its changes; and before them the library and the packs, where it is built, since not every
+    browser knows modules with addresses of 64 bits."""
+    parts = {"module": "", "wasm": "", "packs": "", "changes": packed(b"".join(changes_of(packs)))}
     if found := web():
-        return parts | {"module": packed(found.script.read_bytes()), "wasm": packed(found.module.read_bytes()),
-                        "packs": packed(packs)}
-    return parts | {"changes": packed(b"".join(changes_of(packs)))}
+        parts |= {"module": packed(found.script.read_bytes()), "wasm": packed(found.module.read_bytes()),
+                  "packs": packed(packs)}
+    return parts
 
 
 def page_of(sung: Sung) -> str:
@@ -150,7 +153,7 @@ def page_of(sung: Sung) -> str:
 def run(arguments: argparse.Namespace) -> int:
     sound = sound_of(arguments)
     with Outputs([*reads_of(arguments), sound], [(arguments.output, kinds.PAGE)], arguments.force) as outputs:
-        track = Track(arguments.song, sound, "", "", "", wishes_of(arguments, None))
+        track = ListedTrack(arguments.song, sound, "", "", "", wishes_of(arguments, None))
         sung = sing(Album(arguments.song, "", "", "", 0, [track]), track)
         page = page_of(sung).encode()
         outputs.write(arguments.output, page)

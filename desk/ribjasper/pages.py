@@ -152,11 +152,11 @@ class Group:
     end: float = 0.0
 
 
-def groups_of(song: Song, font: Font, most: int, rests: bool = True) -> list[Group]:
+def groups_of(song: Song, font: Font, style: Style, rests: bool = True) -> list[Group]:
     """The rows of the song, at most so many a page; the rows of a line stand on one page if they can, and after a rest a
     new page begins."""
     pages: list[Group] = []
-    end = 0.0
+    end, most = 0.0, style.rows
     for number, line in enumerate(song.lines):
         rest = line.start - end
         rows = [(line, row) for row in wrapped(line, font)]
@@ -165,7 +165,7 @@ def groups_of(song: Song, font: Font, most: int, rests: bool = True) -> list[Gro
             if rests and rest > COUNTED_REST:
                 pages[-1].is_counted = True
             if rests and rest >= TOLD_REST and number:
-                pages.insert(-1, rest_page(end, line.start, font))
+                pages.insert(-1, rest_page(style.rest, end, line.start, font))
                 pages[-1].begin = line.start - COMES
         for row in rows:
             if len(pages[-1].rows) == most:
@@ -175,10 +175,10 @@ def groups_of(song: Song, font: Font, most: int, rests: bool = True) -> list[Gro
     return pages
 
 
-def rest_page(end: float, start: float, font: Font) -> Group:
+def rest_page(text: str, end: float, start: float, font: Font) -> Group:
     """A page that tells how long nothing is sung."""
     seconds = round(start - end)
-    return still_page([f"instrumental {seconds // 60}:{seconds % 60:02}"], end + GOES, start - COMES, font)
+    return still_page([f"{text} {seconds // 60}:{seconds % 60:02}"], end + GOES, start - COMES, font)
 
 
 def still_page(texts: list[str], begin: float, end: float, font: Font) -> Group:

@@ -8,7 +8,7 @@ from dataclasses import replace
 from pathlib import Path
 
 from . import audio, kinds
-from .album import Album, Track, sing, write_disc
+from .album import Album, ListedTrack, sing, write_disc
 from .lyrics import add_wishes, reads_of, wishes_of
 from .output import Missing, Outputs, Refusal, add_force, stem_of, tell
 from .songs import Song
@@ -39,7 +39,8 @@ def add_parser(commands: Commands) -> None:
 def sound_of(arguments: argparse.Namespace) -> Path:
     sound = arguments.audio or audio.beside(arguments.song)
     if not sound:
-        raise Refusal(arguments.song, f"has no sound of its name beside it ({', '.join(audio.ENDINGS)}); --audio names one")
+        endings = ", ".join(audio.ENDINGS)
+        raise Refusal(arguments.song, f"has no sound of its name beside it ({endings}); --audio names one")
     return Path(sound)
 
 
@@ -55,7 +56,7 @@ def run(arguments: argparse.Namespace) -> int:
     if arguments.karaoke_cd:
         writes += zip(disc, (kinds.IMAGE, kinds.TOC, kinds.CUE, kinds.STREAM, kinds.CUE))
     with Outputs([*reads_of(arguments), sound], writes, arguments.force) as outputs:
-        track = Track(arguments.song, sound, "", "", "", wishes_of(arguments, None))
+        track = ListedTrack(arguments.song, sound, "", "", "", wishes_of(arguments, None))
         album = Album(arguments.song, "", "", "", 0, [track])
         sung = sing(album, track)
         if arguments.zip:
@@ -84,7 +85,7 @@ def write_sound(outputs: Outputs, name: str, sound: Path, song: Song, as_mp3: bo
 def make_mp3(sound: Path, song: Song, out: str) -> None:
     """Writes the sound as MP3, with its title and singer."""
     if not shutil.which("ffmpeg"):
-        raise Missing("this needs the program ffmpeg (apt-get install ffmpeg); without --mp3 the sound is copied as it is")
+        raise Missing("this needs the program ffmpeg (apt-get install ffmpeg); without --mp3 the sound stays as it is")
     tags = [word for key, text in (("title", song.title), ("artist", song.performer)) if text
             for word in ("-metadata", f"{key}={text}")]
     words = ["ffmpeg", "-v", "error", "-nostdin", "-y", "-i", os.fspath(sound), *tags, *MP3_FORM, out]

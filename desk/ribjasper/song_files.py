@@ -96,11 +96,12 @@ def clip(song: Song) -> None:
     kept = []
     for line in song.lines:
         if line.end <= 0:
-            song.tell(line.number, f"at {line.written} would be sung before the audio begins, and is left out: {line.text}")
+            song.tell(line.number, f"at {line.written} would be sung before the audio begins, and is left out: "
+                      f"{line.text}")
             continue
         if line.start < 0:
-            song.tell(line.number, f"at {line.written} would begin {-line.start:.2f} seconds before the audio, and begins "
-                      f"with it: {line.text}")
+            song.tell(line.number, f"at {line.written} would begin {-line.start:.2f} seconds before the audio, and "
+                      f"begins with it: {line.text}")
             for syllable in line.syllables:
                 syllable.start, syllable.end = max(0.0, syllable.start), max(0.0, syllable.end)
         kept.append(line)

@@ -91,8 +91,8 @@ class Made:
         pictures = sum(line.startswith("show") for line in self.lines)
         pages = sum(page.group.is_sung and bool(page.group.rows) for page in maker.pages)
         plain = "plain " * maker.font.is_plain
-        return (f"{count_of(len(maker.song.lines), 'line')} on {count_of(pages, 'page')} in {plain}letters of {maker.font.size} pixels, {words} "
-                f"words or parts of words, {pictures} pictures; none is late")
+        return (f"{count_of(len(maker.song.lines), 'line')} on {count_of(pages, 'page')} in {plain}letters of "
+                f"{maker.font.size} pixels, {words} words or parts of words, {pictures} pictures; none is late")
 
 
 def count_of(number: int, what: str) -> str:
@@ -194,7 +194,7 @@ def fonts_for(song: Song, wishes: Wishes, notes: list[str]) -> list[Font]:
     fonts = [Font(paths, size) for size in ([asked] if asked else SIZES)]
     texts = {f"line {line.number}": line.text for line in song.lines}
     refuse_missing(song, fonts[0], texts | {"the title": song.title, "the performer": song.performer,
-                                            "the singers": "".join(song.singers)})
+                                            "the singers": "".join(song.singers), "the style": style.rest})
 
     def fits(font: Font) -> bool:
         return Setter(font, list(texts.values()), style.align, bool(style.edge)).tile_rows <= style.slot_rows
@@ -252,7 +252,7 @@ class Maker:
         self.song, self.wishes, self.font, self.style = song, wishes, font, wishes.style
         self.notes: list[str] = []
         self.ground = empty_page(self.style, song.voices)
-        groups = groups_of(song, font, self.style.rows, wishes.rests)
+        groups = groups_of(song, font, self.style, wishes.rests)
         groups += self.last_page()
         setter = Setter(font, texts_of(groups), self.style.align, bool(self.style.edge), song.has_both)
         self.pages = laid_out(groups, setter, self.style, self.ground)

@@ -89,8 +89,8 @@ class Song:
         if name not in self.singers:
             self.singers.append(name)
             if len(self.singers) > 2:
-                self.tell(number, f"has a singer more, {name}: there are colours for two, and this one has those of the "
-                          "second")
+                self.tell(number, f"has a singer more, {name}: there are colours for two, and this one has those of "
+                          "the second")
         return FIRST if name == self.singers[0] else SECOND
 
 

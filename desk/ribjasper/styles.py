@@ -43,6 +43,7 @@ class Style:
     rows: int = 4
     by_page: bool = False
     background: Path | None = None
+    rest: str = "instrumental"
     path: Path | None = None
 
     def files(self) -> list[Path]:
@@ -181,6 +182,7 @@ def read_style(word: str) -> Style:
         rows=table.number("rows", LEAST_ROWS, MOST_ROWS) or 4,
         by_page=table.one_of("mode", ("line", "page"), "line") == "page",
         background=table.file("background"),
+        rest=table.text("rest") or "instrumental",
         path=path,
     )
     table.end()

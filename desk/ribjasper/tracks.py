@@ -1,5 +1,5 @@
-"""The packs of a track: those of its script, authored for itself, so that they begin with presets and all colours and bring
-its pictures from every screen."""
+"""The packs of a track: those of its script, authored for itself, so that they begin with presets and all colours and
+bring its pictures from every screen."""
 from pathlib import Path
 
 from .library import PACK, PACKS_A_BLOCK, RAW, convert
@@ -40,8 +40,8 @@ def packs_of(path: Path, script: bytes, blocks: int) -> bytes:
 
 
 def authored(path: Path, script: bytes, blocks: int) -> bytes | None:
-    """All packs of a disc with this track alone; nothing where its first picture is more than presets and colours, or does
-    not stand until the track begins."""
+    """All packs of a disc with this track alone; nothing where its first picture is more than presets and colours, or
+    does not stand until the track begins."""
     stream, status, told = author(ONE_TRACK, script, 0, blocks)
     if status == LATE:
         raise LateScript(f"{path}: {told}")

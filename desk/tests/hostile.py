@@ -53,6 +53,8 @@ LRC = b"[ti:A song]\n[ar:Somebody]\n[00:01.00]<00:01.10>One <00:01.60>two\n[00:0
 ASS = (b"[Script Info]\nTitle: Two\n[Events]\nFormat: Layer, Start, End, Style, Name, MarginL, MarginR, MarginV, Effect, Text\n"
        b"Dialogue: 0,0:00:01.00,0:00:03.00,Default,,0,0,0,,{\\k50}One, {\\kf70}two\\N{\\k30}three\n")
 ALBUM = (b'title = "All"\nsinger = "Somebody"\ngap = 1\n[[track]]\nlyrics = "in-1"\nsound = "in-2"\ntitle = "One"\nsinger = ""\n')
+DAT = (b'<?xml version="1.0"?>\n<datafile><header><name>x</name></header><game name="in-0"><rom name="in-0" size="5" '
+       b'crc="00000000" md5="d41d8cd98f00b204e9800998ecf8427e"/></game></datafile>\n')
 JOURNAL = b'{"stamp": "1 1.1.0 True 5 5 5", "row": {"file": "x", "status": "good", "form": null, "texts": null, "why": null}}\n'
 
 
@@ -75,6 +77,7 @@ def samples() -> dict[str, tuple[bytes, ...]]:
         "packs": (text_packs(), text_packs() + b"\0", b"\0\x24\0\0" + text_packs()[:34]),
         "journal": (JOURNAL, b'{"stamp": 3, "row": []}\n'),
         "font": (b"no font",),
+        "dat": (DAT, b"<?xml version='1.0'?><datafile><game><rom name='x' size='a'/></game></datafile>"),
         "album": (ALBUM, ALBUM.replace(b"gap = 1", b"gap = 1e400"), ALBUM + b'title = "\\q"\n'),
     }
 
@@ -170,7 +173,7 @@ COMMANDS = (
     Command(("convert",), ("dump",), (Option("-o", writes=True, is_needed=True), Option("--as", FORM.values), Option("--from", PLACE),
                                       Option("--to", PLACE), Option("--silent"), Option("--audio", reads="audio"),
                                       Option("--sheet", reads="sheet"), FORCE)),
-    Command(("sums",), ("dump", "dump"), (Option("--dat", writes=True), Option("--check", reads="sheet"), FORCE)),
+    Command(("sums",), ("dump", "dump"), (Option("--dat", writes=True), Option("--check", reads="dat"), FORCE), 2),
     Command(("sheet",), ("dump",), (Option("-o", writes=True), Option("--toc"), Option("--ccd"), Option("--latin-1"), LEAD_IN, SKIP, FORCE)),
     Command(("sheet",), ("dump",), (Option("--compare", reads="sheet", is_needed=True), LEAD_IN), 2),
     Command(("texts",), ("dump",), (Option("--packs", writes=True), Option("--header"), Option("--all"), LEAD_IN, FORCE)),
@@ -204,6 +207,8 @@ class Made(NamedTuple):
     words: tuple[str, ...]
     inputs: dict[str, bytes]
     outputs: tuple[str, ...]
+    # Those of the inputs that the call reads.
+    reads: frozenset[str]
 
     def __repr__(self) -> str:
         """The words, and of each input its length, its checksum and its beginning; KEEP is a folder where they are left."""
@@ -221,6 +226,7 @@ def calls(draw: st.DrawFn, commands: tuple[Command, ...] = COMMANDS) -> Made:
     care = draw(st.sampled_from((9, 9, 7, 0)))
     inputs: dict[str, bytes] = {}
     outputs: list[str] = []
+    reads: set[str] = set()
     words = list(command.words)
 
     def is_careful() -> bool:
@@ -229,18 +235,21 @@ def calls(draw: st.DrawFn, commands: tuple[Command, ...] = COMMANDS) -> Made:
     def read(kind: str) -> str:
         if kind == "folder":
             for number in range(draw(st.integers(0, 3))):
+                reads.add(f"dumps/{number}")
                 inputs[f"dumps/{number}"] = an_input(draw, draw(st.sampled_from(("dump", "cdg", "journal"))), is_careful())
             return "@dumps"
         name = f"in-{len(inputs)}"
         inputs[name] = an_input(draw, kind, is_careful())
-        return f"@{name}" if is_careful() else draw(st.sampled_from((f"@{name}",) * 6 + ("@none", "@folder", "@notes", "@null")))
+        named = name if is_careful() else draw(st.sampled_from((name,) * 6 + ("none", "folder", "notes", "null")))
+        reads.add(named)
+        return f"@{named}"
 
     def written() -> str:
         place = "new" if is_careful() else draw(st.sampled_from(PLACES))
         if place == "input" and inputs:
             place = draw(st.sampled_from(sorted(inputs)))
         elif place == "new":
-            place = f"new-{len(outputs)}" + draw(st.sampled_from(("", ".cdg", ".png", ".script")))
+            place = f"new-{len(outputs)}" + draw(st.sampled_from(("", ".cdg", ".png", ".raw", ".sub")))
         outputs.append(place)
         return place if place in ("-", "") else f"@{place}"
 
@@ -256,7 +265,7 @@ def calls(draw: st.DrawFn, commands: tuple[Command, ...] = COMMANDS) -> Made:
                 words.append(read(option.reads))
             elif option.values:
                 words.append(draw(st.sampled_from(option.values[:RIGHT] if is_careful() else option.values)))
-    return Made(tuple(words), inputs, tuple(outputs))
+    return Made(tuple(words), inputs, tuple(outputs), frozenset(reads))
 
 
 def lay(folder: Path, call: Made) -> None:
@@ -299,7 +308,7 @@ REACHED = {"link": "target", "dangling": "nowhere", "link-to-input": "in-0"}
 def may_appear(call: Made, name: str) -> bool:
     for output in call.outputs:
         place = REACHED.get(output, output)
-        if name in call.inputs:
+        if name in call.reads:
             return False
         # A name from which several are made leads nowhere itself.
         if name == place or name in [output + ending for ending in ENDINGS]:

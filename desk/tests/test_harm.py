@@ -1,14 +1,16 @@
 """No command costs a user a file: an output that is read too, in each command and option; outputs that are pipes, links,
 devices and standard output; and what is there already."""
 import os
+import signal
 import stat
+import subprocess
+import sys
 import threading
 import unittest
-from pathlib import Path
 
 from fixtures import (
-    HELLO, LEAD_IN, FolderTest, Ran, Word, desk, hello, hello_packs, needs_ffmpeg, needs_font, needs_library,
-    needs_pillow, needs_plan, program, with_burst, write_wav,
+    DESK, HELLO, FolderTest, Ran, Word, desk, hello, hello_packs, needs_ffmpeg, needs_font, needs_library, needs_pillow,
+    needs_plan, text, with_burst, word, write_wav,
 )  # fmt: skip
 
 from ribjasper import kinds
@@ -234,11 +236,6 @@ class OutputsTest(CallsTest):
     @staticmethod
     def process(out: object, *words: Word) -> Ran:
         """A call whose standard output is a file, or closed."""
-        import subprocess
-        import sys
-
-        from fixtures import DESK, text, word
-
         how = {"stdout": out} if out else {"preexec_fn": lambda: os.close(1)}
         ran = subprocess.run([sys.executable, DESK, *map(word, words)], stderr=subprocess.PIPE, **how)  # type: ignore
         return Ran(ran.returncode, "", text(ran.stderr))
@@ -310,25 +307,20 @@ class DrawnTest(CallsTest):
 class StoppedTest(CallsTest):
     """A command that is stopped while it works leaves nothing, and says so."""
 
-    @needs_library
     def test_each_signal(self) -> None:
-        import signal
-        import subprocess
-        import sys
-        import time
-
-        from fixtures import DESK
-
-        cdg = self.write("f.cdg", bytes(24 * 300 * 2000))
-        page = self.folder / "f.png"
+        song, script = self.folder / "song", self.write("s.script", b"# old\n")
+        os.mkfifo(song)
         for number in (signal.SIGINT, signal.SIGTERM, signal.SIGHUP):
-            words = [sys.executable, str(DESK), "film", str(cdg), "--stills", str(page)]
-            with subprocess.Popen(words, stderr=subprocess.PIPE) as running:
-                time.sleep(0.7)
-                running.send_signal(number)
-                told = running.communicate()[1]
-            self.assertEqual((running.returncode, told), (128 + number, b"ribjasper-desk: stopped\n"))
-            self.assertEqual(sorted(path.name for path in self.folder.iterdir()), ["f.cdg"])
+            for out in (script, self.folder / "new"):
+                words = [sys.executable, str(DESK), "lyrics", str(song), "-o", str(out)]
+                with subprocess.Popen(words, stderr=subprocess.PIPE) as running:
+                    # It is opened once the command reads it, which then waits.
+                    with open(song, "wb"):
+                        running.send_signal(number)
+                        told = running.communicate()[1]
+                self.assertEqual((running.returncode, told), (128 + number, b"ribjasper-desk: stopped\n"))
+                self.assertEqual(sorted(os.listdir(self.folder)), ["s.script", "song"])
+                self.assertEqual(script.read_bytes(), b"# old\n")
 
 
 if __name__ == "__main__":

@@ -8,7 +8,7 @@ import unittest
 from typing import Callable, NamedTuple
 
 import known_dumps as known
-from archivists import FolderTest, Word, desk, needs_library
+from fixtures import FolderTest, Word, desk, needs_library
 from known_dumps import BLOCK, REDUMPER_LEAD_IN, album, program
 
 DISC = album(4, 3, catalogue="0123456789012")

@@ -139,24 +139,31 @@ class LookTest(FolderTest):
     @unittest.skipUnless(CHROMIUM, "chromium is not installed")
     def test_in_a_browser(self) -> None:
         with mock.patch.dict(os.environ, {"RIBJASPER_WEB": str(self.folder)}):
-            self.check_in_a_browser(self.page())
+            self.check_in_a_browser(self.page(), "changes")
 
     @unittest.skipUnless(CHROMIUM, "chromium is not installed")
     @unittest.skipUnless(web(), "lib/web is not built (make web)")
     def test_in_a_browser_by_the_library(self) -> None:
         page = self.page()
         packs = zlib.decompress(base64.b64decode(self.part(page, "packs")))
-        self.assertEqual(self.part(page, "changes"), "")
-        self.check_in_a_browser(page)
+        self.check_in_a_browser(page, "library")
         self.assertEqual(packs, (self.folder / "b.cdg").read_bytes())
 
-    def check_in_a_browser(self, page: str) -> None:
+    @unittest.skipUnless(CHROMIUM, "chromium is not installed")
+    def test_a_library_that_a_browser_does_not_take(self) -> None:
+        for name in ("ribjasper.wasm", "ribjasper.mjs"):
+            self.write(f"web/{name}", "export function load() { throw new Error('not here'); }")
+        with mock.patch.dict(os.environ, {"RIBJASPER_WEB": str(self.folder / "web")}):
+            self.check_in_a_browser(self.page(), "changes")
+
+    def check_in_a_browser(self, page: str, drawn: str) -> None:
         profile = self.folder / "profile"
         for second, block in ((7.2, 540), (11.6, 870)):
             words = [str(CHROMIUM), "--headless", "--no-sandbox", "--disable-gpu", f"--user-data-dir={profile}",
                      "--virtual-time-budget=6000", "--dump-dom", f"file://{self.folder}/a.html#{second}"]
             page = subprocess.run(words, capture_output=True, text=True, timeout=120).stdout
             self.assertIn('data-ready="yes"', page)
+            self.assertIn(f'data-drawn="{drawn}"', page)
             found = re.search(r'data-shown="(\d+)"', page)
             assert found
             sums = [checksum(pixels) for pixels in self.screens([block - 3, block, block + 3])]

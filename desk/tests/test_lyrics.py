@@ -4,9 +4,10 @@ import unittest
 from pathlib import Path
 from typing import Iterator
 
-from fixtures import (PAUSE, SONG, TOP, FolderTest, Ran, Word, desk, needs_font, needs_pillow, needs_plan,
-                      needs_program, write_wav)
-from publishers import LEAD_IN, author, screen
+from fixtures import (
+    PAUSE, ROOMY_LEAD_IN as LEAD_IN, SONG, TOP, FolderTest, Ran, Screen, Word, author_files as author, desk,
+    needs_font, needs_pillow, needs_plan, needs_program, screen, write_wav,
+)  # fmt: skip
 from ribjasper.colours import Colour, contrast
 from ribjasper.library import HEIGHT, PACK, RAW, WIDTH, Player, convert
 from ribjasper.lyrics import add_parser, wishes_of
@@ -118,15 +119,28 @@ class ScriptTest(FolderTest):
                 done = 4 * block - 7
                 yield block, pixels
 
+    def pictures(self, script: Path, blocks: list[int]) -> dict[int, Screen]:
+        """What stands at some blocks of the program, by the library; at the first of them by the program too."""
+        stream = self.stream(script)
+        packs, _ = convert(stream.read_bytes(), RAW, LEAD_IN)
+        shown, done = {}, 0
+        with Player() as player:
+            for block in sorted(set(blocks)):
+                player.draw(packs[PACK * done : PACK * (4 * block - 7)])
+                done = 4 * block - 7
+                shown[block] = Screen(player.picture())
+        self.assertEqual(shown[min(blocks)], screen(stream, min(blocks)))
+        return shown
+
     def check_words(self, script: Path, maker: Maker, step: int = 1) -> None:
         """That words stand in the one colour before their times, and in the other from them on."""
-        stream = self.stream(script)
         style, seen = maker.style, 0
         lights = [due for due in maker.dues if not isinstance(due.steps[0], DotOut)]
+        early = {due: due.block - EARLY - blocks_for(due.steps) - 1 for due in lights}
+        shown = self.pictures(script, [block for due in lights[::step] for block in (early[due], due.block)])
         for due in lights[::step]:
             light, placed = due.steps[0], due.placed
-            early = due.block - EARLY - blocks_for(due.steps) - 1
-            before, after = screen(stream, early), screen(stream, due.block)
+            before, after = shown[early[due]], shown[due.block]
             for number, ink in enumerate((3, 7)):
                 full = self.pixels(placed, light.left, light.right, ink)
                 seen += len(full) > 5
@@ -425,6 +439,11 @@ class ReadableTest(ScriptTest):
         _, script, maker = self.made(self.write("a.lrc", text))
         rest = next(page.placed[-1] for page in maker.pages if not page.group.is_sung)
         self.assertEqual(rest.text(), "instrumental 1:05")
+        style = self.write("a.toml", 'rest = "Zwischenspiel"\n[[voice]]\nunsung = "#FFF"\nsung = "#28F"\n')
+        _, _, german = self.made(self.folder / "a.lrc", "--style", style)
+        self.assertEqual(next(page.placed[-1] for page in german.pages if not page.group.is_sung).text(),
+                         "Zwischenspiel 1:05")
+        _, script, maker = self.made(self.folder / "a.lrc")
         ink = {(x, rest.top + y) for y, row in enumerate(self.letters(rest)) for x in range(288) if row[x]}
         stands = {second: self.shown(pixels, maker, rest.slot) for second, pixels in
                   ((block / 75 - 2, pixels) for block, pixels in self.screens(script)) if second in (11, 16, 60, 72)}
