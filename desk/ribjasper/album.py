@@ -46,7 +46,7 @@ singer = {singer}
 
 
 @dataclass
-class Track:
+class ListedTrack:
     """A song of the list."""
 
     lyrics: Path
@@ -66,14 +66,14 @@ class Album:
     singer: str
     catalogue: str
     gap: int
-    tracks: list[Track]
+    tracks: list[ListedTrack]
 
 
 @dataclass
 class Sung:
     """A track with its song, its script, its blocks and its packs."""
 
-    track: Track
+    track: ListedTrack
     song: Song
     made: Made
     blocks: int
@@ -169,7 +169,7 @@ def style_file(beside: Path, style: str) -> str:
     return os.fspath(beside.parent / style) if style.endswith(".toml") else style
 
 
-def read_track(table: Table, number: int, common: Wishes) -> Track:
+def read_track(table: Table, number: int, common: Wishes) -> ListedTrack:
     lyrics, sound = table.file("lyrics"), table.file("sound")
     if not lyrics or not sound:
         raise Refusal(table.path, f"track {number} needs lyrics and sound")
@@ -181,12 +181,12 @@ def read_track(table: Table, number: int, common: Wishes) -> Track:
     wishes = replace(common, title=table.file("picture"), sweep=common.sweep if sweep is None else sweep,
                      lead=common.lead if lead is None else lead,
                      style=read_style(style_file(table.path, style)) if style else common.style)
-    track = Track(lyrics, sound, table.text("title") or "", table.text("singer") or "", code, wishes)
+    track = ListedTrack(lyrics, sound, table.text("title") or "", table.text("singer") or "", code, wishes)
     table.end()
     return track
 
 
-def sing(album: Album, track: Track) -> Sung:
+def sing(album: Album, track: ListedTrack) -> Sung:
     """The script and the packs of a track."""
     song = read_song(track.lyrics)
     song.title, song.performer = track.title or song.title, track.singer or song.performer or album.singer

@@ -5,8 +5,9 @@ from dataclasses import dataclass, field
 from pathlib import Path
 
 from .output import Outputs, Refusal, tell
-from .q_disc import CATALOGUE, ISRC, PAUSE, Disc
+from .q_disc import CATALOGUE, ISRC, Disc
 from .survey import spelled
+from .times import PAUSE
 
 NAMES = ("track", "what", "contents", "q", "cue")
 AUDIO_SECTOR, IMAGE_SECTOR = 2352, 2448

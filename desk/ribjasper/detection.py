@@ -62,7 +62,7 @@ class Signs(NamedTuple):
 
 
 class Explained(NamedTuple):
-    """Whether Q tells, or the words do; the share that is good of what is not empty; and how many bytes of subcode it is."""
+    """Whether Q tells, or the words do; the share that is good of what is not empty; and how many frames, or words, are."""
 
     by_q: bool
     share: float
@@ -82,14 +82,14 @@ class Found(NamedTuple):
         if self.form.coding is Coding.PQ:
             # A check that is not there is right in any unit: here the fields tell.
             is_so = it.fields >= LEAST_UNCHECKED * it.frames and is_no_chance(it.fields, it.frames, CHANCE_UNCHECKED)
-            return Explained(True, it.fields / it.frames, it.fields * self.form.size) if is_so else None
+            return Explained(True, it.fields / it.frames, it.fields) if is_so else None
         if is_no_chance(it.good, it.frames, CHANCE_FRAME) or is_no_chance(it.fields, it.frames, CHANCE_FIELDS):
-            return Explained(True, it.good / max(it.frames, it.good), it.good * self.form.size)
+            return Explained(True, it.good / max(it.frames, it.good), it.good)
         if self.form.coding is Coding.CDG:
             is_so = it.carrying >= LEAST_PACKS * it.busy and is_no_chance(it.carrying, it.busy, CHANCE_PACK)
         else:
             is_so = it.carrying >= LEAST_WORDS * it.busy and is_no_chance(it.carrying, it.words, CHANCE_WORD)
-        return Explained(False, it.carrying / it.busy, it.carrying * PACK) if is_so else None
+        return Explained(False, it.carrying / it.busy, it.carrying) if is_so else None
 
     def is_sure_among(self, others: Sequence["Found"]) -> bool:
         """Whether nothing better can come: it explains nearly all, and no less than the others that were tried."""
@@ -266,6 +266,8 @@ def form_of(dump: Dump, skip: int | None = None) -> tuple[Found | None, list[str
     for."""
     seen: list[Found] = []
     found = None
+    if not any(fits(dump, form) for form in PLAIN_FORMS):
+        return None, [reason(dump, form, None) for form in PLAIN_FORMS]
     windows = windows_of(dump, False) or windows_of(dump, True)
     if dump.size and not windows:
         return None, [f"{form.name}: all bytes are zeros" for form in PLAIN_FORMS]

@@ -18,7 +18,7 @@ COPY, PRE_EMPHASIS, FOUR_CHANNELS = 2, 1, 8
 
 
 @dataclass
-class Track:
+class SheetTrack:
     """A track: blocks of the program for where it begins, for its indices from 01 on, and for where it ends; the
     silence before and behind it; the control bits of its frames; and its texts by their kinds."""
 
@@ -33,11 +33,11 @@ class Track:
 
 
 @dataclass
-class Disc:
+class SheetDisc:
     """The tracks, the texts of the album, and the stream of the sheet with no pictures, of which so many blocks are
     lead-in."""
 
-    tracks: list[Track]
+    tracks: list[SheetTrack]
     texts: dict[str, bytes]
     stream: bytes
     lead_in: int
@@ -58,7 +58,7 @@ class Disc:
         return self.stream[at : at + BLOCK]
 
 
-def read_disc(path: Path, sheet: bytes, audio: int) -> Disc:
+def read_disc(path: Path, sheet: bytes, audio: int) -> SheetDisc:
     """What a sheet says, for an audio of so many blocks."""
     try:
         lead_in = least_lead_in(sheet, audio) + ROOM_FOR_TABLE
@@ -70,7 +70,7 @@ def read_disc(path: Path, sheet: bytes, audio: int) -> Disc:
     said = library.sheet(sheet)
     if said.why:
         raise Refusal(path, NoPlan(Why.SHEET_REFUSED, said.line, said.why).cause())
-    disc = Disc(tracks_of(said.rows), texts_of(sheet, 0, said.catalogue), stream, lead_in)
+    disc = SheetDisc(tracks_of(said.rows), texts_of(sheet, 0, said.catalogue), stream, lead_in)
     for place, track in enumerate(disc.tracks, 1):
         track.texts |= texts_of(sheet, place, b"")
     for track, following in zip(disc.tracks, disc.tracks[1:]):
@@ -79,16 +79,17 @@ def read_disc(path: Path, sheet: bytes, audio: int) -> Disc:
     return disc
 
 
-def tracks_of(rows: list[SheetRow]) -> list[Track]:
+def tracks_of(rows: list[SheetRow]) -> list[SheetTrack]:
     """The tracks of the index lines of a sheet, as far as they tell them. Two indices at one time are one, as on the
     disc."""
-    tracks: list[Track] = []
+    tracks: list[SheetTrack] = []
     gaps = 0
     for _, lines in itertools.groupby(rows, key=track_of):
         first, *others = lines
         here = PAUSE + gaps + first.pregap
         times = sorted({here + row.time for row in (first, *others) if row.index})
-        track = Track(first.track, PAUSE + gaps + first.time if tracks else 0, times, 0, first.pregap, first.postgap, first.control)
+        begin = PAUSE + gaps + first.time if tracks else 0
+        track = SheetTrack(first.track, begin, times, 0, first.pregap, first.postgap, first.control)
         if first.has_isrc:
             track.texts["code"] = bytes(first.isrc)
         tracks.append(track)

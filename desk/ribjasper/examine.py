@@ -12,7 +12,7 @@ from .loading import Asked, Loaded, load_found
 from .output import Failure, package, shown
 from .sums import Sums, sums_of
 
-Row = dict[str, Any]
+ReportRow = dict[str, Any]
 COLUMNS = (
     "file", "status", "form", "lead-in", "blocks", "rest", "graphics", "texts", "q-good", "clean", "one", "two", "bad",
     "q-bad", "empty", "runs", "jumps", "damage", "size", "sha256", "why", "unread", "notes", "crc32", "md5", "sha1",
@@ -21,7 +21,7 @@ COLUMNS = (
 # What a row's status says.
 GOOD, DAMAGED, TORN, EMPTY, FOREIGN, UNREAD = "good", "damaged", "torn", "empty", "foreign", "unread"
 # A picture stands when no pack of graphics comes for a second; else it is taken after ten.
-PAUSE, LONGEST = 300, 3000
+STANDS, LONGEST = 300, 3000
 # So many packs of graphics are drawn at most until a picture shows.
 MOST_DRAWN = 30_000
 # So many places stand in a row; a list has all.
@@ -32,7 +32,7 @@ class Examined(NamedTuple):
     """A row by the names of its columns; two pictures, PNG files, where there are any; and a list of places, where there is
     damage."""
 
-    row: Row
+    row: ReportRow
     first_picture: bytes | None = None
     map: bytes | None = None
     places: bytes | None = None
@@ -57,7 +57,7 @@ def first_picture(parts: Iterable[bytes]) -> bytes | None:
             while at < len(kinds) and drawn < MOST_DRAWN:
                 found = kinds.find(GRAPHICS, at)
                 waited += (found if found >= 0 else len(kinds)) - at
-                if since and (waited >= PAUSE or since >= LONGEST):
+                if since and (waited >= STANDS or since >= LONGEST):
                     picture = player.picture()
                     if shows_something(picture):
                         return picture
@@ -87,7 +87,7 @@ def status_of(loaded: Loaded, found: list[Damage]) -> str:
     return DAMAGED if found else GOOD
 
 
-def row_of(loaded: Loaded, found: list[Damage]) -> Row:
+def row_of(loaded: Loaded, found: list[Damage]) -> ReportRow:
     """The columns of a dump whose form is known."""
     survey, told = loaded.survey, identity(loaded)
     runs = [it for it in found if it.kind == RUN]
@@ -118,13 +118,13 @@ def list_of(places: Iterable[Damage]) -> bytes:
     return "".join(f"{row}\n" for row in rows).encode()
 
 
-def with_sums(row: Row, found: Sums) -> None:
+def with_sums(row: ReportRow, found: Sums) -> None:
     row.update({"size": found.size, "sha256": found.sha256, "crc32": found.crc32, "md5": found.md5, "sha1": found.sha1})
 
 
 def examine(path: str, name: str, with_pictures: bool = True, words: Asked = Asked()) -> Examined:
     """All that a report tells of a file, whatever it is."""
-    row: Row = dict.fromkeys(COLUMNS)
+    row: ReportRow = dict.fromkeys(COLUMNS)
     row["file"] = name
     try:
         with_sums(row, sums_of(path))

@@ -65,13 +65,14 @@ class Form(NamedTuple):
         return self._replace(name=name, order=order)
 
 
+# In the order in which they are tried: of P and Q alone each sixth unit looks like the Q of a planar block.
 PLAIN_FORMS = (
     Form("raw", BLOCK, BLOCK, Coding.RAW),
+    Form("pq", PQ, PQ, Coding.PQ),
     Form("planar", BLOCK, BLOCK, Coding.PLANAR),
     Form("sector", AUDIO + BLOCK, BLOCK, Coding.RAW),
-    Form("sector-planar", AUDIO + BLOCK, BLOCK, Coding.PLANAR),
-    Form("pq", PQ, PQ, Coding.PQ),
     Form("sector-pq", AUDIO + PQ, PQ, Coding.PQ),
+    Form("sector-planar", AUDIO + BLOCK, BLOCK, Coding.PLANAR),
     Form("cooked", BLOCK, BLOCK, Coding.COOKED),
     Form("cooked-sector", AUDIO + BLOCK, BLOCK, Coding.COOKED),
     Form("cdg", PACK, PACK, Coding.CDG),

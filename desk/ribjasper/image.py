@@ -5,7 +5,7 @@ from pathlib import Path
 from typing import Iterator
 
 from . import audio, kinds, latin1
-from .discs import COPY, FOUR_CHANNELS, PRE_EMPHASIS, Disc, Track, read_disc
+from .discs import COPY, FOUR_CHANNELS, PRE_EMPHASIS, SheetDisc, SheetTrack, read_disc
 from .library import BLOCK, PACK, PACKS_A_BLOCK, RAW, SECTOR, Player, convert, texts
 from .output import LATE, Outputs, Refusal, add_force, read_file, stem_of, tell
 from .program import author
@@ -39,7 +39,7 @@ def add_parser(commands: Commands) -> None:
     parser.set_defaults(run=run)
 
 
-def checked(arguments: argparse.Namespace, disc: Disc) -> bytes:
+def checked(arguments: argparse.Namespace, disc: SheetDisc) -> bytes:
     """The program of the stream: its blocks from the first pause on, as the sheet and the audio ask for."""
     stream = open_stream(arguments.stream)
     if stream.is_packs():
@@ -73,7 +73,7 @@ def loses_pictures(program: bytes) -> str | None:
             "--hold-through-pause SCRIPT puts a black picture before them")
 
 
-def tell_texts(arguments: argparse.Namespace, disc: Disc) -> None:
+def tell_texts(arguments: argparse.Namespace, disc: SheetDisc) -> None:
     """Tells if the texts of the sheet, which the image gets, are not those of the stream."""
     stream = open_stream(arguments.stream)
     if not stream.lead_in:
@@ -89,7 +89,7 @@ def tell_texts(arguments: argparse.Namespace, disc: Disc) -> None:
              f"have: {len(differ)} differ, as `{line}` of the {of}")
 
 
-def held(arguments: argparse.Namespace, disc: Disc) -> bytes:
+def held(arguments: argparse.Namespace, disc: SheetDisc) -> bytes:
     """The program of a stream whose script begins with a picture that is held through the pause."""
     script = read_file(arguments.hold_through_pause).removeprefix(b"\xef\xbb\xbf")
     sheet = read_file(arguments.sheet)
@@ -106,7 +106,7 @@ class Late(Exception):
     """A picture cannot be ready."""
 
 
-def sectors(disc: Disc, program: bytes, path: Path) -> Iterator[bytes]:
+def sectors(disc: SheetDisc, program: bytes, path: Path) -> Iterator[bytes]:
     """The sectors of the image: audio, or silence where the sheet has a gap, and the block."""
     silent = disc.silence()
     samples = audio.sectors(path)
@@ -122,7 +122,7 @@ def in_quotes(text: bytes) -> str:
     return '"' + "".join(chr(byte) if 32 <= byte < 127 else f"\\{byte:03o}" for byte in spelled) + '"'
 
 
-def toc_texts(disc: Disc, texts: dict[str, bytes], of_album: bool) -> list[str]:
+def toc_texts(disc: SheetDisc, texts: dict[str, bytes], of_album: bool) -> list[str]:
     """The texts of the album or of a track; of each kind that any of them has, since burners want it of all."""
     everywhere = [disc.texts, *(track.texts for track in disc.tracks)]
     lines = [f"    {name.decode()} {in_quotes(texts.get(kind, b''))}" for kind, name in COMMANDS.items()
@@ -135,7 +135,7 @@ def toc_texts(disc: Disc, texts: dict[str, bytes], of_album: bool) -> list[str]:
     return ["CD_TEXT {", *languages, "  LANGUAGE 0 {", *lines, "  }", "}"]
 
 
-def toc_track(disc: Disc, track: Track, name: str) -> list[str]:
+def toc_track(disc: SheetDisc, track: SheetTrack, name: str) -> list[str]:
     begin = max(track.begin, PAUSE)
     control = track.control
     lines = ["", f"// Track {track.number}", "TRACK AUDIO RW_RAW",
@@ -151,7 +151,7 @@ def toc_track(disc: Disc, track: Track, name: str) -> list[str]:
     return lines + [f"INDEX {clock(index - track.indices[0])}" for index in track.indices[1:]]
 
 
-def toc_of(disc: Disc, name: str) -> str:
+def toc_of(disc: SheetDisc, name: str) -> str:
     """What cdrdao reads. The first pause is not in it: a burner makes it."""
     catalogue = [f"CATALOG {in_quotes(disc.texts['code'])}"] if disc.texts.get("code") else []
     lines = ["CD_DA", *catalogue, *toc_texts(disc, disc.texts, True)]
@@ -165,7 +165,7 @@ def cue_texts(texts: dict[str, bytes], margin: bytes) -> list[bytes]:
             if kind in texts and (spelled := quoted(texts[kind]))]
 
 
-def cue_of(disc: Disc, name: str) -> bytes:
+def cue_of(disc: SheetDisc, name: str) -> bytes:
     """A sheet of the image: tracks of sectors with subcode, whose gaps are in the file."""
     code = disc.texts.get("code")
     lines = [b"CATALOG " + code] if code else []
@@ -185,7 +185,7 @@ def cue_of(disc: Disc, name: str) -> bytes:
     return b"".join(line + b"\n" for line in lines)
 
 
-def warn(arguments: argparse.Namespace, disc: Disc, program: bytes) -> None:
+def warn(arguments: argparse.Namespace, disc: SheetDisc, program: bytes) -> None:
     if lost := loses_pictures(program):
         tell(f"{arguments.stream}: {lost}")
     tell_texts(arguments, disc)

@@ -57,7 +57,7 @@ class Converted(Structure):
     _fields_ = [("bytes", c_uint64), ("blocks", c_uint32), ("bad", c_uint32)]
 
 
-class Row(Structure):
+class SurveyRow(Structure):
     """What is found of a block."""
 
     _fields_ = [
@@ -199,11 +199,9 @@ CALLS = {
     "ribjasper_player_open": ([_PLAYER], c_int32),
     "ribjasper_player_close": ([_PLAYER], None),
     "ribjasper_player_begin": ([_PLAYER, c_uint32, c_uint32], c_int32),
-    "ribjasper_player_feed": ([_PLAYER, _BYTES], c_int32),
-    "ribjasper_player_take": ([_PLAYER, _BYTES, Pack * PACKS_A_BLOCK], c_int32),
-    "ribjasper_player_draw": ([_PLAYER, _BYTES], c_int32),
     "ribjasper_player_feed_all": ([_PLAYER, _BYTES, c_size_t, POINTER(Change)], c_int32),
     "ribjasper_player_draw_all": ([_PLAYER, _BYTES, c_size_t, POINTER(Change)], c_int32),
+    "ribjasper_player_take": ([_PLAYER, _BYTES, Pack * PACKS_A_BLOCK], c_int32),
     "ribjasper_player_screen": ([_PLAYER, _BYTES], c_int32),
     "ribjasper_player_picture": ([_PLAYER, _BYTES], c_int32),
     "ribjasper_player_colours": ([_PLAYER, c_uint16 * COLOURS], c_int32),

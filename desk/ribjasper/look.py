@@ -13,7 +13,7 @@ from pathlib import Path
 from typing import Any, Iterator, NamedTuple
 
 from . import audio, kinds
-from .album import Album, Sung, Track, sing
+from .album import Album, Sung, ListedTrack, sing
 from .library import BLOCKS_A_SECOND, COLOURS, HEIGHT, PACK, PACKS_A_BLOCK, WIDTH, Player, checkout
 from .lyrics import add_wishes, reads_of, wishes_of
 from .output import Outputs, add_force, tell
@@ -153,7 +153,7 @@ def page_of(sung: Sung) -> str:
 def run(arguments: argparse.Namespace) -> int:
     sound = sound_of(arguments)
     with Outputs([*reads_of(arguments), sound], [(arguments.output, kinds.PAGE)], arguments.force) as outputs:
-        track = Track(arguments.song, sound, "", "", "", wishes_of(arguments, None))
+        track = ListedTrack(arguments.song, sound, "", "", "", wishes_of(arguments, None))
         sung = sing(Album(arguments.song, "", "", "", 0, [track]), track)
         page = page_of(sung).encode()
         outputs.write(arguments.output, page)

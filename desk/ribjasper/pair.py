@@ -8,7 +8,7 @@ from dataclasses import replace
 from pathlib import Path
 
 from . import audio, kinds
-from .album import Album, Track, sing, write_disc
+from .album import Album, ListedTrack, sing, write_disc
 from .lyrics import add_wishes, reads_of, wishes_of
 from .output import Missing, Outputs, Refusal, add_force, stem_of, tell
 from .songs import Song
@@ -56,7 +56,7 @@ def run(arguments: argparse.Namespace) -> int:
     if arguments.karaoke_cd:
         writes += zip(disc, (kinds.IMAGE, kinds.TOC, kinds.CUE, kinds.STREAM, kinds.CUE))
     with Outputs([*reads_of(arguments), sound], writes, arguments.force) as outputs:
-        track = Track(arguments.song, sound, "", "", "", wishes_of(arguments, None))
+        track = ListedTrack(arguments.song, sound, "", "", "", wishes_of(arguments, None))
         album = Album(arguments.song, "", "", "", 0, [track])
         sung = sing(album, track)
         if arguments.zip:

@@ -9,9 +9,8 @@ from .library import BLOCK, QFrame
 from .loading import Loaded
 from .pieces import Piece, pieces_of
 from .survey import Clock, Stretch
+from .times import PAUSE
 
-# The blocks from the start of the program to that of the audio file.
-PAUSE = 150
 DATA = 4
 # So many blocks of a lead-in are looked at for the table of contents, and so many frames of a track for its control bits.
 MOST_OF_LEAD_IN, SAMPLED = 20_000, 25
@@ -223,7 +222,7 @@ def unescaped(text: str) -> bytes:
     return re.sub(rb"\\([0-9A-Fa-f]{2})", lambda found: bytes.fromhex(found[1].decode()), text.encode())
 
 
-def texts(source: Source) -> dict[tuple[str, int], bytes]:
+def lead_in_texts(source: Source) -> dict[tuple[str, int], bytes]:
     blocks = source.survey.lead_in
     found = {}
     for line in library.texts(source.stream[: BLOCK * blocks], blocks).splitlines():
@@ -259,7 +258,7 @@ def session_of(number: int, block: int | None, bounds: list[int], told: dict[int
 
 def disc(source: Source, told: dict[int, int] | None = None) -> Disc:
     """All that a sheet says, of the frames of the program and else of the lead-in."""
-    met, found_texts = starts(source), texts(source)
+    met, found_texts = starts(source), lead_in_texts(source)
     listed, end = contents(source)
     isrc, number_of_disc = codes(source), catalogue(source)
     bounds, tracks, votes = session_starts(source), [], []

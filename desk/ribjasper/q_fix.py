@@ -11,8 +11,9 @@ from .forms import Coding, Form, in_order, subcode, to_planar, to_pq
 from .library import BLOCK, QFrame
 from .loading import Loaded, add_options, asked, load_raw
 from .output import FOUND, Outputs, Refusal, add_force, shown, tell
-from .q_disc import PAUSE, Source, codes, catalogue
+from .q_disc import Source, codes, catalogue
 from .survey import Run, runs, spelled
+from .times import PAUSE
 
 NAMES = ("kind", "block", "time", "what")
 FILLED, LEFT, CHANGED, P_WRONG, ORDER = "filled", "left", "changed", "p", "order"
@@ -33,7 +34,7 @@ class Gap(NamedTuple):
     why: str  # why there are none
 
 
-class Row(NamedTuple):
+class Finding(NamedTuple):
     kind: str
     block: int
     time: str
@@ -98,7 +99,7 @@ class Fixed(NamedTuple):
     """What q-fix found: the rows of its table, the frames to be filled in by block, and those that are changed by design, by
     the absolute time of their place."""
 
-    rows: list[Row]
+    rows: list[Finding]
     frames: dict[int, bytes]
     changed: dict[int, bytes]
 
@@ -160,25 +161,25 @@ def fixed(source: Source) -> Fixed:
 
 def fill(source: Source, gap: Gap, block: int, is_design: bool, coded: list[tuple[int, dict[int, bytes]]], result: Fixed) -> None:
     if not gap.frames:
-        result.rows.append(Row(LEFT, block, "-", gap.why))
+        result.rows.append(Finding(LEFT, block, "-", gap.why))
         return
     frame = gap.frames[block - gap.run.first]
     time = spelled(frame.absolute)
     if is_design:
         found = q_bytes(source.stream[BLOCK * block : BLOCK * (block + 1)])
         result.changed[frame.absolute] = found
-        result.rows.append(Row(CHANGED, block, time, found[:-CHECK].hex()))
+        result.rows.append(Finding(CHANGED, block, time, found[:-CHECK].hex()))
         return
     found_frame = nearest(source, block, frame, coded)
     if found_frame is None:
-        result.rows.append(Row(LEFT, block, time, "no frame can say its time"))
+        result.rows.append(Finding(LEFT, block, time, "no frame can say its time"))
         return
     result.frames[block] = found_frame[0]
     what = f"track {frame.track:02} index {frame.index:02} {spelled(frame.time)}, {found_frame[1]} bits other"
-    result.rows.append(Row(FILLED, block, time, what))
+    result.rows.append(Finding(FILLED, block, time, what))
 
 
-def p_rows(source: Source) -> Iterator[Row]:
+def p_rows(source: Source) -> Iterator[Finding]:
     """Where P does not say what Q does: it is set in the pause before a track, two seconds long at least, and falls with its
     index 01. Where it is set nowhere it says nothing."""
     if not any(source.has_p(block) for block in samples(source)):
@@ -191,9 +192,9 @@ def p_rows(source: Source) -> Iterator[Row]:
             if known is not None and now != known and now[1] == 1 and known != (now[0], 1):
                 time = source.survey.absolute(block)
                 if source.has_p(block) and source.has_p(block + 1):
-                    yield Row(P_WRONG, block, spelled(time), f"P is set where index 01 of track {now[0]:02} begins")
+                    yield Finding(P_WRONG, block, spelled(time), f"P is set where index 01 of track {now[0]:02} begins")
                 elif time > PAUSE and not source.has_p(block - 2):
-                    yield Row(P_WRONG, block, spelled(time), f"P is not set before index 01 of track {now[0]:02}")
+                    yield Finding(P_WRONG, block, spelled(time), f"P is not set before index 01 of track {now[0]:02}")
             known = now
 
 
@@ -207,7 +208,7 @@ def samples(source: Source) -> list[int]:
     return [at - 3 for at in found] or [0]
 
 
-def order_rows(source: Source) -> Iterator[Row]:
+def order_rows(source: Source) -> Iterator[Finding]:
     """Where a track does not follow the one before, or an index the one before it."""
     tracks, indices = source.survey.column("track"), source.survey.column("index")
     last: tuple[int, int] | None = None
@@ -217,7 +218,7 @@ def order_rows(source: Source) -> Iterator[Row]:
             now = tracks[block], indices[block]
             if last is not None and now != last and not follows(last, now):
                 what = f"track {now[0]:02} index {now[1]:02} comes behind track {last[0]:02} index {last[1]:02}"
-                yield Row(ORDER, block, spelled(source.survey.absolute(block)), what)
+                yield Finding(ORDER, block, spelled(source.survey.absolute(block)), what)
             last = now
 
 

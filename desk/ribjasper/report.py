@@ -10,7 +10,7 @@ from pathlib import Path
 from typing import Any, BinaryIO, Iterator, NamedTuple, Sequence
 
 from . import kinds, library, report_page
-from .examine import COLUMNS, UNREAD, Examined, Row
+from .examine import COLUMNS, UNREAD, Examined, ReportRow
 from .failures import reading, writing
 from .loading import add_options, asked
 from .output import DASH, REFUSED, Outputs, Refusal, add_force, cause, package, shown, tell, write_file, write_row
@@ -111,7 +111,7 @@ def stamp(path: str, settings: str) -> str:
     return f"{settings} {found.st_size} {found.st_mtime_ns} {found.st_ino}"
 
 
-def known_rows(out: Path) -> dict[str, tuple[str, Row]]:
+def known_rows(out: Path) -> dict[str, tuple[str, ReportRow]]:
     """What earlier runs found: the stamp and the row of each file. A line that was cut off is passed over."""
     known = {}
     for journal in sorted(out.glob(JOURNALS)):
@@ -135,7 +135,7 @@ def names_of(name: str) -> Names:
     return Names(f"pictures/{digest}-first.png", f"pictures/{digest}-map.png", f"places/{digest}-places.tsv")
 
 
-def is_whole(out: Path, row: Row, wants_pictures: bool) -> bool:
+def is_whole(out: Path, row: ReportRow, wants_pictures: bool) -> bool:
     """Whether the files of a row are there: the map, where one is wanted, and the list of places, where it has some."""
     names = names_of(row["file"])
     has_map = not wants_pictures or row["form"] is None or (out / names.map).exists()
@@ -167,8 +167,8 @@ def append(journal: BinaryIO, line: bytes) -> None:
 
 
 def look_at_all(
-    arguments: argparse.Namespace, tasks: list[Task], known: dict[str, tuple[str, Row]], out: Path
-) -> dict[str, Row]:
+    arguments: argparse.Namespace, tasks: list[Task], known: dict[str, tuple[str, ReportRow]], out: Path
+) -> dict[str, ReportRow]:
     """The rows of all files: those that are known and did not change, and the others looked at."""
     how = How(not arguments.no_pictures, asked(arguments))
     told = "".join(f" {word}" for word in how.words if word is not None)
@@ -207,12 +207,12 @@ def cell(value: object) -> str:
     return text if len(text) <= LONGEST_CELL else f"{text[:LONGEST_CELL]} .."
 
 
-def plain(row: Row) -> Row:
+def plain(row: ReportRow) -> ReportRow:
     """A row for other programs: bytes of a name that are no text are written as \\xHH."""
     return row | {"file": os.fsencode(row["file"]).decode("utf-8", "backslashreplace")}
 
 
-def clear_files(out: Path, rows: Sequence[Row]) -> None:
+def clear_files(out: Path, rows: Sequence[ReportRow]) -> None:
     """Removes the pictures and lists of dumps that are gone, and nothing else."""
     wanted = {name for row in rows for name in names_of(row["file"])}
     for folder in ("pictures", "places"):
@@ -232,7 +232,7 @@ def tables(out: Path, force: bool) -> Outputs:
     return Outputs([], writes, force)
 
 
-def write_tables(outputs: Outputs, out: Path, rows: Sequence[Row]) -> None:
+def write_tables(outputs: Outputs, out: Path, rows: Sequence[ReportRow]) -> None:
     lines = ["\t".join(COLUMNS), *("\t".join(shown(cell(row[name])) for name in COLUMNS) for row in rows)]
     table = "".join(f"{line}\n" for line in lines).encode(errors="surrogateescape")
     outputs.write(out / "table.tsv", table)

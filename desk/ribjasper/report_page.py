@@ -6,7 +6,7 @@ from pathlib import Path
 from typing import Sequence
 from urllib.parse import quote
 
-from .examine import Row
+from .examine import ReportRow
 
 STYLE = """
 body { font: 15px/1.4 sans-serif; margin: 2em; color: #111; background: #fff; }
@@ -77,7 +77,7 @@ def link(name: str, inside: str) -> str:
     return f'<a href="{quote(name)}">{inside}</a>'
 
 
-def first_picture(row: Row, out: Path, name: str) -> str:
+def first_picture(row: ReportRow, out: Path, name: str) -> str:
     """The first picture of a dump, or why there is none."""
     if (out / name).exists():
         said = escaped(f"first picture of {row['file']}")
@@ -91,7 +91,7 @@ def map_of(out: Path, name: str) -> str:
     return link(name, f'<img class="map" loading="lazy" src="{quote(name)}" alt="map of the damage">')
 
 
-def numbers(row: Row) -> str:
+def numbers(row: ReportRow) -> str:
     cells = []
     for name in NUMBERS:
         value = row[name]
@@ -100,7 +100,7 @@ def numbers(row: Row) -> str:
     return "".join(cells)
 
 
-def about(row: Row, out: Path, places: str) -> str:
+def about(row: ReportRow, out: Path, places: str) -> str:
     """What is told of a dump in words."""
     texts = row["texts"] or []
     more = [f"and {len(texts) - MOST_TEXTS} more"] if len(texts) > MOST_TEXTS else []
@@ -117,7 +117,7 @@ def about(row: Row, out: Path, places: str) -> str:
     )
 
 
-def line(row: Row, names: tuple[str, str, str], out: Path) -> str:
+def line(row: ReportRow, names: tuple[str, str, str], out: Path) -> str:
     first, mapped, places = names
     share = "" if row["q-good"] is None else row["q-good"]
     name = escaped(row["file"])
@@ -145,7 +145,7 @@ def heads() -> str:
     return f"<th>first picture</th>{sorting}<th>map</th>"
 
 
-def html(rows: Sequence[tuple[Row, tuple[str, str, str]]], out: Path) -> bytes:
+def html(rows: Sequence[tuple[ReportRow, tuple[str, str, str]]], out: Path) -> bytes:
     counts = collections.Counter(row["status"] for row, _ in rows)
     said = ", ".join(f"{count} {status}" for status, count in sorted(counts.items()))
     body = "\n".join(line(row, names, out) for row, names in rows)

@@ -7,9 +7,10 @@ from typing import Any, Callable, Iterator
 from . import comparing, kinds
 from .loading import Loaded, add_options, asked, load_raw
 from .output import FOUND, Outputs, Refusal, add_force, read_file, shown, tell
-from .q_disc import CATALOGUE, DATA, ISRC, PAUSE, Disc, Source, Track, disc
+from .q_disc import CATALOGUE, DATA, ISRC, Disc, Source, Track, disc
 from .q_disc import unescaped as unescaped
 from .survey import Clock, spelled
+from .times import PAUSE
 
 # The bits of CONTROL, and what a sheet calls them.
 FLAGS = ((2, b"DCP"), (8, b"4CH"), (1, b"PRE"))

@@ -7,11 +7,11 @@ import re
 from typing import Iterator, NamedTuple
 
 from . import library
-from .library import BLOCK, BLOCKS_A_SECOND, RAW, Row, Surveyed
+from .library import BLOCK, BLOCKS_A_SECOND, RAW, SurveyRow, Surveyed
 
-ROW = ctypes.sizeof(Row)
+ROW = ctypes.sizeof(SurveyRow)
 # Where the columns of one byte stand in a row.
-COLUMNS = {name: getattr(Row, name).offset for name, *_ in Row._fields_}
+COLUMNS = {name: getattr(SurveyRow, name).offset for name, *_ in SurveyRow._fields_}
 GOOD_Q = range(library.Q_OTHER + 1)
 _ANY = bytes([0] + [1] * 255)
 _NO_TIME = library.NO_TIME.to_bytes(4, "little")

@@ -26,6 +26,8 @@ BLOCK, SECTOR, AUDIO, PACK = 96, 2448, 2352, 24
 PAUSE = 150
 # The stream of the examples has so many blocks of the lead-in and of the program.
 LEAD_IN, PROGRAM_BLOCKS = 30, 1800
+# A lead-in that holds the texts of any sheet of the tests.
+ROOMY_LEAD_IN = 60
 
 Test = TypeVar("Test", bound=Callable[..., object])
 Word = str | bytes | Path | int
@@ -132,6 +134,19 @@ def hello_packs() -> bytes:
     return program("convert", "--lead-in", LEAD_IN, stdin=hello())
 
 
+def author(sheet: bytes, length: str, folder: Path, lead_in: int = ROOMY_LEAD_IN) -> bytes:
+    """The stream of a sheet with no pictures."""
+    (folder / "a.cue").write_bytes(sheet)
+    (folder / "a.script").write_bytes(b"")
+    return program("author", "--lead-in", lead_in, "--length", length, "--", folder / "a.cue", folder / "a.script")
+
+
+def author_files(sheet: Path, script: Path, length: str, out: Path) -> Path:
+    """The stream of a sheet and a script, as a file."""
+    out.write_bytes(program("author", "--lead-in", ROOMY_LEAD_IN, "--length", length, "--", sheet, script))
+    return out
+
+
 def blocks(stream: bytes) -> list[bytes]:
     return [stream[start : start + BLOCK] for start in range(0, len(stream), BLOCK)]
 
@@ -188,7 +203,7 @@ class Screen(NamedTuple):
         return self.pixels[place], self.pixels[place + 1], self.pixels[place + 2]
 
 
-def screen(stream: Path, block: int, *form: Word, lead_in: int) -> Screen:
+def screen(stream: Path, block: int, *form: Word, lead_in: int = ROOMY_LEAD_IN) -> Screen:
     """What stands at a block of the program, by the program's `screen`."""
     time = f"{block // 4500:02}:{block // 75 % 60:02}:{block % 75:02}"
     pixmap = program("screen", "--lead-in", lead_in, *form, "--at", time, "--", stream)

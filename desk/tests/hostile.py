@@ -157,25 +157,26 @@ class Command(NamedTuple):
 RIGHT = 2
 NUMBERS = ("5", "12", "0", "1", "2", "30", "150", "-1", "", "x", "1.5", "nan", "1e999", "999999999999999999999", "٣")
 TIMES = ("00:22:00", "00:10:00", "00:04:00", "00:00:00", "99:59:74", "1:2:3", "00:60:00", "x")
-LEAD_IN, SKIP = Option("--lead-in", NUMBERS), Option("--skip", ("0", "1", "17", "-1", "x", "999999999999"))
-FORM = Option("--form", ("raw", "sector", "cooked", "planar", "cdg", "x", ""))
-PLACES_IN_A_DUMP = ("00:02:00", "00:03:00", "0", "10", "99:59:74", "-1", "x", "")
+LEAD_IN = Option("--lead-in", NUMBERS)
 FORCE = Option("--force")
+FORM = Option("--form", ("raw", "planar", "sector", "cooked", "cdg", "pq", "raw-swapped", "x"))
+SKIP = Option("--skip", ("0", "96", "44", "1", "999999", "-1", "x"))
+PLACE = ("00:00:10", "20", "0", "00:10:00", "99:59:74", "-1", "x")
 COMMANDS = (
     Command(("identify",), ("dump", "dump"), (LEAD_IN, FORM, SKIP)),
     Command(("damage",), ("dump",), (Option("--map", writes=True), LEAD_IN, FORM, SKIP, FORCE)),
-    Command(("mend",), ("dump", "dump"), (Option("-o", writes=True), Option("--map", writes=True), LEAD_IN, FORM, FORCE)),
-    Command(("mend",), ("dump", "dump", "dump"), (Option("-o", writes=True), Option("--ddrescue-map", writes=True), FORCE), 2),
-    Command(("mend", "--compare"), ("dump", "dump"), (FORM,), 1),
-    Command(("q-fix",), ("dump",), (Option("-o", writes=True), Option("--sbi", writes=True), LEAD_IN, FORM, FORCE)),
-    Command(("convert",), ("dump",), (Option("-o", writes=True), Option("--as", ("raw", "sector", "planar", "cooked", "cdg", "x")),
-                                      Option("--from", PLACES_IN_A_DUMP), Option("--to", PLACES_IN_A_DUMP), Option("--silent"),
-                                      Option("--audio", reads="audio"), Option("--sheet", reads="sheet"), LEAD_IN, FORCE)),
+    Command(("mend",), ("dump", "dump"), (Option("-o", writes=True), Option("--map", writes=True), Option("--ddrescue-map", writes=True),
+                                          LEAD_IN, FORM, FORCE)),
+    Command(("mend", "--compare"), ("dump", "dump"), (LEAD_IN, FORM), 2),
+    Command(("mend",), ("dump", "dump", "dump"), (Option("-o", writes=True), FORCE), 2),
+    Command(("q-fix",), ("dump",), (Option("-o", writes=True), Option("--sbi", writes=True), FORM, SKIP, FORCE)),
+    Command(("convert",), ("dump",), (Option("-o", writes=True, is_needed=True), Option("--as", FORM.values), Option("--from", PLACE),
+                                      Option("--to", PLACE), Option("--silent"), Option("--audio", reads="audio"),
+                                      Option("--sheet", reads="sheet"), FORCE)),
     Command(("sums",), ("dump", "dump"), (Option("--dat", writes=True), Option("--check", reads="dat"), FORCE), 2),
-    Command(("sheet",), ("dump",), (Option("-o", writes=True), Option("--toc"), Option("--latin-1"), LEAD_IN, FORM, FORCE)),
-    Command(("sheet", "--ccd"), ("dump",), (Option("-o", writes=True), LEAD_IN, FORCE), 1),
-    Command(("sheet",), ("dump",), (Option("--compare", reads="sheet", is_needed=True), LEAD_IN), 1),
-    Command(("texts",), ("dump",), (Option("--packs", writes=True), Option("--header"), LEAD_IN, FORM, FORCE)),
+    Command(("sheet",), ("dump",), (Option("-o", writes=True), Option("--toc"), Option("--ccd"), Option("--latin-1"), LEAD_IN, SKIP, FORCE)),
+    Command(("sheet",), ("dump",), (Option("--compare", reads="sheet", is_needed=True), LEAD_IN), 2),
+    Command(("texts",), ("dump",), (Option("--packs", writes=True), Option("--header"), Option("--all"), LEAD_IN, FORCE)),
     Command(("texts", "--back"), ("packs",), (Option("--blocks", writes=True), FORCE)),
     Command(("plan",), ("sheet", "script"), (Option("--length", TIMES, is_needed=True), Option("--chart", writes=True),
                                              Option("--latin-1", writes=True), Option("--audio", reads="audio"), FORCE)),

@@ -9,9 +9,10 @@ import zipfile
 from pathlib import Path
 from typing import Callable
 
-from fixtures import (PAUSE, FolderTest, Ran, Word, desk, needs_cdrdao, needs_ffmpeg, needs_font, needs_pillow, needs_plan,
-                      needs_program, program, write_wav)
-from publishers import author
+from fixtures import (
+    PAUSE, FolderTest, Ran, Word, author_files as author, desk, needs_cdrdao, needs_ffmpeg, needs_font, needs_pillow,
+    needs_plan, needs_program, program, write_wav,
+)  # fmt: skip
 
 from ribjasper.library import BLOCK, PACK, RAW, SECTOR, Player, convert
 from ribjasper.planning import least_lead_in

@@ -6,7 +6,7 @@ import unittest
 from pathlib import Path
 
 import known_dumps as known
-from archivists import BLOCK, FolderTest, Ran, desk, needs_cdrdao, needs_library
+from fixtures import BLOCK, FolderTest, Ran, desk, needs_cdrdao, needs_library
 from known_dumps import Disc, Track, program
 
 

@@ -3,7 +3,7 @@ import struct
 import unittest
 
 import known_dumps as known
-from archivists import BLOCK, FolderTest, desk, needs_library
+from fixtures import BLOCK, FolderTest, desk, needs_library
 
 DISC = known.album(0.3, 1)
 

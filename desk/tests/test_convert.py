@@ -3,7 +3,7 @@ import unittest
 from pathlib import Path
 
 import known_dumps as known
-from archivists import BLOCK, PACK, FolderTest, desk, needs_library, program as run_program
+from fixtures import BLOCK, PACK, FolderTest, desk, needs_library, program as run_program
 from known_dumps import album, program
 
 DISC = album(0.5, 1)

@@ -1,9 +1,9 @@
 """`damage`: every run of damage is told, none is invented, and the map shows it."""
 import unittest
 
-from archivists import (
-    BLOCK, LEAD_IN, FolderTest, Word, as_sectors, desk, hello, hello_packs, needs_library, needs_pillow, program, with_bad_q,
-    with_burst, with_zeros, without,
+from fixtures import (
+    BLOCK, LEAD_IN, FolderTest, Word, as_sectors, desk, hello, hello_packs, needs_library, needs_pillow, program,
+    with_bad_q, with_burst, with_zeros, without,
 )  # fmt: skip
 
 NAMES = ["kind", "first", "last", "from", "to", "track", "bad", "corrected", "q-bad", "empty"]

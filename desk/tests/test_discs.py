@@ -5,7 +5,7 @@ import unittest
 from fixtures import FolderTest, has, needs_program
 
 from ribjasper import library
-from ribjasper.discs import COPY, Disc, Track, read_disc, tracks_of
+from ribjasper.discs import COPY, SheetDisc, SheetTrack, read_disc, tracks_of
 from ribjasper.library import SheetRow
 from ribjasper.output import Refusal
 from ribjasper.planning import ScriptWhy, SheetWhy, Why, without_line
@@ -21,8 +21,8 @@ class TracksTest(unittest.TestCase):
     """An index stands at 150, its time, and all silence up to it."""
 
     def test_one_track(self) -> None:
-        self.assertEqual(tracks_of([row(7, 1, 0)]), [Track(7, 0, [150], 0, 0, 0)])
-        self.assertEqual(tracks_of([row(1, 0, 0), row(1, 1, 75), row(1, 2, 300)]), [Track(1, 0, [225, 450], 0, 0, 0)])
+        self.assertEqual(tracks_of([row(7, 1, 0)]), [SheetTrack(7, 0, [150], 0, 0, 0)])
+        self.assertEqual(tracks_of([row(1, 0, 0), row(1, 1, 75), row(1, 2, 300)]), [SheetTrack(1, 0, [225, 450], 0, 0, 0)])
 
     def test_gaps(self) -> None:
         rows = [row(1, 1, 0, postgap=75), row(2, 0, 400, pregap=20), row(2, 1, 500, pregap=20), row(3, 1, 1000, pregap=150)]
@@ -40,8 +40,8 @@ class TracksTest(unittest.TestCase):
         self.assertEqual((first.control, first.texts, second.control, second.texts), (COPY, {"code": b"GBAAA2600001"}, 0, {}))
 
     def test_silence(self) -> None:
-        tracks = [Track(1, 0, [300], 1000, 150, 75), Track(2, 1000, [1020], 2000, 20, 0)]
-        silent = Disc(tracks, {}, bytes(96 * 2000), 0).silence()
+        tracks = [SheetTrack(1, 0, [300], 1000, 150, 75), SheetTrack(2, 1000, [1020], 2000, 20, 0)]
+        silent = SheetDisc(tracks, {}, bytes(96 * 2000), 0).silence()
         self.assertEqual(silent, {*range(150, 300), *range(925, 1000), *range(1000, 1020)})
 
 
@@ -70,8 +70,8 @@ class ReadTest(FolderTest):
         self.assertEqual(disc.texts, {"title": b"All", "performer": b"Somebody", "code": b"4006381333931"})
         self.assertEqual(disc.blocks, 150 + 750 + 10)
         first, second = disc.tracks
-        self.assertEqual(first, Track(1, 0, [150], 460, 0, 10, COPY, {"title": b"One", "code": b"GBAAA2600001"}))
-        self.assertEqual(second, Track(2, 460, [535], 910, 0, 0, 0, {"songwriter": b"Else"}))
+        self.assertEqual(first, SheetTrack(1, 0, [150], 460, 0, 10, COPY, {"title": b"One", "code": b"GBAAA2600001"}))
+        self.assertEqual(second, SheetTrack(2, 460, [535], 910, 0, 0, 0, {"songwriter": b"Else"}))
 
     def test_a_long_text(self) -> None:
         """One that is longer than what the desk gives room for at first: more than a disc holds, so the sheet is refused."""

@@ -4,9 +4,10 @@ import subprocess
 import unittest
 from unittest import mock
 
-from fixtures import (PAUSE, TOP, FolderTest, desk, needs_ffmpeg, needs_pillow, needs_plan, needs_program, program,
-                      write_wav)
-from publishers import LEAD_IN, author, screen
+from fixtures import (
+    PAUSE, ROOMY_LEAD_IN as LEAD_IN, TOP, FolderTest, author_files as author, desk, needs_ffmpeg, needs_pillow,
+    needs_plan, needs_program, program, screen, write_wav,
+)  # fmt: skip
 from ribjasper.film import Stills
 from ribjasper.streams import open_stream
 

@@ -3,8 +3,9 @@ import os
 import random
 import unittest
 
-from archivists import (
-    BLOCK, LEAD_IN, FolderTest, as_sectors, author, blocks, desk, hello, hello_packs, needs_library, program, with_burst,
+from fixtures import (
+    BLOCK, LEAD_IN, FolderTest, as_sectors, author, blocks, desk, hello, hello_packs, needs_library, program,
+    with_burst,
 )  # fmt: skip
 
 NAMES = ["file", "form", "lead-in", "graphics", "texts", "q-good", "notes"]

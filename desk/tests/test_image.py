@@ -6,8 +6,10 @@ import unittest
 from pathlib import Path
 from unittest import mock
 
-from fixtures import PAUSE, TOP, FolderTest, Ran, Word, desk, needs_cdrdao, needs_plan, needs_program, program, write_wav
-from publishers import LEAD_IN, author, screen
+from fixtures import (
+    PAUSE, ROOMY_LEAD_IN as LEAD_IN, TOP, FolderTest, Ran, Word, author_files as author, desk, needs_cdrdao,
+    needs_plan, needs_program, program, screen, write_wav,
+)  # fmt: skip
 HELLO = TOP / "examples" / "hello.script"
 BLOCK, SECTOR, SOUND = 96, 2448, 2352
 # Three tracks with every kind of gap; track 2 begins at a block that carries the catalogue number.

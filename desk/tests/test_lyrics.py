@@ -4,9 +4,10 @@ import unittest
 from pathlib import Path
 from typing import Iterator
 
-from fixtures import (PAUSE, SONG, TOP, FolderTest, Ran, Screen, Word, desk, needs_font, needs_pillow, needs_plan,
-                      needs_program, write_wav)
-from publishers import LEAD_IN, author, screen
+from fixtures import (
+    PAUSE, ROOMY_LEAD_IN as LEAD_IN, SONG, TOP, FolderTest, Ran, Screen, Word, author_files as author, desk,
+    needs_font, needs_pillow, needs_plan, needs_program, screen, write_wav,
+)  # fmt: skip
 from ribjasper.colours import Colour, contrast
 from ribjasper.library import HEIGHT, PACK, RAW, WIDTH, Player, convert
 from ribjasper.lyrics import add_parser, wishes_of

@@ -5,11 +5,10 @@ import unittest
 from pathlib import Path
 
 import known_dumps as known
-from archivists import (
-    BLOCK, LEAD_IN, PACK, PROGRAM_BLOCKS, FolderTest, Word, as_sectors, desk, hello, hello_packs, needs_library, program,
-    with_bad_q, with_burst, with_zeros, without,
+from fixtures import (
+    BLOCK, LEAD_IN, PACK, PROGRAM_BLOCKS, FolderTest, Word, as_sectors, desk, has, hello, hello_packs, needs_library,
+    program, with_bad_q, with_burst, with_zeros, without,
 )  # fmt: skip
-from fixtures import has
 
 NAMES = ["reading", "words", "of-reading", "gives", "missed", "left-out"]
 needs_mending = unittest.skipUnless(has("ribjasper_mend_readings"), "lib/ has no ribjasper_mend_readings")

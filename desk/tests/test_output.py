@@ -11,7 +11,7 @@ import unittest
 from pathlib import Path
 from unittest import mock
 
-from support import TOP, FolderTest
+from fixtures import TOP, FolderTest
 
 from ribjasper import beside, kinds, output
 from ribjasper.failures import Failure, Name, Refusal, Unwritten

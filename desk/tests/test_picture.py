@@ -3,8 +3,9 @@ import unittest
 from pathlib import Path
 from typing import Callable
 
-from fixtures import FolderTest, Screen, Word, desk, needs_pillow, needs_plan, needs_program
-from publishers import author, screen
+from fixtures import (
+    FolderTest, Screen, Word, author_files as author, desk, needs_pillow, needs_plan, needs_program, screen,
+)  # fmt: skip
 
 from ribjasper.picture import whole
 

@@ -3,7 +3,7 @@ import unittest
 from typing import Callable
 
 import known_dumps as known
-from archivists import BLOCK, FolderTest, Ran, desk, needs_library
+from fixtures import BLOCK, FolderTest, Ran, desk, needs_library
 from known_dumps import Disc, Track, program
 
 

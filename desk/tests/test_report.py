@@ -16,9 +16,9 @@ from unittest import mock
 
 import known_dumps as known
 
-from archivists import (
-    BLOCK, DESK, LEAD_IN, FolderTest, Ran, Word, as_sectors, desk, hello, hello_packs, needs, needs_library, needs_pillow, program,
-    with_bad_q, with_burst, with_zeros, without,
+from fixtures import (
+    BLOCK, DESK, LEAD_IN, FolderTest, Ran, Word, as_sectors, desk, hello, hello_packs, needs, needs_library,
+    needs_pillow, program, with_bad_q, with_burst, with_zeros, without,
 )  # fmt: skip
 from ribjasper.examine import examine
 

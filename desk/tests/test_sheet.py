@@ -2,8 +2,9 @@
 import re
 import unittest
 
-from archivists import (
-    BLOCK, HELLO, LEAD_IN, FolderTest, as_sectors, author, desk, hello, hello_packs, needs_library, program, with_bad_q,
+from fixtures import (
+    BLOCK, HELLO, LEAD_IN, FolderTest, as_sectors, author, desk, hello, hello_packs, needs_library, program,
+    with_bad_q,
 )  # fmt: skip
 
 RICH = rb"""CATALOG 0123456789012

@@ -4,9 +4,10 @@ import sys
 import unittest
 from pathlib import Path
 
-from fixtures import (PAUSE, SONG, TOP, FolderTest, desk, needs_ffmpeg, needs_font, needs_pillow, needs_plan,
-                      needs_program, program)
-from publishers import screen
+from fixtures import (
+    PAUSE, SONG, TOP, FolderTest, desk, needs_ffmpeg, needs_font, needs_pillow, needs_plan, needs_program, program,
+    screen,
+)  # fmt: skip
 
 from ribjasper.film import Stills
 from ribjasper.streams import open_stream

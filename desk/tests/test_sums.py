@@ -3,7 +3,7 @@ import subprocess
 import unittest
 import xml.etree.ElementTree as xml
 
-from archivists import FolderTest, desk
+from fixtures import FolderTest, desk
 
 
 class SumsTest(FolderTest):

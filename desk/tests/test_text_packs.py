@@ -2,7 +2,7 @@
 import unittest
 
 import known_dumps as known
-from archivists import FolderTest, desk, needs_library
+from fixtures import FolderTest, desk, needs_library
 
 SPOKEN = {0: 0x09, 1: 0x69, 2: 0x08}
 

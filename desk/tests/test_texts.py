@@ -3,7 +3,7 @@ import subprocess
 import sys
 import unittest
 
-from archivists import BLOCK, LEAD_IN, TOP, FolderTest, Word, as_sectors, author, desk, hello, needs_library, program
+from fixtures import BLOCK, LEAD_IN, TOP, FolderTest, Word, as_sectors, author, desk, hello, needs_library, program
 
 
 @needs_library

@@ -1,2 +1,0 @@
-"""What all tests of the desk share."""
-from fixtures import *  # noqa: F401, F403
