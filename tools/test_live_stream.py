@@ -80,20 +80,21 @@ class LiveStream(unittest.TestCase):
         """After each of these numbers of units all that they give has been written, and no more."""
         whole = stream(unit * counts[-1])
         source, feed = os.pipe()
-        with at_work(words, source) as process:
+        with at_work(words, source) as process, open(feed, "wb", buffering=0) as feeder:
             os.close(source)
             assert process.stdout is not None
             sent, seen = 0, b""
             for count in counts:
                 # The first half of a unit gives nothing.
                 for end in (count * unit - unit // 2, count * unit):
-                    os.write(feed, whole[sent:end])
+                    feeder.write(whole[sent:end])
                     sent = end
                     want = told_of(words, whole[: sent - sent % unit])
                     seen += taken(process.stdout, len(want) - len(seen))
+                    self.assertEqual(len(seen), len(want), f"{words} after {sent} bytes")
                     self.assertEqual(seen, want, f"{words} after {sent} bytes")
                     self.assertTrue(is_quiet(process.stdout), f"{words} writes more than {sent} bytes give")
-            os.close(feed)
+            feeder.close()
             self.assertEqual(process.stdout.read(), b"", f"{words} writes more at the end")
 
     def test_frames_of_blocks(self) -> None:
