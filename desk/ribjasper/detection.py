@@ -266,6 +266,8 @@ def form_of(dump: Dump, skip: int | None = None) -> tuple[Found | None, list[str
     for."""
     seen: list[Found] = []
     found = None
+    if not any(fits(dump, form) for form in PLAIN_FORMS):
+        return None, [reason(dump, form, None) for form in PLAIN_FORMS]
     windows = windows_of(dump, False) or windows_of(dump, True)
     if dump.size and not windows:
         return None, [f"{form.name}: all bytes are zeros" for form in PLAIN_FORMS]

@@ -69,7 +69,7 @@ def high_bits(content: bytes) -> bytes:
 
 
 # Dumps that hold a part of the disc, or of another disc.
-PARTS = ("a block", "three blocks", "a sector", "lacks", "begun", "given up at", "sector, header")
+PARTS = ("a block", "three blocks", "a few blocks", "pq, torn", "a sector", "lacks", "begun", "given up at", "sector, header")
 HEADER = random.Random(9).randbytes
 FORMS: dict[str, Truth] = {
     "raw": Truth(raw, "raw"),
@@ -114,6 +114,9 @@ FORMS: dict[str, Truth] = {
     "planar, scratched": Truth(lambda: known.as_planar(known.scratched(raw(), 4)), "planar", state="damaged"),
     "planar, unread": Truth(lambda: known.as_planar(known.redumper(DISC)), "planar", REDUMPER_LEAD_IN),
     "planar, header": Truth(lambda: HEADER(10) + known.as_planar(raw()), "planar", note="header: 10 bytes"),
+    "planar, header, short, torn, a few blocks": Truth(
+        lambda: HEADER(10) + known.as_planar(raw()[: BLOCK * 20])[:-30], "planar", state="torn", note="header: 10 bytes"
+    ),
     "planar, torn": Truth(lambda: known.as_planar(raw())[:-90], "planar", state="torn"),
     "planar, a block": Truth(lambda: known.as_planar(raw()[:BLOCK]), "planar", graphics="no"),
     "planar-reversed": Truth(lambda: known.bits_reversed(known.as_planar(raw())), "planar-reversed"),
@@ -129,11 +132,25 @@ FORMS: dict[str, Truth] = {
     "sector-planar, silent": Truth(
         lambda: known.in_sectors(list(map(known.planar, known.split(raw()))), silent=True), "sector-planar"
     ),
+    "planar, a few blocks of many": Truth(
+        lambda: known.as_planar(bytes(BLOCK * 803) + known.scratched(raw()[: BLOCK * 20], 6, 8)), "planar", 803 - 150, state="damaged"
+    ),
+    "sector-pq, a few blocks of many": Truth(
+        lambda: known.in_sectors(
+            [known.formatted_q(it, False) for it in known.split(bytes(BLOCK * 1363) + raw()[: BLOCK * 60] + bytes(BLOCK * 500))]
+        ),
+        "sector-pq",
+        1363 - 150,
+        "not read",
+    ),
     "sector-pq": Truth(
         lambda: known.in_sectors(list(map(known.formatted_q, known.split(raw())))), "sector-pq", graphics="not read"
     ),
     "sector-pq, without checks": Truth(
         lambda: known.in_sectors([known.formatted_q(it, False) for it in known.split(raw())]), "sector-pq", graphics="not read"
+    ),
+    "pq, torn": Truth(
+        lambda: b"".join(map(known.formatted_q, known.split(raw()[: BLOCK * 300])))[:-12], "pq", graphics="not read", state="torn"
     ),
     "pq": Truth(lambda: b"".join(map(known.formatted_q, known.split(raw()))), "pq", graphics="not read"),
     "cooked": Truth(packs, "cooked"),
