@@ -116,6 +116,8 @@ def finder(distributed: Any, folder: str) -> Any:
 def by_cluster(tasks: Sequence[Task], how: How, address: str) -> Iterator[Examined]:
     """Looks at files on the workers of a scheduler, which see the same files and the same checkout."""
     distributed = package("distributed", "python3-distributed")
+    # What its own tasks leave behind when they are cut off at the end is nothing that a user can act on.
+    sys.unraisablehook = lambda _: None
     # What goes wrong is told in a line, and not in its own words.
     logging.disable(logging.CRITICAL)
     try:
