@@ -6,10 +6,11 @@ be compared with it. With the word `cdg` the packs are written as a .cdg file in
 `state` the lines of `ribjasper state` at its end. With `without CODE` the packs of one instruction are idle.
 """
 import argparse
+import site
 import sys
 from pathlib import Path
 
-sys.path.insert(0, str(Path(__file__).resolve().parent.parent / "tools"))
+site.addsitedir(str(Path(__file__).resolve().parent.parent / "tools"))
 from field64 import power, times  # noqa: E402
 
 # The 24 symbols of a pack.
