@@ -78,4 +78,5 @@ def lead_in_of(survey: Survey) -> int | None:
         return survey.blocks if any(kinds.count(kind) for kind in TABLE) else None
     frames = sum(it.known for it in found)
     solid = [it for it in found if it.known >= min(DECIDES, -(-frames // SHARE))]
-    return max(0, -solid[0].shift)
+    # Where all pieces are small the one that tells the most does.
+    return max(0, -(solid or [max(found, key=lambda it: it.known)])[0].shift)
