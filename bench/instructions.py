@@ -63,6 +63,9 @@ ROWS = (
     Row(f"resume --at {LATE}", ("begun", "rest"), "authored"),
     Row("trial --seed 1 --pictures 50", (), "50 pictures"),
 )
+# What the environment holds lies on the stack of a program, and is read as it starts. The C library copies and clears by what
+# the processor has; here it takes what each has, so that a count holds on all of them.
+ENVIRONMENT = {"PATH": "/usr/bin:/bin", "GLIBC_TUNABLES": "glibc.cpu.hwcaps=-AVX2,-AVX512F,-AVX512VL,-ERMS,-FSRM"}
 # The commands that the plain program takes by name and last option alone.
 WITH_OPTION = ("screen", "state", "scratch", "text", "author", "press", "resume")
 
@@ -76,8 +79,7 @@ def ran(words: Sequence[str], files: Sequence[Path]) -> subprocess.CompletedProc
     """A run of a command: a single input is its standard input, two are named."""
     named = ["--", *map(str, files)] if len(files) > 1 else []
     with open(files[0] if len(files) == 1 else os.devnull, "rb") as given:
-        # What the environment holds lies on the stack of a program, and is read as it starts.
-        return subprocess.run([*words, *named], env={"PATH": "/usr/bin:/bin"}, stdin=given, capture_output=True)
+        return subprocess.run([*words, *named], env=ENVIRONMENT, stdin=given, capture_output=True)
 
 
 def inputs(work: Path) -> dict[str, Path]:
