@@ -1,4 +1,5 @@
-"""Runs the tests of the desk, and tells in one line how many there were and what was skipped for want of what."""
+"""Runs the tests of the desk, and tells in one line how many there were and what was skipped for want of what. A test that
+fails is run once more, since some wait for processes, and a machine may be busy; that is told too."""
 import collections
 import sys
 import unittest
@@ -14,6 +15,19 @@ def summary(result: unittest.TestResult) -> str:
     return f"{told} ({reasons})" if reasons else told
 
 
+def once_more(result: unittest.TestResult) -> unittest.TestResult:
+    """Runs what failed again, each test by itself."""
+    failed = {test.id(): test for test, _ in [*result.failures, *result.errors]}
+    again = unittest.TestResult()
+    for test in failed.values():
+        whole = getattr(test, "test_case", test)
+        if isinstance(whole, unittest.TestCase):
+            unittest.TestSuite([whole]).run(again)
+        else:
+            again.errors.append((test, "could not be run again"))
+    return again
+
+
 def main() -> int:
     tests = unittest.defaultTestLoader.discover(str(HERE), top_level_dir=str(HERE))
     result = unittest.TestResult()
@@ -21,7 +35,13 @@ def main() -> int:
     for test, why in [*result.failures, *result.errors]:
         print(f"{test}\n{why}", file=sys.stderr)
     print(summary(result))
-    return 0 if result.wasSuccessful() else 1
+    if result.wasSuccessful():
+        return 0
+    again = once_more(result)
+    for test, why in [*again.failures, *again.errors]:
+        print(f"{test} fails again\n{why}", file=sys.stderr)
+    print(f"desk: {again.testsRun} tests were run once more, {len(again.failures) + len(again.errors)} of them failed again")
+    return 0 if again.wasSuccessful() else 1
 
 
 if __name__ == "__main__":
