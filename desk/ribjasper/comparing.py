@@ -42,7 +42,8 @@ def length_of(folder: Path, name: str) -> int | None:
     path = folder / os.path.basename(name.replace("\\", "/"))
     try:
         size = path.stat().st_size
-    except OSError:
+    except (OSError, ValueError):
+        # No file has such a name, one with a zero byte say.
         return None
     return size // (AUDIO_SECTOR if size % AUDIO_SECTOR == 0 else IMAGE_SECTOR)
 
@@ -63,15 +64,15 @@ def read_cue(path: str, content: bytes) -> Cue:
             length = length_of(folder, name[1] if name else " ".join(words[1:-1]))
         elif command == "CATALOG" and len(words) > 1:
             cue.catalogue = words[1]
-        elif command == "REM" and len(words) > 2 and words[1].upper() == "SESSION" and words[2].isdigit():
+        elif command == "REM" and len(words) > 2 and words[1].upper() == "SESSION" and words[2].isdecimal():
             session = int(words[2])
-        elif command == "TRACK" and len(words) > 1 and words[1].isdigit():
+        elif command == "TRACK" and len(words) > 1 and words[1].isdecimal():
             cue.tracks.append(CueTrack(int(words[1]), session=session))
         elif command == "ISRC" and len(words) > 1 and cue.tracks:
             cue.tracks[-1].isrc = words[1].replace("-", "").upper()
         elif command == "PREGAP" and len(words) > 1 and cue.tracks and (time := blocks_of(words[1])) is not None:
             cue.tracks[-1].pregap = time
-        elif command == "INDEX" and len(words) > 2 and cue.tracks and words[1].isdigit():
+        elif command == "INDEX" and len(words) > 2 and cue.tracks and words[1].isdecimal():
             time = blocks_of(words[2])
             if time is None:
                 raise Refusal(path, f"line {number}: {words[2]} is no time")

@@ -61,7 +61,7 @@ def _is_film(head: bytes, _: int) -> bool:
 def _is_text_packs(head: bytes, size: int) -> bool:
     """Packs of 18 bytes whose first byte is that of a kind of text, with four bytes in front or without."""
     at = size % 18
-    return at in (0, 1, 4, 5) and 0x80 <= head[at & 4] <= 0x8F
+    return at in (0, 1, 4, 5) and size >= 18 and 0x80 <= head[at & 4] <= 0x8F
 
 
 PNG = Kind("a PNG picture", begins(PNG_MARK))

@@ -83,7 +83,7 @@ def song_of(sung: Sung) -> dict[str, Any]:
     late: dict[int, str] = {}
     for told in sung.made.warnings():
         number, _, why = told.partition(": line ")[2].partition(" ")
-        if number.isdigit():
+        if number.isdecimal():
             late[int(number)] = why.rpartition(":")[0]
     lines = [{
         "number": line.number, "voice": line.voice, "whole": line.is_whole, "late": late.get(line.number, ""),

@@ -8,6 +8,7 @@ from pathlib import Path
 import known_dumps as known
 from fixtures import BLOCK, FolderTest, Ran, desk, needs_cdrdao, needs_library
 from known_dumps import Disc, Track, program
+from ribjasper.comparing import read_cue
 
 
 def coded(tracks: int = 99, seconds: int = 5) -> Disc:
@@ -190,6 +191,12 @@ class SheetOfDumpsTest(FolderTest):
         (self.folder / "2.bin").unlink()
         ran = desk("sheet", path, "--compare", cue)
         self.assertIn("the times of later files are not known", ran.told)
+
+    def test_a_cue_with_strange_names_and_numbers(self) -> None:
+        """A name that no file can have is that of none, and digits of other scripts are numbers or words as they may be."""
+        text = 'FILE "a\0b.bin" BINARY\nTRACK ² AUDIO\nTRACK 01 AUDIO\nINDEX ² 00:00:00\nINDEX 01 00:00:00\n'
+        cue = read_cue("a.cue", text.encode())
+        self.assertEqual([(it.number, it.indices) for it in cue.tracks], [(1, {1: 0})])
 
     def test_contents_against_q(self) -> None:
         disc, other = three(), three()

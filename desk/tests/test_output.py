@@ -346,6 +346,8 @@ class KindTest(FolderTest):
         self.assertTrue(self.is_kind(kinds.TEXT_PACKS, b"\0\x14\0\0\x80" + bytes(17)))
         self.assertTrue(self.is_kind(kinds.TEXT_PACKS, b"\x80" + bytes(17)))
         self.assertFalse(self.is_kind(kinds.TEXT_PACKS, bytes(18)))
+        for length in range(1, 18):
+            self.assertFalse(self.is_kind(kinds.TEXT_PACKS, b"\x80" * length), length)
         self.assertTrue(self.is_kind(kinds.PAGE, (TOP / "desk" / "ribjasper" / "look.html").read_bytes()))
         self.assertFalse(self.is_kind(kinds.PAGE, b"<!DOCTYPE html>\n<html><head><title>My garden</title></head></html>"))
 
