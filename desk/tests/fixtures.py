@@ -7,6 +7,7 @@ import io
 import os
 import random
 import shutil
+import signal
 import subprocess
 import sys
 import tempfile
@@ -17,6 +18,11 @@ from typing import Any, Callable, NamedTuple, TypeVar
 
 from ribjasper import library, main, output, program as programs
 from ribjasper.lettering import DEFAULT_FONT
+
+# A shell that starts the tests in the background has them ignore signals, which the programs under test are to hear.
+for number in (signal.SIGINT, signal.SIGTERM, signal.SIGHUP):
+    if signal.getsignal(number) is signal.SIG_IGN:
+        signal.signal(number, signal.SIG_DFL)
 
 TOP = Path(__file__).resolve().parent.parent.parent
 DESK = TOP / "desk" / "ribjasper-desk"
