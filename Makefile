@@ -8,27 +8,27 @@ LIBDIR ?= $(PREFIX)/lib
 
 # Proves the program and what it stands on, builds it, and leaves it as bin/ribjasper.
 all:
-	tools/build.sh
+	tools/build/build.sh
 
 # The library for programs in C: proves it, builds it, and leaves it in lib/ (include/ribjasper.h), to be linked at
 # run time or for good. `make library TARGET=aarch64-unknown-linux-gnu` is for another processor, and CPU=x86-64-v3 for
 # newer ones alone.
 library:
-	TARGET=$(TARGET) CPU=$(CPU) tools/build_library.sh
+	TARGET=$(TARGET) CPU=$(CPU) tools/build/build_library.sh
 
 # The player for web pages: proves it, compiles it to WebAssembly, and leaves it in lib/web/ with a page (index.html) that
 # needs no server, compared with the program where node and Chromium are there. It builds the program where it is not there.
 web:
-	[ -x bin/ribjasper ] || tools/build.sh
-	tools/build_web.sh
-	tools/compare_web.sh
+	[ -x bin/ribjasper ] || tools/build/build.sh
+	tools/build/build_web.sh
+	tests/peers/compare_web.sh
 
 # Builds examples/player.c, as C and as C++, compares its screens with the program's, and measures it. It builds the
 # program and the library where they are not there.
 example:
-	[ -x bin/ribjasper ] || tools/build.sh
-	[ -f lib/libribjasper.a ] || tools/build_library.sh
-	tools/compare_player.sh measure
+	[ -x bin/ribjasper ] || tools/build/build.sh
+	[ -f lib/libribjasper.a ] || tools/build/build_library.sh
+	tests/library/compare_player.sh measure
 
 # A tour of each command on one disc. It builds nothing that is not there yet: without bin/ribjasper
 # one `rt try` compiles the program unproved and runs it.
@@ -38,8 +38,8 @@ demo:
 # The gate, and then the repository's own checks, with the program and the library that the gate has just proved.
 check:
 	rt ci
-	tools/take_gate.sh
-	tools/check_repository.sh
+	tools/build/take_gate.sh
+	tools/check/check_repository.sh
 
 # How fast each command is, beside cat.
 bench:
@@ -47,16 +47,16 @@ bench:
 
 # The commands of the guide, as they stand.
 guide:
-	tools/run_guide.sh
+	tools/check/run_guide.sh
 
 # All definitions that the clauses rest on, the two long acts too that docs/DEFINITIONS.md only counts.
 definitions:
-	tools/list_definitions.py --whole
+	tools/write/list_definitions.py --whole
 
 # The program, its manual page, the completions of two shells, and where they can be used the library and the desk,
 # below PREFIX.
 install:
-	[ -x bin/ribjasper ] || tools/build.sh
+	[ -x bin/ribjasper ] || tools/build/build.sh
 	install -d "$(DESTDIR)$(PREFIX)/bin" "$(DESTDIR)$(PREFIX)/share/man/man1"
 	install -d "$(DESTDIR)$(PREFIX)/share/bash-completion/completions"
 	install -d "$(DESTDIR)$(PREFIX)/share/zsh/site-functions"
@@ -64,8 +64,8 @@ install:
 	install -m 644 share/ribjasper.1 "$(DESTDIR)$(PREFIX)/share/man/man1/ribjasper.1"
 	install -m 644 share/ribjasper.bash "$(DESTDIR)$(PREFIX)/share/bash-completion/completions/ribjasper"
 	install -m 644 share/_ribjasper "$(DESTDIR)$(PREFIX)/share/zsh/site-functions/_ribjasper"
-	[ ! -f lib/libribjasper.a ] || tools/install_library.sh "$(DESTDIR)" "$(PREFIX)" "$(LIBDIR)"
-	! command -v python3 >/dev/null || tools/install_desk.sh "$(DESTDIR)" "$(PREFIX)"
+	[ ! -f lib/libribjasper.a ] || tools/build/install_library.sh "$(DESTDIR)" "$(PREFIX)" "$(LIBDIR)"
+	! command -v python3 >/dev/null || tools/build/install_desk.sh "$(DESTDIR)" "$(PREFIX)"
 
 # What was installed, and the folders that are then empty, but for those of the system.
 uninstall:
@@ -82,11 +82,11 @@ uninstall:
 
 # Packages for Debian of what `make` and `make library` built.
 deb:
-	tools/make_deb.sh
+	tools/build/make_deb.sh
 
 # A release in dist/: archives of the source and of what was built, and the packages.
 dist:
-	tools/make_dist.sh
+	tools/build/make_dist.sh
 
 clean:
 	rm -rf bin lib deb dist crates/*/out

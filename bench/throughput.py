@@ -235,7 +235,7 @@ def row(program: str | None, what: str, words: str, given: Sequence[str], size: 
 
 def main() -> int:
     if not PROGRAM.exists():
-        subprocess.run([TOP / "tools" / "build.sh"], check=True)
+        subprocess.run([TOP / "tools" / "build" / "build.sh"], check=True)
     failed = False
     with tempfile.TemporaryDirectory() as folder:
         files = inputs(Path(folder))

@@ -10,7 +10,7 @@ import site
 import sys
 from pathlib import Path
 
-site.addsitedir(str(Path(__file__).resolve().parent.parent / "tools"))
+site.addsitedir(str(Path(__file__).resolve().parents[1] / "tests" / "peers"))
 from field64 import power, times  # noqa: E402
 
 # The 24 symbols of a pack.

@@ -1,4 +1,4 @@
-# Completion for bash. Written by tools/commands.py from docs/FORMATS.md.
+# Completion for bash. Written by tools/write/commands.py from docs/FORMATS.md.
 _ribjasper() {
     local word=${COMP_WORDS[COMP_CWORD]} before=${COMP_WORDS[COMP_CWORD-1]} options=
     case " ${COMP_WORDS[*]:1:COMP_CWORD-1} " in

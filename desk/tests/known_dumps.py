@@ -1,5 +1,5 @@
 """Dumps whose truth is known, in the forms that tools of the trade write, made from the written definitions of the
-subcode without a line of the desk or of its library. Words of R to W come from tools/reckon_rows.py, which works them
+subcode without a line of the desk or of its library. Words of R to W come from tests/peers/reckon_rows.py, which works them
 out by other means than the program."""
 import functools
 import random
@@ -7,7 +7,7 @@ import site
 from dataclasses import dataclass, field
 from pathlib import Path
 
-site.addsitedir(str(Path(__file__).resolve().parent.parent.parent / "tools"))
+site.addsitedir(str(Path(__file__).resolve().parents[2] / "tests" / "peers"))
 
 from reckon_rows import EXCHANGED, bcd, digits, seal  # noqa: E402
 from reckon_rows import recording_code as recording_code  # noqa: E402

@@ -19,7 +19,7 @@ class TextsTest(FolderTest):
         packs = self.packs(hello())
         said = program("text", "--lead-in", LEAD_IN, stdin=hello()).decode()
         self.assertEqual(self.listed, said)
-        script = TOP / "tools" / "lead_in_packs.py"
+        script = TOP / "tests" / "peers" / "lead_in_packs.py"
         cycle = subprocess.run([sys.executable, script], input=hello()[: BLOCK * LEAD_IN], capture_output=True).stdout
         self.assertEqual(packs, cycle)
         self.assertEqual(self.packs(as_sectors(hello())), cycle)

@@ -1,0 +1,110 @@
+#!/bin/sh
+# What lib/libribjasper.a does for programs in C. Builds examples/player.c on it, as C and as C++, and
+# compares its screens with those of the command `screen`, byte for byte, at ten moments of the stream of
+# the tour: fed as blocks and drawn as packs. A stream with twenty blocks lost has to be noticed. Runs
+# tests/library/test_library.c, tests/library/test_mend.c, tests/library/test_plan.c, tests/library/test_desk_calls.c, tests/library/test_pixels.c and
+# tests/library/test_sheets.c, and all of it once under the address sanitizer where that is there; tests/library/test_stack.c
+# measures what the calls take of the stack, and tests/library/test_given_back.c counts what they ask for and give back. Skipped where a compiler or what make builds is missing.
+# With the argument `measure` it also tells how many blocks a second the player takes, and how long pictures
+# take beside plain C.
+set -e
+cd "$(dirname "$0")/../.."
+top=$PWD
+for compiler in cc c++; do
+    command -v $compiler >/dev/null || { echo "compare_player: skipped, there is no $compiler"; exit 0; }
+done
+[ -f lib/libribjasper.a ] || { echo "compare_player: skipped, there is no lib/libribjasper.a (make library)"; exit 0; }
+[ -x bin/ribjasper ] || { echo "compare_player: skipped, there is no bin/ribjasper (make)"; exit 0; }
+work=$(mktemp -d)
+trap 'rm -rf "$work"' EXIT
+flags="-O2 -Wall -Wextra -Werror -I$top/include"
+wrap="-Wl,--wrap=malloc,--wrap=realloc,--wrap=free"
+cc $flags -std=c99 examples/player.c lib/libribjasper.a -o "$work/player"
+c++ $flags -x c++ examples/player.c -x none lib/libribjasper.a -o "$work/player_of_cxx"
+cc $flags -std=c99 tests/library/test_library.c lib/libribjasper.a $wrap -o "$work/test_library"
+c++ $flags -x c++ tests/library/test_library.c -x none lib/libribjasper.a $wrap -o "$work/test_library_of_cxx"
+"$work/test_library"
+"$work/test_library_of_cxx" >/dev/null
+cc $flags -std=c99 tests/library/test_mend.c lib/libribjasper.a -o "$work/test_mend"
+c++ $flags -x c++ tests/library/test_mend.c -x none lib/libribjasper.a -o "$work/test_mend_of_cxx"
+for name in test_plan test_desk_calls test_pixels test_sheets; do
+    cc $flags -std=c99 tests/library/$name.c lib/libribjasper.a $wrap -o "$work/$name"
+    c++ $flags -x c++ tests/library/$name.c -x none lib/libribjasper.a $wrap -o "$work/${name}_of_cxx"
+done
+for name in test_mend test_plan test_desk_calls test_pixels test_sheets; do
+    "$work/$name"
+    "$work/${name}_of_cxx" >/dev/null
+done
+tests/peers/compare_mending.py --cases 1000 >"$work/mending" || { cat "$work/mending" >&2; exit 1; }
+cp examples/hello.cue examples/hello.script "$work"
+cd "$work"
+"$top/bin/ribjasper" author --lead-in 0 --length 00:22:00 -- hello.cue hello.script >stream
+"$top/bin/ribjasper" convert --lead-in 0 <stream >file.cdg
+"$top/bin/ribjasper" author --lead-in 300 --length 00:22:00 -- hello.cue hello.script >whole
+"$top/bin/ribjasper" scratch --lead-in 300 --seed 3 <whole >scratched
+for disc in whole scratched; do
+    "$top/bin/ribjasper" check --lead-in 300 <$disc >$disc.check
+    "$top/bin/ribjasper" text --lead-in 300 <$disc >$disc.text
+    ./test_desk_calls $disc 300 $disc.check $disc.text
+done
+./test_pixels stream >/dev/null
+cc $flags -std=gnu99 "$top/tests/library/test_stack.c" "$top/lib/libribjasper.a" -o test_stack
+./test_stack
+cc $flags -std=c99 "$top/tests/library/test_given_back.c" "$top/lib/libribjasper.a" $wrap -o test_given_back
+./test_given_back hello.cue hello.script whole
+moments="2 77 150 301 449 535 777 1111 1350 1649"
+packs=
+for blocks in $moments; do
+    packs="$packs $((4 * blocks - 7))"
+done
+mkdir cxx drawn
+./player $moments <stream
+(cd cxx && ../player_of_cxx $moments <../stream)
+(cd drawn && ../player -p $packs <../file.cdg)
+failed=0
+for blocks in $moments; do
+    time=$(printf '%02d:%02d:%02d' $((blocks / 4500)) $((blocks / 75 % 60)) $((blocks % 75)))
+    "$top/bin/ribjasper" screen --lead-in 0 --at "$time" <stream >wanted.ppm
+    if cmp wanted.ppm "$blocks.ppm" && cmp wanted.ppm "cxx/$blocks.ppm" &&
+        cmp wanted.ppm "drawn/$((4 * blocks - 7)).ppm"; then
+        echo "compare_player: the screens at $time are equal"
+    else
+        echo "compare_player: the screens at $time differ"
+        failed=1
+    fi
+done
+mkdir broken
+{ head -c $((96 * 300)) stream; tail -c +$((96 * 320 + 1)) stream; } >shorter
+(cd broken && ../player 449 777 <../shorter)
+for blocks in 449 777; do
+    if cmp -s $blocks.ppm broken/$blocks.ppm; then
+        echo "compare_player: that blocks are lost is not noticed at $blocks" >&2
+        failed=1
+    fi
+done
+sanitize="-g -fsanitize=address -fno-omit-frame-pointer"
+echo 'int main(void) { return 0; }' >empty.c
+if cc $sanitize empty.c -o empty 2>/dev/null && ./empty 2>/dev/null; then
+    cc $flags $sanitize -std=c99 "$top/examples/player.c" "$top/lib/libribjasper.a" -o player_watched
+    cc $flags $sanitize -std=c99 "$top/tests/library/test_library.c" "$top/lib/libribjasper.a" $wrap -o test_watched
+    cc $flags $sanitize -std=c99 "$top/tests/library/test_mend.c" "$top/lib/libribjasper.a" -o test_mend_watched
+    cc $flags $sanitize -std=c99 "$top/tests/library/test_plan.c" "$top/lib/libribjasper.a" $wrap -o test_plan_watched
+    cc $flags $sanitize -std=c99 "$top/tests/library/test_desk_calls.c" "$top/lib/libribjasper.a" $wrap -o test_desk_watched
+    ./test_desk_watched scratched 300 scratched.check scratched.text >/dev/null
+    for name in test_pixels test_sheets; do
+        cc $flags $sanitize -std=c99 "$top/tests/library/$name.c" "$top/lib/libribjasper.a" $wrap -o ${name}_watched
+        ./${name}_watched stream >/dev/null
+    done
+    mkdir watched
+    (cd watched && ../player_watched $moments <../stream && ../test_watched >/dev/null && ../test_mend_watched >/dev/null &&
+        ../test_plan_watched >/dev/null)
+    echo "compare_player: the address sanitizer finds nothing"
+else
+    echo "compare_player: no address sanitizer is there"
+fi
+if [ "$1" = measure ]; then
+    ./player -m <stream
+    cc -O3 -Wall -Wextra -Werror -I"$top/include" "$top/tests/library/measure_pixels.c" "$top/lib/libribjasper.a" -o measure_pixels
+    ./measure_pixels
+fi
+exit "$failed"

@@ -1,0 +1,126 @@
+#!/bin/sh
+# How the library is linked: its header in each standard of C and C++, the layout of its structs, the names that it
+# brings, and a program that finds it installed, by pkg-config and by CMake, at run time and for good. Skipped where a compiler or the library is
+# missing; the library for another processor is run where it is built and an emulator is there.
+set -e
+cd "$(dirname "$0")/../.."
+top=$PWD
+for tool in cc c++ nm readelf; do
+    command -v $tool >/dev/null || { echo "test_linking: skipped, there is no $tool"; exit 0; }
+done
+[ -f lib/libribjasper.so.0 ] || { echo "test_linking: skipped, there is no lib/libribjasper.so.0 (make library)"; exit 0; }
+work=$(mktemp -d)
+trap 'rm -rf "$work"' EXIT
+version=$(cat VERSION)
+failed=0
+
+complain() {
+    echo "test_linking: $*" >&2
+    failed=1
+}
+
+# The header, as it is, under all that compilers warn of.
+strict="-Wall -Wextra -Wpedantic -Werror -Wno-long-long -Iinclude"
+for compiler in cc clang; do
+    command -v $compiler >/dev/null || continue
+    for standard in c99 c11 c17 c2x; do
+        $compiler -std=$standard $strict -c tests/library/test_layout.c -o "$work/layout.o" || complain "$compiler -std=$standard"
+    done
+done
+for compiler in c++ clang++; do
+    command -v $compiler >/dev/null || continue
+    for standard in c++11 c++14 c++17 c++20; do
+        $compiler -std=$standard $strict -x c++ -c tests/library/test_layout.c -o "$work/layout.o" ||
+            complain "$compiler -std=$standard"
+    done
+done
+
+# No name but its own is seen from outside, so that it can stand beside another library of the same kit.
+named=$(nm -g --defined-only lib/libribjasper.a | awk 'NF == 3 { print $3 }' | sort)
+[ -z "$(echo "$named" | grep -v '^ribjasper_')" ] || complain "libribjasper.a brings other names"
+seen=$(nm -D --defined-only lib/libribjasper.so.0 | awk '$2 == "T" { sub("@.*", "", $3); print $3 }' | sort)
+[ "$seen" = "$named" ] || complain "libribjasper.so.0 brings other names than libribjasper.a"
+declared=$(grep -oE '\bribjasper_[a-z_]+\(' include/ribjasper.h | tr -d '(' | sort -u)
+[ "$declared" = "$named" ] || complain "the header and the library differ: $(echo "$declared $named" | tr ' ' '\n' |
+    sort | uniq -u | tr '\n' ' ')"
+readelf -d lib/libribjasper.so.0 | grep -q 'SONAME.*\[libribjasper.so.0\]' || complain "the library has another soname"
+
+# A second library with a heap of its own, as another of the same kit has it, does not clash.
+cc -c tools/build/heap.c -o "$work/heap.o"
+cc $strict tests/library/test_layout.c "$work/heap.o" lib/libribjasper.a -o "$work/beside"
+[ "$("$work/beside")" = "$version" ] || complain "the library for good tells another version than VERSION"
+
+# Installed where a distribution would put it, and found by pkg-config.
+libraries=/usr/lib/$(cc -dumpmachine)
+tools/build/install_library.sh "$work/root" /usr "$libraries"
+installed="$work/root$libraries"
+grep -qx "Version: $version" "$installed/pkgconfig/ribjasper.pc" || complain "ribjasper.pc tells another version"
+grep -q "Ribjasper $version" "$work/root/usr/share/man/man3/ribjasper.3" || complain "the page tells another version"
+if command -v pkg-config >/dev/null; then
+    flags=$(PKG_CONFIG_SYSROOT_DIR=$work/root PKG_CONFIG_PATH=$installed/pkgconfig PKG_CONFIG_ALLOW_SYSTEM_CFLAGS=1 \
+        PKG_CONFIG_ALLOW_SYSTEM_LIBS=1 pkg-config --cflags --libs ribjasper)
+else
+    flags="-I$work/root/usr/include -L$installed -lribjasper"
+fi
+cc tests/library/test_layout.c $flags -o "$work/shared"
+told=$(LD_LIBRARY_PATH=$installed "$work/shared")
+[ "$told" = "$version" ] || complain "the shared library tells another version"
+readelf -d "$work/shared" | grep -q 'NEEDED.*\[libribjasper.so.0\]' || complain "a program asks for another name"
+
+# Installed below a name with blanks and other odd characters, and found there by pkg-config, CMake and man.
+odd="$work/a prefix & more"
+tools/build/install_library.sh "" "$odd" "$odd/lib"
+if command -v pkg-config >/dev/null; then
+    eval "cc tests/library/test_layout.c $(PKG_CONFIG_PATH=$odd/lib/pkgconfig pkg-config --cflags --libs ribjasper) -o \"$work/odd\"" &&
+        [ "$(LD_LIBRARY_PATH=$odd/lib "$work/odd")" = "$version" ] || complain "ribjasper.pc does not survive a blank"
+fi
+if command -v cmake >/dev/null; then
+    mkdir "$work/cmake"
+    cp tests/library/test_layout.c "$work/cmake"
+    cat >"$work/cmake/CMakeLists.txt" <<'END'
+cmake_minimum_required(VERSION 3.10)
+project(layout C)
+find_package(ribjasper 1.1 REQUIRED CONFIG)
+add_executable(shared test_layout.c)
+target_link_libraries(shared ribjasper::ribjasper)
+add_executable(static test_layout.c)
+target_link_libraries(static ribjasper::static)
+END
+    if cmake -S "$work/cmake" -B "$work/cmake/built" -DCMAKE_PREFIX_PATH="$odd" >"$work/cmake/told" 2>&1 &&
+        cmake --build "$work/cmake/built" >>"$work/cmake/told" 2>&1; then
+        for program in shared static; do
+            [ "$("$work/cmake/built/$program")" = "$version" ] || complain "CMake links another library"
+        done
+    else
+        tail -n 5 "$work/cmake/told" >&2
+        complain "CMake does not find the library"
+    fi
+    sed -i 's/ribjasper 1.1/ribjasper 2.0/' "$work/cmake/CMakeLists.txt"
+    ! cmake -S "$work/cmake" -B "$work/cmake/other" -DCMAKE_PREFIX_PATH="$odd" >/dev/null 2>&1 ||
+        complain "CMake takes the library for a later version"
+fi
+for call in $named; do
+    [ -e "$odd/share/man/man3/$call.3" ] || complain "there is no page for $call"
+done
+
+# The library for another processor.
+other=aarch64-unknown-linux-gnu
+if [ -f lib/$other/libribjasper.a ] && command -v qemu-aarch64-static aarch64-linux-gnu-gcc >/dev/null; then
+    aarch64-linux-gnu-gcc -static -O2 -Iinclude tests/library/test_layout.c lib/$other/libribjasper.a -o "$work/layout"
+    [ "$(qemu-aarch64-static "$work/layout")" = "$version" ] || complain "the library for $other does not run"
+    if [ -x bin/ribjasper ]; then
+        aarch64-linux-gnu-gcc -static -O2 -Iinclude examples/player.c lib/$other/libribjasper.a -o "$work/player"
+        cd "$work"
+        cp "$top/examples/hello.cue" "$top/examples/hello.script" .
+        "$top/bin/ribjasper" author --lead-in 0 --length 00:22:00 -- hello.cue hello.script >stream
+        qemu-aarch64-static ./player 150 777 1649 <stream
+        for blocks in 150 777 1649; do
+            time=$(printf '%02d:%02d:%02d' $((blocks / 4500)) $((blocks / 75 % 60)) $((blocks % 75)))
+            "$top/bin/ribjasper" screen --lead-in 0 --at "$time" <stream | cmp - $blocks.ppm ||
+                complain "the screens of $other differ at $time"
+        done
+        echo "test_linking: the screens of $other are equal"
+    fi
+fi
+[ "$failed" = 0 ] && echo "test_linking: $(echo "$named" | wc -l) calls, and no other name"
+exit "$failed"

@@ -1,0 +1,110 @@
+#!/bin/sh
+# Compares the CD-TEXT packs in the lead-in of streams that we author with those that libburn, the
+# library of cdrskin, makes of the same cue sheets, byte for byte: titles, performers and songwriters,
+# catalogue numbers and ISRC, the places in strings of every length, the sizes and the checks. Then
+# cdrskin lists our packs, and each title has to be among its lines. The sheets keep to what both read
+# alike: plain ASCII, tracks from 1 on, at most 255 packs (we write 256 too). Then a bit is turned in the
+# first and in a later round of packs, and that has to be noticed. Skipped where cdrskin or bin/ribjasper
+# is missing.
+set -e
+cd "$(dirname "$0")/../.."
+command -v cdrskin >/dev/null || { echo "compare_cdrskin: skipped, there is no cdrskin (apt-get install cdrskin)"; exit 0; }
+[ -x bin/ribjasper ] || { echo "compare_cdrskin: skipped, there is no bin/ribjasper (make)"; exit 0; }
+work=$(mktemp -d)
+trap 'rm -rf "$work"' EXIT
+
+# Eight seconds of silence, which libburn wants to see.
+python3 - "$work/silence.wav" <<'END'
+import sys, wave
+with wave.open(sys.argv[1], "wb") as audio:
+    audio.setnchannels(2)
+    audio.setsampwidth(2)
+    audio.setframerate(44100)
+    audio.writeframes(bytes(8 * 44100 * 4))
+END
+
+cat >"$work/titles.cue" <<END
+TITLE "Demo"
+FILE "$work/silence.wav" WAVE
+TRACK 01 AUDIO
+TITLE "One"
+INDEX 01 00:00:00
+END
+
+# Strings of twelve letters, of more than fifteen, and none; both codes.
+cat >"$work/kinds.cue" <<END
+CATALOG 0123456789012
+TITLE "ABCDEFGHIJKL"
+PERFORMER "A band with a name that takes more than three packs"
+SONGWRITER "Somebody"
+FILE "$work/silence.wav" WAVE
+TRACK 01 AUDIO
+TITLE "One"
+ISRC GBAAA2400001
+INDEX 01 00:00:00
+TRACK 02 AUDIO
+PERFORMER "Another band"
+INDEX 01 00:02:00
+TRACK 03 AUDIO
+TITLE "Three"
+SONGWRITER "Somebody else"
+ISRC GBAAA2400003
+INDEX 01 00:04:00
+END
+
+# Thirty tracks whose titles have from one letter to thirty.
+{
+    printf 'TITLE "Letters"\nFILE "%s/silence.wav" WAVE\n' "$work"
+    letters=
+    for track in $(seq -w 30); do
+        letters="${letters}x"
+        printf 'TRACK %s AUDIO\nTITLE "%s"\nINDEX 01 00:00:%s\n' "$track" "$letters" "$track"
+    done | sed 's/00:00:01$/00:00:00/'
+} >"$work/lengths.cue"
+
+: >"$work/empty.script"
+failed=0
+# Whether the packs in a lead-in are those of libburn: same_packs STREAM SHEET
+same_packs() {
+    head -c $((150 * 96)) "$1" | python3 tests/peers/lead_in_packs.py >"$work/ours" 2>"$work/told" &&
+        [ -s "$work/ours" ] && cmp -s "$work/ours" "$work/$2.theirs"
+}
+
+# Turns the last bit of a byte of a file: turn_bit FILE PLACE
+turn_bit() {
+    python3 -c '
+import sys
+name, place = sys.argv[1], int(sys.argv[2])
+content = bytearray(open(name, "rb").read())
+content[place] ^= 1
+open(name, "wb").write(content)' "$1" "$2"
+}
+
+for sheet in titles kinds lengths; do
+    bin/ribjasper author --lead-in 150 --length 00:08:00 -- "$work/$sheet.cue" "$work/empty.script" \
+        >"$work/$sheet.raw"
+    python3 tests/peers/libburn_packs.py "$work/$sheet.cue" >"$work/$sheet.theirs"
+    if same_packs "$work/$sheet.raw" $sheet; then
+        echo "compare_cdrskin: the $(($(wc -c <"$work/ours") / 18)) packs of $sheet are equal"
+    else
+        echo "compare_cdrskin: the packs of $sheet differ" >&2
+        failed=1
+    fi
+    cdrskin textfile_to_v07t="$work/ours" >"$work/$sheet.list" 2>/dev/null
+    sed -n 's/^TITLE "\(.*\)"$/\1/p' "$work/$sheet.cue" | while read -r title; do
+        grep -q "Title  *= $title\$" "$work/$sheet.list" || {
+            echo "compare_cdrskin: cdrskin does not list $title" >&2
+            exit 1
+        }
+    done || failed=1
+    for place in 5 $((149 * 96 + 40)); do
+        cp "$work/$sheet.raw" "$work/broken.raw"
+        turn_bit "$work/broken.raw" $place
+        if same_packs "$work/broken.raw" $sheet; then
+            echo "compare_cdrskin: a bit that is turned at byte $place is not noticed" >&2
+            failed=1
+        fi
+    done
+done
+[ "$failed" = 1 ] || echo "compare_cdrskin: each bit that is turned is noticed"
+exit "$failed"

@@ -1,0 +1,424 @@
+#!/usr/bin/env python3
+"""Compares the library's mending with the rule as it is written here, on random readings of which the truth is known:
+compare_mending.py [--cases N] [--seed N] [--library lib/libribjasper.so.0]
+
+Each case is a stream of a few blocks and two to four readings of it: whole, scratched, worn, with noise in channels R
+to W, with zeros there (all or a part), unread (all or a part), shifted, or another stream's. The packs, the sources and
+the counts of ribjasper_mend_readings, and the packs and counts of ribjasper_mend for the first two, have to be those of
+the rule, and the packs the same in the reverse order; and the words that are wrong are counted beside those of the best
+reading alone. No line is shared with the program: codewords are found in a table of all errors of one or two symbols by
+their sums (docs/FORMATS.md). Ends with 1 where something differs."""
+import argparse
+import binascii
+import ctypes
+import itertools
+import pathlib
+import random
+import sys
+from typing import NamedTuple, Optional, Sequence
+
+from field64 import power, times
+from reckon_rows import parity
+
+TOP = pathlib.Path(__file__).resolve().parents[2]
+MOST = 254
+AGREED, NONE = 254, 255
+EXCHANGED = {1: 18, 18: 1, 2: 5, 5: 2, 3: 23, 23: 3}
+PLACES = [24 * (EXCHANGED.get(i, i) % 8) + EXCHANGED.get(i, i) for i in range(24)]
+IDLE = bytes(24)
+
+
+Errors = dict[int, tuple[tuple[int, int], ...]]
+
+
+class Told(ctypes.Structure):
+    _fields_ = [
+        ("bytes", ctypes.c_uint64),
+        *((name, ctypes.c_uint32) for name in ("blocks", "agreed", "none", "reserved")),
+        ("of_reading", ctypes.c_uint32 * MOST),
+        ("dropped", ctypes.c_uint32 * MOST),
+    ]
+
+
+class Pair(ctypes.Structure):
+    _fields_ = [
+        ("bytes", ctypes.c_uint64),
+        *((name, ctypes.c_uint32) for name in ("blocks", "both", "of_first", "of_second", "agreed", "none")),
+    ]
+
+
+class Given(NamedTuple):
+    """What a reading gives for a word: a codeword and what stands against it, or None for a word near no codeword."""
+
+    codeword: Optional[bytes]
+    doubts: int
+
+
+# ---- The code.
+
+
+def entry(place: int, symbol: int) -> int:
+    """What a symbol at a place adds to the six sums of a word, as one number."""
+    sums = [times(power(j * (23 - place)), symbol) for j in range(4)]
+    sums += [times(power(j * (3 - place)), symbol) if place < 4 else 0 for j in range(2)]
+    return sum(value << 6 * j for j, value in enumerate(sums))
+
+
+ENTRIES = [[entry(place, symbol) for symbol in range(64)] for place in range(24)]
+
+
+def all_errors() -> Errors:
+    """The errors of one or two symbols by their sums."""
+    found: Errors = {0: ()}
+    single = [((place, symbol), ENTRIES[place][symbol]) for place in range(24) for symbol in range(1, 64)]
+    for error, sums in single:
+        found[sums] = (error,)
+    for (one, first), (other, second) in itertools.combinations(single, 2):
+        if one[0] != other[0]:
+            found[first ^ second] = (one, other)
+    return found
+
+
+def sums_of(word: Sequence[int]) -> int:
+    total = 0
+    for row, symbol in zip(ENTRIES, word):
+        total ^= row[symbol]
+    return total
+
+
+def codeword(random_source: random.Random) -> bytes:
+    """A random codeword of a graphics pack."""
+    known = {0: 9, 1: random_source.randrange(1, 64)}
+    known[2], known[3] = parity(known, 4, 2, [2, 3])
+    known.update({place: random_source.randrange(64) for place in range(4, 20)})
+    for place, symbol in zip(range(20, 24), parity(known, 24, 4, [20, 21, 22, 23])):
+        known[place] = symbol
+    return bytes(known[place] for place in range(24))
+
+
+# ---- The rule.
+
+
+def is_frame(block: bytes) -> bool:
+    """Whether the Q channel of a block, which is ten bytes of zeros and their check here, is a frame."""
+    bits = "".join(str(byte >> 6 & 1) for byte in block)
+    frame = int(bits, 2).to_bytes(12, "big")
+    return binascii.crc_hqx(frame[:10], 0) ^ 0xFFFF == int.from_bytes(frame[10:], "big")
+
+
+def is_empty(block: bytes) -> bool:
+    return not any(byte & 63 for byte in block) and not is_frame(block)
+
+
+def given(reading: bytes, errors: Errors) -> list[Optional[Given]]:
+    """What a reading gives for each word; None where it was not read."""
+    empty = [is_empty(reading[at : at + 96]) for at in range(0, len(reading), 96)]
+    found: list[Optional[Given]] = []
+    for n in range(len(reading) // 24 - 7):
+        under = empty[n // 4 : (n + 7) // 4 + 1]
+        if all(under):
+            found.append(None)
+            continue
+        word = bytes(reading[24 * n + place] & 63 for place in PLACES)
+        wrong = errors.get(sums_of(word))
+        if wrong is None:
+            found.append(Given(None, 0))
+            continue
+        right = bytearray(word)
+        for place, error in wrong:
+            right[place] ^= error
+        found.append(Given(bytes(right), 3 if bytes(right) == IDLE and any(under) else len(wrong)))
+    return found
+
+
+def word_at(reading: bytes, n: int) -> bytes:
+    return bytes(reading[24 * n + place] & 63 for place in PLACES)
+
+
+def agreement(one: bytes, other: bytes, errors: Errors) -> Optional[bytes]:
+    """The codeword on which two words agree: tried by changing one of them at up to four places where they differ, and
+    at those where both are equally wrong."""
+    apart = [place for place in range(24) if one[place] != other[place]]
+    if len(apart) > 4:
+        return None
+    left = (4 - len(apart)) // 2
+    # The symbols where they differ are free; the sums of the others tell what is possible.
+    return search(bytearray(one), apart, left, errors)
+
+
+def search(word: bytearray, apart: list[int], left: int, errors: Errors) -> Optional[bytes]:
+    if len(apart) <= 2:
+        # At most two places are free and two or one may be wrong beside them.
+        for values in itertools.product(range(64), repeat=len(apart)):
+            for place, value in zip(apart, values):
+                word[place] = value
+            wrong = errors.get(sums_of(word))
+            if wrong is not None and len([place for place, _ in wrong if place not in apart]) <= left:
+                right = bytearray(word)
+                for place, error in wrong:
+                    right[place] ^= error
+                return bytes(right)
+        return None
+    # Three or four places are free: any two of them by trial, and the two others, if anything, are an error.
+    first, rest = apart[:2], apart[2:]
+    for values in itertools.product(range(64), repeat=2):
+        for place, value in zip(first, values):
+            word[place] = value
+        wrong = errors.get(sums_of(word))
+        if wrong is not None and all(place in apart for place, _ in wrong):
+            right = bytearray(word)
+            for place, error in wrong:
+                right[place] ^= error
+            return bytes(right)
+    return None
+
+
+def is_graphics(found: Optional[Given]) -> bool:
+    """Whether it is a codeword that is not idle, and no symbol is wrong."""
+    return found is not None and found.codeword not in (None, IDLE) and found.doubts == 0
+
+
+def dropped(all_given: Sequence[Sequence[Optional[Given]]]) -> list[list[bool]]:
+    """For each reading, at which words its idle pack counts for nothing."""
+    count = len(all_given[0])
+    graphics = [any(is_graphics(own[n]) for own in all_given) for n in range(count)]
+    marks = []
+    for own in all_given:
+        idle = [g is not None and g.codeword == IDLE for g in own]
+        misses = [a and b for a, b in zip(idle, graphics)]
+        marks.append([idle[n] and any(misses[max(0, n - 7) : n + 8]) for n in range(count)])
+    return marks
+
+
+def mend(readings: Sequence[bytes], errors: Errors) -> tuple[list[bytes], list[int], list[int]]:
+    """The pack of each word, its source, and how often each reading was left out."""
+    all_given = [given(reading, errors) for reading in readings]
+    marks = dropped(all_given)
+    packs, sources = [], []
+    for n in range(len(all_given[0])):
+        here = [own[n] for own in all_given]
+        counting = {
+            r: (found.codeword, found.doubts)
+            for r, found in enumerate(here)
+            if found is not None and found.codeword is not None and not marks[r][n]
+        }
+        if counting:
+            fewest = min(doubts for _, doubts in counting.values())
+            votes: dict[bytes, int] = {}
+            for word, _ in counting.values():
+                votes[word] = votes.get(word, 0) + 1
+            best = {word for word, doubts in counting.values() if doubts == fewest}
+            most = max(votes[word] for word in best)
+            chosen = [word for word in best if votes[word] == most]
+            if len(chosen) == 1:
+                packs.append(chosen[0])
+                sources.append(min(r for r, found in counting.items() if found == (chosen[0], fewest)))
+            else:
+                packs.append(IDLE)
+                sources.append(NONE)
+            continue
+        lost = [word_at(readings[r], n) for r, found in enumerate(here) if found is not None and found.codeword is None]
+        tried = [agreement(one, other, errors) for one, other in itertools.combinations(lost, 2)]
+        agreed = {word for word in tried if word is not None}
+        only = agreed.pop() if len(agreed) == 1 else None
+        packs.append(only or IDLE)
+        sources.append(AGREED if only else NONE)
+    return packs, sources, [sum(mark) for mark in marks]
+
+
+# ---- Readings.
+
+
+def q_bits() -> list[int]:
+    """The bits of a frame of zeros, the highest of a byte each."""
+    frame = bytes(10) + (binascii.crc_hqx(bytes(10), 0) ^ 0xFFFF).to_bytes(2, "big")
+    return [frame[k // 8] >> (7 - k % 8) & 1 for k in range(96)]
+
+
+Q = q_bits()
+
+
+def stream(source: random.Random, blocks: int, busy: float, words: Sequence[bytes]) -> bytearray:
+    """Blocks with a frame in each; so many of their packs are graphics."""
+    out = bytearray(byte << 6 for _ in range(blocks) for byte in Q)
+    on = False
+    for n in range(4 * blocks - 7):
+        if source.random() < 0.15:
+            on = source.random() < busy
+        if on:
+            for place, symbol in zip(PLACES, source.choice(words)):
+                out[24 * n + place] |= symbol
+    return out
+
+
+def noisy(source: random.Random, bytes_of: bytearray, start: int, end: int) -> None:
+    for k in range(start, end):
+        bytes_of[k] = bytes_of[k] & 0xC0 | source.randrange(64)
+
+
+def reading(source: random.Random, truth: bytearray, kind: str, words: Sequence[bytes]) -> bytes:
+    out = bytearray(truth)
+    size = len(out)
+    start = source.randrange(size)
+    end = source.randrange(start, size) + 1
+    if kind == "scratched":
+        for _ in range(source.randrange(1, 4)):
+            at = source.randrange(size)
+            for k in range(at, min(size, at + source.randrange(1, 60))):
+                out[k] = source.randrange(256)
+    elif kind == "worn":
+        for _ in range(size // 40):
+            out[source.randrange(size)] ^= source.randrange(1, 64)
+    elif kind == "noise":
+        noisy(source, out, 0, size)
+    elif kind == "noise in part":
+        noisy(source, out, start, end)
+    elif kind == "zero":
+        out = bytearray(byte & 0xC0 for byte in out)
+    elif kind == "zero in part":
+        out[start:end] = bytes(byte & 0xC0 for byte in out[start:end])
+    elif kind == "unread in part":
+        first, last = start // 96, end // 96 + 1
+        out[96 * first : 96 * last] = bytes(96 * (min(last, size // 96) - first))
+    elif kind == "unread":
+        out = bytearray(size)
+    elif kind == "shifted":
+        out = out[96:] + out[:96]
+    elif kind == "another":
+        out = stream(source, size // 96, 0.5, words)
+    return bytes(out)
+
+
+FOREIGN = {"shifted", "another"}
+KINDS = {
+    "whole": 4.0,
+    "scratched": 6.0,
+    "worn": 6.0,
+    "noise": 1.0,
+    "noise in part": 3.0,
+    "zero": 3.0,
+    "zero in part": 3.0,
+    "unread in part": 3.0,
+    "unread": 1.0,
+    "shifted": 0.3,
+    "another": 0.3,
+}
+
+
+def packs_of(text: bytes) -> list[bytes]:
+    return [text[at : at + 24] for at in range(0, len(text), 24)]
+
+
+class Library:
+    def __init__(self, path: pathlib.Path) -> None:
+        self.calls = ctypes.CDLL(str(path))
+
+    def readings(self, readings: Sequence[bytes]) -> tuple[list[bytes], list[int], Told, int]:
+        joined = b"".join(readings)
+        words = len(readings[0]) // 24 - 7
+        packs, sources, told = ctypes.create_string_buffer(24 * words), ctypes.create_string_buffer(words), Told()
+        size = ctypes.c_size_t
+        length, room = size(len(joined)), size(24 * words)
+        status = self.calls.ribjasper_mend_readings(
+            joined, length, len(readings), 0, packs, room, sources, size(words), ctypes.byref(told)
+        )
+        return packs_of(packs.raw), list(sources.raw), told, status
+
+    def pair(self, first: bytes, second: bytes) -> tuple[list[bytes], Pair, int]:
+        words = len(first) // 24 - 7
+        packs, told = ctypes.create_string_buffer(24 * words), Pair()
+        size = ctypes.c_size_t
+        status = self.calls.ribjasper_mend(
+            first, size(len(first)), second, size(len(second)), 0, packs, size(24 * words), ctypes.byref(told)
+        )
+        return packs_of(packs.raw), told, status
+
+
+def wrong(packs: Sequence[bytes], truth: Sequence[bytes]) -> int:
+    return sum(one != other for one, other in zip(packs, truth))
+
+
+class Tally:
+    """Words that are wrong in what is mended, beside those of the best reading alone."""
+
+    def __init__(self) -> None:
+        self.cases = self.words = self.fewer = self.worse = self.more = 0
+
+    def add(self, words: int, mended: int, alone: int) -> None:
+        self.cases += 1
+        self.words += words
+        self.fewer += max(0, alone - mended)
+        self.worse += mended > alone
+        self.more += max(0, mended - alone)
+
+    def __str__(self) -> str:
+        return (
+            f"{self.cases} cases of {self.words} words: {self.fewer} fewer are wrong than in the best reading alone, "
+            f"and in {self.worse} cases {self.more} more"
+        )
+
+
+def differs(
+    library: Library,
+    readings: Sequence[bytes],
+    got: Sequence[bytes],
+    sources: Sequence[int],
+    told: Told,
+    status: int,
+    errors: Errors,
+) -> bool:
+    """Whether anything that the library answered is not what the rule says."""
+    packs, right_sources, left = mend(readings, errors)
+    pair_packs, pair, pair_status = library.pair(readings[0], readings[1])
+    two, two_sources, _ = mend(readings[:2], errors)
+    turned = library.readings(readings[::-1])[0]
+    count = len(readings)
+    return (
+        list(got) != packs
+        or list(sources) != right_sources
+        or status != (NONE in right_sources)
+        or list(told.dropped) != left + [0] * (MOST - count)
+        or list(told.of_reading) != [right_sources.count(r) for r in range(MOST)]
+        or (told.agreed, told.none, told.reserved) != (right_sources.count(AGREED), right_sources.count(NONE), 0)
+        or (told.bytes, told.blocks) != (24 * len(packs), len(readings[0]) // 96)
+        or pair_packs != two
+        or pair_status != (NONE in two_sources)
+        or pair.both + pair.of_first + pair.of_second != sum(source < AGREED for source in two_sources)
+        or (pair.agreed, pair.none) != (two_sources.count(AGREED), two_sources.count(NONE))
+        # The order of the readings changes no pack.
+        or turned != list(got)
+    )
+
+
+def main() -> int:
+    parser = argparse.ArgumentParser(description=__doc__, formatter_class=argparse.RawDescriptionHelpFormatter)
+    parser.add_argument("--cases", type=int, default=10000)
+    parser.add_argument("--seed", type=int, default=1)
+    parser.add_argument("--library", type=pathlib.Path, default=TOP / "lib" / "libribjasper.so.0")
+    arguments = parser.parse_args()
+    source = random.Random(arguments.seed)
+    errors = all_errors()
+    words = [codeword(source) for _ in range(40)]
+    library = Library(arguments.library)
+    own, foreign = Tally(), Tally()
+    different = 0
+    for case in range(arguments.cases):
+        truth = stream(source, source.randrange(3, 10), source.choice((0.1, 0.5, 1)), words)
+        right = [word_at(truth, n) for n in range(len(truth) // 24 - 7)]
+        kinds = source.choices(list(KINDS), list(KINDS.values()), k=source.randrange(2, 5))
+        readings = [reading(source, truth, kind, words) for kind in kinds]
+        got, sources, told, status = library.readings(readings)
+        if differs(library, readings, got, sources, told, status, errors):
+            different += 1
+            print(f"case {case}: {', '.join(kinds)}: differs from the rule")
+        alone = min(wrong(library.readings([one])[0], right) for one in readings)
+        tally = foreign if FOREIGN & set(kinds) else own
+        tally.add(len(right), wrong(got, right), alone)
+    print(f"readings of one stream: {own}")
+    print(f"with a reading that is shifted or another stream's: {foreign}")
+    print(f"{arguments.cases} cases, {different} differ from the rule")
+    return 1 if different else 0
+
+
+if __name__ == "__main__":
+    sys.exit(main())

@@ -1,0 +1,96 @@
+#!/usr/bin/env python3
+"""Reckons the tables that stand as numbers in the sources, and says which differ.
+
+The proofs show each table right by themselves; this is how they were made. `tables.py NAME` prints one table in the
+layout of its source, `tables.py` compares all of them with the sources.
+"""
+import argparse
+import pathlib
+import re
+import sys
+
+from field64 import LOGARITHMS, POWERS, times
+
+ROOT = pathlib.Path(__file__).resolve().parents[2]
+
+
+def sums(position: int, symbol: int) -> int:
+    """The six sums of the word with one symbol: four over all symbols, two over the first four, six bits each."""
+    lanes = 0
+    for j in range(4):
+        lanes |= times(POWERS[j * (23 - position) % 63], symbol) << 6 * j
+    if position < 4:
+        for j in range(2):
+            lanes |= times(POWERS[j * (3 - position) % 63], symbol) << 6 * (4 + j)
+    return lanes
+
+
+def pairs() -> tuple[list[int], list[int]]:
+    """By the logarithm of (x + y)^-2 * xy for x = alpha^d, y = 1: d from 1 to 23, and the logarithm of x + y."""
+    differences, logs = [0] * 63, [0] * 63
+    for d in range(1, 24):
+        log = LOGARITHMS[POWERS[d] ^ 1]
+        at = (d - 2 * log) % 63
+        differences[at], logs[at] = d, log
+    return differences, logs
+
+
+def remainder(byte: int, zeros: int) -> int:
+    """The remainder of a byte with so many zero bits behind it, by x^16 + x^12 + x^5 + 1."""
+    value = byte << zeros
+    for k in range(zeros + 7, 15, -1):
+        if value >> k & 1:
+            value ^= 0x11021 << (k - 16)
+    return value
+
+
+def lanes(byte: int) -> int:
+    """The bits of a byte, each in a byte of a number, the highest bit in the lowest byte."""
+    return sum((byte >> 7 - k & 1) << 8 * k for k in range(8))
+
+
+def line(bits: int) -> int:
+    """The six bits of a line of a tile, each in a byte of a number, that of the leftmost pixel in the lowest byte."""
+    return sum((bits >> 5 - k & 1) << 8 * k for k in range(6))
+
+
+def tables() -> dict[str, tuple[str, list[int]]]:
+    """Each table with the source in which it stands, and its numbers."""
+    differences, logs = pairs()
+    return {
+        "SYNDROMES": ("rw_code/src/syndromes.rt", [sums(i, 1 << b) for i in range(24) for b in range(6)]),
+        "DIFFERENCES": ("rw_code/src/correction.rt", differences),
+        "SUMS": ("rw_code/src/correction.rt", logs),
+        "REMAINDERS": ("subcode_crc/src/check.rt", [remainder(byte, 16) for byte in range(256)]),
+        "HIGH_REMAINDERS": ("subcode_crc/src/check.rt", [remainder(byte, 24) for byte in range(256)]),
+        "LINES": ("cdg_screen/src/line_table.rt", [line(bits) for bits in range(64)]),
+        "LANES": ("raw_subcode/src/lane_table.rt", [lanes(byte) for byte in range(256)]),
+    }
+
+
+def source_of(name: str, path: str) -> list[int]:
+    """The numbers of a table as they stand in its source."""
+    text = (ROOT / "crates" / path).read_text()
+    table = re.search(r"static " + name + r": [^=]*= \[(.*?)\n\];", text, re.S)
+    return [int(number, 0) for number in re.findall(r"0x[0-9a-f]+|\d+", table[1] if table else "")]
+
+
+def main() -> int:
+    known = tables()
+    parser = argparse.ArgumentParser(
+        description="Reckons the tables that stand as numbers in the sources, and says which differ."
+    )
+    parser.add_argument("name", nargs="?", choices=known, metavar="NAME", help="print this table alone")
+    name = parser.parse_args().name
+    if name:
+        for number in known[name][1]:
+            print(f"{number},")
+        return 0
+    differing = [name for name, (path, numbers) in known.items() if source_of(name, path) != numbers]
+    for name in differing:
+        print(f"{name} in crates/{known[name][0]} is not as reckoned", file=sys.stderr)
+    return 1 if differing else 0
+
+
+if __name__ == "__main__":
+    sys.exit(main())

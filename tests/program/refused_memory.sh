@@ -1,0 +1,90 @@
+#!/bin/sh
+# Runs bin/ribjasper with each of its requests for memory refused in turn, on some small inputs. Each run
+# has to end as it does with ample memory, or with 'no memory' (7) and nothing written. Two careless
+# programs, one that writes before it says so and one that fails in another way, have to be noticed. Not
+# part of the gate; it needs a C compiler for the small library that refuses.
+set -e
+cd "$(dirname "$0")/../.."
+[ -x bin/ribjasper ] || tools/build/build.sh
+command -v cc >/dev/null || { echo "no C compiler: skipped"; exit 0; }
+work=$(mktemp -d)
+trap 'rm -rf "$work"' EXIT
+cc -O1 -shared -fPIC -o "$work/refuse.so" tests/program/refuse.c -ldl
+
+one_track='FILE "a.wav" WAVE\nTRACK 01 AUDIO\nINDEX 01 00:00:00\n'
+printf "$one_track" >"$work/sheet"
+printf "TITLE \"Demo\"\n$one_track" >"$work/titled"
+printf 'show 00:00:02 00:00:02\n' >"$work/late"
+: >"$work/empty"
+head -c 192 /dev/zero >"$work/blocks"
+bin/ribjasper author --lead-in 12 --length 00:00:01 -- "$work/titled" "$work/empty" >"$work/texts"
+head -c 96 /dev/zero >"$work/packs"
+bin/ribjasper save --lead-in 0 <"$work/blocks" >"$work/saved"
+
+program=bin/ribjasper
+failures=0
+# Runs a command with a request refused, and says what came of it: run NUMBER OUT ERR WORDS..
+run() {
+    number=$1 out=$2 err=$3
+    shift 3
+    status=0
+    REFUSE=$number COUNT=$work/count LD_PRELOAD=$work/refuse.so $program "$@" >"$out" 2>"$err" || status=$?
+    echo "$status"
+}
+
+# Tries a command with each request refused.
+try() {
+    ample=$(run -1 "$work/ample.out" "$work/ample.err" "$@")
+    requests=$(cat "$work/count")
+    kept=0 refused=0 number=0
+    while [ "$number" -lt "$requests" ]; do
+        status=$(run "$number" "$work/out" "$work/err" "$@")
+        if [ "$status" = 7 ] && [ ! -s "$work/out" ] && [ "$(cat "$work/err")" = "no memory" ]; then
+            refused=$((refused + 1))
+        elif [ "$status" = "$ample" ] && cmp -s "$work/out" "$work/ample.out" &&
+            cmp -s "$work/err" "$work/ample.err"; then
+            kept=$((kept + 1))
+        else
+            failures=$((failures + 1))
+            echo "request $number of '$*': status $status"
+        fi
+        number=$((number + 1))
+    done
+    echo "$1 (status $ample): $requests requests, $refused end with no memory, $kept as with ample memory"
+}
+
+try convert --lead-in 0 -- "$work/blocks"
+try screen --lead-in 0 --at 00:00:02 -- "$work/blocks"
+try state --lead-in 0 --at 00:00:02 -- "$work/blocks"
+try check --lead-in 0 -- "$work/blocks"
+try q --lead-in 0 -- "$work/blocks"
+try planar -- "$work/blocks"
+try raw -- "$work/blocks"
+try scratch --lead-in 0 --seed 1 -- "$work/blocks"
+try gen --seed 1 --pictures 1
+try merge --lead-in 0 -- "$work/blocks" "$work/blocks"
+try press --lead-in 12 --length 00:00:01 -- "$work/titled" "$work/packs"
+try thin -- "$work/packs"
+try save --lead-in 0 -- "$work/blocks"
+try resume --at 00:00:02 -- "$work/saved" "$work/empty"
+try author --lead-in 0 --length 00:00:01 -- "$work/sheet" "$work/late"
+try author --lead-in 0 --length 00:00:01 -- "$work/sheet" "$work/empty"
+try text --lead-in 12 -- "$work/texts"
+try trial --seed 42 --pictures 1
+[ "$failures" = 0 ] || { echo "$failures runs ended in another way"; exit 1; }
+
+# A program that takes memory and does the statement where there is none: careless NAME STATEMENT
+careless() {
+    printf '#include <stdio.h>\n#include <stdlib.h>\nint main(void) {
+    char *volatile memory = malloc(1000);
+    if (!memory) { %s }
+    return 0;\n}\n' "$2" >"$work/$1.c"
+    cc -o "$work/$1" "$work/$1.c"
+    program=$work/$1 failures=0
+    try "$1" >"$work/told"
+    [ "$failures" -gt 0 ] || { echo "a program that is $1 is not noticed"; exit 1; }
+}
+
+careless hasty 'puts("half"); fputs("no memory\n", stderr); return 7;'
+careless mistaken 'fputs("usage\n", stderr); return 2;'
+echo "two careless programs are noticed"

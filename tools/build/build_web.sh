@@ -1,0 +1,26 @@
+#!/bin/sh
+# Proves the calls for web pages, compiles them to WebAssembly and leaves in lib/web: ribjasper.wasm, ribjasper.mjs with
+# its types, and index.html, the page of examples/web with both inside, which needs no server. With OVER_GATE=1 it stands on
+# what `rt ci` has just proved, if that is all there.
+set -e
+cd "$(dirname "$0")/../.."
+target=wasm64-unknown-unknown
+command -v wasm-ld-14 >/dev/null || command -v wasm-ld >/dev/null ||
+    { echo "build_web: there is no wasm-ld (Debian: lld)" >&2; exit 1; }
+if [ -z "$OVER_GATE" ] || ! tools/build/build_over_gate.py ribjasper_web --target "$target" ${JOBS:+--jobs "$JOBS"}; then
+    tools/build/prove_crates.py ribjasper_web
+    (cd crates/ribjasper_web && rt lib --target "$target" ${JOBS:+--jobs "$JOBS"})
+fi
+
+kit=$(dirname "$(readlink -f "$(command -v rt)")")
+mkdir -p lib/web
+"$kit/rattle-link" --target "$target" --toolchain "$kit/../toolchain" -o lib/web/.ribjasper.wasm \
+    crates/ribjasper_web/out/libribjasper_web.a
+version=$(cat VERSION)
+sed "s/^export const VERSION = .*/export const VERSION = \"$version\";/" web/ribjasper.mjs >lib/web/.ribjasper.mjs
+cp web/ribjasper.d.mts lib/web/.ribjasper.d.mts
+tools/build/one_page.py examples/web/index.html lib/web/.ribjasper.mjs lib/web/.ribjasper.wasm >lib/web/.index.html
+for file in ribjasper.wasm ribjasper.mjs ribjasper.d.mts index.html; do
+    mv "lib/web/.$file" "lib/web/$file"
+done
+echo "lib/web/ribjasper.wasm and lib/web/index.html are built and proved"

@@ -1,0 +1,100 @@
+#!/usr/bin/env python3
+"""What programs that are linked with the library rest on: the names of its calls, the numbers of the header, how its structs
+lie in memory, the name that programs ask for at run time and the version of its symbols. tools/check/abi.txt lists them, each with
+the version that brought it. Fails where a line of the list no longer holds, or where something is not listed.
+
+    check_abi.py            compares the header, and lib/libribjasper.so.0 where it is there, with the list
+    check_abi.py --write    adds to the list what is new; it takes nothing off it"""
+import argparse
+import re
+import shutil
+import subprocess
+import sys
+import tempfile
+from collections.abc import Iterator
+from pathlib import Path
+
+TOP = Path(__file__).resolve().parents[2]
+HEADER = TOP / "include" / "ribjasper.h"
+LIBRARY = TOP / "lib" / "libribjasper.so.0"
+LIST = TOP / "tools" / "check" / "abi.txt"
+
+COMMENT = re.compile(r"/\*.*?\*/", re.S)
+STRUCT = re.compile(r"typedef struct (\w+) \{(.*?)\} \1;", re.S)
+ENUM = re.compile(r"typedef enum \w+ \{(.*?)\}", re.S)
+FIELD = re.compile(r"(\w+)(?:\[\w+\])?;")
+CALL = re.compile(r"\b(ribjasper_\w+)\(")
+NUMBER = re.compile(r"^#define (RIBJASPER_[A-Z0-9_]+) (?:\(?-?\d|0x)", re.M)
+# The version's own numbers change with each version.
+PASSED_OVER = {"RIBJASPER_VERSION", "RIBJASPER_VERSION_MAJOR", "RIBJASPER_VERSION_MINOR", "RIBJASPER_VERSION_PATCH"}
+
+
+def questions(header: str) -> Iterator[str]:
+    """The lines of a C program that prints the numbers and the layout of the structs."""
+    numbers = [name for name in NUMBER.findall(header) if name not in PASSED_OVER]
+    for values in ENUM.findall(header):
+        numbers += re.findall(r"(RIBJASPER_\w+) =", values)
+    for name in numbers:
+        yield f'printf("number {name} %lld\\n", (long long)({name}));'
+    for name, body in STRUCT.findall(header):
+        yield f'printf("struct {name} size %zu\\n", sizeof({name}));'
+        for field in FIELD.findall(re.sub(r"struct \{.*?\}", "", body, flags=re.S)):
+            yield (f'printf("field {name} {field} at %zu size %zu\\n", offsetof({name}, {field}), '
+                   f"sizeof((({name} *)0)->{field}));")
+
+
+def of_header() -> list[str]:
+    """What the header says, as lines of the list."""
+    header = COMMENT.sub("", HEADER.read_text())
+    told = sorted({f"call {name}" for name in CALL.findall(header)})
+    with tempfile.TemporaryDirectory() as folder:
+        source, program = Path(folder) / "told.c", Path(folder) / "told"
+        lines = "\n    ".join(questions(header))
+        source.write_text(f'#include "ribjasper.h"\n#include <stddef.h>\n#include <stdio.h>\nint main(void)\n{{\n    {lines}\n'
+                          "    return 0;\n}\n")
+        subprocess.run(["cc", "-I", HEADER.parent, source, "-o", program], check=True)
+        return told + subprocess.run([program], check=True, capture_output=True, text=True).stdout.splitlines()
+
+
+def of_library() -> list[str]:
+    """What the shared library says: its name, and its symbols with their version."""
+    dynamic = subprocess.run(["readelf", "-d", LIBRARY], check=True, capture_output=True, text=True).stdout
+    found = re.search(r"SONAME.*\[(.*)\]", dynamic)
+    symbols = subprocess.run(["nm", "-D", "--defined-only", "--with-symbol-versions", LIBRARY], check=True,
+                             capture_output=True, text=True).stdout
+    names = re.findall(r" T (\w+)@@(\w+)$", symbols, re.M)
+    return [f"soname {found[1] if found else 'none'}"] + sorted(f"symbol {name} {version}" for name, version in names)
+
+
+def main() -> int:
+    parser = argparse.ArgumentParser(description="compares the library with tools/check/abi.txt")
+    parser.add_argument("--write", action="store_true", help="adds to the list what is new")
+    write = parser.parse_args().write
+    if not all(map(shutil.which, ("cc", "nm", "readelf"))):
+        print("check_abi: skipped, there is no C compiler")
+        return 0
+    told = of_header()
+    if LIBRARY.exists():
+        told += of_library()
+    else:
+        print("check_abi: skipped in part, there is no lib/libribjasper.so.0 (make library)")
+    listed = dict(line.split(": ", 1)[::-1] for line in LIST.read_text().splitlines()) if LIST.exists() else {}
+    kinds = {line.split()[0] for line in told}
+    gone = [line for line in listed if line not in told and line.split()[0] in kinds]
+    new = [line for line in told if line not in listed]
+    for line in gone:
+        print(f"check_abi: programs rest on this, and it does not hold: {line} (since {listed[line]})", file=sys.stderr)
+    if write and not gone:
+        version = (TOP / "VERSION").read_text().strip()
+        listed.update(dict.fromkeys(new, version))
+        LIST.write_text("".join(f"{since}: {line}\n" for line, since in listed.items()))
+        new = []
+    for line in new:
+        print(f"check_abi: tools/check/abi.txt leaves out: {line}", file=sys.stderr)
+    if not gone and not new:
+        print(f"check_abi: {len(told)} names, numbers and places in structs are as programs have them")
+    return 1 if gone or new else 0
+
+
+if __name__ == "__main__":
+    sys.exit(main())

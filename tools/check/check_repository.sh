@@ -1,0 +1,144 @@
+#!/bin/sh
+# Cheap checks of what no proof sees: the handles, the links and commands of the documents, and that
+# every crate is listed.
+cd "$(dirname "$0")/../.." || exit 1
+failed=0
+
+complain() {
+    echo "check: $*" >&2
+    failed=1
+}
+
+# try COMMAND ..: runs a check, and keeps what it says that it skipped for the end.
+skipped=$(mktemp)
+trap 'rm -f "$skipped" "$skipped.told"' EXIT
+try() {
+    "$@" >"$skipped.told" 2>&1
+    status=$?
+    cat "$skipped.told"
+    grep -i 'skipped' "$skipped.told" | grep -v ' 0 skipped' >>"$skipped"
+    return "$status"
+}
+
+# No handle is allowed.
+[ "$(cat HANDLES)" = "Handles allowed: none." ] || complain "HANDLES is changed"
+
+# The repository stands alone: no document outside of it is cited.
+cited=$(git grep -nIE '\b(paper|request|demand|rung) [0-9]+|\bpapers?/[0-9]' -- . ':!tools/check/check_repository.sh')
+[ -z "$cited" ] || complain "something outside is cited: $cited"
+
+# Each crate is listed, and each that is listed is there.
+listed=$(sed -n 's/^\([a-z0-9_]*\):.*/\1/p; s/^\([a-z0-9_]*\) staticlib:.*/\1/p' crates.txt | sort)
+present=$(ls crates | sort)
+[ "$listed" = "$present" ] || complain "crates.txt and crates/ differ"
+
+# The definitions are listed as they stand, and each crate is on the map.
+tools/write/list_definitions.py --check || complain "docs/DEFINITIONS.md is not what tools/write/list_definitions.py writes"
+for crate in $present; do
+    grep -qw "$crate" docs/ARCHITECTURE.md || complain "docs/ARCHITECTURE.md leaves out $crate"
+done
+
+# No name means two things, no line is too long, and each name that callers were promised is there.
+tools/check/check_names.py || complain "names or lines are not in order"
+tools/check/check_surface.py || complain "a promised name is gone or changed"
+
+# What `make` proves is all of each crate.
+told=$(tools/build/test_proving.py 2>&1) || complain "tools/build/test_proving.py fails: $(echo "$told" | tail -n 6)"
+
+# What wraps proof lines changes nothing but white space.
+told=$(tools/write/test_wrapping.py 2>&1) || complain "tools/write/test_wrapping.py fails: $(echo "$told" | tail -n 6)"
+
+# Each edit's old text stands exactly once in the file that it names.
+tools/check/check_edits.py || complain "an edit does not turn what it was written for"
+
+# The tables of numbers are those that are reckoned.
+tests/peers/tables.py || complain "a table of numbers is not what tests/peers/tables.py reckons"
+
+# What rows want is what their definitions give.
+tests/peers/reckon_rows.py --check >/dev/null || complain "a row does not want what tests/peers/reckon_rows.py reckons"
+
+# The manual page and the completions are those of the table of commands, which README.md lists too, and
+# the guide's commands do what it says.
+tools/write/commands.py --check || complain "share/ is not what tools/write/commands.py writes"
+try tools/check/run_guide.sh || complain "the guide does not run"
+
+# The tour does what it says, and each example of a refusal is refused so, where the program is built.
+for program in bin/ribjasper crates/ribjasper/out/ribjasper; do
+    if [ -x "$program" ]; then
+        room=$(mktemp -d)
+        told=$(examples/demo.py "$room" 2>&1) || complain "the tour fails: $(echo "$told" | tail -n 3)"
+        rm -rf "$room"
+        tests/program/try_refusals.py "$program" || complain "an example of docs/FORMATS.md is not refused as it says"
+        break
+    fi
+done
+
+# The library and its example do what the program does, where they are built and a C compiler is there.
+try tests/library/compare_player.sh || complain "the library for programs in C is not as the program"
+try tests/library/test_linking.sh || complain "the library for programs in C is not linked as it should be"
+
+# What linked programs rest on is as it was, examples show what the program shows, mending is that of another program, no call
+# takes more of the stack than is said, and nothing that is asked for is forgotten.
+try tools/check/check_abi.py || complain "tools/check/abi.txt does not list what the library is"
+try tests/library/compare_examples.sh || complain "an example of a player does not show what the program shows"
+[ ! -e lib/libribjasper.so.0 ] || try tests/peers/compare_mending.py --cases 300 || complain "readings are mended otherwise than the rule says"
+try tests/library/test_small_stack.sh || complain "a call takes more of the stack than it should"
+tools/check/check_forgotten.sh || complain "memory may be forgotten"
+
+# What comes through a slow pipe goes out before more is waited for.
+try tests/program/test_live_stream.py || complain "a live stream is held back"
+
+# The module and the page for browsers do what the program does, where they are built and Node and Chromium are there.
+try tests/peers/compare_web.sh || complain "the player for web pages is not as the program"
+
+# The desk does what it says, where the program and the library are built.
+try tools/check/test_desk.sh || complain "a test of the desk fails"
+
+# Packages are made, installed and removed again, where that can be done.
+if [ -x bin/ribjasper ] && command -v dpkg-deb >/dev/null; then
+    try tools/build/make_deb.sh >/dev/null || complain "make deb fails"
+    try tools/check/try_deb.sh || complain "the packages cannot be installed and removed"
+else
+    echo "try_deb: skipped, there is no bin/ribjasper (make) or no dpkg-deb" | tee -a "$skipped"
+fi
+
+# No function of Python is without its types, and no command takes more instructions than it did.
+try tools/check/check_types.sh || complain "the types of what is written in Python are not in order"
+try bench/instructions.py --check || complain "a command takes more instructions than bench/instructions.tsv says"
+
+# Other programs agree, where they are installed.
+for other in compare_ffmpeg compare_cdrskin; do
+    try tests/peers/$other.sh || complain "tests/peers/$other.sh fails"
+done
+[ ! -x bin/ribjasper ] || try tests/peers/compare_trial.sh || complain "tests/peers/compare_trial.sh fails"
+
+# Each file that a document links to is there.
+for document in $(git ls-files '*.md'); do
+    folder=$(dirname "$document")
+    for link in $(grep -oE '\]\([^)#: ]+' "$document" | sed 's/^](//'); do
+        [ -e "$folder/$link" ] || complain "$document links to $link, which is not there"
+    done
+done
+
+# Each target of make and each script that README.md names is there.
+if [ -f README.md ]; then
+    for target in $(grep -oE '`make [a-z]+`' README.md | tr -d '`' | cut -d' ' -f2); do
+        grep -q "^$target:" Makefile || complain "README.md names the target $target"
+    done
+    for script in $(grep -oE '`(tools|tests|bench|examples)/[A-Za-z0-9_./]+' README.md | tr -d '`'); do
+        [ -e "$script" ] || complain "README.md names $script, which is not there"
+    done
+fi
+
+# Scripts are programs.
+for script in .ci/run $(git ls-files 'tools/*.sh' 'tests/*.sh' 'bench/*.py') tools/write/*.py tools/check/*.py \
+    tests/peers/compare_*.py tests/program/*.py examples/demo.py desk/ribjasper-desk desk/manual_page.py; do
+    [ -x "$script" ] || complain "$script cannot be run"
+done
+
+if [ -s "$skipped" ]; then
+    echo "check: $(wc -l <"$skipped") checks were skipped, in whole or in part:"
+    sort -u "$skipped"
+fi
+[ "$failed" = 0 ] && echo "check: the repository is in order"
+exit "$failed"

@@ -1,0 +1,116 @@
+#!/usr/bin/env python3
+"""Runs the gate and prints what each crate took of the processor: see tools/check/gate_times.sh."""
+import argparse
+import os
+import pathlib
+import re
+import subprocess
+import sys
+import time
+from typing import Iterator
+
+TICKS = os.sysconf("SC_CLK_TCK")
+KINDS = ("proof", "tests", "edits")
+# Processor seconds by crate and kind.
+Table = dict[str, dict[str, float]]
+
+
+def processes() -> dict[int, tuple[int, float]]:
+    """Each process that runs: its parent and its processor seconds."""
+    found = {}
+    for folder in pathlib.Path("/proc").glob("[0-9]*"):
+        try:
+            fields = (folder / "stat").read_text().rpartition(")")[2].split()
+        except OSError:
+            continue
+        found[int(folder.name)] = int(fields[1]), (int(fields[11]) + int(fields[12])) / TICKS
+    return found
+
+
+def label_of(pid: int) -> tuple[str, str] | None:
+    """The crate that a process checks and what of it, where it checks one."""
+    try:
+        words = pathlib.Path(f"/proc/{pid}/cmdline").read_bytes().decode(errors="replace").split("\0")
+        folder = os.readlink(f"/proc/{pid}/cwd")
+    except OSError:
+        return None
+    if "--crate-name" not in words:
+        return None
+    kind = "edits" if "/rt-edit-" in folder else "tests" if "--test" in words else "proof"
+    return words[words.index("--crate-name") + 1], kind
+
+
+class Watch:
+    """A process and all that come of it, with what each took of the processor."""
+
+    def __init__(self, root: int) -> None:
+        self.labels: dict[int, tuple[str, str] | None] = {}
+        self.seconds: dict[int, float] = {}
+        self.members = {root}
+
+    def look(self) -> None:
+        found = processes()
+        # A child has a greater number than its parent, but where numbers start again.
+        for pid in sorted(found):
+            parent, seconds = found[pid]
+            if parent in self.members or pid in self.members:
+                self.members.add(pid)
+                if self.labels.get(pid) is None:
+                    self.labels[pid] = label_of(pid) or self.labels.get(parent)
+                self.seconds[pid] = max(seconds, self.seconds.get(pid, 0))
+
+    def table(self) -> Table:
+        made: Table = {}
+        for pid, seconds in self.seconds.items():
+            crate, kind = self.labels[pid] or ("(the rest)", "proof")
+            made.setdefault(crate, dict.fromkeys(KINDS, 0.0))[kind] += seconds
+        return made
+
+
+def lines_of(made: Table) -> Iterator[str]:
+    rows = sorted(made.items(), key=lambda it: -sum(it[1].values()))
+    rows.append(("all", {kind: sum(it[kind] for it in made.values()) for kind in KINDS}))
+    yield f"times: {'crate':20} {'seconds':>8} {'proof':>8} {'tests':>8} {'edits':>8}"
+    for crate, times in rows:
+        numbers = [sum(times.values()), *(times[kind] for kind in KINDS)]
+        yield f"times: {crate:20} " + " ".join(f"{it:8.0f}" for it in numbers)
+    total = sum(rows[-1][1].values())
+    yield f"times: {total / 60:.1f} processor minutes"
+
+
+def run(log: pathlib.Path, anew: bool) -> int:
+    """Runs the gate into a log, and adds the table."""
+    with open(log, "w") as out:
+        started = time.monotonic()
+        words = ["rt", "ci", *["--anew"] * anew]
+        gate = subprocess.Popen(words, stdin=subprocess.DEVNULL, stdout=out, stderr=subprocess.STDOUT)
+        watch = Watch(gate.pid)
+        while gate.poll() is None:
+            watch.look()
+            time.sleep(0.5)
+        took = time.monotonic() - started
+        processors = len(os.sched_getaffinity(0))
+        lines = [*lines_of(watch.table()), f"times: {took / 60:.1f} minutes on {processors} processors"]
+        print("\n".join(lines), file=out)
+    print("\n".join(lines))
+    print(log.read_text(errors="replace").splitlines()[-len(lines) - 1])
+    return gate.returncode
+
+
+def main() -> int:
+    parser = argparse.ArgumentParser(
+        description="Runs the gate and prints what each crate took of the processor, dearest first."
+    )
+    how = parser.add_mutually_exclusive_group()
+    how.add_argument("--anew", action="store_true", help="prove and try all from nothing")
+    how.add_argument("--again", action="store_true", help="run nothing, and print the table of the log")
+    parser.add_argument("log", nargs="?", type=pathlib.Path, default="gate.log", help="default: gate.log")
+    words = parser.parse_args()
+    if not words.again:
+        return run(words.log, words.anew)
+    print("\n".join(re.findall(r"(?m)^times: .*", words.log.read_text(errors="replace"))))
+    return 0
+
+
+if __name__ == "__main__":
+    sys.exit(main())

@@ -1,0 +1,49 @@
+#!/bin/sh
+# Runs the commands of README.md, docs/FORMATS.md and docs/GUIDE.md as they stand, from a clean environment: each document
+# in a home of its own, begun in this checkout, with nothing set but HOME and the system's PATH. What README's first block
+# sets, the other two stand on, as they say. Blocks marked `sh` want bin/ribjasper, `sh desk` lib/ and Pillow too, `sh
+# library` a C compiler and lib/, `sh song` also ffmpeg and a font. What cannot be run is counted as skipped.
+cd "$(dirname "$0")/../.." || exit 1
+[ -x bin/ribjasper ] || { echo "guide: skipped, there is no bin/ribjasper (make)"; exit 0; }
+work=$(mktemp -d)
+trap 'rm -rf "$work"' EXIT
+
+# blocks KINDS DOCUMENT: the text of the blocks of these kinds.
+blocks() { awk -v kinds="$1" '$0 ~ kinds { inside = 1; next } /^```$/ { inside = 0; next } inside' "$2"; }
+
+kinds='^```sh$' skipped=
+with() { kinds="$kinds|^\`\`\`sh $1\$"; }
+if [ -e lib/libribjasper.so ] && /usr/bin/python3 -c 'import PIL' 2>/dev/null; then
+    with desk
+    if command -v ffmpeg >/dev/null && ls /usr/share/fonts/truetype/dejavu/*.ttf >/dev/null 2>&1; then
+        with song
+    else
+        skipped=" (skipped the song: ffmpeg, fonts-dejavu-core)"
+    fi
+else
+    skipped=" (skipped the blocks for the desk and the song: make library, python3-pil)"
+fi
+if [ -e lib/libribjasper.a ] && command -v cc >/dev/null; then
+    with library
+else
+    skipped="$skipped (skipped the blocks for the library: make library, cc)"
+fi
+
+# Where README's first block begins: the paths, and the folder of a first result.
+awk '/^```sh$/ { inside = 1; next } /^```$/ && inside { exit } inside' README.md >"$work/begin"
+failed=0
+for document in README.md docs/FORMATS.md docs/GUIDE.md; do
+    home=$work/$(basename "$document" .md)
+    mkdir "$home"
+    {
+        [ "$document" = README.md ] || cat "$work/begin"
+        blocks "$kinds" "$document"
+    } >"$work/commands"
+    if ! env -i HOME="$home" PATH=/usr/local/bin:/usr/bin:/bin LANG=C.UTF-8 sh -e "$work/commands" >"$work/told" 2>&1; then
+        tail -n 5 "$work/told" >&2
+        echo "guide: a command of $document fails" >&2
+        failed=1
+    fi
+done
+[ "$failed" = 0 ] && echo "guide: the commands of README, FORMATS and the guide do what they say$skipped"
+exit "$failed"

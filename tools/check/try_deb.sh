@@ -1,0 +1,22 @@
+#!/bin/sh
+# Installs the packages of deb/ and removes them again, where that is allowed (as root, with dpkg): each file that they
+# name is there between, and gone after. Skipped elsewhere, and where a package of that name is installed already.
+set -e
+cd "$(dirname "$0")/../.."
+ls deb/*.deb >/dev/null 2>&1 || { echo "try_deb: skipped, there are no packages (make deb)"; exit 0; }
+[ "$(id -u)" = 0 ] && command -v dpkg >/dev/null || { echo "try_deb: skipped, packages cannot be installed here"; exit 0; }
+names=$(for file in deb/*.deb; do dpkg-deb --field "$file" Package; done)
+for name in $names; do
+    ! dpkg --status "$name" >/dev/null 2>&1 || { echo "try_deb: skipped, $name is installed"; exit 0; }
+done
+dpkg --install deb/*.deb >/dev/null
+trap 'dpkg --purge $names >/dev/null 2>&1 || true' EXIT
+files=$(for name in $names; do dpkg --listfiles "$name"; done | sort -u)
+for file in $files; do
+    [ -e "$file" ] || { echo "try_deb: $file was not installed" >&2; exit 1; }
+done
+[ "$(printf '' | ribjasper convert --lead-in 0 | wc -c)" = 0 ]
+! command -v ribjasper-desk >/dev/null || [ "$(ribjasper-desk --version)" = "ribjasper-desk $(cat VERSION)" ]
+dpkg --purge $names >/dev/null
+[ ! -e /usr/bin/ribjasper ] || { echo "try_deb: the program is still there" >&2; exit 1; }
+echo "try_deb: the packages are installed and removed again"

@@ -1,9 +1,0 @@
-#!/bin/sh
-# No code lets go of memory without giving it back: no clause could say so. `Box::into_raw_with_allocator` stands in one place,
-# where a player is put behind a pointer for C.
-cd "$(dirname "$0")/.." || exit 1
-found=$(grep -rnE '\b(forget|leak|into_raw|into_raw_parts|ManuallyDrop)\b' --include='*.rt' crates/*/src)
-[ -z "$found" ] || { echo "check_forgotten: memory may be lost: $found" >&2; exit 1; }
-raw=$(grep -rlE '\binto_raw_with_allocator\b' --include='*.rt' crates/*/src)
-[ "$raw" = crates/ribjasper_c/src/handle/parts.rt ] || { echo "check_forgotten: a box is taken apart in $raw" >&2; exit 1; }
-echo "check_forgotten: no code forgets memory"

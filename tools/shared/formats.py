@@ -1,0 +1,43 @@
+"""The tables of docs/FORMATS.md, as the tools and tests read them that write or try what it says."""
+import re
+from pathlib import Path
+
+FORMATS = Path(__file__).resolve().parents[2] / "docs" / "FORMATS.md"
+FORMS = ["raw", "sector", "cooked"]
+# The heads of the table of commands, and of the two tables of reasons: of the sheet and of the script.
+COMMANDS, REASONS = "| Words | Inputs | Output |", "| Why | For example | What to do |"
+
+Row = list[str]
+
+
+def rows_after(text: str, head: str) -> list[list[Row]]:
+    """The rows of each table with this head, each a list of its cells."""
+    found = []
+    for part in text.split(f"{head}\n")[1:]:
+        rows = []
+        for line in part.splitlines()[1:]:
+            if not line.startswith("|"):
+                break
+            rows.append([cell.strip() for cell in line.strip("|").split("|")])
+        found.append(rows)
+    return found
+
+
+def table(text: str, head: str) -> list[Row]:
+    """The rows of the first table with this head."""
+    return rows_after(text, head)[0]
+
+
+def reasons(text: str) -> dict[str, list[Row]]:
+    """The reasons of a refused line of each text, with examples and remedies."""
+    return dict(zip(("cue", "script"), rows_after(text, REASONS)))
+
+
+def bare(cell: str) -> str:
+    """A cell without the marks of code."""
+    return cell.replace("`", "")
+
+
+def quoted(cell: str) -> list[str]:
+    """What stands in a cell between marks of code."""
+    return re.findall("`([^`]+)`", cell)

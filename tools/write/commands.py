@@ -1,0 +1,218 @@
+#!/usr/bin/env python3
+"""Writes the manual page and the completions of two shells from the tables and examples of docs/FORMATS.md.
+
+The files are share/ribjasper.1, share/ribjasper.bash and share/_ribjasper. With --check it only says whether
+they are what would be written, and whether README.md lists the same commands.
+"""
+import argparse
+import re
+import site
+import sys
+from pathlib import Path
+
+TOP = Path(__file__).resolve().parents[2]
+site.addsitedir(str(TOP / "tools" / "shared"))
+from formats import COMMANDS, FORMATS, FORMS, Row, bare, reasons, table  # noqa: E402
+
+# These two read no cooked stream.
+WITHOUT_COOKED = ["q", "text"]
+
+# What the manual page has between its title and the commands.
+BEGINNING = r"""
+.SH NAME
+ribjasper \- the subcode of Compact Discs: graphics, texts, Q frames, both ways
+.SH SYNOPSIS
+.B ribjasper
+.I words
+.RB [ \-\-
+.IR first " [" second ]]
+.SH DESCRIPTION
+Works on the subcode channels P to W of a Compact Disc. A command has one spelling, its options in the order shown
+here. What is read is standard input, or the files that are named after a word
+.BR \-\- ;
+what is written is standard output. The one word
+.B usage
+on standard error means: the words are no command, see this page. Streams are read and written as they come.
+.SH COMMANDS
+""".strip().splitlines()
+
+def roff(text: str) -> str:
+    """A text for a manual page."""
+    return bare(text).replace("\\", "\\e").replace("-", "\\-")
+
+
+def words_of(row: Row) -> tuple[str, list[tuple[str, bool]]]:
+    """The name of a command and its options, each with whether it may be left out."""
+    name, *rest = bare(row[0]).split()
+    options = re.findall(r"(\[)?(--[a-z-]+)", " ".join(rest))
+    return name, [(option, bool(free)) for free, option in options]
+
+
+def examples(text: str) -> list[tuple[str, list[str]]]:
+    """What each block of commands of the document shows: pairs of what it is and its lines."""
+    found: list[tuple[str, list[str]]] = []
+    for block in re.findall(r"^```sh\n(.*?)^```$", text, re.M | re.S):
+        for line in block.splitlines():
+            if line.startswith("# "):
+                found.append((line[2:], []))
+            else:
+                found[-1][1].append(line)
+    return found
+
+
+def entry(tag: str, said: str) -> list[str]:
+    """A paragraph of the manual page under its tag."""
+    return [".TP", f".B {roff(tag)}", said]
+
+
+def letters(formats: str) -> list[str]:
+    """The part on the letters that stand for values."""
+    out = [".SH VALUES"]
+    for letter, meaning, spelled in table(formats, "| Letter | Is | Spelled |"):
+        said = meaning if spelled == "the same" else f"{meaning}: {spelled}"
+        out += entry(letter, roff(said).replace("'", "\\(aq") + ".")
+    return out
+
+
+def statuses(formats: str) -> list[str]:
+    """The part on the exit statuses."""
+    out = [".SH EXIT STATUS"]
+    for status, exit_number, line in table(formats, "| Status | Exit | Line |"):
+        said = "nothing is written to standard error" if line == "none" else f"standard error has {roff(line)}"
+        out += entry(exit_number, f"{roff(status)}; {said}.")
+    return out
+
+
+def refusals(formats: str) -> list[str]:
+    """The parts on the reasons of a refusal, and on those of a refused line of each text."""
+    out = [".SH REFUSALS", "What stands after", ".BR refused :"]
+    for reason, comes in table(formats, "| Reason after `refused` | Comes where |"):
+        out += entry(reason, roff(comes) + ".")
+    for kind, what in (("cue", "CUE SHEET"), ("script", "PICTURE SCRIPT")):
+        out += [f".SH REFUSED LINES OF {what}", "What stands after", f'.BR "refused {kind} " LINE :']
+        for why, _, remedy in reasons(formats)[kind]:
+            out += entry(why, roff(remedy) + ".")
+    return out
+
+
+def manual(formats: str, commands: list[Row]) -> str:
+    version = (TOP / "VERSION").read_text().strip()
+    out = [
+        ".\\\" Written by tools/write/commands.py from docs/FORMATS.md.",
+        f'.TH RIBJASPER 1 "" "Ribjasper {version}" "User commands"',
+        *BEGINNING,
+    ]
+    for words, inputs, output in commands:
+        out += entry(words, f"Reads {roff(inputs)}. Writes {roff(output)}.")
+    out += [*letters(formats), *statuses(formats), *refusals(formats)]
+    out += [".SH NOTES", "What ends quietly, or with a line that is easily misread."]
+    for seen, meaning, remedy in table(formats, "| You see | It is | What to do |"):
+        out += entry(seen, f"{roff(meaning)}. Remedy: {roff(remedy)}.")
+    out += [".SH EXAMPLES"]
+    for said, lines in examples(formats):
+        out += [roff(said), ".PP", ".nf", ".RS", *map(roff, lines), ".RE", ".fi", ".PP"]
+    out += [".SH LICENCE", "MIT or Apache-2.0, as you like it: 2026 The Ribjasper authors."]
+    out += [".SH SEE ALSO", "Formats, byte by byte, and the guide: docs/FORMATS.md and docs/GUIDE.md of the project."]
+    return "\n".join(out) + "\n"
+
+
+def values_of(name: str, option: str) -> list[str]:
+    """What may stand after an option, as far as it can be listed."""
+    if option != "--form":
+        return []
+    return [form for form in FORMS if not (form == "cooked" and name in WITHOUT_COOKED)]
+
+
+def bash(commands: list[Row]) -> str:
+    names = " ".join(words_of(row)[0] for row in commands)
+    out = [
+        "# Completion for bash. Written by tools/write/commands.py from docs/FORMATS.md.",
+        "_ribjasper() {",
+        "    local word=${COMP_WORDS[COMP_CWORD]} before=${COMP_WORDS[COMP_CWORD-1]} options=",
+        '    case " ${COMP_WORDS[*]:1:COMP_CWORD-1} " in',
+        "        *' -- '*)",
+        "            local IFS=$'\\n'",
+        "            compopt -o filenames 2>/dev/null",
+        "            COMPREPLY=($(compgen -f -- \"$word\"))",
+        "            return ;;",
+        "    esac",
+        "    if [ \"$COMP_CWORD\" -eq 1 ]; then",
+        f"        COMPREPLY=($(compgen -W '{names}' -- \"$word\"))",
+        "        return",
+        "    fi",
+        "    case ${COMP_WORDS[1]}$before in",
+    ]
+    for row in commands:
+        name, options = words_of(row)
+        for option, _ in options:
+            values = " ".join(values_of(name, option))
+            out.append(f"        {name}{option}) COMPREPLY=($(compgen -W '{values}' -- \"$word\")); return ;;")
+    out += ["    esac", "    case ${COMP_WORDS[1]} in"]
+    for row in commands:
+        name, options = words_of(row)
+        out.append(f"        {name}) options='{' '.join([option for option, _ in options] + ['--'])}' ;;")
+    out += [
+        "    esac",
+        "    COMPREPLY=($(compgen -W \"$options\" -- \"$word\"))",
+        "}",
+        "complete -F _ribjasper ribjasper",
+    ]
+    return "\n".join(out) + "\n"
+
+
+def zsh(commands: list[Row]) -> str:
+    out = [
+        "#compdef ribjasper",
+        "# Completion for zsh. Written by tools/write/commands.py from docs/FORMATS.md.",
+        "_ribjasper() {",
+        "    local -a commands",
+        "    if (( ${words[(I)--]} && ${words[(I)--]} < CURRENT )); then _files; return; fi",
+        "    if (( CURRENT == 2 )); then",
+        "        commands=(",
+    ]
+    for row in commands:
+        said = bare(row[2]).replace("'", "'\\''").replace(":", "\\:")
+        out.append(f"            '{words_of(row)[0]}:{said}'")
+    out += ["        )", "        _describe command commands", "        return", "    fi", "    case $words[2] in"]
+    for row in commands:
+        name, options = words_of(row)
+        out.append(f"        {name})")
+        for option, _ in options:
+            values = values_of(name, option)
+            then = f"compadd {' '.join(values)}" if values else ":"
+            out.append(f"            if [[ $words[CURRENT-1] == {option} ]]; then {then}; return; fi")
+        out.append(f"            compadd -- {' '.join([option for option, _ in options] + ['--'])} ;;")
+    out += ["    esac", "}", '_ribjasper "$@"']
+    return "\n".join(out) + "\n"
+
+
+def main() -> int:
+    parser = argparse.ArgumentParser(
+        description="Writes the manual page and the completions of two shells from the tables and examples "
+        "of docs/FORMATS.md."
+    )
+    parser.add_argument("--check", action="store_true", help="only say which files would change")
+    is_check = parser.parse_args().check
+    formats = FORMATS.read_text()
+    commands = table(formats, COMMANDS)
+    written = {
+        "ribjasper.1": manual(formats, commands),
+        "ribjasper.bash": bash(commands),
+        "_ribjasper": zsh(commands),
+    }
+    if not is_check:
+        (TOP / "share").mkdir(exist_ok=True)
+        for name, text in written.items():
+            (TOP / "share" / name).write_text(text)
+        return 0
+    wrong = [name for name, text in written.items() if (TOP / "share" / name).read_text() != text]
+    listed = re.findall(r"^ribjasper ([a-z]+)", (TOP / "README.md").read_text(), re.M)
+    if sorted(set(listed)) != sorted(words_of(row)[0] for row in commands):
+        wrong.append("README.md lists other commands than docs/FORMATS.md")
+    for line in wrong:
+        print(f"tools/write/commands.py: {line}", file=sys.stderr)
+    return 1 if wrong else 0
+
+
+if __name__ == "__main__":
+    sys.exit(main())

@@ -1,0 +1,495 @@
+#!/usr/bin/env python3
+"""Wraps the lines of proofs over 110 columns: wrap_proofs.py [--imports] [CRATE ..]
+
+Wraps all proof files of the crates that are named, or of all crates. A line is broken at spaces alone, at its
+outermost operators first: behind `in` and `=`, before `→`, `×`, `∙`, relations and sums, then between the
+arguments of a call, and within brackets last. `rattle fmt`, which lies beside the kit's `rt`, indents the
+lines, and those that are still too long are broken again. Long imports get a line for each name where
+--imports is given. A comment over 120 columns is filled anew, and a line that ends with a comment stays.
+
+A wrapped file has to have the tokens, and the letters of comments, that it had before. Where `rattle fmt`
+breaks a bracket it adds a `,` or `;` before the closing one, or a `|` behind `[`: these alone do not count. A
+file with any other difference, or one that `rattle fmt` refuses, is put back as it was and told, and the
+status is then 1.
+"""
+import argparse
+import json
+import re
+import shutil
+import subprocess
+import sys
+import textwrap
+from itertools import pairwise
+from pathlib import Path
+from typing import NamedTuple
+
+TOP = Path(__file__).resolve().parents[2]
+LIMIT, COMMENT_LIMIT = 110, 120
+# How often the lines of a file are broken and indented anew, at most.
+ROUNDS = 6
+# A part that is broken itself begins on the line of the part before, where that has so many letters at most.
+BEGUN = 75
+# How much further in the right side of `=` stands than the left one, and an item than its bracket.
+DEEPER, ITEM = 4, 2
+
+STRING = re.compile(r'"(?:\\.|[^"\\])*"?')
+# `[` and `]` are brackets where they stand apart from what they hold, as `elim` has them.
+BRACKET = re.compile(r"(?P<opens>[({]|(?<![^ (])\[(?![^ ]))|[)}]|(?<= )\](?![^ ;,)])")
+IMPORT = re.compile(r"\s*(pub )?(open \S+ )?use ")
+COMMENT = re.compile(r"( *-- ?)(.*)")
+# `rattle fmt` leaves the bracket that a broken tuple opens with at the end of the line before.
+LEFT_OPEN = re.compile(r"( in)?( record)? [({\[]$")
+# What begins on the line of a `=` or of a function's binders, although it is broken itself.
+BEGINS_THERE = re.compile(r"(λ [^.]*\. )?(record (\S+ )?\{|omega \(|\()")
+SEPARATORS_OF_FMT = re.compile(r"[,;](?=[)}])|(?<=\[)\|")
+
+
+class Break(NamedTuple):
+    """Operators that lines are broken before (or behind), at each of them or only where a line is full."""
+
+    operators: set[str]
+    behind: bool = False
+    fills: bool = False
+
+
+IN = Break({"in"}, behind=True)
+ARROW = Break({"→"}, fills=True)
+# The other operators, those that bind least first.
+BREAKS = (
+    ARROW,
+    Break({"⊎"}),
+    Break({"×"}),
+    Break({"∵"}, behind=True),
+    Break({"$"}, behind=True, fills=True),
+    Break({"∙"}),
+    Break({"≡", "≤", "<", "≢", "↔", "⊑", "∣"}),
+    Break({"then", "else"}),
+    Break({"||"}, fills=True),
+    Break({"&&"}, fills=True),
+    Break({"=="}),
+    Break({"⊛"}, fills=True),
+    Break({"++", "∷"}, fills=True),
+    Break({"+", "-"}, fills=True),
+    Break({"*", "/", "%"}, fills=True),
+    Break({"^"}, fills=True),
+)
+# The words that stay on the line of the next word, and those that stay on the line of the word before.
+WITH_NEXT = {
+    *"∙ → × ⊎ ≡ ≢ ≤ < == ++ ∷ + - * / % ^ || && ⊛ | : ‵ ¬".split(),
+    *"let if then else pub record elim #it".split(),
+}
+WITH_LAST = {"in", "=", "where", ":"}
+
+
+class Room(NamedTuple):
+    """Where a text is laid: the column of its lines, and how many letters stand before and behind it."""
+
+    indent: int
+    before: int = 0
+    behind: int = 0
+    # Whether the next line of the file goes on with an arrow.
+    goes_on: bool = False
+
+    def fits(self, text: str) -> bool:
+        """Whether a text has room on one line."""
+        return self.indent + self.before + len(text) + self.behind <= LIMIT
+
+    def head(self) -> "Room":
+        """The room of a first part, behind which a line is broken."""
+        return self._replace(behind=0)
+
+    def below(self, deeper: int = 0) -> "Room":
+        """The room of what begins a line of its own."""
+        return self._replace(indent=self.indent + deeper, before=0)
+
+    def following(self, line: str, first: bool) -> "Room":
+        """The room of what follows on a line, which is the first one or not."""
+        return self._replace(before=len(line) + 1 + (self.before if first else 0))
+
+
+Token = tuple[str, str]
+
+
+class Before(NamedTuple):
+    """What a file held before it was wrapped: its text, and the kind and text of each token."""
+
+    text: str
+    tokens: list[Token]
+
+
+class PutBack(NamedTuple):
+    """A file that is put back, with the reason."""
+
+    path: Path
+    reason: str
+
+
+# The text of a line, by brackets and strings.
+
+
+def unquoted(text: str) -> str:
+    """A text of the same length in which nothing that strings hold stands."""
+    return STRING.sub(lambda it: '"' * len(it[0]), text)
+
+
+def cut(text: str, separator: str) -> list[str]:
+    """The parts of a text between separators outside of brackets and strings."""
+    depth, begin, parts = 0, 0, []
+    for mark in re.finditer(f"{BRACKET.pattern}|{re.escape(separator)}", unquoted(text)):
+        if mark["opens"]:
+            depth += 1
+        elif mark[0] != separator:
+            depth = max(0, depth - 1)
+        elif depth == 0:
+            parts.append(text[begin : mark.start()])
+            begin = mark.end()
+    return [*parts, text[begin:]]
+
+
+def outer_words(text: str) -> list[str]:
+    """The words of a text; a bracket with all that it holds belongs to one word."""
+    return [word for word in cut(text, " ") if word]
+
+
+def longest_bracket(text: str) -> tuple[int, int]:
+    """Where the longest outermost bracket opens and closes: at the end of the text what is not there."""
+    found, open_ones = [], []
+    for mark in BRACKET.finditer(unquoted(text)):
+        if mark["opens"]:
+            open_ones.append(mark.start())
+        elif open_ones:
+            begin = open_ones.pop()
+            if not open_ones:
+                found.append((begin, mark.start()))
+    if open_ones:
+        found.append((open_ones[0], len(text)))
+    return max(found, key=lambda it: it[1] - it[0], default=(len(text), len(text)))
+
+
+def segments(words: list[str], at: Break, limit: int) -> list[str]:
+    """Words joined to segments, which a break among the first `limit` words parts."""
+    places = (number + at.behind for number, word in enumerate(words[:limit]) if word in at.operators)
+    begins = [0, *(it for it in places if 0 < it < len(words)), len(words)]
+    return [" ".join(words[begin:end]) for begin, end in pairwise(begins)]
+
+
+def arguments(words: list[str]) -> list[str]:
+    """The words of a call, each with those that stay on its line."""
+    out: list[str] = []
+    left = iter(words)
+    for word in left:
+        follower = next(left, None) if word in WITH_NEXT else None
+        if follower is not None:
+            out.append(f"{word} {follower}")
+        elif word in WITH_LAST and out:
+            out[-1] += f" {word}"
+        else:
+            out.append(word)
+    return out
+
+
+# The lines of a text, without their indentation.
+
+
+def lay(text: str, room: Room) -> list[str]:
+    """The lines of a text, broken at its outermost operators first."""
+    if room.fits(text):
+        return [text]
+    words = outer_words(text)
+    if words[0] in ("unfolding", "module"):
+        return filled(words, room)
+    bindings = segments(words, IN, len(words))
+    if len(bindings) > 1:
+        return stacked(bindings, room)
+    lines = at_equals(words, room) or at_operators(words, room) or at_function(words, room)
+    return lines or at_arguments(words, room)
+
+
+def stacked(parts: list[str], room: Room) -> list[str]:
+    """The lines of parts that begin a line each."""
+    first, *between = parts[:-1]
+    out = lay(first, room.head())
+    for part in between:
+        out += lay(part, room.head().below())
+    return out + lay(parts[-1], room.below())
+
+
+def filled(parts: list[str], room: Room, last_alone: bool = False) -> list[str]:
+    """The lines of parts, each with as many as it can take; the last part may have to begin a line."""
+    lines: list[str] = []
+    for part in parts[:-1]:
+        lines = with_part(lines, part, room.head())
+    return with_part(lines, parts[-1], room, last_alone)
+
+
+def with_part(lines: list[str], part: str, room: Room, alone: bool = False) -> list[str]:
+    """Lines with one more part: on the last of them where it has room or can begin there, and else below."""
+    if not lines:
+        return lay(part, room)
+    *done, line = lines
+    here, below = room.following(line, not done), room.below()
+    if alone:
+        return [*lines, *lay(part, below)]
+    if here.fits(part):
+        return [*done, f"{line} {part}"]
+    if not below.fits(part) and (here.before <= BEGUN + 1 or part[0] in "[{"):
+        first, *rest = lay(part, here)
+        if here.head().fits(first):
+            return [*done, f"{line} {first}", *rest]
+    return [*lines, *lay(part, below)]
+
+
+def at_equals(words: list[str], room: Room) -> list[str]:
+    """The lines of a text that is broken behind its `=` or `↦`; none where nothing follows it."""
+    mark = next((it for it in ("=", "↦") if it in words), None)
+    end = words.index(mark) + 1 if mark else len(words)
+    if end == len(words) or "λ" in words[:end]:
+        return []
+    right = " ".join(words[end:])
+    lines = lay(" ".join(words[:end]), room.head())
+    below = room.below(0 if words[0] == "let" else DEEPER)
+    if not below.fits(right) and (BEGINS_THERE.match(right) or right.startswith("elim ")):
+        first, *rest = lay(right, room.following(lines[-1], len(lines) == 1))
+        line = f"{lines[-1]} {first}"
+        if room.indent + len(line) <= LIMIT:
+            return [*lines[:-1], line, *rest]
+    return lines + lay(right, below)
+
+
+def at_operators(words: list[str], room: Room) -> list[str]:
+    """The lines of a text that is broken at its outermost operators before a function; none without any."""
+    limit = words.index("λ") if "λ" in words else len(words)
+    for at in BREAKS:
+        parts = segments(words, at, limit)
+        if len(parts) > 1:
+            return filled(parts, room, at == ARROW and not room.goes_on) if at.fills else stacked(parts, room)
+    return []
+
+
+def at_function(words: list[str], room: Room) -> list[str]:
+    """The lines of a text that ends with a function, broken behind its binders; none without any."""
+    if "λ" not in words:
+        return []
+    begin = words.index("λ")
+    dots = (number for number, word in enumerate(words, 1) if number > begin and word.endswith("."))
+    end = next(dots, len(words))
+    binders, body = " ".join(words[:end]), " ".join(words[end:])
+    if not room.head().fits(binders):
+        if begin > 0:
+            return filled([*words[:begin], " ".join(words[begin:])], room)
+        lines = binder_lines(words[:end], room.head())
+        return lines + lay(body, room.below()) if body else lines
+    if not body:
+        return [binders]
+    if BEGINS_THERE.match(body) or (begin == 0 and not room.below().fits(body)):
+        first, *rest = lay(body, room.following(binders, True))
+        return [f"{binders} {first}", *rest]
+    return [binders, *lay(body, room.below())]
+
+
+def binder_lines(words: list[str], room: Room) -> list[str]:
+    """The lines of a function's binders, of which none is broken; the first stays behind the `λ`."""
+    lines = [" ".join(words[:2])]
+    for word in words[2:]:
+        if room.following(lines[-1], len(lines) == 1).fits(word):
+            lines[-1] += f" {word}"
+        else:
+            lines.append(word)
+    return lines
+
+
+def at_arguments(words: list[str], room: Room) -> list[str]:
+    """The lines of a call that is broken between its arguments, or within the only one."""
+    parts = arguments(words)
+    return filled(parts, room) if len(parts) > 1 else within(parts[0], room)
+
+
+def within(text: str, room: Room) -> list[str]:
+    """The lines of a text that is broken within its longest bracket."""
+    begin, end = longest_bracket(text)
+    opening, inner, closing = text[: begin + 1], text[begin + 1 : end], text[end:]
+    if not inner.strip():
+        return [text]
+    items = items_of(text[begin], inner) if closing else []
+    if items:
+        inside = Room(room.indent + ITEM, goes_on=room.goes_on)
+        return [opening, *(line for item in items for line in lay(item, inside)), closing]
+    taken = room._replace(before=room.before + len(opening), behind=len(closing) + room.behind)
+    lines = lay(inner.strip(), taken)
+    lines[0] = opening + lines[0]
+    lines[-1] += closing
+    return lines
+
+
+def items_of(bracket: str, inner: str) -> list[str]:
+    """The items of a tuple, a record or cases with their separators; none for another bracket."""
+    if bracket == "[":
+        return ["| " + it.strip().removeprefix("| ") for it in cut(inner.strip(), " | ")]
+    separator = "," if bracket == "(" else ";"
+    items = [it.strip() for it in cut(inner, separator)]
+    is_list = len(items) > 1 if bracket == "(" else inner.startswith(" ")
+    return [it + separator for it in items if it] if is_list else []
+
+
+# The lines of a file.
+
+
+def wrapped(line: str, goes_on: bool, imports: bool) -> list[str]:
+    """The lines that a line of a proof is broken into; what cannot be broken stays."""
+    if len(line) <= LIMIT:
+        return [line]
+    if IMPORT.match(line):
+        return names_apart(line) if imports else [line]
+    comment = COMMENT.fullmatch(line)
+    if comment:
+        return comment_lines(comment[1], comment[2]) if len(line) > COMMENT_LIMIT else [line]
+    if " -- " in unquoted(line):
+        return [line]
+    body = line.lstrip(" ")
+    indent = len(line) - len(body)
+    found = LEFT_OPEN.search(body)
+    left_open = found[0] if found else ""
+    first, *rest = lay(body.removesuffix(left_open), Room(indent, 0, len(left_open), goes_on))
+    # Any column right of the block's does, for `rattle fmt` sets it.
+    lines = [" " * indent + first, *(" " * (indent + DEEPER) + it for it in rest)]
+    return [*lines[:-1], lines[-1] + left_open]
+
+
+def names_apart(line: str) -> list[str]:
+    """The lines of an import with a line for each of its names."""
+    head, brace, rest = line.partition("{")
+    names, closing, after = rest.rpartition("}")
+    if not brace or not closing:
+        return [line]
+    items = [f"{' ' * DEEPER}{name.strip()}," for name in names.split(",") if name.strip()]
+    return [head + brace, *items, closing + after]
+
+
+def comment_lines(begin: str, text: str) -> list[str]:
+    """The lines of a comment, filled anew; each has the same begin."""
+    parts = textwrap.wrap(text, LIMIT - len(begin), break_long_words=False, break_on_hyphens=False)
+    return [begin + part for part in parts]
+
+
+def break_lines(path: Path, imports: bool) -> bool:
+    """Breaks each long line of a file once; whether there was anything to break."""
+    text = path.read_text()
+    lines = text.split("\n")
+    nexts = [*(line.lstrip().startswith("→") for line in lines[1:]), False]
+    new = "\n".join(part for line, goes_on in zip(lines, nexts) for part in wrapped(line, goes_on, imports))
+    if new == text:
+        return False
+    path.write_text(new)
+    return True
+
+
+# What `rattle fmt` does, and what it says of a file.
+
+
+def find_rattle() -> Path:
+    """The program `rattle` of the kit that `rt` belongs to."""
+    rt = shutil.which("rt")
+    rattle = Path(rt).resolve().parent / "rattle" if rt else None
+    if rattle is None or not rattle.is_file():
+        sys.exit("wrap_proofs: there is no rt with a rattle beside it")
+    return rattle
+
+
+def refused(rattle: Path, paths: list[Path]) -> list[Path]:
+    """Lets `rattle fmt` indent files; those that it refuses."""
+    if not paths or subprocess.run([rattle, "fmt", "--write", *paths], capture_output=True).returncode == 0:
+        return []
+    return paths if len(paths) == 1 else [it for path in paths for it in refused(rattle, [path])]
+
+
+def is_added(text: str, last: str, following: str) -> bool:
+    """Whether a token between two others is a separator as `rattle fmt` adds it."""
+    return text in (",", ";") and following in (")", "}") or text == "|" and last == "["
+
+
+def tokens(rattle: Path, path: Path) -> list[Token]:
+    """The tokens of a file without the separators that `rattle fmt` adds; none where a text is no token."""
+    ran = subprocess.run([rattle, "fmt", "--tokens", path], capture_output=True, text=True)
+    rows = (line.split(" ", 4) for line in ran.stdout.split("\n") if line and not line.startswith("file "))
+    found = [(kind, json.loads(text)) for _, _, _, kind, text in rows]
+    texts = ["", *(text for _, text in found), ""]
+    added = (is_added(*three) for three in zip(texts[1:], texts, texts[2:]))
+    return [token for token, passed_over in zip(found, added) if not passed_over]
+
+
+def letters(text: str) -> str:
+    """All that a file has, comments too, but white space, their dashes and what `rattle fmt` adds."""
+    return SEPARATORS_OF_FMT.sub("", re.sub(r"\s+|--", "", text))
+
+
+# The files of crates.
+
+
+def proofs(crate: str) -> list[Path]:
+    """The proof files of a crate."""
+    return sorted((TOP / "crates" / crate / "proofs").rglob("*.antt"))
+
+
+def is_long(path: Path) -> bool:
+    """Whether a file has a line that is too long."""
+    return any(len(line) > LIMIT for line in path.read_text().split("\n"))
+
+
+def wrap(rattle: Path, paths: list[Path], imports: bool) -> list[Path]:
+    """Breaks and indents the lines of files until none changes; the files that `rattle fmt` refuses."""
+    bad: list[Path] = []
+    for _ in range(ROUNDS):
+        paths = [path for path in paths if path not in bad and break_lines(path, imports)]
+        if not paths:
+            break
+        bad += refused(rattle, paths)
+    return bad
+
+
+def reason_against(rattle: Path, path: Path, before: Before, is_refused: bool) -> str:
+    """Why a wrapped file has to be put back; nothing where it need not."""
+    if is_refused:
+        return "is refused by rattle fmt"
+    if not before.tokens or tokens(rattle, path) != before.tokens:
+        return "has other tokens"
+    return "has other comments" if letters(path.read_text()) != letters(before.text) else ""
+
+
+def wrap_crate(rattle: Path, crate: str, imports: bool) -> tuple[int, list[PutBack]]:
+    """Wraps the proofs of a crate: how many files are wrapped, and those that are put back."""
+    held = {path: Before(path.read_text(), tokens(rattle, path)) for path in proofs(crate) if is_long(path)}
+    bad = wrap(rattle, list(held), imports)
+    count, put_back = 0, []
+    for path, before in held.items():
+        if path.read_text() == before.text:
+            continue
+        reason = reason_against(rattle, path, before, path in bad)
+        if reason:
+            path.write_text(before.text)
+            put_back.append(PutBack(path, reason))
+        else:
+            count += 1
+    return count, put_back
+
+
+def main() -> int:
+    """Wraps the crates that are named, and tells how many files are changed and which are put back."""
+    parser = argparse.ArgumentParser(description="Wraps the lines of proofs over 110 columns.")
+    parser.add_argument("crates", nargs="*", metavar="CRATE", help="a crate that is wrapped (none: all)")
+    parser.add_argument("--imports", action="store_true", help="also give each name of a long import a line")
+    words = parser.parse_args()
+    present = sorted(path.name for path in (TOP / "crates").iterdir())
+    for crate in words.crates:
+        if crate not in present:
+            parser.error(f"there is no crate {crate}")
+    rattle = find_rattle()
+    done = [wrap_crate(rattle, crate, words.imports) for crate in words.crates or present]
+    put_back = [it for _, found in done for it in found]
+    for path, reason in put_back:
+        print(f"wrap_proofs: {path.relative_to(TOP)}, wrapped, {reason}: it is put back", file=sys.stderr)
+    print(f"wrap_proofs: {sum(count for count, _ in done)} files are wrapped, {len(put_back)} are put back")
+    return 1 if put_back else 0
+
+
+if __name__ == "__main__":
+    sys.exit(main())
