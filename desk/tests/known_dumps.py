@@ -9,35 +9,16 @@ from pathlib import Path
 
 site.addsitedir(str(Path(__file__).resolve().parents[2] / "tests" / "peers"))
 
-from reckon_rows import EXCHANGED, bcd, digits, seal  # noqa: E402
+from reckon_rows import bcd, digits, seal  # noqa: E402
 from reckon_rows import recording_code as recording_code  # noqa: E402
 from reckon_rows import time as time  # noqa: E402
+from subcode import PLACES  # noqa: E402
+from subcode import check as check  # noqa: E402
 
 BLOCK, AUDIO = 96, 2352
 PAUSE = 150
 # The blocks that redumper reads before the absolute time 00:00:00.
 REDUMPER_LEAD_IN = 45_000
-
-
-def remainders() -> list[int]:
-    """The remainder of each byte by x^16 + x^12 + x^5 + 1."""
-    found = []
-    for byte in range(256):
-        rest = byte << 8
-        for _ in range(8):
-            rest = (rest << 1 ^ 0x1021 if rest & 0x8000 else rest << 1) & 0xFFFF
-        found.append(rest)
-    return found
-
-
-REMAINDERS = remainders()
-
-
-def check(content: bytes) -> bytes:
-    rest = 0
-    for byte in content:
-        rest = (rest << 8 ^ REMAINDERS[rest >> 8 ^ byte]) & 0xFFFF
-    return (rest ^ 0xFFFF).to_bytes(2, "big")
 
 
 def q_frame(content: bytes) -> bytes:
@@ -135,9 +116,8 @@ def symbols_of(density: float, slots: int = 1200, seed: int = 2) -> bytes:
     symbols = bytearray(24 * slots)
     for slot in range(slots):
         if chance.random() < density:
-            for i, symbol in enumerate(chance.choice(packs)):
-                position = EXCHANGED.get(i, i)
-                symbols[(24 * (slot + position % 8) + position) % len(symbols)] = symbol
+            for place, symbol in zip(PLACES, chance.choice(packs)):
+                symbols[(24 * slot + place) % len(symbols)] = symbol
     return bytes(symbols)
 
 

@@ -19,12 +19,11 @@ from typing import NamedTuple, Optional, Sequence
 
 from field64 import power, times
 from reckon_rows import parity
+from subcode import PLACES
 
 TOP = pathlib.Path(__file__).resolve().parents[2]
 MOST = 254
 AGREED, NONE = 254, 255
-EXCHANGED = {1: 18, 18: 1, 2: 5, 5: 2, 3: 23, 23: 3}
-PLACES = [24 * (EXCHANGED.get(i, i) % 8) + EXCHANGED.get(i, i) for i in range(24)]
 IDLE = bytes(24)
 
 

@@ -12,6 +12,7 @@ import sys
 from typing import Iterator, NamedTuple, Sequence
 
 from field64 import inverse, power, times
+from subcode import PLACES, check, words_of
 
 
 def solve(rows: list[list[int]]) -> list[int]:
@@ -69,31 +70,17 @@ def tile(instruction: int, first: int, second: int, row: int, column: int, lines
     return seal((9, instruction), [first, second, row, column] + lines)
 
 
-EXCHANGED = {1: 18, 18: 1, 2: 5, 5: 2, 3: 23, 23: 3}
-
-
 def spread(packs: Sequence[bytes], slots: int) -> bytearray:
     """The symbols of so many slots that carry packs."""
     symbols = bytearray(24 * slots)
     for n, pack in enumerate(packs):
-        for i, symbol in enumerate(pack):
-            position = EXCHANGED.get(i, i)
-            place = 24 * (n + position % 8) + position
-            if place < len(symbols):
-                symbols[place] = symbol
+        for place, symbol in zip(PLACES, pack):
+            if 24 * n + place < len(symbols):
+                symbols[24 * n + place] = symbol
     return symbols
 
 
-# Times, checks and Q frames.
-
-
-def check(content: bytes) -> bytes:
-    """The remainder by x^16 + x^12 + x^5 + 1, inverted."""
-    bits = int.from_bytes(content, "big") << 16
-    for place in range(bits.bit_length() - 1, 15, -1):
-        if bits >> place & 1:
-            bits ^= 0x11021 << (place - 16)
-    return (bits ^ 0xFFFF).to_bytes(2, "big")
+# Times and Q frames.
 
 
 def bcd(number: int) -> int:
@@ -236,16 +223,6 @@ def planar(q: bytes) -> str:
 
 
 # Generated scripts and scratches.
-
-
-def words_of(seed: int) -> Iterator[int]:
-    """The words of the generator pcg32 (XSH RR) with stream 54."""
-    mask, increment = 2**64 - 1, 54 << 1 | 1
-    state = (seed + increment) * 6364136223846793005 + increment & mask
-    while True:
-        mixed, turn = ((state >> 18 ^ state) >> 27) & 0xFFFFFFFF, state >> 59
-        yield (mixed >> turn | mixed << (-turn & 31)) & 0xFFFFFFFF
-        state = state * 6364136223846793005 + increment & mask
 
 
 def spelled(blocks: int) -> str:

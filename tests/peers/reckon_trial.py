@@ -8,32 +8,7 @@ import argparse
 import sys
 from typing import Iterable
 
-# Symbol i of a pack goes to position i, but for three pairs that are exchanged; position p comes p mod 8
-# slots later.
-EXCHANGED = {1: 18, 18: 1, 2: 5, 5: 2, 3: 23, 23: 3}
-PLACES = [24 * (EXCHANGED.get(i, i) % 8) + EXCHANGED.get(i, i) for i in range(24)]
-
-
-class Pcg32:
-    """The generator pcg32 of the PCG family (XSH RR, 64 bits of state)."""
-
-    MULTIPLIER = 6364136223846793005
-    MASK = 2**64 - 1
-
-    def __init__(self, seed: int) -> None:
-        self.increment = (54 << 1) | 1
-        self.state = (seed + self.increment) & self.MASK
-        self.step()
-
-    def step(self) -> None:
-        self.state = (self.state * self.MULTIPLIER + self.increment) & self.MASK
-
-    def word(self) -> int:
-        old = self.state
-        self.step()
-        mixed = (((old >> 18) ^ old) >> 27) & 0xFFFFFFFF
-        turn = old >> 59
-        return ((mixed >> turn) | (mixed << (-turn & 31))) & 0xFFFFFFFF
+from subcode import PLACES, words_of
 
 
 def rank(values: Iterable[int]) -> int:
@@ -69,13 +44,13 @@ def tiles(window: list[list[int]]) -> list[list[int]]:
 
 def changes(seed: int, pictures: int) -> int:
     """The instructions of all changes of the generated script."""
-    words = Pcg32(seed)
+    words = words_of(seed)
     window = [[0] * 288 for _ in range(192)]
     before: list[list[int]] | None = None
     total = 0
     for _ in range(pictures):
         for _ in range(3):
-            a, b = words.word(), words.word()
+            a, b = next(words), next(words)
             x, y = (a & 0xFFFF) % 288, (a >> 16) % 192
             width, height = 1 + (b & 0xFFFF) % (288 - x), 1 + (b >> 16) % (192 - y)
             for line in window[y : y + height]:
@@ -95,10 +70,10 @@ def touched(seed: int, blocks: int) -> list[int]:
     """How many words have none, one, two .. symbols in the bursts of the seed."""
     symbols = 96 * blocks
     hit = bytearray(symbols)
-    words = Pcg32(seed)
+    words = words_of(seed)
     place = 0
     while place < symbols:
-        word = words.word()
+        word = next(words)
         first = place + 192 + word % 64
         place = first + 1 + word // 256 % 16
         for k in range(first, min(place, symbols)):

@@ -10,6 +10,7 @@ import re
 import sys
 
 from field64 import LOGARITHMS, POWERS, times
+from subcode import REMAINDERS, remainder
 
 ROOT = pathlib.Path(__file__).resolve().parents[2]
 
@@ -35,15 +36,6 @@ def pairs() -> tuple[list[int], list[int]]:
     return differences, logs
 
 
-def remainder(byte: int, zeros: int) -> int:
-    """The remainder of a byte with so many zero bits behind it, by x^16 + x^12 + x^5 + 1."""
-    value = byte << zeros
-    for k in range(zeros + 7, 15, -1):
-        if value >> k & 1:
-            value ^= 0x11021 << (k - 16)
-    return value
-
-
 def lanes(byte: int) -> int:
     """The bits of a byte, each in a byte of a number, the highest bit in the lowest byte."""
     return sum((byte >> 7 - k & 1) << 8 * k for k in range(8))
@@ -61,8 +53,8 @@ def tables() -> dict[str, tuple[str, list[int]]]:
         "SYNDROMES": ("rw_code/src/syndromes.rt", [sums(i, 1 << b) for i in range(24) for b in range(6)]),
         "DIFFERENCES": ("rw_code/src/correction.rt", differences),
         "SUMS": ("rw_code/src/correction.rt", logs),
-        "REMAINDERS": ("subcode_crc/src/check.rt", [remainder(byte, 16) for byte in range(256)]),
-        "HIGH_REMAINDERS": ("subcode_crc/src/check.rt", [remainder(byte, 24) for byte in range(256)]),
+        "REMAINDERS": ("subcode_crc/src/check.rt", REMAINDERS),
+        "HIGH_REMAINDERS": ("subcode_crc/src/check.rt", [remainder(byte << 24) for byte in range(256)]),
         "LINES": ("cdg_screen/src/line_table.rt", [line(bits) for bits in range(64)]),
         "LANES": ("raw_subcode/src/lane_table.rt", [lanes(byte) for byte in range(256)]),
     }
