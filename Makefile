@@ -57,28 +57,14 @@ definitions:
 # below PREFIX.
 install:
 	[ -x bin/ribjasper ] || tools/build/build.sh
-	install -d "$(DESTDIR)$(PREFIX)/bin" "$(DESTDIR)$(PREFIX)/share/man/man1"
-	install -d "$(DESTDIR)$(PREFIX)/share/bash-completion/completions"
-	install -d "$(DESTDIR)$(PREFIX)/share/zsh/site-functions"
-	install -m 755 bin/ribjasper "$(DESTDIR)$(PREFIX)/bin/ribjasper"
-	install -m 644 share/ribjasper.1 "$(DESTDIR)$(PREFIX)/share/man/man1/ribjasper.1"
-	install -m 644 share/ribjasper.bash "$(DESTDIR)$(PREFIX)/share/bash-completion/completions/ribjasper"
-	install -m 644 share/_ribjasper "$(DESTDIR)$(PREFIX)/share/zsh/site-functions/_ribjasper"
-	[ ! -f lib/libribjasper.a ] || tools/build/install_library.sh "$(DESTDIR)" "$(PREFIX)" "$(LIBDIR)"
-	! command -v python3 >/dev/null || tools/build/install_desk.sh "$(DESTDIR)" "$(PREFIX)"
+	tools/build/install.sh "$(DESTDIR)" "$(PREFIX)" "$(LIBDIR)" ribjasper
+	[ ! -f lib/libribjasper.a ] || \
+		tools/build/install.sh "$(DESTDIR)" "$(PREFIX)" "$(LIBDIR)" libribjasper0 libribjasper-dev
+	! command -v python3 >/dev/null || tools/build/install.sh "$(DESTDIR)" "$(PREFIX)" "$(LIBDIR)" ribjasper-desk
 
 # What was installed, and the folders that are then empty, but for those of the system.
 uninstall:
-	rm -f "$(DESTDIR)$(PREFIX)"/share/man/man3/ribjasper_*.3 "$(DESTDIR)$(LIBDIR)"/cmake/ribjasper/ribjasper-config*.cmake
-	rmdir "$(DESTDIR)$(LIBDIR)/cmake/ribjasper" "$(DESTDIR)$(LIBDIR)/cmake" 2>/dev/null || true
-	cd "$(DESTDIR)$(LIBDIR)" 2>/dev/null && rm -f libribjasper.a libribjasper.so.0 libribjasper.so pkgconfig/ribjasper.pc || true
-	cd "$(DESTDIR)$(PREFIX)" && rm -f include/ribjasper.h share/man/man3/ribjasper.3 bin/ribjasper \
-		share/man/man1/ribjasper.1 share/bash-completion/completions/ribjasper share/zsh/site-functions/_ribjasper \
-		bin/ribjasper-desk share/man/man1/ribjasper-desk.1 && rm -rf share/ribjasper-desk
-	case "$(PREFIX)" in /usr | /usr/local) ;; *) \
-		cd "$(DESTDIR)$(PREFIX)" && rmdir -p share/man/man1 share/man/man3 share/bash-completion/completions \
-			share/zsh/site-functions bin lib/pkgconfig include 2>/dev/null || true ;; \
-	esac
+	tools/build/install.sh --remove "$(DESTDIR)" "$(PREFIX)" "$(LIBDIR)" ribjasper libribjasper0 libribjasper-dev ribjasper-desk
 
 # Packages for Debian of what `make` and `make library` built.
 deb:

@@ -11,6 +11,7 @@ from fixtures import TOP, FolderTest, has
 from ribjasper import library
 
 VERSION = (TOP / "VERSION").read_text().strip()
+INSTALL = TOP / "tools" / "build" / "install.sh"
 
 
 def files_below(folder: Path) -> list[str]:
@@ -61,7 +62,7 @@ class PackageTest(FolderTest):
         self.assertEqual((again, len((inside / again).read_bytes())), (whole, len(wheel)))
 
     def test_make_install(self) -> None:
-        subprocess.run([TOP / "tools" / "build" / "install_desk.sh", self.folder, "/usr"], check=True)
+        subprocess.run([INSTALL, self.folder, "/usr", "/usr/lib", "ribjasper-desk"], check=True)
         link = self.folder / "usr" / "bin" / "ribjasper-desk"
         self.assertEqual(os.readlink(link), "../share/ribjasper-desk/ribjasper-desk")
         self.check(link)
@@ -69,7 +70,7 @@ class PackageTest(FolderTest):
 
     def test_the_library_below_the_same_prefix(self) -> None:
         """What `make install PREFIX=..` puts into lib/ is found, where the system does not look."""
-        subprocess.run([TOP / "tools" / "build" / "install_desk.sh", "", self.folder], check=True)
+        subprocess.run([INSTALL, "", self.folder, self.folder / "lib", "ribjasper-desk"], check=True)
         (self.folder / "lib").mkdir()
         (self.folder / "lib" / library.NAME).write_bytes(b"no library")
         ran = subprocess.run([self.folder / "bin" / "ribjasper-desk", "--version"], capture_output=True, text=True,

@@ -52,7 +52,7 @@ cc $strict tests/library/test_layout.c "$work/heap.o" lib/libribjasper.a -o "$wo
 
 # Installed where a distribution would put it, and found by pkg-config.
 libraries=/usr/lib/$(cc -dumpmachine)
-tools/build/install_library.sh "$work/root" /usr "$libraries"
+tools/build/install.sh "$work/root" /usr "$libraries" libribjasper0 libribjasper-dev
 installed="$work/root$libraries"
 grep -qx "Version: $version" "$installed/pkgconfig/ribjasper.pc" || complain "ribjasper.pc tells another version"
 grep -q "Ribjasper $version" "$work/root/usr/share/man/man3/ribjasper.3" || complain "the page tells another version"
@@ -69,7 +69,7 @@ readelf -d "$work/shared" | grep -q 'NEEDED.*\[libribjasper.so.0\]' || complain 
 
 # Installed below a name with blanks and other odd characters, and found there by pkg-config, CMake and man.
 odd="$work/a prefix & more"
-tools/build/install_library.sh "" "$odd" "$odd/lib"
+tools/build/install.sh "" "$odd" "$odd/lib" libribjasper0 libribjasper-dev
 if command -v pkg-config >/dev/null; then
     eval "cc tests/library/test_layout.c $(PKG_CONFIG_PATH=$odd/lib/pkgconfig pkg-config --cflags --libs ribjasper) -o \"$work/odd\"" &&
         [ "$(LD_LIBRARY_PATH=$odd/lib "$work/odd")" = "$version" ] || complain "ribjasper.pc does not survive a blank"

@@ -10,20 +10,15 @@ version=$(cat VERSION)
 architecture=$(dpkg --print-architecture)
 work=$(mktemp -d)
 trap 'rm -rf "$work"' EXIT
-make --no-print-directory -s install DESTDIR="$work/all" PREFIX=/usr LIBDIR=/usr/lib
 
-# package NAME SUMMARY DEPENDS FILE..: moves these files of what was installed into a package. `built_for` is what runs
-# it, `recommends` what it can do without, and `warrant` what it can be trusted for.
+# package NAME SUMMARY DEPENDS: makes a package of what tools/build/installed.txt lists. `built_for` is what runs it,
+# `recommends` what it can do without, and `warrant` what it can be trusted for.
 built_for=$architecture recommends= warrant="Its functions are proved."
 package() {
     name=$1 summary=$2 depends=$3
-    shift 3
     room=$work/$name
     mkdir -p "$room/DEBIAN"
-    for file in "$@"; do
-        mkdir -p "$room/$(dirname "$file")"
-        mv "$work/all/$file" "$room/$file"
-    done
+    tools/build/install.sh "$room" /usr /usr/lib "$name"
     install -D -m 644 share/copyright "$room/usr/share/doc/$name/copyright"
     {
         echo "Package: $name"
@@ -43,15 +38,10 @@ package() {
     echo "deb/${name}_${version}_$built_for.deb"
 }
 
-package ribjasper "subcode of Compact Discs: graphics, texts, Q frames, both ways" "libc6" \
-    usr/bin/ribjasper usr/share/man/man1/ribjasper.1 usr/share/bash-completion/completions/ribjasper \
-    usr/share/zsh/site-functions/_ribjasper
-if [ -e "$work/all/usr/lib/libribjasper.so.0" ]; then
-    package libribjasper0 "player and tools for the subcode of Compact Discs, shared library" "libc6" \
-        usr/lib/libribjasper.so.0
-    package libribjasper-dev "player and tools for the subcode of Compact Discs, for programs in C" \
-        "libribjasper0 (= $version)" usr/lib/libribjasper.so usr/lib/libribjasper.a usr/lib/pkgconfig/ribjasper.pc \
-        usr/include/ribjasper.h usr/lib/cmake/ribjasper usr/share/man/man3
+package ribjasper "subcode of Compact Discs: graphics, texts, Q frames, both ways" "libc6"
+if [ -e lib/libribjasper.so.0 ]; then
+    package libribjasper0 "player and tools for the subcode of Compact Discs, shared library" "libc6"
+    package libribjasper-dev "player and tools for the subcode of Compact Discs, for programs in C" "libribjasper0 (= $version)"
     # What Python makes of its sources when it is installed goes with them.
     mkdir -p "$work/ribjasper-desk/DEBIAN"
     printf '#!/bin/sh\nset -e\n[ "$1" != configure ] || py3compile -p ribjasper-desk /usr/share/ribjasper-desk\n' \
@@ -61,8 +51,7 @@ if [ -e "$work/all/usr/lib/libribjasper.so.0" ]; then
     warrant="Its desk is tested; what it says of subcode comes of proved functions."
     built_for=all recommends="ribjasper, python3-pil, python3-tqdm, python3-distributed, ffmpeg, fonts-dejavu-core"
     package ribjasper-desk "whole jobs over dumps and songs of the subcode of Compact Discs" \
-        "libribjasper0 (= $version), python3 (>= 3.11)" \
-        usr/bin/ribjasper-desk usr/share/ribjasper-desk usr/share/man/man1/ribjasper-desk.1
+        "libribjasper0 (= $version), python3 (>= 3.11)"
 else
     echo "make_deb: skipped the library and the desk, since lib/ is not built (make library)"
 fi

@@ -1,0 +1,74 @@
+#!/bin/sh
+# Installs packages, or removes what of them is installed: install.sh [--remove] DESTDIR PREFIX LIBDIR PACKAGE ..
+# tools/build/installed.txt lists what they hold. DESTDIR, which may be empty, stands before each name. Names may have blanks.
+# With a package go the folders that are then empty, but for those of the system.
+set -e
+cd "$(dirname "$0")/../.."
+act=put
+[ "$1" != --remove ] || { act=remove; shift; }
+destination=$1 prefix=$2 libraries=$3
+shift 3
+version=$(cat VERSION)
+
+# The calls of the library, by name.
+calls() { grep -oE '\bribjasper_[a-z0-9_]+\(' include/ribjasper.h | tr -d '(' | sort -u; }
+
+# A name as a replacement of sed, which writes it as it is.
+as_it_is() { printf '%s' "$1" | sed 's/[&|\\]/\\&/g'; }
+
+# A text with its @NAMES@ filled in.
+filled() {
+    headers=$(realpath --canonicalize-missing --relative-to="$libraries/cmake/ribjasper" "$prefix/include")
+    sed -e "s|@PREFIX@|$(as_it_is "$prefix")|" -e "s|@LIBDIR@|$(as_it_is "$libraries")|" -e "s|@VERSION@|$version|" \
+        -e "s|@MAJOR@|${version%%.*}|" -e "s|@HEADERS@|$(as_it_is "$headers")|" "$1"
+}
+
+# put HOW SOURCE PLACE: installs what a line lists.
+put() {
+    install -d "$(dirname "$3")"
+    case $1 in
+        755 | 644) install -m "$1" "$2" "$3" ;;
+        filled) filled "$2" >"$3" && chmod 644 "$3" ;;
+        written) "$2" >"$3" && chmod 644 "$3" ;;
+        link) ln -sf "$2" "$3" ;;
+        calls)
+            install -d "$3"
+            for call in $(calls); do ln -sf "$2" "$3/$call.3"; done
+            ;;
+        tree)
+            (cd "$2" && find . -type f -not -path '*__pycache__*') | while read -r file; do
+                install -D -m 644 "$2/$file" "$3/$file"
+            done
+            ;;
+    esac
+}
+
+# remove HOW SOURCE PLACE: removes what a line lists, and folders that are then empty.
+remove() {
+    case $1 in
+        tree) rm -rf "$3" ;;
+        calls) rm -f "$3"/ribjasper_*.3 ;;
+        *) rm -f "$3" ;;
+    esac
+    folder=$(dirname "$3")
+    case $folder in
+        */ribjasper-desk) rmdir "$folder" 2>/dev/null || true ;;
+        */cmake/ribjasper) rmdir "$folder" "$(dirname "$folder")" 2>/dev/null || true ;;
+    esac
+    case $prefix:$folder in
+        /usr:* | /usr/local:*) ;;
+        *:"$destination$prefix"/*)
+            (cd "$destination$prefix" && rmdir -p "${folder#"$destination$prefix/"}") 2>/dev/null || true ;;
+    esac
+}
+
+for package in "$@"; do
+    grep -q "^$package " tools/build/installed.txt || { echo "install: there is no package $package" >&2; exit 2; }
+    sed "/^$package /!d" tools/build/installed.txt | while read -r _ how source place; do
+        case $place in
+            PREFIX/*) place=$destination$prefix/${place#PREFIX/} ;;
+            LIBDIR/*) place=$destination$libraries/${place#LIBDIR/} ;;
+        esac
+        "$act" "$how" "$source" "$place"
+    done
+done
