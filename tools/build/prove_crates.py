@@ -11,28 +11,22 @@ import hashlib
 import os
 import pathlib
 import shutil
+import site
 import subprocess
 import sys
 import threading
 import time
 
 ROOT = pathlib.Path(__file__).resolve().parents[2]
+site.addsitedir(str(ROOT / "tools" / "shared"))
+from rattle import graph as graph  # noqa: E402
+
 # How many lines of code and proofs a processor works off in a second, and the seconds that any crate takes.
 LINES_A_SECOND, LEAST_SECONDS = 45, 10
 # How many seconds of work weigh as much as that: what this run shows by and by counts for more.
 LEARNT_SECONDS = 60
 # What a check takes of memory.
 BYTES = 2_500_000_000
-
-
-def graph() -> dict[str, list[str]]:
-    """The crates of the repository with those of it that each stands on."""
-    below: dict[str, list[str]] = {}
-    for line in (ROOT / "crates.txt").read_text().splitlines():
-        name, colon, rest = line.split("#")[0].partition(":")
-        if colon:
-            below[name.split()[0]] = rest.split()
-    return {name: [it for it in rest if it in below] for name, rest in below.items()}
 
 
 def libraries(below: dict[str, list[str]], goals: list[str]) -> list[str]:

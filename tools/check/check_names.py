@@ -7,19 +7,22 @@ a record of definitions) whose name stands in two crates, of a line of code, cla
 that nothing names: neither another place in the code nor tools/check/surface.txt, the list of names that callers were promised.
 """
 import argparse
+import functools
 import os
 import re
+import site
 import sys
 from collections import Counter, defaultdict
 from pathlib import Path
 from typing import Iterator
 
 TOP = Path(__file__).resolve().parents[2]
+site.addsitedir(str(TOP / "tools" / "shared"))
+import rattle  # noqa: E402
+
 LIMIT = 110
-DEFINITION = re.compile(r"(?:abbrev pub|unfoldable pub|pub record|pub data) ([^\s:(]+)")
-ITEM = re.compile(r"\s*pub (?:extern \"C\" )?(?:const )?(?:fn|struct|enum|trait|static) (\w+)|\s*pub const (\w+)")
-TYPE = re.compile(r"(?:pub(?:\(\w+\))? )?(?:struct|enum|trait|union) (\w+)")
-RECORD = re.compile(r"(?:pub )?(?:record|data) ([^\s:({]+)")
+KINDS = ("src", "specs", "proofs")
+TYPES = ("struct", "enum", "trait", "union")
 WORD = re.compile(r"[A-Za-z_][A-Za-z0-9_'?!]*")
 PASSED_OVER = re.compile(r"\s*(?:ghost )?(?:pub )?use |\s*#\[tactic|\s*//|\s*--")
 # The types that may be called alike in two crates, at most five, each with the reason.
@@ -33,57 +36,51 @@ ALLOWED = {
 Found = dict[str, list[tuple[Path, int]]]
 
 
-def files(pattern: str) -> list[Path]:
-    """The files of the repository, which is the working folder, but for what is made in `out`."""
-    return sorted(path for path in Path().glob(pattern) if "out" not in path.parts)
+
+@functools.cache
+def texts(kind: str) -> dict[Path, list[str]]:
+    """The files of the repository, which is the working folder, of the code, the definitions or the proofs, with their lines."""
+    return {path: path.read_text().splitlines() for path in rattle.files(kind, top=Path())}
 
 
 def crate_of(path: Path) -> str:
     return path.parts[1]
 
 
-def definitions() -> Found:
-    """Each definition of public specs, with the places at which it stands."""
+def definitions(of_types: bool = False) -> Found:
+    """Each public definition of specs, or each type there, with the places at which it stands."""
     found: Found = defaultdict(list)
-    for path in files("crates/*/specs/**/*.antt"):
-        for number, line in enumerate(path.read_text().splitlines(), 1):
-            named = DEFINITION.match(line)
-            if named:
-                found[named[1]].append((path, number))
+    for path, lines in texts("specs").items():
+        for it in rattle.definitions(lines):
+            if it.is_type if of_types else it.is_public:
+                found[it.name].append((path, it.at + 1))
     return found
 
 
 def types() -> Found:
     """Each type of the code and each record of definitions, with the places at which it stands."""
-    found: Found = defaultdict(list)
-    for pattern, declared in (("crates/*/src/**/*.rt", TYPE), ("crates/*/specs/**/*.antt", RECORD)):
-        for path in files(pattern):
-            for number, line in enumerate(path.read_text().splitlines(), 1):
-                named = declared.match(line)
-                if named and named[1] not in ALIKE:
-                    found[named[1]].append((path, number))
-    return found
+    found = definitions(of_types=True)
+    for path, lines in texts("src").items():
+        for it in rattle.items(lines):
+            if it.kind in TYPES and not it.is_inner:
+                found[it.name].append((path, it.at + 1))
+    return {name: places for name, places in found.items() if name not in ALIKE}
 
 
 def items() -> Iterator[tuple[str, Path, int]]:
     """Each public item of the code but those of tests, with the place at which it stands."""
-    for path in files("crates/*/src/**/*.rt"):
+    for path, lines in texts("src").items():
         if crate_of(path) in ("ribjasper_c", "ribjasper_web"):
             continue  # what C calls is named by the header, what pages call by web/ribjasper.mjs
-        for number, line in enumerate(path.read_text().splitlines(), 1):
-            named = ITEM.match(line)
-            if named:
-                yield named[1] or named[2], path, number
+        yield from ((it.name, path, it.at + 1) for it in rattle.items(lines) if it.is_public)
 
 
 def uses() -> Counter[str]:
     """How often each word stands in the code, the definitions and the proofs."""
     count: Counter[str] = Counter()
-    for pattern in ("crates/*/src/**/*.rt", "crates/*/specs/**/*.antt", "crates/*/proofs/**/*.antt"):
-        for path in files(pattern):
-            for line in path.read_text().splitlines():
-                if not line.strip().startswith(("//", "--")):
-                    count.update(WORD.findall(line))
+    for kind in KINDS:
+        for lines in texts(kind).values():
+            count.update(word for line in lines if not line.strip().startswith(("//", "--")) for word in WORD.findall(line))
     return count
 
 
@@ -103,9 +100,9 @@ def doubled(found: Found) -> Iterator[str]:
 
 
 def long_lines() -> Iterator[str]:
-    for pattern in ("crates/*/src/**/*.rt", "crates/*/specs/**/*.antt", "crates/*/proofs/**/*.antt"):
-        for path in files(pattern):
-            for number, line in enumerate(path.read_text().splitlines(), 1):
+    for kind in KINDS:
+        for path, lines in texts(kind).items():
+            for number, line in enumerate(lines, 1):
                 if len(line) > LIMIT and not PASSED_OVER.match(line):
                     yield f"{place(path, number)} has {len(line)} columns"
 
@@ -115,7 +112,7 @@ def unused(found: Found) -> Iterator[str]:
     for name, places in sorted(found.items()):
         # A definition names itself in its type and on each of its lines.
         path, number = places[0]
-        lines = path.read_text().splitlines()
+        lines = texts("specs")[path]
         own = sum(WORD.findall(line).count(name) for line in lines if line.startswith((name, "abbrev pub " + name,
                   "unfoldable pub " + name, "pub record " + name, "pub data " + name)))
         if count[name] <= own:

@@ -7,16 +7,16 @@ has to be reachable under that crate's name, itself or passed on from a crate be
 """
 import argparse
 import re
+import site
 import sys
 from pathlib import Path
 
 TOP = Path(__file__).resolve().parents[2]
+site.addsitedir(str(TOP / "tools" / "shared"))
+from rattle import files, graph, items  # noqa: E402
+
 LIST = TOP / "tools" / "check" / "surface.txt"
 END = re.compile(r"\s(?:requires|ensures|where)\b")
-
-
-def crates() -> list[str]:
-    return [path.name for path in sorted((TOP / "crates").iterdir()) if (path / "src").is_dir()]
 
 
 def joined(lines: list[str], first: int, is_type: bool) -> str:
@@ -51,26 +51,17 @@ def body(text: str) -> str:
 def names_of(crate: str) -> dict[str, str]:
     """The paths of a crate's public items with their signatures."""
     found: dict[str, str] = {}
-    for path in sorted((TOP / "crates" / crate / "src").rglob("*.rt")):
+    for path in files("src", crate):
         lines = path.read_text().splitlines()
-        owner = None
-        for number, line in enumerate(lines):
-            if re.match(r"(impl|pub trait)\b", line):
-                named = re.match(r"impl(?:<.*?>)? (?:.*? for )?(\w+)", line) or re.match(r"pub trait (\w+)", line)
-                assert named, line
-                owner = (named[1], line.startswith("pub trait") or " for " in line)
-                if line.startswith("pub trait"):
-                    found[owner[0]] = body(line.rstrip(" {"))
-            elif line == "}":
-                owner = None
-            call = re.match(r"(\s*)(pub )?(extern \"C\" )?(const )?fn (\w+)", line)
-            if call and (call[2] or (owner and owner[1])):
-                key = f"{owner[0]}::{call[5]}" if owner and call[1] else call[5]
-                text = signature(joined(lines, number, False))
+        for item in items(lines):
+            if item.kind == "fn" and (item.is_public or item.is_of_trait):
+                key = f"{item.owner}::{item.name}" if item.owner else item.name
+                text = signature(joined(lines, item.at, False))
                 found.setdefault(key, re.sub(r"^pub ", "", text))
-            kind = re.match(r"pub (struct|enum) (\w+)", line)
-            if kind:
-                found[kind[2]] = body(joined(lines, number, True))
+            elif item.kind == "trait" and item.is_public:
+                found[item.name] = body(lines[item.at].rstrip(" {"))
+            elif item.kind in ("struct", "enum") and item.is_public and not item.is_inner:
+                found[item.name] = body(joined(lines, item.at, True))
     return found
 
 
@@ -90,8 +81,8 @@ class Code:
     """The public names of all crates."""
 
     def __init__(self) -> None:
-        self.known = {crate: names_of(crate) for crate in crates()}
-        self.passed = {crate: passed_on(crate) for crate in crates()}
+        self.known = {crate: names_of(crate) for crate in graph()}
+        self.passed = {crate: passed_on(crate) for crate in graph()}
 
     def find(self, crate: str, path: str) -> str | None:
         """The signature of a path in a crate, itself or passed on, or None."""

@@ -9,16 +9,19 @@ says whether the document is the one that would be written; --count prints the l
 """
 import argparse
 import re
+import site
 import sys
 from pathlib import Path
 from typing import Iterator
 
 TOP = Path(__file__).resolve().parents[2]
+site.addsitedir(str(TOP / "tools" / "shared"))
+from rattle import Names, definitions, files, graph, imported  # noqa: E402
+
 DOCUMENT = TOP / "docs" / "DEFINITIONS.md"
 WHOLE = TOP / "docs" / "DEFINITIONS-WHOLE.md"
 CLAIMS = TOP / "crates" / "cdg_cmd" / "src" / "top.rt"
 LAWS = TOP / "crates" / "run_laws" / "src"
-START = re.compile(r"(?:abbrev pub|unfoldable pub|pub record|pub data|abbrev|unfoldable|record|data) (\S+)")
 NAME = re.compile(r"[A-Za-z_][A-Za-z0-9_'?!-]*|◌[^◌\s]+◌")
 
 # Each act with its roots: clauses of `run`, definitions, or the laws of run_laws. What a later act begins with is not
@@ -183,8 +186,7 @@ WORDS = {
 }
 
 
-# What names mean: the module that each comes from, and its name there. A definition is told in the same way.
-Names = dict[str, tuple[str, str]]
+# A definition: the module in which it stands, and its name there.
 Target = tuple[str, str]
 # A claim: what is said of it, and its lines.
 Claim = tuple[list[str], list[str]]
@@ -203,48 +205,25 @@ class Module:
     def read(self, lines: list[str]) -> None:
         for line in lines:
             self.imports.update(imported(line))
-        at = 0
-        while at < len(lines):
-            found = START.match(lines[at])
-            if not found:
-                at += 1
-                continue
-            first = at
-            while first > 0 and lines[first - 1].startswith("--") and first - 1 > 0:
+        begins = {it.at for it in definitions(lines)}
+        for it in definitions(lines):
+            first, last = it.at, it.at + 1
+            while first > 1 and lines[first - 1].startswith("--"):
                 first -= 1
-            at += 1
-            while at < len(lines) and lines[at].strip() and not START.match(lines[at]) and not lines[at].startswith("--"):
-                at += 1
-            self.blocks[found[1]] = lines[first:at]
-
-
-def imported(line: str) -> Names:
-    """The names that a `use` line brings."""
-    found = re.match(r"(?:ghost )?(?:pub )?use Rattle\.(\S+?)\.\{(.*)\};?$", line.strip())
-    names: Names = {}
-    if found:
-        for part in found[2].split(","):
-            there, _, here = part.strip().partition(" as ")
-            names[(here or there).strip()] = (found[1], there.strip())
-    return names
+            while last < len(lines) and lines[last].strip() and last not in begins and not lines[last].startswith("--"):
+                last += 1
+            self.blocks[it.name] = lines[first:last]
 
 
 def modules() -> dict[str, Module]:
     """Each file of definitions of each crate, by its path in Rattle."""
     found: dict[str, Module] = {}
-    for crate in crates():
-        for path in sorted((TOP / "crates" / crate / "specs").rglob("*.antt")):
+    for crate in graph():
+        for path in files("specs", crate):
             if path.name != "Lib.antt":
                 module = Module(crate, path)
                 found[f"{crate}.specs.{module.name}"] = module
     return found
-
-
-def crates() -> Iterator[str]:
-    """The crates in the order of crates.txt, lowest first."""
-    for line in (TOP / "crates.txt").read_text().splitlines():
-        if name := re.match(r"[a-z0-9_]+", line):
-            yield name[0]
 
 
 def clauses() -> tuple[dict[str, Claim], Names]:
@@ -303,7 +282,7 @@ def signature() -> list[str]:
 
 def variants(crate: str, name: str) -> list[str]:
     """A public enum of the code as it stands, without its comments."""
-    for path in sorted((TOP / "crates" / crate / "src").rglob("*.rt")):
+    for path in files("src", crate):
         lines = path.read_text().splitlines()
         if f"pub enum {name} {{" in lines:
             first = lines.index(f"pub enum {name} {{")
