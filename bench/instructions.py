@@ -83,7 +83,6 @@ def ran(words: Sequence[str], files: Sequence[Path]) -> subprocess.CompletedProc
 
 
 def inputs(work: Path) -> dict[str, Path]:
-    """The inputs, by name."""
     files: dict[str, Path] = {}
 
     def put(name: str, content: bytes) -> None:

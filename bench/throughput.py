@@ -132,7 +132,6 @@ def made(words: str, files: Sequence[str], path: Path) -> str:
 
 
 def inputs(work: Path) -> dict[str, str]:
-    """The inputs, by name."""
     clean = work / "clean.raw"
     clean.write_bytes(bytes(96 * BLOCKS))
     damaged = work / "damaged.raw"

@@ -15,7 +15,6 @@ SCALE = 2
 
 
 def rows_of(pixmap: bytes) -> list[list[Pixel]]:
-    """The rows of a pixmap, each a list of its pixels."""
     if not pixmap.startswith(HEADER) or len(pixmap) != len(HEADER) + 3 * WIDTH * HEIGHT:
         sys.exit("this is no pixmap of 300 by 216 pixels")
     pixels = [(pixmap[at], pixmap[at + 1], pixmap[at + 2]) for at in range(len(HEADER), len(pixmap), 3)]

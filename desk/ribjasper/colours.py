@@ -113,6 +113,5 @@ def groups(weights: Counter[Colour], few: Sequence[Colour]) -> list[list[Colour]
 
 
 def mean(group: Sequence[Colour], weights: Counter[Colour]) -> Colour:
-    """The mean colour of the pixels of a group."""
     total = sum(weights[colour] for colour in group)
     return Colour(*(round(sum(colour[part] * weights[colour] for colour in group) / total) for part in range(3)))

@@ -60,8 +60,6 @@ class Unwritten(Refusal):
 
 
 class NoMemory(Refusal):
-    """A file for which the memory is not enough."""
-
     status = NO_MEMORY
 
 

@@ -110,12 +110,10 @@ def turned(blocks: bytes, call: str) -> bytes:
 
 
 def from_planar(planar: bytes) -> bytes:
-    """The raw blocks of planar ones."""
     return turned(planar, "ribjasper_block_from_planar")
 
 
 def to_planar(blocks: bytes) -> bytes:
-    """The planar blocks of raw ones."""
     return turned(blocks, "ribjasper_block_to_planar")
 
 

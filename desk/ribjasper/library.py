@@ -247,7 +247,6 @@ def checkout(*names: str) -> Path | None:
 
 @functools.lru_cache(maxsize=None)
 def loaded() -> ctypes.CDLL:
-    """The shared library."""
     try:
         return ctypes.CDLL(next(candidates()))
     except OSError as error:

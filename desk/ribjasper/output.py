@@ -271,7 +271,6 @@ class Outputs:
         self.open(name).write(content)
 
     def write_png(self, name: Name, image: Any) -> None:
-        """Writes a picture of Pillow."""
         self.write(name, png(image))
 
     def path(self, name: Name, ending: str = "") -> str:

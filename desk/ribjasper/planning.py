@@ -33,8 +33,6 @@ class Why(Reason):
 
 
 class SheetWhy(Reason):
-    """Why a line of a cue sheet is refused."""
-
     UNKNOWN_COMMAND = 1
     SECOND_FILE = 2
     MISPLACED = 3
@@ -50,8 +48,6 @@ class SheetWhy(Reason):
 
 
 class ScriptWhy(Reason):
-    """Why a line of a script is refused."""
-
     UNKNOWN_COMMAND = 1
     BAD_ARGUMENT = 2
     OUT_OF_RANGE = 3

@@ -83,7 +83,6 @@ class Style:
         return numbers
 
     def empty(self, voices: int = 1) -> Raster:
-        """An empty page."""
         numbers = self.colours(voices)
         raster = Raster(colours=[numbers.get(number, self.ground) for number in range(COLOURS)])
         raster.border = BORDER if self.border != self.ground else GROUND

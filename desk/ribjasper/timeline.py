@@ -167,7 +167,6 @@ class Arranger:
         earlier.steps.clear()
 
     def draw(self, task: Task, count: int, start: int) -> None:
-        """Draws so many columns."""
         now = self.line.put(list(task.steps[:count]), start)
         del task.steps[:count]
         if not task.steps and task.placed.letters and task.placed.is_sung:

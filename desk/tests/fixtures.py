@@ -40,7 +40,6 @@ Word = str | bytes | Path | int
 
 
 def found_program() -> str | None:
-    """The program, where it is built."""
     try:
         return programs.program()
     except output.Missing:

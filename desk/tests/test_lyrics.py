@@ -76,8 +76,6 @@ class StylesTest(FolderTest):
 
 
 class ScriptTest(FolderTest):
-    """A test that makes scripts."""
-
     def made(self, song: Path, *words: Word, status: int = 0) -> tuple[Ran, Path, Maker]:
         """Runs the command; and makes the pages once more, to know where each word stands."""
         script = self.folder / "a.script"

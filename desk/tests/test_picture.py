@@ -94,7 +94,6 @@ class PictureTest(FolderTest):
             self.assertEqual(desk("picture", self.folder / "a.png", *words).status, 2)
 
     def border(self, image: Path, *words: Word) -> str:
-        """The colour of the border."""
         lines = desk("picture", image, *words).out.splitlines()
         colours = dict(line.split()[1:] for line in lines if line.startswith("colour"))
         number = next((line.split()[1] for line in lines if line.startswith("border")), "0")

@@ -383,7 +383,6 @@ class Maker:
         return Inputs(stream.data, None, stream.lead_in, self.moment(stream.blocks() - stream.lead_in))
 
     def a_stream(self) -> Inputs:
-        """A stream of any form."""
         form = self.rng.choice(("raw", "raw", "raw", "sector", "cooked"))
         if form == "cooked":
             data = self.cooked()
@@ -563,7 +562,6 @@ class Runner:
         self.folder = folder
 
     def lay(self, inputs: Inputs) -> None:
-        """Lays the inputs of a call in the folder."""
         (self.folder / "first").write_bytes(inputs.first)
         (self.folder / "second").write_bytes(inputs.second or b"")
 

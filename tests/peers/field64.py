@@ -4,7 +4,6 @@ called alpha."""
 
 
 def times(a: int, b: int) -> int:
-    """The product."""
     product = 0
     for bit in range(6):
         if b >> bit & 1:
@@ -28,7 +27,6 @@ LOGARITHMS = {element: exponent for exponent, element in enumerate(POWERS)}
 
 
 def power(exponent: int) -> int:
-    """A power of x."""
     return POWERS[exponent % 63]
 
 

@@ -170,7 +170,6 @@ class Disc:
         return frame(bytes([control << 4 | 1, 0, point]) + now + b"\0" + tail)
 
     def text_packs(self) -> list[bytes]:
-        """The packs of the strings."""
         packs: list[bytes] = []
         for kind, strings in self.strings:
             text = b""

@@ -426,7 +426,6 @@ def letters(text: str) -> str:
 
 
 def proofs(crate: str) -> list[Path]:
-    """The proof files of a crate."""
     return sorted((TOP / "crates" / crate / "proofs").rglob("*.antt"))
 
 
