@@ -39,7 +39,7 @@ def block_at(loaded: Loaded, at: tuple[bool, int]) -> int:
         return number
     pieces = pieces_of(loaded.survey.stretches())
     if not pieces:
-        raise Refusal(loaded.path, "its Q frames tell no time: give the numbers of blocks")
+        raise Refusal(loaded.path, "its Q frames have no time: give the numbers of blocks")
     piece = next((it for it in pieces if number < it.end + it.shift), pieces[-1])
     return max(0, number - piece.shift)
 
@@ -176,7 +176,7 @@ def add_parser(commands: Any) -> None:
         description="Writes a dump in another form: raw or planar blocks, packs as a cooked dump or a .cdg file have them, P "
         "and Q alone, each also behind the audio of sectors. The form is that of the output's ending (.raw, .subcode, .sub, "
         ".bin, .img, .cdg) or the one named. From packs the program presses blocks, with P and Q of a disc of one track or "
-        "of a sheet. Exit 1 where packs have no codeword.",
+        "of a sheet. Exit 1 if packs have no codeword.",
     )
     parser.add_argument("file", metavar="DUMP")
     parser.add_argument("-o", "--output", required=True, metavar="OUT")

@@ -124,11 +124,11 @@ def draw_map(survey: Survey) -> Any:
 def add_parser(commands: Any) -> None:
     parser = commands.add_parser(
         "damage",
-        help="tell where a dump is damaged",
+        help="list the damaged places of a dump",
         description="Writes a line for each run of damaged neighbours and each jump of the absolute time. Blocks are "
         "numbered from 0 in the file, words are counted at the block that completes them. An empty block is 96 zeros, "
         "as drives give them up; before the first block that was read and behind the last they are unread, which has a "
-        "line of its own and is no damage. Exit 1 where there is damage.",
+        "line of its own and is no damage. Exit 1 if there is damage.",
     )
     parser.add_argument("file", metavar="FILE")
     add_options(parser)

@@ -79,10 +79,10 @@ def yes(is_so: object) -> str:
 def add_parser(commands: Any) -> None:
     parser = commands.add_parser(
         "identify",
-        help="tell the form of dumps, their lead-in, and what they carry",
+        help="print the form of dumps, their lead-in, and what they carry",
         description="Writes a line for each dump: its form, the blocks of its lead-in, whether it carries graphics and "
-        "texts, the share of good Q frames, and what else there is to tell: a torn end, a header, blocks that were not "
-        "read, files beside it. Of a file that is no dump it tells on standard error what speaks against each form.",
+        "texts, the share of good Q frames, and what else there is to say: a torn end, a header, blocks that were not "
+        "read, files beside it. Of a file that is no dump it prints on standard error what speaks against each form.",
     )
     parser.add_argument("files", nargs="+", metavar="FILE")
     add_options(parser)

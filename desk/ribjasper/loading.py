@@ -72,10 +72,10 @@ def add_options(parser: argparse.ArgumentParser) -> None:
         "--form",
         type=form_name,
         metavar="F",
-        help=f"the form: {names}, each also with -reversed or -swapped behind it; else it is found",
+        help=f"the form: {names}, each also with -reversed or -swapped behind it; otherwise it is found",
     )
-    parser.add_argument("--lead-in", type=lead_in, metavar="N", help="blocks of the lead-in; else Q tells them")
-    parser.add_argument("--skip", type=number_in(0, MOST_SKIPPED), metavar="BYTES", help="bytes of a header in front; else they are found")
+    parser.add_argument("--lead-in", type=lead_in, metavar="N", help="blocks of the lead-in; otherwise Q says how many")
+    parser.add_argument("--skip", type=number_in(0, MOST_SKIPPED), metavar="BYTES", help="bytes of a header in front; otherwise they are found")
 
 
 def form_name(word: str) -> str:

@@ -47,7 +47,7 @@ def add_parser(commands: Commands) -> None:
         "lyrics", help="make a picture script of a song",
         description="Makes a picture script of lyrics with times: LRC with times of lines or of words, or ASS with "
         "\\k times. Words light up when they are sung, and the next lines are drawn while the last are still sung. "
-        "Nothing of the script is late; what cannot be shown at its time is told with its line.")
+        "Nothing of the script is late; what cannot be shown at its time is reported with its line.")
     parser.add_argument("song", type=Path, metavar="SONG", help="the lyrics: SONG.lrc or SONG.ass")
     add_wishes(parser)
     parser.add_argument("--audio", type=Path, metavar="WAV", help="the audio, which the script must not outlast")

@@ -286,9 +286,9 @@ def add_parser(commands: Commands) -> None:
     parser.add_argument("image", type=Path, metavar="IMAGE")
     parser.add_argument("--colours", type=number_in(1, COLOURS), metavar="N", help="how many colours at most (16)")
     parser.add_argument("--first", type=number_in(0, COLOURS - 1), default=0, metavar="K",
-                        help="use the colours from number K on, where others are taken already")
+                        help="use the colours from number K on, if others are taken already")
     parser.add_argument("--at", type=tile_place, metavar="COLUMN,ROW",
-                        help="draw it from this tile of 6 by 12 pixels on, in its own size where there is room")
+                        help="draw it from this tile of 6 by 12 pixels on, in its own size if there is room")
     parser.add_argument("--simple", type=float, default=PLAIN, metavar="LOSS",
                         help="how much a tile may change to need fewer packs (2; 0 keeps all, 40 is coarse)")
     parser.add_argument("--dither", action="store_true", help="mix colours by dots, which needs many packs")

@@ -26,9 +26,9 @@ def length_of(arguments: argparse.Namespace) -> int:
 
 def add_parser(commands: Commands) -> None:
     parser = commands.add_parser(
-        "plan", help="tell which pictures of a script are in time",
-        description="Tells for each picture of a script what it needs and what is free for it: packs, 300 a second. "
-        "Exit 4 where one is late. The words for the program's author are told too.")
+        "plan", help="list which pictures of a script are in time",
+        description="Prints for each picture of a script what it needs and what is free for it: packs, 300 a second. "
+        "Exit 4 if one is late. The words for the program's author are printed too.")
     parser.add_argument("sheet", type=Path, metavar="SHEET", help="the cue sheet of the disc")
     parser.add_argument("script", type=Path, metavar="SCRIPT", help="the picture script")
     add_length(parser)

@@ -268,9 +268,9 @@ def add_parser(commands: Any) -> None:
         help="fill in bad Q frames between good ones, in a copy of a dump",
         description="Lists the bad Q frames of a dump, and with -o writes a copy in which those are filled in that stand "
         "between good frames of one index of one track, whose times go on: then one frame alone can stand there. What is "
-        "left bad is listed with the reason. Frames that are changed by design, in pairs as those of LibCrypt, are told and "
+        "left bad is listed with the reason. Frames that are changed by design, in pairs as those of LibCrypt, are reported and "
         "stay as they are; --sbi writes a list of them. P and the order of tracks and indexes are checked against Q. Exit 1 "
-        "where a bad frame is left, or P or the order is wrong.",
+        "if a bad frame is left, or P or the order is wrong.",
     )
     parser.add_argument("file", metavar="DUMP")
     parser.add_argument("-o", "--output", metavar="OUT", help="the copy, in the form of the dump")

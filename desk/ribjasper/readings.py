@@ -86,7 +86,7 @@ def side_by_side(readings: Sequence[Reading]) -> Laid:
     without = [reading for reading in readings if not reading.parts]
     if without:
         if len({reading.loaded.survey.blocks for reading in readings}) > 1:
-            raise Refusal(without[0].path, "its Q frames tell no time, and it is not as long as the others")
+            raise Refusal(without[0].path, "its Q frames have no time, and it is not as long as the others")
         blocks = readings[0].loaded.survey.blocks
         for reading in readings:
             reading.parts = [Piece(0, blocks, 0, 0)]

@@ -51,12 +51,12 @@ def add_parser(commands: Any) -> None:
         description="Looks at every file below a folder and writes to DIR a table (table.tsv, table.jsonl) and a page "
         "(index.html) that sorts and filters, with a picture, a map and a list of the damaged places of each dump, and a list "
         "of checksums (dumps.dat). A second run goes on where the first was stopped, and "
-        "reads only what changed. Exit 3 where a file could not be read.",
+        "reads only what changed. Exit 3 if a file could not be read.",
     )
     parser.add_argument("folder", metavar="FOLDER")
     parser.add_argument("-o", "--output", required=True, metavar="DIR")
     parser.add_argument("--jobs", type=jobs, default=len(os.sched_getaffinity(0)), metavar="N", help="files at a time")
-    parser.add_argument("--quiet", action="store_true", help="no progress bar, which a terminal has else")
+    parser.add_argument("--quiet", action="store_true", help="no progress bar on a terminal")
     parser.add_argument("--no-pictures", action="store_true", help="no pictures and no maps, for which Pillow is needed")
     add_options(parser)
     parser.add_argument("--follow-links", action="store_true", help="also look into folders that are links")

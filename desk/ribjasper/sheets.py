@@ -202,15 +202,15 @@ def add_parser(commands: Any) -> None:
         description="Writes a cue sheet of what the Q channel and the lead-in of a dump say: tracks, indices and pauses, "
         "flags, the catalogue number, recording codes, texts and sessions. The program's author takes it again, with the "
         "words in its first line. Gaps that no file has stand as pauses within the file. --compare lists in what the table "
-        "of contents, Q and a cue sheet differ, and ends with 1 where they do.",
+        "of contents, Q and a cue sheet differ, and ends with 1 if they do.",
     )
     parser.add_argument("file", metavar="DUMP")
-    parser.add_argument("-o", "--output", metavar="OUT", help="the file to write; else standard output")
+    parser.add_argument("-o", "--output", metavar="OUT", help="the file to write; otherwise standard output")
     what = parser.add_mutually_exclusive_group()
     what.add_argument("--toc", action="store_true", help="write a sheet for cdrdao")
     what.add_argument("--ccd", action="store_true", help="write a sheet of CloneCD")
     what.add_argument("--compare", metavar="CUE", help="list what differs, and write no sheet")
-    parser.add_argument("--latin-1", action="store_true", help="texts as bytes of Latin-1, as author wants them; else UTF-8")
+    parser.add_argument("--latin-1", action="store_true", help="texts as bytes of Latin-1, as author wants them; otherwise UTF-8")
     add_options(parser)
     add_force(parser)
     parser.set_defaults(run=run, error=parser.error)
@@ -219,7 +219,7 @@ def add_parser(commands: Any) -> None:
 def read_source(path: str, loaded: Loaded) -> Source:
     source = Source(loaded)
     if not source.stretches:
-        raise Refusal(path, "no Q frame tells a track")
+        raise Refusal(path, "no Q frame names a track")
     return source
 
 

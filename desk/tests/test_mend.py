@@ -93,7 +93,7 @@ class MendTest(MendCase):
         names = self.write("a", first), self.write("b", second[BLOCK:])
         ran = desk("mend", *names, "-o", self.folder / "none.cdg")
         self.assertEqual(ran.status, 3)
-        self.assertIn("its Q frames tell no time", ran.told)
+        self.assertIn("its Q frames have no time", ran.told)
         self.assertFalse((self.folder / "none.cdg").exists())
 
     def test_three_readings(self) -> None:

@@ -86,7 +86,7 @@ def statuses(formats: str) -> list[str]:
 def refusals(formats: str) -> list[str]:
     """The parts on the reasons of a refusal, and on those of a refused line of each text."""
     out = [".SH REFUSALS", "What stands after", ".BR refused :"]
-    for reason, comes in table(formats, "| Reason after `refused` | Comes where |"):
+    for reason, comes in table(formats, "| Reason after `refused` | Comes if |"):
         out += entry(reason, roff(comes) + ".")
     for kind, what in (("cue", "CUE SHEET"), ("script", "PICTURE SCRIPT")):
         out += [f".SH REFUSED LINES OF {what}", "What stands after", f'.BR "refused {kind} " LINE :']
