@@ -43,8 +43,9 @@ change_planned script survey k preset change h lt is made =
 pub first_weaves : (script : List Drawing) (at_hand : ChangeAtHand) → IsSurvey script at_hand.survey
     → at_hand.k ≡ 0 → StandsBefore script 0 at_hand.before → StandsBefore script 0 at_hand.now
     → (0 < pictures script → (at_hand.change ≡ planned_change script 0) × (at_hand.start ≡ start_of script 0))
+    → (at_hand.k ≡ pictures script → at_hand.start ≡ 4294967295)
     → IsWeaving script at_hand 0
-first_weaves script at_hand surveyed k before now planned =
+first_weaves script at_hand surveyed k before now planned last =
     let none : 0 ≡ at_hand.k = sym k in
     record {
       surveyed = surveyed;
@@ -56,6 +57,7 @@ first_weaves script at_hand surveyed k before now planned =
           λ lt. subst (λ (n : ℕ). at_hand.start ≡ start_of script n) none (planned (omega (arith, lt))).1;
       before_stands = subst (λ (n : ℕ). StandsBefore script n at_hand.before) none before;
       now_stands = subst (λ (n : ℕ). StandsBefore script n at_hand.now) none now;
+      no_start = last;
       sent = λ j lt. absurd (omega (arith, k, lt));
     }
 
@@ -66,8 +68,9 @@ pub next_weaves : (script : List Drawing) (old new : ChangeAtHand) (given : ℕ)
     → StandsBefore script (old.k + 1) new.now
     → (old.k + 1 < pictures script
     → (new.change ≡ planned_change script (old.k + 1)) × (new.start ≡ start_of script (old.k + 1)))
+    → (new.k ≡ pictures script → new.start ≡ 4294967295)
     → IsWeaving script new given
-next_weaves script old new given w inside done survey k before now planned =
+next_weaves script old new given w inside done survey k before now planned last =
     let next : old.k + 1 ≡ new.k = sym k in
     record {
       surveyed = subst (IsSurvey script) (sym survey) w.surveyed;
@@ -77,6 +80,7 @@ next_weaves script old new given w inside done survey k before now planned =
       start_is = λ lt. subst (λ (n : ℕ). new.start ≡ start_of script n) next (planned (omega (arith, lt))).1;
       before_stands = subst (λ (n : ℕ). StandsBefore script n new.before) next before;
       now_stands = subst (λ (n : ℕ). StandsBefore script n new.now) next now;
+      no_start = last;
       sent = λ j lt. elim (cases_lt j old.k) [
         | inl earlier ↦ w.sent j earlier
         | inr past ↦
@@ -99,6 +103,25 @@ starts_apart script survey h held later k n lt =
     let next : k + suc n ≡ suc (k + n) = omega arith in
     let start : start_of script (k + suc n) ≡ 4 * hold_time script (k + n) - 7 = ap (start_of script) next in
     omega (arith, in_time, planned.need_is, rise, start, held k (omega arith))
+
+-- no change from the one at hand on begins before it
+pub begins_first : (script : List Drawing) (at_hand : ChangeAtHand) (given : ℕ)
+    → IsWeaving script at_hand given
+    → ((k : ℕ) → k < pictures script → ready_time script k ≤ hold_time script k)
+    → ((k : ℕ) → k + 1 < pictures script → hold_time script k < ready_time script (k + 1))
+    → (j : ℕ) → at_hand.k ≤ j → j < pictures script → at_hand.start ≤ start_of script j
+begins_first script at_hand given h held later j le lt = elim (cases_lt at_hand.k j) [
+  | inl after ↦
+      let apart : at_hand.k + suc (j - at_hand.k - 1) ≡ j = omega arith in
+      let far =
+      starts_apart script at_hand.survey h.surveyed held later at_hand.k (j - at_hand.k - 1) (omega arith) in
+      let same = ap (start_of script) apart in
+      omega (arith, far, same, h.start_is (omega arith))
+  | inr not_after ↦
+      let here : at_hand.k ≡ j = omega arith in
+      let same = ap (start_of script) here in
+      omega (arith, same, h.start_is (omega arith))
+]
 
 only_here : (script : List Drawing) (at_hand : ChangeAtHand) (given : ℕ) → IsWeaving script at_hand given
     → ((k : ℕ) → k < pictures script → ready_time script k ≤ hold_time script k)

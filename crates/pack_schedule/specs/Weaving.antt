@@ -22,4 +22,6 @@ pub record IsWeaving (script : List Drawing) (at_hand : ChangeAtHand) (given : �
   pub start_is : at_hand.k < pictures script → at_hand.start ≡ start_of script at_hand.k
   pub before_stands : StandsBefore script at_hand.k at_hand.before
   pub now_stands : StandsBefore script at_hand.k at_hand.now
+  -- after the last change none begins
+  pub no_start : at_hand.k ≡ pictures script → at_hand.start ≡ 4294967295
   pub sent : (j : ℕ) → j < at_hand.k → start_of script j + length (planned_change script j) ≤ given

@@ -12,6 +12,13 @@ pub record Woven : Type 0 where
   pub script : List Drawing
   pub given : ℕ
 
+-- of each change all packs were given before, or none comes in so many more, and their numbers fit their type
+pub record ArePassedBy (woven : Woven) (packs : ℕ) : Type 0 where
+  pub fits : woven.given + packs ≤ 4294967295
+  pub apart : (k : ℕ) → k < pictures woven.script
+      → (start_of woven.script k + length (planned_change woven.script k) ≤ woven.given)
+      ⊎ (woven.given + packs ≤ start_of woven.script k)
+
 -- pack n: the written instruction of the planned change that stands there, or an idle pack
 pub record IsPackAt (script : List Drawing) (n : ℕ) (pack : List ℕ) : Type 0 where
   pub changed : (k : ℕ) → k < pictures script → start_of script k ≤ n

@@ -33,7 +33,7 @@ impl<'a> Weaver<'a> {
     ghost use Rattle.std.specs.Prelude.{◌≡◌, ◌↔◌, ◌<◌, ◌+◌, ℕ, true, false, IfOk, IsNone, min, unwrap_or};
     ghost use Rattle.rw_code.specs.Packs.{idle_pack};
     ghost use Rattle.pack_schedule.specs.Survey.{IsSurvey};
-    ghost use Rattle.pack_schedule.specs.Woven.{IsPackAt};
+    ghost use Rattle.pack_schedule.specs.Woven.{ArePassedBy, IsPackAt};
 
     /// A weaver that has given no pack.
     pub fn start(
@@ -79,10 +79,11 @@ impl<'a> Weaver<'a> {
         pack
     }
 
-    /// Passes over so many packs where all of them come before the next change, so that they are idle, and answers
-    /// whether they do. Else nothing is done.
+    /// Passes over so many packs where each change is either over or begins only after them, so that they are idle, and
+    /// answers whether that is so. Otherwise nothing is done.
     #[inline]
     pub fn pass_idle(&mut self, packs: u32) -> bool
+        ensures passes { result ≡ true ↔ ArePassedBy self.old packs }
         ensures idle { result ≡ true → (n : ℕ) → n < packs
             → IsPackAt self.old.script (self.old.given + n) idle_pack }
         ensures given { result ≡ true → self.new.given ≡ self.old.given + packs }
@@ -90,10 +91,14 @@ impl<'a> Weaver<'a> {
         ensures stays { result ≡ false → self.new ≡ self.old }
     {
         self.script.times_rise_and_colours_are_in_range();
-        if self.at_hand.start.saturating_sub(self.given) < packs {
+        self.at_hand.skip_sent(self.script, self.given);
+        let Some(given) = self.given.checked_add(packs) else {
+            return false;
+        };
+        if self.at_hand.start < given {
             return false;
         }
-        self.given += packs;
+        self.given = given;
         true
     }
 }

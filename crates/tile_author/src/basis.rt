@@ -222,7 +222,7 @@ impl Basis {
         self.line(pixels, line, j)
     }
 
-    // The twelve lines of the instruction for member j.
+    // The twelve lines of the instruction for member j. Without members no pixel is marked.
     fn lines(&self, pixels: &[u8; PIXELS], j: usize) -> [u8; TILE_HEIGHT]
         requires tile { IsTilePixels pixels.now }
         requires members { self.now ≡ basis pixels.now }
@@ -230,6 +230,9 @@ impl Basis {
         ensures { result ≡ tile_lines pixels.now j }
     {
         let mut lines = [0; TILE_HEIGHT];
+        if self.members.is_empty() {
+            return lines;
+        }
         lines[0] = self.line(pixels, 0, j);
         for i in 1..TILE_HEIGHT {
             lines[i] = self.line_after(pixels, i, j, lines[i - 1]);
@@ -310,12 +313,23 @@ fn is_line_before(pixels: &[u8; PIXELS], line: usize) -> bool
         ≡ slice_index pixels.now (tile_width * (line - 1) + i) }
 {
     let start = TILE_WIDTH * line;
-    pixels[start - 6] == pixels[start]
-        && pixels[start - 5] == pixels[start + 1]
-        && pixels[start - 4] == pixels[start + 2]
-        && pixels[start - 3] == pixels[start + 3]
-        && pixels[start - 2] == pixels[start + 4]
-        && pixels[start - 1] == pixels[start + 5]
+    four(pixels, start - 6) == four(pixels, start)
+        && four(pixels, start - 4) == four(pixels, start + 2)
+}
+
+// Four pixels as one number, so that they are compared at once.
+#[inline]
+fn four(pixels: &[u8; PIXELS], first: usize) -> u32
+    requires { first + 4 ≤ tile_pixels }
+    ensures { result ≡ slice_index pixels.now first + 256 * (slice_index pixels.now (first + 1)
+        + 256 * (slice_index pixels.now (first + 2) + 256 * slice_index pixels.now (first + 3))) }
+{
+    u32::from_le_bytes([
+        pixels[first],
+        pixels[first + 1],
+        pixels[first + 2],
+        pixels[first + 3],
+    ])
 }
 
 // Whether all pixels have the colour of the first. It looks at all of them, so that many can be compared at once.

@@ -49,7 +49,7 @@ impl ChangeAtHand {
             now: Canvas::start(alloc)?,
             change: ChangeList::start(alloc)?,
             k: 0,
-            start: 0,
+            start: u32::MAX,
         };
         if script.pictures() > 0 {
             at_hand.prepare(script);

@@ -1,26 +1,53 @@
-use Rattle.std.proofs.Common.{◌+◌, ◌<◌, refl, subst, arith}
+use Rattle.std.proofs.Common.{◌+◌, ◌<◌, ◌≤◌, inl, inr, refl, subst, arith}
+use Rattle.std.proofs.lemmas.Bool.{cases_lt}
 use Rattle.rw_code.specs.Packs.{idle_pack}
 use Rattle.pack_schedule.specs.Weaving.{IsWeaving}
-use Rattle.pack_schedule.specs.Woven.{IsPackAt, Woven}
-use Rattle.pack_schedule.proofs.Weaves.{no_pack}
+use Rattle.pack_schedule.specs.Woven.{ArePassedBy, IsPackAt, Woven}
+use Rattle.pack_schedule.proofs.Weaves.{begins_first, no_pack}
 use Rattle.pack_schedule.proofs.weaver.Weaver.pass_idle.Goals as goal
+
+pub returns-clause-passes : goal.returns-clause-passes
+returns-clause-passes c = (
+  (λ _.
+      let self = c.self.inside in
+      let at_hand = c.skip_sent.new.self in
+      let w = c.skip_sent.ensures.weaving in
+      let known = c.times_rise_and_colours_are_in_range.ensures in
+      let end : self.given + c.args.packs ≤ at_hand.start =
+      omega (arith, c.if-self-given.false, c.in-Some.ensures.1) in
+      subst (λ (v : Woven). ArePassedBy v c.args.packs) c.self.view_is (record {
+        fits = omega (arith, c.in-Some.ensures.0);
+        apart = λ j lt. elim (cases_lt j at_hand.k) [
+          | inl before ↦ inl (w.sent j before)
+          | inr not_before ↦ inr (omega (
+            arith,
+            end,
+            begins_first self.script.now at_hand self.given w known.held known.later j
+                (omega (arith, not_before)) lt,
+          ))
+        ];
+      })),
+  (λ _. refl),
+)
 
 pub returns-clause-idle : goal.returns-clause-idle
 returns-clause-idle c = λ told n lt.
     let self = c.self.inside in
-    let w = c.self.invariant in
+    let at_hand = c.skip_sent.new.self in
+    let w = c.skip_sent.ensures.weaving in
     let known = c.times_rise_and_colours_are_in_range.ensures in
-    let before : self.given + n < self.at_hand.start =
-    omega (arith, c.saturating_sub.ensures, c.if-saturating_sub-packs.false, lt) in
-    let on : IsWeaving self.script.now self.at_hand (self.given + n) = record {
+    let before : self.given + n < at_hand.start =
+    omega (arith, c.if-self-given.false, c.in-Some.ensures.1, lt) in
+    let on : IsWeaving self.script.now at_hand (self.given + n) = record {
       surveyed = w.surveyed;
       k_most = w.k_most;
       change_is = w.change_is;
       start_is = w.start_is;
       before_stands = w.before_stands;
       now_stands = w.now_stands;
+      no_start = w.no_start;
       sent = λ j less. omega (arith, w.sent j less);
     } in
     subst (λ (v : Woven). IsPackAt v.script (v.given + n) idle_pack) c.self.view_is
-    (no_pack self.script.now self.at_hand (self.given + n) idle_pack on known.held known.later
+    (no_pack self.script.now at_hand (self.given + n) idle_pack on known.held known.later
     (λ less. omega (arith, before, w.start_is less)) (λ less. omega (arith, before, w.start_is less)) refl)

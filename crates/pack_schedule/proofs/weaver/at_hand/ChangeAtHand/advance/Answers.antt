@@ -19,6 +19,7 @@ returns-then-self-pictures-clause-weaving c =
     next_weaves c.args.script.now c.args.self.now c.prepare.new.self c.args.given c.requires.weaving
     c.requires.picture c.requires.sent made.survey made.k
     made.before made.now (λ _. (made.change, made.start))
+    (λ end. absurd (omega (arith, end, made.k, c.if-self-pictures.true, c.pictures-pictures.ensures.value)))
 
 pub returns-else-self-pictures-clause-weaving : goal.returns-else-self-pictures-clause-weaving
 returns-else-self-pictures-clause-weaving c =
@@ -29,3 +30,4 @@ returns-else-self-pictures-clause-weaving c =
     (stands_later script k (k + 1) c.args.self.now.before (omega arith) c.requires.weaving.before_stands)
     (stands_later script k (k + 1) c.args.self.now.now (omega arith) c.requires.weaving.now_stands)
     (λ lt. absurd (omega (arith, lt, c.if-self-pictures.false, c.pictures-pictures.ensures.value)))
+    (λ _. refl)

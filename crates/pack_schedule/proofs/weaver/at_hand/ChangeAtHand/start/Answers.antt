@@ -29,9 +29,10 @@ returns c =
           let made = w.prepare.ensures in
           subst (λ (at_hand : ChangeAtHand). IsWeaving c.args.script.now at_hand 0) (sym w.at_hand-is)
           (first_weaves script w.prepare.new.self (subst (IsSurvey script) (sym made.survey) c.requires)
-          made.k made.before made.now (λ _. (made.change, made.start)))
+          made.k made.before made.now (λ _. (made.change, made.start))
+          (λ end. absurd (omega (arith, end, made.k, w.if-pictures-gt0.true, c.pictures.ensures.value))))
       | else-pictures-gt0 w ↦
           subst (λ (at_hand : ChangeAtHand). IsWeaving c.args.script.now at_hand 0) (sym w.at_hand-is)
           (first_weaves script _ c.requires refl before now
-          (λ lt. absurd (omega (arith, lt, w.if-pictures-gt0.false, c.pictures.ensures.value))))
+          (λ lt. absurd (omega (arith, lt, w.if-pictures-gt0.false, c.pictures.ensures.value))) (λ _. refl))
     ]
