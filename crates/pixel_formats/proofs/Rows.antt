@@ -1,15 +1,17 @@
 -- Pixels in rows, and rows in a room.
-use Rattle.std.proofs.Common.{◌≡◌, ◌≢◌, ◌+◌, ◌-◌, ◌*◌, ◌<◌, ◌≤◌, ◌&&◌, ℕ, suc, if◌then◌else◌, List, [], length, get_or, take, drop, sym, ap, ◌∙◌, inl, inr, arith}
+use Rattle.std.proofs.Common.{◌≡◌, ◌≢◌, ◌+◌, ◌-◌, ◌*◌, ◌<◌, ◌≤◌, ◌&&◌, ℕ, suc, if◌then◌else◌, List, [], ◌++◌, length, length-drop, get_or, take, drop, refl, subst, sym, ap, ◌∙◌, inl, inr, arith}
 use Rattle.std.specs.Prelude.{nat_le, nat_lt, slice_index}
 use Rattle.std.proofs.Math.Nat.{mul-le-mul_left}
 use Rattle.std.proofs.lemmas.Bool.{cases_lt}
 use Rattle.std.proofs.lemmas.Bool.Decides.{nat_tests}
-use Rattle.std.proofs.lemmas.List.{get_or-take}
+use Rattle.std.proofs.lemmas.List.{get_or_append_left, get_or-append_right, get_or-drop, get_or-take, length-take-le}
+use borrow.Rule.Slice.PartMut.{put_mid}
+use Rattle.live_player.proofs.Pictures.{length-piece, piece_at}
 use Rattle.cdg_screen.specs.Standing.{Standing, screen_pixel}
-use Rattle.cdg_screen.proofs.WholeRows.{else_before, else_behind, then_within}
-use Rattle.pixel_formats.specs.Formats.{pixel_bytes, pixel_size, shown_bytes}
+use Rattle.cdg_screen.proofs.WholeRows.{between_places, else_before, else_behind, then_within}
+use Rattle.pixel_formats.specs.Formats.{pixel_bytes, pixel_size, shown_bytes, AreLineBytes}
 use Rattle.pixel_formats.specs.declared.format.PixelFormat.{PixelFormat}
-use Rattle.pixel_formats.specs.declared.format.PixelFormat.TheVariants.{Indexed}
+use Rattle.pixel_formats.specs.declared.format.PixelFormat.TheVariants.{Indexed, Rgb, Rgba, Bgra, RgbaLevels, BgraLevels, Rgb565}
 
 -- ---- pixels in a row
 
@@ -19,26 +21,20 @@ in_row size i k width i_lt k_lt =
     let next : size * suc i ≤ size * width = mul-le-mul_left size (omega (arith, i_lt)) in
     omega (arith, next, k_lt)
 
--- a row of so many pixels fits into the longest
-pub line_fits : (size width : ℕ) → size ≤ 4 → width ≤ 300 → size * width ≤ 1200
-line_fits size width size_le width_le =
-    let most : width * size ≤ width * 4 = mul-le-mul_left width size_le in
-    omega (arith, most, width_le)
-
 from_there : (at n a b : ℕ) → at ≤ n → (if nat_le at n then a else b) ≡ a
 from_there at n a b from = grind (arith, nat_tests)
 
 before_there : (at n a b : ℕ) → n < at → (if nat_le at n then a else b) ≡ b
 before_there at n a b lt = grind (arith, nat_tests)
 
--- four bytes of pixel i were written behind those before it
-pub pixel_more : (old new four : List ℕ) (byte : ℕ → ℕ → ℕ) (size i : ℕ) → size ≤ 4
+-- so many bytes were written for pixel i, which has no more, behind those before it
+pub pixel_more : (old new four : List ℕ) (byte : ℕ → ℕ → ℕ) (size count i : ℕ) → size ≤ count
     → ((k : ℕ) → get_or four k 0 ≡ byte i k)
-    → ((n : ℕ) → n < size * i + 4
+    → ((n : ℕ) → n < size * i + count
     → get_or new n 0 ≡ (if nat_le (size * i) n then get_or four (n - size * i) 0 else get_or old n 0))
     → ((m k : ℕ) → m < i → k < size → get_or old (size * m + k) 0 ≡ byte m k)
     → (m k : ℕ) → m < i + 1 → k < size → get_or new (size * m + k) 0 ≡ byte m k
-pixel_more old new four byte size i size_le is written before m k m_lt k_lt = elim (cases_lt m i) [
+pixel_more old new four byte size count i size_le is written before m k m_lt k_lt = elim (cases_lt m i) [
   | inl early ↦
       let place : size * m + k < size * i = in_row size m k i early k_lt in
       written (size * m + k) (omega (arith, place))
@@ -114,6 +110,31 @@ module _ (byte : ℕ → ℕ → ℕ → ℕ) (piece old new first : List ℕ) (
         ]
       ]
 
+-- a row's part that was written is as many bytes
+pub part_long : (out : List ℕ) (at count bytes : ℕ) → at + count ≤ length out → count ≡ bytes
+    → length (take (at + count - at) (drop at out)) ≡ bytes
+part_long out at count bytes fits is =
+    length-take-le (at + count - at) (drop at out) (omega (arith, length-drop at out, fits))
+    ∙ omega (arith, is)
+
+-- a number of a list of which a part was written
+pub piece_put : (at k : ℕ) (xs ys : List ℕ) (n : ℕ) → at + length ys ≤ length xs → k ≡ length ys
+    → get_or (put_mid at k xs ys) n 0
+    ≡ (if nat_le at n && nat_lt n (at + length ys) then get_or ys (n - at) 0 else get_or xs n 0)
+piece_put at k xs ys n fits is =
+    let front : length (take at xs) ≡ at = length-take-le at xs (omega (arith, fits)) in
+    between_places at (at + length ys) n (get_or (put_mid at k xs ys) n 0) (get_or ys (n - at) 0)
+    (get_or xs n 0)
+    (λ lt. get_or_append_left (take at xs) (ys ++ drop k (drop at xs)) 0 n (omega (arith, lt, front))
+    ∙ get_or-take at xs n 0 lt)
+    (λ from lt. get_or-append_right (take at xs) (ys ++ drop k (drop at xs)) at n 0 front from
+    ∙ get_or_append_left ys (drop k (drop at xs)) 0 (n - at) (omega (arith, from, lt)))
+    (λ past. get_or-append_right (take at xs) (ys ++ drop k (drop at xs)) at n 0 front (omega (arith, past))
+    ∙ get_or-append_right ys (drop k (drop at xs)) (length ys) (n - at) 0 refl (omega (arith, past))
+    ∙ get_or-drop k (drop at xs) (n - at - length ys) 0
+    ∙ get_or-drop at xs (k + (n - at - length ys)) 0
+    ∙ ap (λ i. get_or xs i 0) (omega (arith, past, is)))
+
 -- ---- the bytes of a pixel
 
 pub shown_pixel : (format : PixelFormat) (now : Standing) (table : List (List ℕ)) (x y number k : ℕ)
@@ -138,3 +159,49 @@ shown_number format now x y number k indexed is lt =
     is
     ∙ ap (λ n. get_or (shown_bytes Indexed now x y) n 0) (sym first)
     ∙ ap (λ f. get_or (shown_bytes f now x y) k 0) (sym indexed)
+
+-- ---- a row of a part
+
+-- a line has room for a part of a row
+pub line_fits : (format : PixelFormat) (row : List ℕ) (left width count size room : ℕ)
+    → pixel_size format ≡ size → count ≡ width → left + width ≤ 300
+    → length row ≡ 300 → room ≡ pixel_size format * width
+    → room ≡ size * length (take count (drop left row))
+line_fits format row left width count size room is count_is fits long room_is =
+    room_is
+    ∙ ap (λ s. s * width) is
+    ∙ ap (λ n. size * n) (sym (length-piece row left width count long fits count_is))
+
+-- the bytes of a part of a row of the screen are those that its pixels show
+pub line_shows : (format : PixelFormat) (now : Standing) (table : List (List ℕ)) (row line : List ℕ)
+    (left width count size y : ℕ) → pixel_size format ≡ size → count ≡ width → left + width ≤ 300
+    → length row ≡ 300
+    → ((x : ℕ) → x < 300 → get_or row x 0 ≡ screen_pixel now x y)
+    → ((x : ℕ) → get_or row x 0 < 16)
+    → ((p : ℕ) → p < 16 → take (pixel_size format) (get_or table p [])
+    ≡ pixel_bytes format p (slice_index now.colours p) (slice_index now.levels p))
+    → AreLineBytes size (take count (drop left row)) table line
+    → (i k : ℕ) → i < width → k < pixel_size format
+    → get_or line (pixel_size format * i + k) 0 ≡ get_or (shown_bytes format now (left + i) y) k 0
+line_shows format now table row line left width count size y is count_is fits long pixels range bytes
+    written i k i_lt k_lt =
+    let whole : length (take count (drop left row)) ≡ width =
+    length-piece row left width count long fits count_is in
+    let piece : get_or (take count (drop left row)) i 0 ≡ get_or row (left + i) 0 =
+    piece_at row left width count i count_is i_lt in
+    ap (λ s. get_or line (s * i + k) 0) is
+    ∙ written i k (omega (arith, whole, i_lt)) (omega (arith, k_lt, is))
+    ∙ shown_pixel format now table (left + i) y (get_or (take count (drop left row)) i 0) k
+    (piece ∙ pixels (left + i) (omega (arith, i_lt, fits)))
+    (subst (λ v. v < 16) (sym piece) (range (left + i))) k_lt bytes
+
+-- all other formats have four bytes
+pub four_bytes : (format : PixelFormat) → format ≢ Indexed → format ≢ Rgb565 → format ≢ Rgb
+    → pixel_size format ≡ 4
+four_bytes Indexed a b c = absurd (a refl)
+four_bytes Rgb565 a b c = absurd (b refl)
+four_bytes Rgb a b c = absurd (c refl)
+four_bytes Rgba a b c = refl
+four_bytes Bgra a b c = refl
+four_bytes RgbaLevels a b c = refl
+four_bytes BgraLevels a b c = refl

@@ -1,5 +1,5 @@
 -- The pixels of the screen as displays take them.
-use Rattle.std.specs.Prelude.{◌≡◌, ◌+◌, ◌-◌, ◌*◌, ◌/◌, ◌%◌, ◌<◌, ◌≤◌, ℕ, List, [], ◌∷◌, ◌++◌, reverse, slice_index}
+use Rattle.std.specs.Prelude.{◌≡◌, ◌+◌, ◌-◌, ◌*◌, ◌/◌, ◌%◌, ◌<◌, ◌≤◌, ℕ, List, [], ◌∷◌, ◌++◌, reverse, length, slice_index, slice_index_or}
 use Rattle.cdg_screen.specs.Standing.{Standing, screen_pixel}
 use Rattle.cdg_screen.specs.Texts.{colour_bytes}
 use Rattle.live_player.specs.declared.part.ScreenPart.{ScreenPart}
@@ -15,10 +15,6 @@ pixel_size Bgra = 4
 pixel_size RgbaLevels = 4
 pixel_size BgraLevels = 4
 pixel_size Rgb565 = 2
-
--- the bytes of a whole row of four bytes a pixel
-abbrev pub line_bytes : ℕ
-line_bytes = 1200
 
 -- how opaque a colour of a level is, 0 to 255: level 0 is opaque and level 63 clear, and the six bits of the level are
 -- made eight by their own first two
@@ -45,6 +41,11 @@ unfoldable pub shown_bytes : PixelFormat → Standing → ℕ → ℕ → List �
 shown_bytes format now x y =
     let number = screen_pixel now x y in
     pixel_bytes format number (slice_index now.colours number) (slice_index now.levels number)
+
+-- the bytes of pixels of so many bytes each, one after the other, by a table of the bytes of each colour
+abbrev pub AreLineBytes : ℕ → List ℕ → List (List ℕ) → List ℕ → Type 0
+AreLineBytes size pixels table line = (i k : ℕ) → i < length pixels → k < size
+    → slice_index line (size * i + k) ≡ slice_index (slice_index_or table (slice_index pixels i) []) k
 
 -- so many bytes have room for the rows of a part, each `stride` bytes after the one before
 abbrev pub HasPixelRoom : PixelFormat → ScreenPart → ℕ → ℕ → Type 0

@@ -1,13 +1,13 @@
 // A part of the screen in a format.
-ghost use Rattle.std.specs.Prelude.{◌≡◌, ◌<◌, ◌≤◌, ◌+◌, ◌-◌, ◌*◌, ◌&&◌, nat_le, nat_lt, if◌then◌else◌, ℕ, [], length, slice_index, slice_index_or, take};
+ghost use Rattle.std.specs.Prelude.{◌≡◌, ◌<◌, ◌≤◌, ◌+◌, ◌*◌, ℕ, [], length, slice_index, slice_index_or, take};
 ghost use Rattle.cdg_instructions.specs.Sizes.{screen_height};
 ghost use Rattle.cdg_screen.specs.Memory.{seen};
 ghost use Rattle.live_player.specs.Lives.{picture_byte, picture_bytes};
 ghost use Rattle.live_player.specs.Parts.{IsOnScreen};
-ghost use Rattle.pixel_formats.specs.Formats.{line_bytes, pixel_bytes, pixel_size, shown_bytes, HasPixelRoom, ShowsPixels};
+ghost use Rattle.pixel_formats.specs.Formats.{pixel_bytes, pixel_size, shown_bytes, HasPixelRoom, ShowsPixels};
 
 use crate::format::PixelFormat;
-use crate::line::{LINE, write_line};
+use crate::line::{write_fours, write_threes, write_twos};
 use crate::table::table_of;
 use cdg_instructions::{COLOURS, SCREEN_HEIGHT, SCREEN_WIDTH};
 use cdg_screen::PlainScreen;
@@ -29,10 +29,9 @@ pub fn write_pixels(
 {
     let table = table_of(screen, format);
     let count = format.size() * part.width;
-    let mut line = [0; LINE];
     for j in 0..part.height {
-        write_row(screen, part, j, format, &table, &mut line);
-        write_at(out, stride * j, &line[..count]);
+        let line = &mut out[stride * j..stride * j + count];
+        write_row(screen, part, j, format, &table, line);
     }
 }
 
@@ -56,10 +55,11 @@ fn write_row(
     j: usize,
     format: PixelFormat,
     table: &[[u8; 4]; COLOURS],
-    line: &mut [u8; LINE],
+    line: &mut [u8],
 )
     requires part { IsOnScreen part.now }
     requires row { j < part.now.height }
+    requires size { length line.old ≡ pixel_size format * part.now.width }
     requires sizes { (p : ℕ) → p < 16 → length (slice_index_or table.now p []) ≡ 4 }
     requires bytes { (p : ℕ) → p < 16 → take (pixel_size format) (slice_index_or table.now p [])
         ≡ pixel_bytes format p (slice_index (seen screen.now).colours p)
@@ -72,25 +72,17 @@ fn write_row(
     screen.write_row(part.top + j, &mut row);
     let pixels = &row[part.left..part.left + part.width];
     match format {
-        PixelFormat::Indexed => put_front(line, pixels),
-        _ => write_line(pixels, table, format.size(), line),
+        PixelFormat::Indexed => put_all(line, pixels),
+        PixelFormat::Rgb565 => write_twos(pixels, table, line),
+        PixelFormat::Rgb => write_threes(pixels, table, line),
+        _ => write_fours(pixels, table, line),
     }
 }
 
-// Writes some bytes to the front.
-fn put_front(line: &mut [u8; LINE], bytes: &[u8])
-    requires { length bytes.now ≤ line_bytes }
-    ensures { (n : ℕ) → n < length bytes.now → slice_index line.new n ≡ slice_index bytes.now n }
+// Writes bytes in the place of as many.
+fn put_all(line: &mut [u8], bytes: &[u8])
+    requires { length line.old ≡ length bytes.now }
+    ensures { line.new ≡ bytes.now }
 {
-    line[..bytes.len()].copy_from_slice(bytes);
-}
-
-// Writes some bytes from a place on.
-fn write_at(room: &mut [u8], place: usize, bytes: &[u8])
-    requires { place + length bytes.now ≤ length room.old }
-    ensures { (n : ℕ) → slice_index room.new n
-        ≡ (if nat_le place n && nat_lt n (place + length bytes.now) then slice_index bytes.now (n - place)
-        else slice_index room.old n) }
-{
-    room[place..place + bytes.len()].copy_from_slice(bytes);
+    line.copy_from_slice(bytes);
 }

@@ -1,4 +1,4 @@
-use Rattle.std.proofs.Common.{◌≡◌, ◌+◌, ◌*◌, ◌/◌, ◌%◌, ◌<◌, ◌∙◌, ℕ, get_or, ap, ap₂, arith}
+use Rattle.std.proofs.Common.{◌≡◌, ◌+◌, ◌*◌, ◌/◌, ◌%◌, ◌∙◌, get_or, ap, ap₂, arith}
 use Rattle.cdg_screen.specs.Memory.{seen}
 use Rattle.live_player.specs.Lives.{picture_byte}
 use Rattle.pixel_formats.specs.Formats.{shown_bytes}

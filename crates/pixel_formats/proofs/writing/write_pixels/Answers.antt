@@ -1,9 +1,16 @@
-use Rattle.std.proofs.Common.{◌≡◌, ◌+◌, ◌-◌, ◌*◌, ◌<◌, ◌≤◌, ◌∙◌, ℕ, length, get_or, take, ap, sym, arith}
-use Rattle.std.proofs.lemmas.List.{get_or-take, length-take-le}
+use Rattle.std.proofs.Common.{◌≡◌, ◌+◌, ◌-◌, ◌*◌, ◌≤◌, ◌∙◌, ℕ, length, get_or, ap, arith}
 use Rattle.pixel_formats.specs.Formats.{pixel_size, shown_bytes}
 use Rattle.cdg_screen.specs.Memory.{seen}
-use Rattle.pixel_formats.proofs.Rows.{in_row, line_fits, row_others, row_pixels}
+use borrow.Rule.Slice.PartMut.{put_mid}
+use Rattle.pixel_formats.proofs.Rows.{part_long, piece_put, row_others, row_pixels}
 use Rattle.pixel_formats.proofs.writing.write_pixels.Goals as goal
+
+pub write_row-requires-clause-size : goal.write_row-requires-clause-size
+write_row-requires-clause-size c =
+    let count_is : c.size.result * c.args.part.now.width ≡ pixel_size c.args.format * c.args.part.now.width =
+    ap (λ s. s * c.args.part.now.width) c.size.ensures.size in
+    part_long c.loop-j.out (c.args.stride * c.loop-j.j) (c.size.result * c.args.part.now.width) _
+    (omega (arith, c.requires.room c.loop-j.j c.loop-j-test.true, count_is, c.loop-j.auto.out)) count_is
 
 pub loop-j-preserved : goal.loop-j-preserved
 loop-j-preserved c =
@@ -11,31 +18,26 @@ loop-j-preserved c =
     let part = c.args.part.now in
     let format = c.args.format in
     let size = pixel_size format in
+    let at = c.args.stride * c.loop-j.j in
     let line = c.write_row.new.line in
     let count = c.size.result * part.width in
     let count_is : count ≡ size * part.width = ap (λ s. s * part.width) c.size.ensures.size in
-    let fits : count ≤ length line =
-    omega (
-      arith,
-      line_fits c.size.result part.width c.size.ensures.range.1 (omega (arith, c.requires.part.0)),
-      c.write_row.array_long,
-    ) in
-    let long : length (take count line) ≡ size * part.width = length-take-le count line fits ∙ count_is in
+    let room : at + count ≤ length c.loop-j.out =
+    omega (arith, c.requires.room c.loop-j.j c.loop-j-test.true, count_is, c.loop-j.auto.out) in
+    let long : length line ≡ size * part.width =
+    c.write_row.auto.line ∙ part_long c.loop-j.out at count (size * part.width) room count_is in
     let byte = λ (i m k : ℕ). get_or (shown_bytes format now (part.left + i) (part.top + m)) k 0 in
-    let shown =
-    λ (i k : ℕ) (i_lt : i < part.width) (k_lt : k < size). get_or-take count line (size * i + k) 0
-    (omega (arith, in_row size i k part.width i_lt k_lt, count_is))
-    ∙ c.write_row.ensures i k i_lt k_lt in
+    let written =
+    λ (n : ℕ). piece_put at (at + count - at) c.loop-j.out line n (omega (arith, long, room, count_is))
+    (omega (arith, long, count_is)) in
+    let new = put_mid at (at + count - at) c.loop-j.out line in
     record {
-      size = c.write_at.auto.room ∙ c.loop-j.invariant.size;
       pixels =
-          row_pixels byte (take count line) c.loop-j.out c.write_at.new.room c.args.out.now size part.width
-          c.args.stride c.loop-j.j long c.requires.apart shown c.write_at.ensures
-          c.loop-j.invariant.pixels;
+          row_pixels byte line c.loop-j.out new c.args.out.now size part.width c.args.stride c.loop-j.j long
+          c.requires.apart c.write_row.ensures written c.loop-j.invariant.pixels;
       others =
-          row_others byte (take count line) c.loop-j.out c.write_at.new.room c.args.out.now size part.width
-          c.args.stride c.loop-j.j long c.requires.apart shown c.write_at.ensures
-          c.loop-j.invariant.others;
+          row_others byte line c.loop-j.out new c.args.out.now size part.width c.args.stride c.loop-j.j long
+          c.requires.apart c.write_row.ensures written c.loop-j.invariant.others;
     }
 
 pub returns : goal.returns

@@ -1,11 +1,10 @@
-use Rattle.std.proofs.Common.{◌≡◌, ◌<◌, ◌+◌, ◌*◌, ℕ, length, get_or}
+use Rattle.std.proofs.Common.{◌≡◌, ◌<◌, ◌+◌, ◌*◌, ℕ, get_or}
 use Rattle.cdg_screen.specs.Memory.{seen}
 use Rattle.pixel_formats.specs.Formats.{pixel_size, shown_bytes}
 use Rattle.pixel_formats.proofs.writing.write_pixels.Given as goal
 
 abbrev pub invariant-loop-j : goal.invariant-loop-j
 invariant-loop-j l = record {
-  size : length l.out ≡ length l.initial.out;
   pixels : (i m k : ℕ) → i < l.part.width → m < l.j → k < pixel_size l.format
       → get_or l.out (m * l.stride + (pixel_size l.format * i + k)) 0
       ≡ get_or (shown_bytes l.format (seen l.screen) (l.part.left + i) (l.part.top + m)) k 0;
