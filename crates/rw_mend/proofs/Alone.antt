@@ -127,7 +127,7 @@ mended_alone voices codeword r doubts (Some mended) within is only by =
 
 -- ---- Whole streams.
 
-one_near : (pack other : List ℕ) (d e : ℕ) → Near pack d ≡ Near other e → pack ≡ other
+pub one_near : (pack other : List ℕ) (d e : ℕ) → Near pack d ≡ Near other e → pack ≡ other
 one_near pack other d e same = cc
 
 counted : (words : ℕ) (programs : List (List ℕ)) (n s : ℕ) (voice : Voice) (pack : List ℕ) (doubts : ℕ)

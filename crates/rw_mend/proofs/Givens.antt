@@ -15,12 +15,12 @@ use Rattle.rw_mend.specs.declared.voices.Coverage.TheVariants.{Whole, Partly, Un
 use Rattle.rw_mend.specs.declared.voices.WordReading.{WordReading}
 use Rattle.rw_mend.specs.declared.voices.Voice.TheVariants.{Near}
 
-small_symbols : (bytes : List ℕ) (p : ℕ) → get_or (symbols_of bytes) p 0 < 64
+pub small_symbols : (bytes : List ℕ) (p : ℕ) → get_or (symbols_of bytes) p 0 < 64
 small_symbols [] p = omega arith
 small_symbols (byte ∷ bytes) zero = omega arith
 small_symbols (byte ∷ bytes) (suc p) = small_symbols bytes p
 
-reading-word : (program : List ℕ) (n : ℕ) → (reading_at program n).word ≡ word_of (symbols_of program) n
+pub reading-word : (program : List ℕ) (n : ℕ) → (reading_at program n).word ≡ word_of (symbols_of program) n
 unfolding reading_at
 reading-word program n = refl
 

@@ -17,7 +17,7 @@ use Rattle.rw_mend.specs.declared.tallies.Tallies.{Tallies}
 use Rattle.rw_mend.proofs.Pairs.{blocks_left, same_drop}
 use Rattle.rw_mend.proofs.Reading.{count_is, program_at}
 
-part_at : (count size : ℕ) (xs : List ℕ) (b : ℕ) → b < count
+pub part_at : (count size : ℕ) (xs : List ℕ) (b : ℕ) → b < count
     → get_or (parts count size xs) b [] ≡ take size (drop (size * b) xs)
 part_at zero size xs b lt = absurd (omega arith)
 part_at (suc count) size xs zero lt =
@@ -27,7 +27,7 @@ part_at (suc count) size xs (suc b) lt =
     part_at count size (drop size xs) b (omega arith)
     ∙ ap (take size) (drop-drop (size * b) size xs ∙ ap (λ n. drop n xs) (omega arith))
 
-parts_length : (count size : ℕ) (xs : List ℕ) → length (parts count size xs) ≡ count
+pub parts_length : (count size : ℕ) (xs : List ℕ) → length (parts count size xs) ≡ count
 parts_length zero size xs = refl
 parts_length (suc count) size xs = ap (λ n. suc n) (parts_length count size (drop size xs))
 

@@ -3,6 +3,7 @@ pub mod Alone
 pub mod Clean
 pub mod Coming
 pub mod Counting
+pub mod Damaged
 pub mod Givens
 pub mod Heaps
 pub mod Hearing
@@ -14,3 +15,4 @@ pub mod Reading
 pub mod Running
 pub mod Same
 pub mod Telling
+pub mod Unread

@@ -1,8 +1,13 @@
 -- What readings have to be for the laws of mending.
-use Rattle.std.specs.Prelude.{◌≡◌, ◌⊎◌, ℕ, ◌<◌, List, [], length, slice_index_or}
+use Rattle.std.specs.Prelude.{◌≡◌, ◌⊎◌, ℕ, ◌+◌, ◌*◌, ◌<◌, List, [], All, length, slice_index_or}
 use Rattle.std.specs.List.{flat_map}
 use Rattle.bit_lists.specs.Counting.{below}
+use Rattle.raw_subcode.specs.Channels.{program_symbols}
+use Rattle.raw_subcode.specs.Sizes.{block_bytes}
+use Rattle.raw_subcode.specs.declared.form.Form.TheVariants.{Raw}
 use Rattle.rw_code.specs.Packs.{idle_pack}
+use Rattle.rw_interleave.specs.Interleave.{Carries}
+use Rattle.rw_interleave.specs.Stream.{IsDamaged}
 use Rattle.rw_mend.specs.Drops.{IsDropped}
 use Rattle.rw_mend.specs.Words.{given_at}
 use Rattle.rw_mend.specs.declared.voices.Voice.{Voice}
@@ -46,3 +51,12 @@ pub record AllGive (words : ℕ) (programs packs : List (List ℕ)) : Type 0 whe
   pub doubts : ℕ → ℕ → ℕ
   pub gives : (n r : ℕ) → n < words → r < length programs
       → given_at programs r n ≡ Near (slice_index_or packs n []) (doubts n r)
+
+-- Of program symbols that carry these packs there are readings, one or more, each of so many whole blocks and damaged
+-- in at most two symbols of each word, wherever these are.
+pub record AreDamagedReadings (lead_in blocks : ℕ) (packs readings : List (List ℕ)) : Type 0 where
+  pub some : 0 < length readings
+  pub sizes : All (λ bytes. length bytes ≡ (lead_in + blocks) * block_bytes) readings
+  pub symbols : List ℕ
+  pub carries : Carries blocks symbols packs
+  pub damage : All (λ bytes. IsDamaged symbols Raw (program_symbols Raw bytes lead_in)) readings

@@ -1,11 +1,18 @@
 // What follows from the definitions.
-ghost use Rattle.std.specs.Prelude.{◌≡◌, ◌<◌, List, ℕ, length};
+ghost use Rattle.std.specs.Prelude.{◌≡◌, ◌<◌, ◌/◌, ◌++◌, [], ◌∷◌, List, ℕ, drop, length, map};
+ghost use Rattle.bit_lists.specs.Counting.{parts};
 ghost use Rattle.std.specs.List.{concat};
 ghost use Rattle.std.specs.declared.option.Option.{Option};
+ghost use Rattle.rw_interleave.specs.Interleave.{whole_packs};
+ghost use Rattle.rw_merge.specs.Readings.{IsDamagedTwice};
 ghost use Rattle.rw_mend.specs.Choice.{IsMending, voice_of_reading};
-ghost use Rattle.rw_mend.specs.Laws.{AllGive, AreEnough, IsCleanBeside, given_text};
-ghost use Rattle.rw_mend.specs.Streams.{AreMended, mended_bytes, mended_text};
+ghost use Rattle.rw_mend.specs.Laws.{AllGive, AreDamagedReadings, AreEnough, IsCleanBeside, given_text};
+ghost use Rattle.rw_mend.specs.Many.{AreAllMendedInto};
+ghost use Rattle.rw_mend.specs.Streams.{AreMended, IsMendedInto, mended_bytes, mended_text};
+ghost use Rattle.rw_mend.specs.Words.{program_of};
 ghost use Rattle.rw_mend.specs.declared.choice.Mended.{Mended};
+ghost use Rattle.rw_mend.specs.declared.streams.MendCounts.{MendCounts};
+ghost use Rattle.rw_mend.specs.declared.tallies.Tallies.{Tallies};
 ghost use Rattle.rw_mend.specs.declared.voices.Voice.{Voice};
 ghost use Rattle.rw_mend.specs.declared.voices.Voice.TheVariants;
 
@@ -55,4 +62,26 @@ pub fn packs_come_back()
         → mended_text found ≡ concat packs }
     ensures damage { (words : ℕ) (programs packs : List (List ℕ)) → AllGive words programs packs
         → AreEnough words programs packs }
+{}
+
+/// A law: readings of which each is damaged in at most two symbols of each word, whichever these are, give back every
+/// pack of their stream, however many readings they are: these are what both calls write. Two readings that are damaged
+/// as a merge bears it are such readings.
+pub fn damaged_readings_give_back_the_packs()
+    ensures words { (lead_in blocks : ℕ) (packs readings : List (List ℕ)) (said : List (List Voice))
+        (found : List (Option Mended)) → AreDamagedReadings lead_in blocks packs readings
+        → AreMended (whole_packs blocks) (map (program_of lead_in) readings) said found
+        → mended_text found ≡ concat packs }
+    ensures two { (lead_in blocks : ℕ) (packs : List (List ℕ)) (first second old new : List ℕ)
+        (counts : MendCounts) → AreDamagedReadings lead_in blocks packs (first ∷ second ∷ [])
+        → IsMendedInto lead_in first second old new counts
+        → new ≡ concat packs ++ drop (length (concat packs)) old }
+    ensures many { (count lead_in blocks : ℕ) (packs : List (List ℕ))
+        (readings old new old_sources new_sources : List ℕ) (tallies : Tallies)
+        → AreDamagedReadings lead_in blocks packs (parts count (length readings / count) readings)
+        → AreAllMendedInto count lead_in readings old new old_sources new_sources tallies
+        → new ≡ concat packs ++ drop (length (concat packs)) old }
+    ensures merged { (lead_in blocks : ℕ) (packs : List (List ℕ)) (first second : List ℕ)
+        → IsDamagedTwice lead_in blocks packs first second
+        → AreDamagedReadings lead_in blocks packs (first ∷ second ∷ []) }
 {}

@@ -17,7 +17,7 @@ mod ways;
 pub use choice::{MOST_READINGS, Mended, WordSource, mend};
 pub use laws::{
     a_clean_codeword_is_mended, a_clean_reading_comes_out, a_codeword_that_counts_alone_is_mended,
-    one_codeword_is_mended, packs_come_back,
+    damaged_readings_give_back_the_packs, one_codeword_is_mended, packs_come_back,
 };
 pub use many::mend_readings;
 pub use streams::{MendCounts, mend_streams};

@@ -1,0 +1,281 @@
+-- Readings that are damaged in at most two symbols of each word give back every pack.
+use Rattle.std.proofs.Common.{◌≡◌, ◌≢◌, ◌⊎◌, ℕ, ◌+◌, ◌-◌, ◌*◌, ◌/◌, ◌<◌, ◌≤◌, true, List, [], ◌∷◌, ◌++◌, zero, suc, length, get_or, map, take, drop, replicate, refl, sym, ap, ◌∙◌, subst, inl, inr, arith, Some, None, length-take}
+use Rattle.std.specs.Prelude.{All}
+use Rattle.std.proofs.Math.Nat.{div-le_self}
+use Rattle.std.specs.List.{concat}
+use Rattle.std.specs.declared.option.Option.{Option}
+use Rattle.std.proofs.lemmas.Bool.{false≢true}
+use Rattle.std.proofs.lemmas.List.{ext_get_or, get_or-map, length-map}
+use Rattle.bit_lists.specs.Counting.{parts}
+use Rattle.raw_subcode.specs.Channels.{program_symbols, symbols_of}
+use Rattle.raw_subcode.specs.declared.form.Form.TheVariants.{Raw}
+use Rattle.rw_code.specs.Codeword.{IsCodeword, IsNear, Reads, differences}
+use Rattle.rw_interleave.specs.Interleave.{word_of, whole_packs}
+use Rattle.rw_interleave.specs.Stream.{IsDamaged}
+use Rattle.rw_interleave.proofs.Recovery.{differences-turned}
+use Rattle.rw_merge.specs.Readings.{IsDamagedTwice}
+use Rattle.rw_merge.proofs.Slots.{program_is}
+use Rattle.rw_mend.specs.Choice.{AreAgreed, IsMending, IsMendedBy, voice_of_reading}
+use Rattle.rw_mend.specs.Drops.{IsDropped}
+use Rattle.rw_mend.specs.Laws.{AreDamagedReadings}
+use Rattle.rw_mend.specs.Many.{AreAllMendedInto, words_in_each}
+use Rattle.rw_mend.specs.Streams.{AreMended, IsMendedInto, mended_bytes, mended_text}
+use Rattle.rw_mend.specs.Voices.{doubts_of, is_idle_pack, is_idle_voice, voice_of}
+use Rattle.rw_mend.specs.Words.{given_at, program_of, reading_at}
+use Rattle.rw_mend.specs.declared.streams.MendCounts.{MendCounts}
+use Rattle.rw_mend.specs.declared.tallies.Tallies.{Tallies}
+use Rattle.rw_mend.specs.declared.choice.Mended.{Mended}
+use Rattle.rw_mend.specs.declared.choice.WordSource.{WordSource}
+use Rattle.rw_mend.specs.declared.choice.WordSource.TheVariants.{Reading, Agreed}
+use Rattle.rw_mend.specs.declared.voices.Coverage.{Coverage}
+use Rattle.rw_mend.specs.declared.voices.Coverage.TheVariants.{Whole, Partly, Unread}
+use Rattle.rw_mend.specs.declared.voices.WordReading.{WordReading}
+use Rattle.rw_mend.specs.declared.voices.Voice.{Voice}
+use Rattle.rw_mend.specs.declared.voices.Voice.TheVariants.{Silent, Near}
+use Rattle.rw_mend.proofs.Alone.{mended_alone, one_near}
+use Rattle.rw_mend.proofs.Clean.{pack_of}
+use Rattle.rw_mend.proofs.Givens.{is_word, reading-word}
+use Rattle.rw_mend.proofs.Heaps.{part_at, parts_length}
+use Rattle.rw_mend.proofs.Hearing.{near_is, silent_is}
+use Rattle.rw_mend.proofs.Kept.{flat_joined, graphics_are, said_kept}
+use Rattle.rw_mend.proofs.Once.{best_counts}
+use Rattle.rw_mend.proofs.Unread.{idle_where_unread}
+
+-- A voice is this codeword; or it is silent, and the codeword is the idle pack.
+abbrev pub IsOrIdle : Voice → List ℕ → Type 0
+IsOrIdle voice codeword = ((doubts : ℕ) × (voice ≡ Near codeword doubts))
+    ⊎ ((voice ≡ Silent) × (codeword ≡ replicate 24 0))
+
+unread_or_not : (coverage : Coverage) → (coverage ≡ Unread) ⊎ (coverage ≢ Unread)
+unread_or_not Whole = inr (λ e. (cc))
+unread_or_not Partly = inr (λ e. (cc))
+unread_or_not Unread = inl refl
+
+-- what a reading of a word gives that is near a codeword
+pub near_given : (program : List ℕ) (n : ℕ) (codeword : List ℕ)
+    → Reads (word_of (symbols_of program) n) codeword → IsOrIdle (voice_of (reading_at program n)) codeword
+near_given program n codeword reads =
+    let reading : WordReading = reading_at program n in
+    let there : Reads reading.word codeword =
+    subst (λ w. Reads w codeword) (sym (reading-word program n)) reads in
+    elim (unread_or_not reading.coverage) [
+      | inl unread ↦
+          inr (sym (silent_is reading unread), idle_where_unread program n codeword there unread)
+      | inr read ↦
+          let doubts : ℕ = doubts_of reading.coverage reading.word codeword in
+          inl (doubts, sym (near_is reading codeword doubts read (is_word program n) there refl))
+    ]
+
+-- ---- The voices of a word.
+
+other_codeword : (voice : Voice) (codeword other : List ℕ) (more : ℕ) → IsOrIdle voice codeword
+    → voice ≡ Near other more → other ≡ codeword
+other_codeword voice codeword other more (inl (doubts, is)) near =
+    one_near other codeword more doubts (sym near ∙ is)
+other_codeword voice codeword other more (inr (silent, idle)) near = cc
+
+not_lost : (one other : Voice) (codeword another : List ℕ) → IsOrIdle one codeword
+    → ¬ AreAgreed one other another
+not_lost one other codeword another (inl (doubts, is)) agreed =
+    subst (λ v. AreAgreed v other another) is agreed
+not_lost one other codeword another (inr (silent, idle)) agreed =
+    subst (λ v. AreAgreed v other another) silent agreed
+
+mended_idle : (voices : List Voice) (codeword : List ℕ) (source : WordSource) (found : List ℕ)
+    → ((r : ℕ) → r < length voices → IsOrIdle (voice_of_reading voices r) codeword)
+    → IsMendedBy source voices found → found ≡ codeword
+mended_idle voices codeword (Reading k) found each by =
+    let near = best_counts voices k by.0 in
+    sym (pack_of (voice_of_reading voices k) near.0 found near.1 near.2 by.1)
+    ∙ other_codeword (voice_of_reading voices k) codeword near.0 near.1 (each k by.0.within) near.2
+mended_idle voices codeword Agreed found each by =
+    let pair = by.1.agreed in
+    absurd
+    (not_lost (voice_of_reading voices by.1.one) (voice_of_reading voices by.1.other) codeword found
+    (each by.1.one (omega (arith, pair.before, pair.within))) pair.agreed)
+
+mended_same : (voices : List Voice) (codeword : List ℕ) (found : Option Mended)
+    → 0 < length voices → IsOrIdle (voice_of_reading voices 0) codeword
+    → ((r : ℕ) → r < length voices → IsOrIdle (voice_of_reading voices r) codeword)
+    → IsMending voices found → mended_bytes found ≡ codeword
+mended_same voices codeword found some (inl (doubts, is)) each mended =
+    mended_alone voices codeword 0 doubts found some is
+    (λ s other more lt near. other_codeword (voice_of_reading voices s) codeword other more (each s lt) near)
+    mended
+mended_same voices codeword None some (inr (silent, idle)) each mended = sym idle
+mended_same voices codeword (Some mended) some (inr (silent, idle)) each by =
+    mended_idle voices codeword mended.source mended.pack each by
+
+-- ---- Whole streams.
+
+-- each reading of some programs gives the pack of each word, or nothing where that is idle
+abbrev pub EachGives : ℕ → List (List ℕ) → List (List ℕ) → Type 0
+EachGives words programs packs = (n r : ℕ) → n < words → r < length programs
+    → IsOrIdle (given_at programs r n) (get_or packs n [])
+
+idle_pack_of : (voice : Voice) (codeword : List ℕ) → IsOrIdle voice codeword → is_idle_voice voice ≡ true
+    → is_idle_pack codeword ≡ true
+idle_pack_of voice codeword (inl (doubts, is)) idle = ap is_idle_voice (sym is) ∙ idle
+idle_pack_of voice codeword (inr (silent, zeros)) idle =
+    absurd (false≢true (ap is_idle_voice (sym silent) ∙ idle))
+
+none_dropped : (words : ℕ) (programs packs : List (List ℕ)) (r n : ℕ) → EachGives words programs packs
+    → r < length programs
+    → ¬ IsDropped words programs r n
+none_dropped words programs packs r n each within dropped =
+    let m : ℕ = dropped.drops.word in
+    let lt : m < words = dropped.drops.within in
+    let misses = dropped.drops.misses in
+    let s : ℕ = misses.graphics.reading in
+    let busy = graphics_are (given_at programs s m) misses.graphics.graphics in
+    let same : busy.0 ≡ get_or packs m [] =
+    other_codeword (given_at programs s m) (get_or packs m []) busy.0 0
+    (each m s lt misses.graphics.within) busy.1 in
+    false≢true
+    (sym busy.2 ∙ ap is_idle_pack same
+    ∙ idle_pack_of (given_at programs r m) (get_or packs m []) (each m r lt within) misses.idle)
+
+each_text : (words : ℕ) (programs packs : List (List ℕ)) (said : List (List Voice))
+    (found : List (Option Mended)) → 0 < length programs → length packs ≡ words
+    → EachGives words programs packs → AreMended words programs said found → mended_text found ≡ concat packs
+each_text words programs packs said found some count each mended =
+    let same : map mended_bytes found ≡ packs =
+    ext_get_or [] (map mended_bytes found) packs
+    (length-map found mended_bytes ∙ mended.count ∙ sym count) (λ n lt.
+    let within : n < words = omega (arith, lt, length-map found mended_bytes, mended.count) in
+    let voices : List Voice = get_or said n [] in
+    let are = mended.voices n within in
+    let pack : List ℕ = get_or packs n [] in
+    let all : (r : ℕ) → r < length voices → IsOrIdle (voice_of_reading voices r) pack =
+    λ r inside.
+    let reading : r < length programs = omega (arith, inside, are.count) in
+    subst (λ v. IsOrIdle v pack)
+    (sym (said_kept words programs n r (voice_of_reading voices r) (are.each r reading)
+    (none_dropped words programs packs r n each reading)))
+    (each n r within reading) in
+    let first : 0 < length voices = omega (arith, some, are.count) in
+    get_or-map mended_bytes found n None [] (omega (arith, within, mended.count))
+    ∙ mended_same voices pack (get_or found n None) first (all 0 first) all (mended.each n within)) in
+    flat_joined mended_bytes found ∙ ap concat same
+
+-- ---- Damage.
+
+-- the symbols of the program of a reading
+pub program_text : (lead_in blocks : ℕ) (bytes : List ℕ) → length bytes ≡ (lead_in + blocks) * 96
+    → program_symbols Raw bytes lead_in ≡ symbols_of (program_of lead_in bytes)
+program_text lead_in blocks bytes size =
+    program_is lead_in (lead_in + blocks) bytes size ∙ ap (λ m. symbols_of (drop m bytes)) (omega arith)
+
+damaged_reads : (lead_in blocks n : ℕ) (packs : List (List ℕ)) (symbols bytes : List ℕ)
+    → length bytes ≡ (lead_in + blocks) * 96 → n < whole_packs blocks
+    → word_of symbols n ≡ get_or packs n [] → IsCodeword (get_or packs n [])
+    → length symbols ≡ 96 * blocks → IsDamaged symbols Raw (program_symbols Raw bytes lead_in)
+    → Reads (word_of (symbols_of (program_of lead_in bytes)) n) (get_or packs n [])
+damaged_reads lead_in blocks n packs symbols bytes size lt word codeword symbols_size damage =
+    let pack : List ℕ = get_or packs n [] in
+    let program : List ℕ = program_of lead_in bytes in
+    let wrong : List ℕ = word_of (symbols_of program) n in
+    let wrong_size : length wrong ≡ 24 =
+    ap length (sym (reading-word program n)) ∙ (is_word program n).size in
+    let many : length symbols / 96 ≡ blocks = omega (arith, symbols_size) in
+    let there : IsNear (word_of symbols n) wrong =
+    subst (λ s. IsNear (word_of symbols n) (word_of s n)) (program_text lead_in blocks bytes size)
+    (damage.words n (omega (arith, lt, many))) in
+    let few : differences pack wrong ≤ 2 = subst (λ w. IsNear w wrong) word there in
+    record {
+      is_codeword = codeword;
+      is_near =
+          omega (arith, few, differences-turned pack wrong (codeword.is_word.size ∙ sym wrong_size));
+    }
+
+all_give : (lead_in blocks : ℕ) (packs readings : List (List ℕ))
+    → AreDamagedReadings lead_in blocks packs readings
+    → EachGives (whole_packs blocks) (map (program_of lead_in) readings) packs
+all_give lead_in blocks packs readings is n r lt within =
+    let inside : r < length readings = omega (arith, within, length-map readings (program_of lead_in)) in
+    let bytes : List ℕ = get_or readings r [] in
+    let program : get_or (map (program_of lead_in) readings) r [] ≡ program_of lead_in bytes =
+    get_or-map (program_of lead_in) readings r [] [] inside in
+    let codeword : IsCodeword (get_or packs n []) =
+    is.carries.codewords n [] (omega (arith, lt, is.carries.count)) in
+    subst (λ p. IsOrIdle (voice_of (reading_at p n)) (get_or packs n [])) (sym program)
+    (near_given (program_of lead_in bytes) n (get_or packs n [])
+    (damaged_reads lead_in blocks n packs is.symbols bytes (is.sizes r [] inside) lt (is.carries.words n lt)
+    codeword is.carries.size (is.damage r [] inside)))
+
+pub damaged_text : (lead_in blocks : ℕ) (packs readings : List (List ℕ)) (said : List (List Voice))
+    (found : List (Option Mended)) → AreDamagedReadings lead_in blocks packs readings
+    → AreMended (whole_packs blocks) (map (program_of lead_in) readings) said found
+    → mended_text found ≡ concat packs
+damaged_text lead_in blocks packs readings said found is mended =
+    each_text (whole_packs blocks) (map (program_of lead_in) readings) packs said found
+    (omega (arith, is.some, length-map readings (program_of lead_in))) is.carries.count
+    (all_give lead_in blocks packs readings is) mended
+
+-- ---- What the calls write of them.
+
+written : (text packs new old : List ℕ) → text ≡ packs → new ≡ text ++ drop (length text) old
+    → new ≡ packs ++ drop (length packs) old
+written text packs new old same is = is ∙ ap (λ t. t ++ drop (length t) old) same
+
+pub damaged_two : (lead_in blocks : ℕ) (packs : List (List ℕ)) (first second old new : List ℕ)
+    (counts : MendCounts) → AreDamagedReadings lead_in blocks packs (first ∷ second ∷ [])
+    → IsMendedInto lead_in first second old new counts
+    → new ≡ concat packs ++ drop (length (concat packs)) old
+damaged_two lead_in blocks packs first second old new counts is done =
+    let readings : List (List ℕ) = first ∷ second ∷ [] in
+    let size : length first ≡ (lead_in + blocks) * 96 = is.sizes 0 [] (omega arith) in
+    let words : whole_packs (length first / 96 - lead_in) ≡ whole_packs blocks = omega (arith, size) in
+    written (mended_text done.found) (concat packs) new old
+    (damaged_text lead_in blocks packs readings done.said done.found is
+    (subst (λ w. AreMended w (map (program_of lead_in) readings) done.said done.found) words done.mended))
+    done.text
+
+-- each of some parts is as long as it is asked for
+part_length : (count : ℕ) (bytes : List ℕ) → 0 < count
+    → length (get_or (parts count (length bytes / count) bytes) 0 []) ≡ length bytes / count
+part_length count bytes some =
+    let size : ℕ = length bytes / count in
+    let none : size * 0 ≡ 0 = omega arith in
+    ap length (part_at count size bytes 0 some ∙ ap (λ n. take size (drop n bytes)) none)
+    ∙ length-take size bytes
+    ∙ omega (arith, div-le_self (length bytes) count)
+
+pub damaged_many : (count lead_in blocks : ℕ) (packs : List (List ℕ))
+    (readings old new old_sources new_sources : List ℕ) (tallies : Tallies)
+    → AreDamagedReadings lead_in blocks packs (parts count (length readings / count) readings)
+    → AreAllMendedInto count lead_in readings old new old_sources new_sources tallies
+    → new ≡ concat packs ++ drop (length (concat packs)) old
+damaged_many count lead_in blocks packs readings old new old_sources new_sources tallies is done =
+    let each : ℕ = length readings / count in
+    let all : List (List ℕ) = parts count each readings in
+    let some : 0 < count = omega (arith, is.some, parts_length count each readings) in
+    let size : each ≡ (lead_in + blocks) * 96 =
+    sym (part_length count readings some) ∙ is.sizes 0 [] is.some in
+    let words : words_in_each count lead_in readings ≡ whole_packs blocks =
+    ap (λ n. whole_packs (n / 96 - lead_in)) size ∙ omega arith in
+    written (mended_text done.found) (concat packs) new old
+    (damaged_text lead_in blocks packs all done.said done.found is
+    (subst (λ w. AreMended w (map (program_of lead_in) all) done.said done.found) words done.mended))
+    done.text
+
+two_hold : (P : List ℕ → Type 0) (first second : List ℕ) → P first → P second → All P (first ∷ second ∷ [])
+two_hold P first second one other zero d lt = one
+two_hold P first second one other (suc zero) d lt = other
+two_hold P first second one other (suc (suc k)) d lt = absurd (omega (arith, lt))
+
+-- two readings that are damaged for a merge
+pub damaged_pair : (lead_in blocks : ℕ) (packs : List (List ℕ)) (first second : List ℕ)
+    → IsDamagedTwice lead_in blocks packs first second
+    → AreDamagedReadings lead_in blocks packs (first ∷ second ∷ [])
+damaged_pair lead_in blocks packs first second is = record {
+  some = omega arith;
+  sizes =
+      two_hold (λ bytes. length bytes ≡ (lead_in + blocks) * 96) first second is.readings.first_size
+      is.readings.second_size;
+  symbols = is.symbols;
+  carries = is.carries;
+  damage =
+      two_hold (λ bytes. IsDamaged is.symbols Raw (program_symbols Raw bytes lead_in)) first second
+      is.first_damage is.second_damage;
+}
