@@ -447,6 +447,21 @@ int32_t ribjasper_mend_readings(const uint8_t *readings, size_t length, uint32_t
                                 uint8_t *packs, size_t room, uint8_t *sources, size_t words,
                                 ribjasper_mended_readings *told);
 
+/* Mends `count` readings, as the call above, into a stream of blocks, as long as each of them, at the front of the `room`
+   bytes at `blocks`, which may not overlap the readings; their lead-in is part of it. A symbol of a word that is mended is
+   that of its codeword. Each other symbol, those of the lead-in among them, is that of the first reading that was read at
+   its block, which is the first whose block is not empty (0, where all are). Channels P and Q of a block are those of the
+   first reading whose Q channel is a frame there; where there is none, of the first that was read there, or of the first.
+   So ribjasper_convert of the stream gives the codeword of each word that is mended, with no symbol wrong, and of each other
+   word what is found for the symbols that were first read. Of one reading it is that reading with its words corrected.
+   For each word the byte that names its source is written to the front of the `words` bytes at `sources`, and in told->bytes
+   the bytes of the stream. `sources` may be null where `words` is 0.
+   Answers as the call above; RIBJASPER_NO_ROOM where `room` is less than a reading or `words` less than its words. Then
+   nothing is written. It asks malloc for nothing, and writes nowhere else. */
+int32_t ribjasper_mend_stream(const uint8_t *readings, size_t length, uint32_t count, uint32_t lead_in,
+                              uint8_t *blocks, size_t room, uint8_t *sources, size_t words,
+                              ribjasper_mended_readings *told);
+
 /* A picture of a script in a plan. Times are blocks of the program, 75 a second, from the absolute time 00:00:00; packs
    are numbered from 0. */
 typedef struct ribjasper_plan_row {

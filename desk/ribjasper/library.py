@@ -220,6 +220,10 @@ CALLS = {
         [_BYTES, c_size_t, c_uint32, c_uint32, _BYTES, c_size_t, _BYTES, c_size_t, POINTER(MendedReadings)],
         c_int32,
     ),
+    "ribjasper_mend_stream": (
+        [_BYTES, c_size_t, c_uint32, c_uint32, _BYTES, c_size_t, _BYTES, c_size_t, POINTER(MendedReadings)],
+        c_int32,
+    ),
     "ribjasper_sheet": ([_BYTES, c_size_t, POINTER(SheetRow), c_size_t, POINTER(SheetTold)], c_int32),
     "ribjasper_sheet_text": ([_BYTES, c_size_t, c_uint32, c_uint32, _BYTES, c_size_t, POINTER(c_uint32)], c_int32),
     "ribjasper_tile_weight": ([c_uint8 * TILE], c_int32),

@@ -7,7 +7,6 @@ from typing import Callable, Iterator, NamedTuple, Sequence
 
 from . import library
 from .library import BLOCK, PACK, PACKS_A_BLOCK, MendedReadings
-from .mended_blocks import mended_blocks
 from .readings import Laid
 from .survey import Run, either, runs
 
@@ -19,6 +18,7 @@ SLOTS = 8
 # Words of graphics that no more than so many blocks part belong together; fewer of them may be chance.
 TOGETHER, LEAST = 75, 3
 _RW = bytes(byte & 63 for byte in range(256))
+_PQ = bytes(byte & 0xC0 for byte in range(256))
 _ANY = bytes([0] + [1] * 255)
 _NOT = bytes([1] + [0] * 255)
 _NONE = bytes(1 if value == library.NO_READING else 0 for value in range(256))
@@ -52,18 +52,43 @@ class Counts:
         return max(range(len(self.given)), key=lambda it: self.given[it])
 
 
+def whole_words(blocks: int) -> int:
+    """How many words of so many blocks are whole."""
+    return max(0, PACKS_A_BLOCK * blocks - SLOTS + 1)
+
+
 def mended(readings: Sequence[bytes]) -> Mended:
     """The packs of readings of equal length that have no lead-in."""
-    joined, blocks = b"".join(readings), len(readings[0]) // BLOCK
-    words = max(0, PACKS_A_BLOCK * blocks - SLOTS + 1) if blocks > 1 else 0
-    packs, sources = ctypes.create_string_buffer(max(1, PACK * words)), ctypes.create_string_buffer(max(1, words))
+    words = whole_words(len(readings[0]) // BLOCK)
+    packs, sources = call_of("ribjasper_mend_readings", readings, PACK * words)
+    return Mended(packs, sources)
+
+
+def stream_of(readings: Sequence[bytes]) -> bytes:
+    """The stream of readings of equal length that have no lead-in."""
+    return call_of("ribjasper_mend_stream", readings, len(readings[0]))[0]
+
+
+def call_of(name: str, readings: Sequence[bytes], room: int) -> tuple[bytes, bytes]:
+    """What a call of the library writes of readings, and of each word the reading that it is of."""
+    joined, words = b"".join(readings), whole_words(len(readings[0]) // BLOCK)
+    written, sources = ctypes.create_string_buffer(max(1, room)), ctypes.create_string_buffer(max(1, words))
     told = MendedReadings()
-    status = library.call("ribjasper_mend_readings")(
-        joined, len(joined), len(readings), 0, packs, PACK * words, sources, words, told
-    )
+    status = library.call(name)(joined, len(joined), len(readings), 0, written, room, sources, words, told)
     if status not in (library.DONE, library.DAMAGED):
-        raise ValueError(f"ribjasper_mend_readings answers {status}")
-    return Mended(ctypes.string_at(packs, told.bytes), ctypes.string_at(sources, words))
+        raise ValueError(f"{name} answers {status}")
+    return ctypes.string_at(written, told.bytes), ctypes.string_at(sources, words)
+
+
+def mended_blocks(counted: Sequence[bytes], readings: Sequence[bytes]) -> bytes:
+    """The blocks of readings as they count for the packs, which lack what was left out; P and Q are taken of the readings as
+    they are."""
+    blocks = stream_of(counted)
+    if list(counted) == list(readings):
+        return blocks
+    symbols, channels = blocks.translate(_RW), stream_of(readings).translate(_PQ)
+    joined = int.from_bytes(symbols, "little") | int.from_bytes(channels, "little")
+    return joined.to_bytes(len(blocks), "little")
 
 
 class Part(NamedTuple):
@@ -190,7 +215,7 @@ def mend(laid: Laid, wants_blocks: bool, write: Callable[[bytes], object]) -> Co
         add(counts, found, streams, part)
         if wants_blocks:
             own = [bytes(laid.window(reading, part.start, stop)) for reading in laid.readings]
-            blocks = mended_blocks(whole.packs, whole.sources, streams, own)
+            blocks = mended_blocks(streams, own)
             write(blocks[BLOCK * (part.first - part.start) : BLOCK * (part.end - part.start)])
         else:
             write(found.packs)

@@ -306,6 +306,190 @@ static void refusals_of_many(void)
     CHECK(told.bytes == 120 && told.blocks == 3 && memcmp(packs, preset, 24) == 0);
 }
 
+/* A stream of the room that is asked for, between bytes that have to stay. */
+enum { EDGE = 5 };
+static uint8_t streamed[BYTES + 2 * EDGE], named[WORDS + 2 * EDGE];
+
+static int32_t mend_stream(const uint8_t *all, uint32_t count, uint32_t lead_in, size_t words, ribjasper_mended_readings *told)
+{
+    memset(streamed, 7, sizeof streamed);
+    memset(named, 7, sizeof named);
+    memset(told, 7, sizeof *told);
+    return ribjasper_mend_stream(all, count * BYTES, count, lead_in, streamed + EDGE, BYTES, named + EDGE, words, told);
+}
+
+static int stays_outside(size_t words)
+{
+    return all_are(streamed, EDGE, 7) && all_are(streamed + EDGE + BYTES, EDGE, 7) && all_are(named, EDGE, 7)
+        && all_are(named + EDGE + words, sizeof named - EDGE - words, 7);
+}
+
+/* The symbol at a byte of what was written, and the channels P and Q. */
+static int symbol_at(size_t byte) { return streamed[EDGE + byte] & 0x3f; }
+static int channels_at(size_t byte) { return streamed[EDGE + byte] & 0xc0; }
+
+/* Whether a byte belongs to a whole word. */
+static int is_of_word(size_t byte)
+{
+    for (size_t n = 0; n < WORDS; n++)
+        for (size_t i = 0; i < 24; i++)
+            if (place(n, i) == byte)
+                return 1;
+    return 0;
+}
+
+static void streams(void)
+{
+    static uint8_t all[3 * BYTES];
+    uint8_t word[24], packs[ROOM], bare[BYTES];
+    ribjasper_mended_readings told;
+    ribjasper_converted converted;
+    size_t k;
+    /* One reading with two wrong symbols in a word is that reading corrected. */
+    make_stream(bare);
+    make_stream(all);
+    memcpy(word, preset, 24);
+    word[0] ^= 1;
+    word[23] ^= 63;
+    put_word(all, 1, word);
+    CHECK(mend_stream(all, 1, 0, WORDS, &told) == RIBJASPER_CONVERTED && stays_outside(WORDS));
+    CHECK(memcmp(streamed + EDGE, bare, BYTES) == 0 && all_are(named + EDGE, WORDS, 0));
+    CHECK(told.bytes == BYTES && told.blocks == BLOCKS && told.of_reading[0] == WORDS && told.none == 0);
+    /* The channels P and Q are those of the first reading whose frame is good: the third, though the first has symbols. */
+    make_stream(all);
+    make_stream(all + BYTES);
+    make_stream(all + 2 * BYTES);
+    for (k = 0; k < 96; k++) {
+        all[96 + k] ^= k % 3 == 0 ? 0x80 : 0x40;
+        all[BYTES + 96 + k] ^= k % 2 == 0 ? 0x40 : 0;
+        all[2 * BYTES + 96 + k] |= 0x80;
+    }
+    CHECK(mend_stream(all, 3, 0, WORDS, &told) == RIBJASPER_CONVERTED && stays_outside(WORDS));
+    for (k = 0; k < BYTES; k++)
+        CHECK(channels_at(k) == ((k / 96 == 1 ? all[2 * BYTES + k] : bare[k]) & 0xc0) && symbol_at(k) == (bare[k] & 0x3f));
+    /* Where no frame is good they are those of the first that was read: the second, whose symbols are not all 0. */
+    make_stream(all);
+    make_stream(all + BYTES);
+    memset(all + 96 * 3, 0, 96);
+    for (k = 0; k < 96; k++)
+        all[BYTES + 96 * 3 + k] = (uint8_t)(0x80 | (k == 71 ? 9 : 0));
+    CHECK(mend_stream(all, 2, 0, WORDS, &told) == RIBJASPER_CONVERTED && stays_outside(WORDS));
+    for (k = 96 * 3; k < BYTES; k++)
+        CHECK(channels_at(k) == 0x80);
+    /* Where nobody read a block it is that of the first, whose bits of P and Q may be noise. */
+    memset(all + BYTES + 96 * 3, 0, 96);
+    memset(all + 96 * 3, 0x80, 96);
+    CHECK(mend_stream(all, 2, 0, WORDS, &told) == RIBJASPER_CONVERTED);
+    for (k = 96 * 3; k < BYTES; k++)
+        CHECK(channels_at(k) == 0x80 && symbol_at(k) == 0);
+    /* Symbols of no whole word are those of the first reading that was read there: of the second in the first block. */
+    make_stream(all);
+    make_stream(all + BYTES);
+    for (k = 0; k < BYTES; k++)
+        if (!is_of_word(k)) {
+            all[k] |= 21;
+            all[BYTES + k] |= 42;
+        }
+    memset(all, 0, 96);
+    CHECK(mend_stream(all, 2, 0, WORDS, &told) == RIBJASPER_CONVERTED && stays_outside(WORDS));
+    for (k = 0; k < BYTES; k++)
+        CHECK(symbol_at(k) == (is_of_word(k) ? bare[k] & 0x3f : k < 96 ? 42 : 21));
+    /* A word that is lost in both, each in its own places: the symbols stay those of the first reading, and the stream gives
+       none for it, as the first reading does. All other words are as they were. */
+    make_stream(all);
+    make_stream(all + BYTES);
+    for (k = 0; k < 24; k++)
+        word[k] = (uint8_t)(k % 5 == 0 ? preset[k] ^ 1 : preset[k]);
+    put_word(all, 1, word);
+    put_word(bare, 1, word);
+    for (k = 0; k < 24; k++)
+        word[k] = (uint8_t)(k % 4 == 1 ? preset[k] ^ 3 : preset[k]);
+    put_word(all + BYTES, 1, word);
+    CHECK(mend_stream(all, 2, 0, WORDS, &told) == RIBJASPER_DAMAGED && stays_outside(WORDS));
+    CHECK(named[EDGE + 1] == RIBJASPER_NO_READING && told.none == 1 && memcmp(streamed + EDGE, bare, BYTES) == 0);
+    CHECK(ribjasper_convert(streamed + EDGE, BYTES, RIBJASPER_RAW, 0, packs, ROOM, &converted) == RIBJASPER_DAMAGED && converted.bad == 1);
+    /* A lead-in is written as it was first read; word 0 of the program is word 4 of the stream. */
+    make_stream(all);
+    make_stream(all + BYTES);
+    memcpy(word, preset, 24);
+    word[7] ^= 1;
+    put_word(all, 4, word);
+    put_word(all + BYTES, 4, preset);
+    memset(all, 0, 96);
+    memset(all + BYTES, 0x2a, 96);
+    CHECK(mend_stream(all, 2, 1, WORDS - 4, &told) == RIBJASPER_CONVERTED && stays_outside(WORDS - 4));
+    CHECK(told.bytes == BYTES && told.blocks == 3 && named[EDGE] == 1 && all_are(streamed + EDGE, 96, 0x2a));
+    CHECK(ribjasper_convert(streamed + EDGE, BYTES, RIBJASPER_RAW, 1, packs, ROOM, &converted) == RIBJASPER_CONVERTED);
+    CHECK(converted.bytes == ROOM - 96 && memcmp(packs, preset, 24) == 0 && memcmp(streamed + EDGE + 96, all + BYTES + 96, BYTES - 96) == 0);
+    /* A program of one block, or of none, has no words: the stream is what was first read. */
+    for (uint32_t lead_in = 3; lead_in < 6; lead_in++) {
+        memset(streamed, 7, sizeof streamed);
+        CHECK(ribjasper_mend_stream(all, 2 * BYTES, 2, lead_in, streamed + EDGE, BYTES, NULL, 0, &told) == RIBJASPER_CONVERTED);
+        CHECK(told.blocks == (lead_in == 3 ? 1 : 0) && told.bytes == BYTES && told.none == 0);
+        CHECK(all_are(streamed + EDGE, 96, 0x2a) && memcmp(streamed + EDGE + 96, all + 96, BYTES - 96) == 0);
+        CHECK(all_are(streamed, EDGE, 7) && all_are(streamed + EDGE + BYTES, EDGE, 7));
+    }
+}
+
+/* One reading after another is whole in its turn, in streams of each length up to some blocks and each lead-in. */
+static void streams_of_all_lengths(void)
+{
+    enum { LONG = 9 };
+    static uint8_t all[3 * 96 * LONG], right[96 * LONG], got[96 * LONG + 1], sources[4 * LONG + 1];
+    ribjasper_mended_readings told;
+    for (size_t blocks = 0; blocks <= LONG; blocks++)
+        for (uint32_t lead_in = 0; lead_in <= blocks + 1; lead_in++) {
+            size_t size = 96 * blocks, rest = blocks > lead_in ? blocks - lead_in : 0;
+            size_t words = rest > 1 ? 4 * rest - 7 : 0;
+            memset(right, 0, sizeof right);
+            for (size_t block = 0; block < blocks; block++)
+                memset(right + 96 * block + 80, 0x40, 16);
+            for (size_t n = 0; n < words; n++)
+                put_word(right + 96 * lead_in, n, preset);
+            for (size_t r = 0; r < 3; r++) {
+                memcpy(all + r * size, right, size);
+                for (size_t n = 0; n < words; n++)
+                    if (n % 3 != r)
+                        for (size_t i = 0; i < 24; i++)
+                            all[r * size + 96 * lead_in + place(n, i)] ^= (uint8_t)(1 + (n + i) % 60);
+            }
+            memset(got, 7, sizeof got);
+            memset(sources, 7, sizeof sources);
+            CHECK(ribjasper_mend_stream(all, 3 * size, 3, lead_in, got, size, sources, words, &told) == RIBJASPER_CONVERTED);
+            CHECK(memcmp(got, right, size) == 0 && got[size] == 7 && sources[words] == 7 && told.bytes == size);
+            for (size_t n = 0; n < words; n++)
+                CHECK(sources[n] == n % 3);
+        }
+}
+
+static void refusals_of_streams(void)
+{
+    uint8_t all[2 * BYTES], blocks[BYTES], kept[BYTES], sources[WORDS];
+    ribjasper_mended_readings told, before;
+    make_stream(all);
+    make_stream(all + BYTES);
+    memset(blocks, 7, sizeof blocks);
+    memcpy(kept, blocks, sizeof blocks);
+    memset(sources, 7, sizeof sources);
+    memset(&told, 7, sizeof told);
+    memcpy(&before, &told, sizeof told);
+    CHECK(ribjasper_mend_stream(all, 2 * BYTES, 2, 450001, blocks, BYTES, sources, WORDS, &told) == RIBJASPER_USAGE);
+    CHECK(ribjasper_mend_stream(all, 2 * BYTES, 0, 0, blocks, BYTES, sources, WORDS, &told) == RIBJASPER_USAGE);
+    CHECK(ribjasper_mend_stream(all, 2 * BYTES, 255, 0, blocks, BYTES, sources, WORDS, &told) == RIBJASPER_USAGE);
+    CHECK(ribjasper_mend_stream(all, 95, UINT32_MAX, 450001, blocks, 0, NULL, 0, &told) == RIBJASPER_USAGE);
+    for (size_t rest = 1; rest < 192; rest++)
+        CHECK(ribjasper_mend_stream(all, 192 + rest, 2, 0, blocks, BYTES, sources, WORDS, &told) == RIBJASPER_TORN);
+    CHECK(ribjasper_mend_stream(all, 96 * 7, 3, 0, blocks, 0, NULL, 0, &told) == RIBJASPER_TORN);
+    for (size_t room = 0; room < BYTES; room++)
+        CHECK(ribjasper_mend_stream(all, 2 * BYTES, 2, 0, blocks, room, sources, WORDS, &told) == RIBJASPER_NO_ROOM);
+    for (size_t words = 0; words < WORDS; words++)
+        CHECK(ribjasper_mend_stream(all, 2 * BYTES, 2, 0, blocks, BYTES, sources, words, &told) == RIBJASPER_NO_ROOM);
+    CHECK(ribjasper_mend_stream(all, 2 * BYTES, 2, 0, blocks, BYTES, NULL, 0, &told) == RIBJASPER_NO_ROOM);
+    CHECK(memcmp(blocks, kept, sizeof blocks) == 0 && all_are(sources, WORDS, 7) && memcmp(&told, &before, sizeof told) == 0);
+    CHECK(ribjasper_mend_stream(all, 0, 2, 0, blocks, 0, NULL, 0, &told) == RIBJASPER_CONVERTED);
+    CHECK(told.bytes == 0 && told.blocks == 0 && told.none == 0 && memcmp(blocks, kept, sizeof blocks) == 0);
+}
+
 int main(void)
 {
     CHECK(sizeof(ribjasper_mended) == 32);
@@ -315,6 +499,9 @@ int main(void)
     refusals();
     many_readings();
     refusals_of_many();
+    streams();
+    streams_of_all_lengths();
+    refusals_of_streams();
     if (!failed)
         printf("test_mend: each list of readings gives what its row says\n");
     return failed;

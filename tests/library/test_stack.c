@@ -92,6 +92,10 @@ static void mends(void)
 {
     answer = ribjasper_mend(stream, sizeof stream, stream, sizeof stream, 0, packs, sizeof packs, &mended);
 }
+static void mends_into_a_stream(void)
+{
+    answer = ribjasper_mend_stream(stream, sizeof stream, 4, 0, packs, sizeof packs, picture, sizeof picture, &mended_readings);
+}
 static void mends_readings(void)
 {
     answer = ribjasper_mend_readings(stream, sizeof stream, 4, 0, packs, sizeof packs, picture, sizeof picture,
@@ -149,7 +153,7 @@ int main(void)
                   { "draw", draws }, { "feed_all", feeds_all }, { "draw_all", draws_all }, { "counts", counts_all },
                   { "looking", looks }, { "pixels", writes_pixels }, { "save", saves }, { "load", loads },
                   { "copy", copies }, { "single", single }, { "convert", converts }, { "survey", surveys },
-                  { "mend", mends }, { "mend any", mends_readings }, { "texts", lists_texts }, { "plan", plans }, { "sheet", reads_sheet },
+                  { "mend", mends }, { "mend any", mends_readings }, { "mend to a stream", mends_into_a_stream }, { "texts", lists_texts }, { "plan", plans }, { "sheet", reads_sheet },
                   { "close", closes }, { "close", closes_other } };
     size_t n;
     uint32_t seed = 3;

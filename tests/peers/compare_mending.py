@@ -4,9 +4,9 @@ compare_mending.py [--cases N] [--seed N] [--library lib/libribjasper.so.0]
 
 Each case is a stream of a few blocks and two to four readings of it: whole, scratched, worn, with noise in channels R
 to W, with zeros there (all or a part), unread (all or a part), shifted, or another stream's. The packs, the sources and
-the counts of ribjasper_mend_readings, and the packs and counts of ribjasper_mend for the first two, have to be those of
-the rule, and the packs the same in the reverse order; and the words that are wrong are counted beside those of the best
-reading alone. No line is shared with the program: codewords are found in a table of all errors of one or two symbols by
+the counts of ribjasper_mend_readings, the stream, the sources and the counts of ribjasper_mend_stream, with a lead-in and
+without one, and the packs and counts of ribjasper_mend for the first two, have to be those of the rule, and the packs the
+same in the reverse order; and the words that are wrong are counted beside those of the best reading alone. No line is shared with the program: codewords are found in a table of all errors of one or two symbols by
 their sums (docs/FORMATS.md). Ends with 1 where something differs."""
 import argparse
 import binascii
@@ -225,6 +225,25 @@ def mend(readings: Sequence[bytes], errors: Errors) -> tuple[list[bytes], list[i
     return packs, sources, [sum(mark) for mark in marks]
 
 
+def joined_block(blocks: Sequence[bytes]) -> bytes:
+    """Channels P and Q of the first block whose frame is good, or else of the first that was read; R to W of this."""
+    read = next((block for block in blocks if not is_empty(block)), blocks[0])
+    framed = next((block for block in blocks if is_frame(block)), read)
+    return bytes(one & 0xC0 | other & 0x3F for one, other in zip(framed, read))
+
+
+def mended_stream(readings: Sequence[bytes], lead_in: int, errors: Errors) -> tuple[bytes, list[int]]:
+    """The stream of readings whose first blocks are passed over, and the source of each word."""
+    places = range(0, len(readings[0]), 96)
+    out = bytearray(b"".join(joined_block([own[at : at + 96] for own in readings]) for at in places))
+    packs, sources, _ = mend([own[96 * lead_in :] for own in readings], errors)
+    for n, (pack, source) in enumerate(zip(packs, sources)):
+        for place, symbol in zip(PLACES, pack if source != NONE else b""):
+            at = 96 * lead_in + 24 * n + place
+            out[at] = out[at] & 0xC0 | symbol
+    return bytes(out), sources
+
+
 # ---- Readings.
 
 
@@ -323,6 +342,16 @@ class Library:
         )
         return packs_of(packs.raw), list(sources.raw), told, status
 
+    def stream(self, readings: Sequence[bytes], lead_in: int) -> tuple[bytes, list[int], Told, int]:
+        joined, length = b"".join(readings), len(readings[0])
+        words = max(0, (length - 96 * lead_in) // 24 - 7)
+        blocks, sources, told = ctypes.create_string_buffer(length), ctypes.create_string_buffer(max(1, words)), Told()
+        size = ctypes.c_size_t
+        status = self.calls.ribjasper_mend_stream(
+            joined, size(len(joined)), len(readings), lead_in, blocks, size(length), sources, size(words), ctypes.byref(told)
+        )
+        return blocks.raw, list(sources.raw[:words]), told, status
+
     def pair(self, first: bytes, second: bytes) -> tuple[list[bytes], Pair, int]:
         words = len(first) // 24 - 7
         packs, told = ctypes.create_string_buffer(24 * words), Pair()
@@ -357,6 +386,19 @@ class Tally:
         )
 
 
+def stream_differs(library: Library, readings: Sequence[bytes], lead_in: int, errors: Errors) -> bool:
+    """Whether the stream that the library wrote, or what it told of it, is not what the rule says."""
+    length = len(readings[0])
+    blocks, sources, told, status = library.stream(readings, lead_in)
+    right, right_sources = mended_stream(readings, lead_in, errors)
+    return (
+        blocks != right
+        or sources != right_sources
+        or status != (NONE in right_sources)
+        or (told.bytes, told.blocks, told.none) != (length, length // 96 - lead_in, right_sources.count(NONE))
+    )
+
+
 def differs(
     library: Library,
     readings: Sequence[bytes],
@@ -386,6 +428,8 @@ def differs(
         or (pair.agreed, pair.none) != (two_sources.count(AGREED), two_sources.count(NONE))
         # The order of the readings changes no pack.
         or turned != list(got)
+        or stream_differs(library, readings, 0, errors)
+        or stream_differs(library, readings, len(readings[0]) // 96 - 2, errors)
     )
 
 

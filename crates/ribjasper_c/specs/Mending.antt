@@ -6,6 +6,7 @@ use Rattle.rw_interleave.specs.Interleave.{whole_packs}
 use Rattle.rw_mend.specs.Many
 use Rattle.rw_mend.specs.Many.{words_in_each}
 use Rattle.rw_mend.specs.Streams.{IsMendedInto}
+use Rattle.mended_stream.specs.Stream.{AreMendedIntoStream}
 use Rattle.ribjasper_c.specs.declared.mending.MendedReadings.{MendedReadings}
 use Rattle.ribjasper_c.specs.declared.mending.MendedStream.{MendedStream}
 
@@ -44,4 +45,24 @@ pub record AreReadingsMended (count lead_in : ℕ) (readings old new old_sources
     (told : MendedReadings) : Type 0 where
   pub mended : Many.AreAllMendedInto count lead_in readings old new old_sources new_sources told.words
   pub bytes : told.bytes ≡ symbols_a_slot * words_in_each count lead_in readings
+  pub blocks : told.blocks ≡ length readings / count / block_bytes - lead_in
+
+-- Why so many readings of these sizes together are not mended into a stream: 2 and 3 as above, else 6 where the room is
+-- smaller than a reading, or that for sources smaller than the words.
+abbrev pub stream_refusal : ℕ → ℕ → ℕ → ℕ → ℕ → Option ℕ
+stream_refusal length_of_all count lead_in room sources =
+    if nat_lt most_lead_in lead_in || (count == 0) || nat_lt 254 count then Some 2
+    else (if not (length_of_all % count == 0) || not (length_of_all / count % block_bytes == 0)
+    || nat_lt (block_bytes * most_units) (length_of_all / count) then Some 3
+    else (if nat_lt room (length_of_all / count)
+    || nat_lt sources (whole_packs (length_of_all / count / block_bytes - lead_in))
+    then Some 6
+    else None))
+
+-- The stream of all readings stands at the front of the room, the sources of its words at the front of theirs, and what is
+-- told of them is true.
+pub record IsStreamMended (count lead_in : ℕ) (readings old new old_sources new_sources : List ℕ)
+    (told : MendedReadings) : Type 0 where
+  pub mended : AreMendedIntoStream count lead_in readings old new old_sources new_sources told.words
+  pub bytes : told.bytes ≡ length readings / count
   pub blocks : told.blocks ≡ length readings / count / block_bytes - lead_in

@@ -1,10 +1,11 @@
 // The packs of readings of one stream in memory, each mended by the others.
 ghost use Rattle.std.specs.Prelude.{◌≡◌, ◌==◌, ◌≤◌, if◌then◌else◌, IfSome, None, length, pos};
 ghost use Rattle.disc_time.specs.Counts.{most_lead_in};
-ghost use Rattle.ribjasper_c.specs.Mending.{refusal_of, readings_refusal, AreMendedInto, AreReadingsMended};
+ghost use Rattle.ribjasper_c.specs.Mending.{refusal_of, readings_refusal, stream_refusal, AreMendedInto, AreReadingsMended, IsStreamMended};
 
 use crate::answers::{DAMAGED, DONE, REFUSED, USAGE, WRITE_FAULT};
 use disc_time::MOST_LEAD_IN;
+use mended_stream::mend_stream;
 use raw_subcode::{BLOCK_BYTES, MOST_UNITS, SLOTS_A_BLOCK};
 use rw_code::SYMBOLS;
 use rw_interleave::PACKS_KEPT_BACK;
@@ -111,6 +112,50 @@ pub extern "C" fn ribjasper_mend_readings(
     *told = MendedReadings {
         bytes: (SYMBOLS * words) as u64,
         blocks: blocks as u32,
+        words: tallies,
+    };
+    if tallies.none == 0 { DONE } else { DAMAGED }
+}
+
+/// Mends readings of a stream of raw blocks, which lie one behind another, into a stream of blocks at the front of a
+/// buffer, names the source of each word, and answers by an exit number of the program.
+#[unsafe(no_mangle)]
+pub extern "C" fn ribjasper_mend_stream(
+    readings: &[u8],
+    count: u32,
+    lead_in: u32,
+    blocks: &mut [u8],
+    sources: &mut [u8],
+    told: &mut MendedReadings,
+) -> i32
+    ensures mended { stream_refusal (length readings.now) count lead_in (length blocks.old)
+        (length sources.old) ≡ None
+        → IsStreamMended count lead_in readings.now blocks.old blocks.new sources.old sources.new told.new
+        × (result ≡ (if told.new.words.none == 0 then pos 0 else pos 1)) }
+    ensures refused { IfSome (stream_refusal (length readings.now) count lead_in (length blocks.old)
+        (length sources.old))
+        (λ number. (result ≡ pos number) × (blocks.new ≡ blocks.old) × (sources.new ≡ sources.old)
+        × (told.new ≡ told.old)) }
+{
+    if lead_in > MOST_LEAD_IN || count == 0 || count > MOST_READINGS as u32 {
+        return USAGE;
+    }
+    let size = readings.len() / count as usize;
+    if readings.len() % count as usize != 0
+        || size % BLOCK_BYTES != 0
+        || size > BLOCK_BYTES * MOST_UNITS as usize
+    {
+        return REFUSED;
+    }
+    let program = (size / BLOCK_BYTES).saturating_sub(lead_in as usize);
+    let words = (SLOTS_A_BLOCK * program).saturating_sub(PACKS_KEPT_BACK);
+    if blocks.len() < size || sources.len() < words {
+        return WRITE_FAULT;
+    }
+    let tallies = mend_stream(readings, count as usize, lead_in, blocks, sources);
+    *told = MendedReadings {
+        bytes: size as u64,
+        blocks: program as u32,
         words: tallies,
     };
     if tallies.none == 0 { DONE } else { DAMAGED }

@@ -1,0 +1,217 @@
+-- A stream that was written over the text of its words is the mended one.
+use Rattle.std.proofs.Common.{◌≡◌, ◌≢◌, ℕ, ◌+◌, ◌-◌, ◌*◌, ◌/◌, ◌%◌, ◌<◌, ◌≤◌, List, [], ◌++◌, length, get_or, map, take, drop, Some, None, refl, sym, ap, ◌∙◌, subst, arith, append-nil, append_assoc, length-append, length-drop}
+use Rattle.std.specs.Prelude.{slice_range}
+use Rattle.std.proofs.Math.Nat.{mul-le-mul_right}
+use Rattle.rw_interleave.specs.Interleave.{whole_packs}
+use Rattle.std.specs.declared.option.Option.{Option}
+use Rattle.std.proofs.lemmas.List.{drop_at, drop-drop, get_or-map, get_or-take, get_or_append_left, length-map, length-take-le, take-append-drop, drop_all}
+use Rattle.std.proofs.lemmas.List.Elements.{All-get_or}
+use Rattle.bit_lists.specs.Counting.{parts}
+use Rattle.rw_mend.specs.Many.{AreAllMendedInto, programs_of, words_in_each}
+use Rattle.rw_mend.specs.Streams.{AreMended, mended_bytes, mended_text}
+use Rattle.rw_mend.specs.Tallies.{source_byte}
+use Rattle.rw_mend.specs.Words.{program_of}
+use Rattle.rw_mend.specs.declared.choice.Mended.{Mended}
+use Rattle.rw_mend.specs.declared.tallies.Tallies.{Tallies}
+use Rattle.rw_mend.specs.declared.voices.Voice.{Voice}
+use Rattle.mended_stream.specs.Chosen.{framed_byte, read_byte}
+use Rattle.mended_stream.specs.Stream.{AreMendedIntoStream, IsMendedByte}
+use Rattle.mended_stream.specs.Symbols.{AreBytes, IsByte, IsMendedAt, stream_place}
+use Rattle.mended_stream.specs.declared.words.Words.{Words}
+use Rattle.mended_stream.proofs.Choosing.{part_at, parts_length}
+use Rattle.mended_stream.proofs.Codewords.{own_codeword, own_long, own_source, text_at}
+
+-- a word is mended where its source is told
+some_found : (found : Option Mended) → source_byte found ≢ 255 → (own : Mended) × (found ≡ Some own)
+some_found None other = absurd (other refl)
+some_found (Some own) other = (own, refl)
+
+-- a byte by the sources and the text of words is a byte by what is found for them
+mended_byte : (lead_in : ℕ) (readings programs : List (List ℕ)) (said : List (List Voice))
+    (found : List (Option Mended)) (words : Words) (text : List ℕ) (p byte : ℕ)
+    → AreMended (length found) programs said found → length programs ≤ 254
+    → words.count ≡ length found → words.lead_in ≡ lead_in
+    → ((n : ℕ) → n < length found → get_or words.sources.now n 0 ≡ source_byte (get_or found n None))
+    → ((j : ℕ) → j < length (mended_text found) → get_or text j 0 ≡ get_or (mended_text found) j 0)
+    → length (mended_text found) ≡ 24 * length found
+    → IsByte words text p (framed_byte readings p) (read_byte readings p) byte
+    → IsMendedByte lead_in readings found p byte
+mended_byte lead_in readings programs said found words text p byte are few count begin sources same long is =
+    record {
+      channels = is.channels;
+      mended =
+          λ n i own at.
+          let within : n < length found = at.word in
+          let codeword = own_codeword (length found) programs said found n own are within at.is in
+          let told : get_or words.sources.now n 0 ≢ 255 =
+          λ (none : get_or words.sources.now n 0 ≡ 255).
+          own_source (length found) programs said found n own are within few at.is
+          (sym (sources n within) ∙ none) in
+          let place : IsMendedAt words p n i =
+          record {
+            word = omega (arith, within, count);
+            symbol = at.symbol;
+            found = told;
+            place = ap (λ l. stream_place l n i) begin ∙ at.place;
+          } in
+          let small : get_or own.pack i 0 < 64 =
+          All-get_or (λ symbol. symbol < 64) own.pack i 0
+          (omega (arith, codeword.is_word.size, at.symbol)) codeword.is_word.symbols in
+          let symbol : get_or text (24 * n + i) 0 ≡ get_or own.pack i 0 =
+          same (24 * n + i) (omega (arith, long, within, at.symbol))
+          ∙ text_at found n i (λ k lt. own_long (length found) programs said found k are lt) within at.symbol
+          ∙ ap (λ f. get_or (mended_bytes f) i 0) at.is in
+          is.symbol.mended n i place ∙ ap (λ x. x % 64) symbol ∙ omega (arith, small);
+      others =
+          λ none.
+          is.symbol.others (λ n i at.
+          let within : n < length found = omega (arith, at.word, count) in
+          let own = some_found (get_or found n None) (λ lost. at.found (sources n within ∙ lost)) in
+          none n i own.0 (record {
+            word = within;
+            symbol = at.symbol;
+            is = own.1;
+            place = ap (λ l. stream_place l n i) (sym begin) ∙ at.place;
+          }));
+    }
+
+-- ---- The buffer.
+
+-- text that is put at the end of the stream's place is behind what stays before it
+text_put : (old packs now : List ℕ) (start size : ℕ) → now ≡ take start old ++ packs ++ drop size old
+    → start ≤ length old → drop start now ≡ packs ++ drop size old
+text_put old packs now start size is fits =
+    let front : length (take start old) ≡ start = length-take-le start old fits in
+    ap (drop start) (is ∙ append_assoc (take start old) packs (drop size old))
+    ∙ drop_at (take start old) (packs ++ drop size old) start front
+
+behind_text : (old packs now : List ℕ) (start size : ℕ) → now ≡ take start old ++ packs ++ drop size old
+    → start ≤ length old → start + length packs ≡ size → drop size now ≡ drop size old
+behind_text old packs now start size is fits long =
+    let front : length (take start old) ≡ start = length-take-le start old fits in
+    ap (drop size) is
+    ∙ drop_at (take start old ++ packs) (drop size old) size
+    (length-append (take start old) packs ∙ omega (arith, front, long))
+
+-- what is put in place of so many bytes
+whole_text : (found : List (Option Mended)) (old new : List ℕ)
+    → new ≡ mended_text found ++ drop (length (mended_text found)) old
+    → length old ≡ length (mended_text found) → new ≡ mended_text found
+whole_text found old new is same =
+    is
+    ∙ ap (λ l. mended_text found ++ l) (drop_all (length (mended_text found)) old (omega (arith, same)))
+    ∙ append-nil (mended_text found)
+
+source_at : (found : List (Option Mended)) (old new : List ℕ) (n : ℕ)
+    → new ≡ map source_byte found ++ old → n < length found
+    → get_or new n 0 ≡ source_byte (get_or found n None)
+source_at found old new n is within =
+    ap (λ l. get_or l n 0) is
+    ∙ get_or_append_left (map source_byte found) old 0 n (omega (arith, within, length-map found source_byte))
+    ∙ get_or-map source_byte found n None 0 within
+
+first_long : (count size : ℕ) (readings : List ℕ) → 0 < count → length readings ≡ count * size
+    → length (get_or (parts count size readings) 0 []) ≡ size
+first_long count size readings some long =
+    let none : size * 0 ≡ 0 = omega arith in
+    ap (λ (l : List ℕ). length l) (part_at count size readings 0 some ∙ ap (λ n. take size (drop n readings)) none)
+    ∙ length-take-le size readings (omega (arith, long, mul-le-mul_right size some))
+
+-- what is put in the middle of a buffer
+in_middle : (old packs : List ℕ) (start size : ℕ) → start ≤ size
+    → take start old ++ (packs ++ drop (size - start) (drop start old))
+    ≡ take start old ++ packs ++ drop size old
+in_middle old packs start size fits =
+    ap (λ l. take start old ++ (packs ++ l))
+    (drop-drop (size - start) start old ∙ ap (λ n. drop n old) (omega (arith, fits)))
+    ∙ sym (append_assoc (take start old) packs (drop size old))
+
+pub stream_done : (count lead_in start : ℕ) (readings old new packs sources new_sources : List ℕ)
+    (words : Words) (tallies : Tallies)
+    → AreBytes words
+    (drop (length readings / count - 24 * words.count)
+    (take start old ++ (packs ++ drop (length readings / count - start) (drop start old))))
+    (parts count (length readings / count) readings) (length readings / count) new
+    → 0 < count → count ≤ 254 → length readings ≡ count * (length readings / count)
+    → words.count ≡ words_in_each count lead_in readings → words.lead_in ≡ lead_in
+    → words.sources.now ≡ new_sources → words_in_each count lead_in readings ≤ length sources
+    → start ≡ length readings / count - 24 * words.count → 24 * words.count ≤ length readings / count
+    → length readings / count ≤ length old
+    → AreAllMendedInto count lead_in readings (slice_range old start (length readings / count)) packs sources
+    new_sources tallies
+    → length new ≡ length (take start old ++ (packs ++ drop (length readings / count - start) (drop start old)))
+    → drop (length readings / count) new
+    ≡ drop (length readings / count)
+    (take start old ++ (packs ++ drop (length readings / count - start) (drop start old)))
+    → AreMendedIntoStream count lead_in readings old new sources new_sources tallies
+stream_done count lead_in start readings old new packs sources new_sources words tallies bytes some few equal
+    number begin own enough at fits room are same_size behind =
+    let mended : List ℕ =
+    take start old ++ (packs ++ drop (length readings / count - start) (drop start old)) in
+    let is : mended ≡ take start old ++ packs ++ drop (length readings / count) old =
+    in_middle old packs start (length readings / count) (omega (arith, at)) in
+    let size : ℕ = length readings / count in
+    let all : List (List ℕ) = parts count size readings in
+    let found : List (Option Mended) = are.found in
+    let count_is : length found ≡ words_in_each count lead_in readings = are.mended.count in
+    let each : words.count ≡ length found = number ∙ sym count_is in
+    let long : length (mended_text found) ≡ 24 * length found = are.size ∙ omega (arith, count_is) in
+    let before : start ≤ length old = omega (arith, at, room) in
+    let part : length (slice_range old start size) ≡ length (mended_text found) =
+    length-take-le (size - start) (drop start old) (omega (arith, length-drop start old, room))
+    ∙ omega (arith, at, fits, long, each) in
+    let text : packs ≡ mended_text found =
+    whole_text found (slice_range old start size) packs are.text part in
+    let packs_long : length packs ≡ 24 * length found = ap (λ (l : List ℕ). length l) text ∙ long in
+    let sum : start + length packs ≡ size = omega (arith, at, fits, packs_long, each) in
+    let text_there : drop (size - 24 * words.count) mended ≡ mended_text found ++ drop size old =
+    ap (λ n. drop n mended) (sym at)
+    ∙ text_put old packs mended start size is before
+    ∙ ap (λ l. l ++ drop size old) text in
+    let mended_size : length mended ≡ length old =
+    ap (λ (l : List ℕ). length l) is
+    ∙ length-append (take start old ++ packs) (drop size old)
+    ∙ omega (
+      arith,
+      length-append (take start old) packs,
+      length-take-le start old before,
+      sum,
+      length-drop size old,
+      room,
+    ) in
+    let stream : List ℕ = take size new in
+    let stream_size : length stream ≡ size =
+    length-take-le size new (omega (arith, same_size, mended_size, room)) in
+    let told : new_sources ≡ map source_byte found ++ drop (length found) sources =
+    are.sources enough ∙ ap (λ n. map source_byte found ++ drop n sources) (sym count_is) in
+    let programs : List (List ℕ) = programs_of count lead_in readings in
+    let programs_few : length programs ≤ 254 =
+    omega (arith, length-map all (program_of lead_in), parts_length count size readings, few) in
+    record {
+      said = are.said;
+      found = found;
+      mended = are.mended;
+      tallies_are = are.tallies_are;
+      dropped = are.dropped;
+      stream = stream;
+      is = record {
+        size = stream_size ∙ sym (first_long count size readings some equal);
+        words = count_is ∙ ap (λ n. whole_packs (n / 96 - lead_in)) (sym stream_size);
+        bytes =
+            λ p lt.
+            let within : p < size = omega (arith, lt, stream_size) in
+            subst (IsMendedByte lead_in all found p) (sym (get_or-take size new p 0 within))
+            (mended_byte lead_in all programs are.said found words
+            (drop (size - 24 * words.count) mended) p (get_or new p 0)
+            (subst (λ n. AreMended n programs are.said found) (sym count_is) are.mended) programs_few each begin
+            (λ n small. ap (λ l. get_or l n 0) own
+            ∙ source_at found (drop (length found) sources) new_sources n told small)
+            (λ j small. ap (λ l. get_or l j 0) text_there
+            ∙ get_or_append_left (mended_text found) (drop size old) 0 j small) long (bytes p within));
+      };
+      blocks =
+          sym (take-append-drop size new)
+          ∙ ap (λ l. stream ++ l) (behind ∙ behind_text old packs mended start size is before sum)
+          ∙ ap (λ n. stream ++ drop n old) (sym stream_size);
+      sources = told;
+    }

@@ -1,0 +1,46 @@
+// The blocks of a stream, written over the text of its words.
+ghost use Rattle.std.specs.Prelude.{◌≡◌, ◌<◌, ◌≤◌, ◌+◌, ◌-◌, ◌*◌, ◌/◌, ◌%◌, ◌++◌, length, take, drop};
+ghost use Rattle.raw_subcode.specs.Sizes.{block_bytes, most_units, symbols_a_slot};
+ghost use Rattle.mended_stream.specs.Readings.{AreHeld, all_of};
+ghost use Rattle.mended_stream.specs.Symbols.{AreBytes, HaveSources};
+
+use crate::readings::Readings;
+use crate::words::Words;
+use raw_subcode::{BLOCK_BYTES, SYMBOLS_A_SLOT};
+
+/// Writes the blocks of a stream to the front of a buffer, which has the text of the words at the end of the stream's
+/// place. The text of a word stands seven slots behind the word's own, so no block is written over text that it or a
+/// later one needs.
+pub(crate) fn write_blocks(readings: &Readings, words: &Words, blocks: &mut [u8])
+    requires held { AreHeld readings.now }
+    requires sources { HaveSources words.now }
+    requires whole { readings.now.size % block_bytes ≡ 0 }
+    requires few { readings.now.size ≤ block_bytes * most_units }
+    requires lead_in { words.now.lead_in ≤ most_units }
+    requires room { readings.now.size ≤ length blocks.old }
+    requires short { symbols_a_slot * words.now.count ≤ readings.now.size }
+    requires late { 0 < words.now.count
+        → symbols_a_slot * words.now.count + block_bytes * words.now.lead_in + symbols_a_slot * 7
+        ≤ readings.now.size }
+    ensures size { length blocks.new ≡ length blocks.old }
+    ensures behind { drop readings.now.size blocks.new ≡ drop readings.now.size blocks.old }
+    ensures bytes { AreBytes words.now
+        (drop (readings.now.size - symbols_a_slot * words.now.count) blocks.old) (all_of readings.now)
+        readings.now.size blocks.new }
+{
+    let start = readings.size - SYMBOLS_A_SLOT * words.count;
+    for b in 0..readings.size / BLOCK_BYTES {
+        let block = words.block(&blocks[start..], b, readings.framed(b), readings.read(b));
+        put(blocks, b, &block);
+    }
+}
+
+// Puts block b.
+fn put(blocks: &mut [u8], b: usize, block: &[u8; BLOCK_BYTES])
+    requires { block_bytes * b + block_bytes ≤ length blocks.old }
+    ensures blocks { blocks.new ≡ take (block_bytes * b) blocks.old ++ block.now
+        ++ drop (block_bytes * b + block_bytes) blocks.old }
+    ensures size { length blocks.new ≡ length blocks.old }
+{
+    blocks[BLOCK_BYTES * b..BLOCK_BYTES * b + BLOCK_BYTES].copy_from_slice(block);
+}

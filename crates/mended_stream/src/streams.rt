@@ -1,0 +1,54 @@
+// A stream of blocks from readings in memory.
+ghost use Rattle.std.specs.Prelude.{◌≡◌, ◌≤◌, ◌<◌, ◌*◌, ◌/◌, ◌%◌, length};
+ghost use Rattle.raw_subcode.specs.Sizes.{block_bytes, most_units};
+ghost use Rattle.rw_mend.specs.Many.{words_in_each};
+ghost use Rattle.mended_stream.specs.Stream.{AreMendedIntoStream};
+
+use crate::blocks::write_blocks;
+use crate::readings::Readings;
+use crate::words::Words;
+use raw_subcode::{BLOCK_BYTES, SLOTS_A_BLOCK};
+use rw_code::SYMBOLS;
+use rw_interleave::PACKS_KEPT_BACK;
+use rw_mend::{Tallies, mend_readings};
+
+/// Mends readings of a raw stream, 1 to 254 of equal length that lie one behind another, into a stream as long as each.
+/// A symbol of a word that is mended is that of its codeword, and another one that of the first reading that was read at
+/// its block. Channels P and Q of a block are those of the first reading whose Q channel is a frame there, or else of the
+/// first that was read there. A byte for each word names its source.
+pub fn mend_stream(
+    readings: &[u8],
+    count: usize,
+    lead_in: u32,
+    blocks: &mut [u8],
+    sources: &mut [u8],
+) -> Tallies
+    requires some { 0 < count }
+    requires few { count ≤ 254 }
+    requires equal { length readings.now ≡ count * (length readings.now / count) }
+    requires whole { (length readings.now / count) % block_bytes ≡ 0 }
+    requires short { length readings.now / count ≤ block_bytes * most_units }
+    requires lead_in { lead_in ≤ most_units }
+    requires room { length readings.now / count ≤ length blocks.old }
+    requires sources { words_in_each count lead_in readings.now ≤ length sources.old }
+    ensures { AreMendedIntoStream count lead_in readings.now blocks.old blocks.new sources.old sources.new
+        result }
+{
+    let size = readings.len() / count;
+    let program = (size / BLOCK_BYTES).saturating_sub(lead_in as usize);
+    let words = (SLOTS_A_BLOCK * program).saturating_sub(PACKS_KEPT_BACK);
+    let text = size - SYMBOLS * words;
+    let tallies = mend_readings(readings, count, lead_in, &mut blocks[text..size], sources);
+    let all = Readings {
+        bytes: readings,
+        count,
+        size,
+    };
+    let words = Words {
+        sources,
+        count: words,
+        lead_in: lead_in as usize,
+    };
+    write_blocks(&all, &words, blocks);
+    tallies
+}
