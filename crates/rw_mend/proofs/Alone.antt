@@ -130,7 +130,7 @@ mended_alone voices codeword r doubts (Some mended) within is only by =
 pub one_near : (pack other : List ℕ) (d e : ℕ) → Near pack d ≡ Near other e → pack ≡ other
 one_near pack other d e same = cc
 
-counted : (words : ℕ) (programs : List (List ℕ)) (n s : ℕ) (voice : Voice) (pack : List ℕ) (doubts : ℕ)
+pub counted : (words : ℕ) (programs : List (List ℕ)) (n s : ℕ) (voice : Voice) (pack : List ℕ) (doubts : ℕ)
     → IsSaid words programs n s voice → voice ≡ Near pack doubts
     → (¬ IsDropped words programs s n) × (given_at programs s n ≡ Near pack doubts)
 counted words programs n s voice pack doubts (inl (dropped, silent)) is = cc

@@ -1,7 +1,6 @@
 -- Readings that are damaged in at most two symbols of each word give back every pack.
-use Rattle.std.proofs.Common.{◌≡◌, ◌≢◌, ◌⊎◌, ℕ, ◌+◌, ◌-◌, ◌*◌, ◌/◌, ◌<◌, ◌≤◌, true, List, [], ◌∷◌, ◌++◌, zero, suc, length, get_or, map, take, drop, replicate, refl, sym, ap, ◌∙◌, subst, inl, inr, arith, Some, None, length-take}
+use Rattle.std.proofs.Common.{◌≡◌, ◌≢◌, ◌⊎◌, ℕ, ◌+◌, ◌-◌, ◌*◌, ◌/◌, ◌<◌, ◌≤◌, true, List, [], ◌∷◌, ◌++◌, zero, suc, length, get_or, map, drop, replicate, refl, sym, ap, ◌∙◌, subst, inl, inr, arith, Some, None}
 use Rattle.std.specs.Prelude.{All}
-use Rattle.std.proofs.Math.Nat.{div-le_self}
 use Rattle.std.specs.List.{concat}
 use Rattle.std.specs.declared.option.Option.{Option}
 use Rattle.std.proofs.lemmas.Bool.{false≢true}
@@ -35,7 +34,7 @@ use Rattle.rw_mend.specs.declared.voices.Voice.TheVariants.{Silent, Near}
 use Rattle.rw_mend.proofs.Alone.{mended_alone, one_near}
 use Rattle.rw_mend.proofs.Clean.{pack_of}
 use Rattle.rw_mend.proofs.Givens.{is_word, reading-word}
-use Rattle.rw_mend.proofs.Heaps.{part_at, parts_length}
+use Rattle.rw_mend.proofs.Heaps.{part_whole, parts_length}
 use Rattle.rw_mend.proofs.Hearing.{near_is, silent_is}
 use Rattle.rw_mend.proofs.Kept.{flat_joined, graphics_are, said_kept}
 use Rattle.rw_mend.proofs.Once.{best_counts}
@@ -46,7 +45,7 @@ abbrev pub IsOrIdle : Voice → List ℕ → Type 0
 IsOrIdle voice codeword = ((doubts : ℕ) × (voice ≡ Near codeword doubts))
     ⊎ ((voice ≡ Silent) × (codeword ≡ replicate 24 0))
 
-unread_or_not : (coverage : Coverage) → (coverage ≡ Unread) ⊎ (coverage ≢ Unread)
+pub unread_or_not : (coverage : Coverage) → (coverage ≡ Unread) ⊎ (coverage ≢ Unread)
 unread_or_not Whole = inr (λ e. (cc))
 unread_or_not Partly = inr (λ e. (cc))
 unread_or_not Unread = inl refl
@@ -214,7 +213,7 @@ damaged_text lead_in blocks packs readings said found is mended =
 
 -- ---- What the calls write of them.
 
-written : (text packs new old : List ℕ) → text ≡ packs → new ≡ text ++ drop (length text) old
+pub written : (text packs new old : List ℕ) → text ≡ packs → new ≡ text ++ drop (length text) old
     → new ≡ packs ++ drop (length packs) old
 written text packs new old same is = is ∙ ap (λ t. t ++ drop (length t) old) same
 
@@ -231,16 +230,6 @@ damaged_two lead_in blocks packs first second old new counts is done =
     (subst (λ w. AreMended w (map (program_of lead_in) readings) done.said done.found) words done.mended))
     done.text
 
--- each of some parts is as long as it is asked for
-part_length : (count : ℕ) (bytes : List ℕ) → 0 < count
-    → length (get_or (parts count (length bytes / count) bytes) 0 []) ≡ length bytes / count
-part_length count bytes some =
-    let size : ℕ = length bytes / count in
-    let none : size * 0 ≡ 0 = omega arith in
-    ap length (part_at count size bytes 0 some ∙ ap (λ n. take size (drop n bytes)) none)
-    ∙ length-take size bytes
-    ∙ omega (arith, div-le_self (length bytes) count)
-
 pub damaged_many : (count lead_in blocks : ℕ) (packs : List (List ℕ))
     (readings old new old_sources new_sources : List ℕ) (tallies : Tallies)
     → AreDamagedReadings lead_in blocks packs (parts count (length readings / count) readings)
@@ -251,7 +240,7 @@ damaged_many count lead_in blocks packs readings old new old_sources new_sources
     let all : List (List ℕ) = parts count each readings in
     let some : 0 < count = omega (arith, is.some, parts_length count each readings) in
     let size : each ≡ (lead_in + blocks) * 96 =
-    sym (part_length count readings some) ∙ is.sizes 0 [] is.some in
+    sym (part_whole count readings 0 some) ∙ is.sizes 0 [] is.some in
     let words : words_in_each count lead_in readings ≡ whole_packs blocks =
     ap (λ n. whole_packs (n / 96 - lead_in)) size ∙ omega arith in
     written (mended_text done.found) (concat packs) new old

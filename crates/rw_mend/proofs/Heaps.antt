@@ -1,7 +1,7 @@
 -- Any number of readings that lie one behind another.
 use Rattle.std.proofs.Common.{◌≡◌, ℕ, zero, suc, ◌+◌, ◌-◌, ◌*◌, ◌/◌, ◌%◌, ◌<◌, ◌≤◌, List, [], ◌++◌, length, get_or, map, min, take, drop, refl, sym, ap, ap₂, ◌∙◌, subst₂, arith, length-append, length-take, length-drop}
 use Rattle.std.proofs.Math.Seq.{drop-append_seam, take-append_seam}
-use Rattle.std.proofs.Math.Nat.{mul-le-mul_left, mul-le-mul_right}
+use Rattle.std.proofs.Math.Nat.{mul-div-le, mul-le-mul_left, mul-le-mul_right}
 use Rattle.std.proofs.lemmas.List.{drop-drop, ext_get_or, get_or-map, length-map, take-append-drop, take_all}
 use Rattle.bit_lists.specs.Counting.{parts}
 use Rattle.rw_interleave.specs.Interleave.{whole_packs}
@@ -33,6 +33,15 @@ parts_length (suc count) size xs = ap (λ n. suc n) (parts_length count size (dr
 
 fits : (size r count : ℕ) → r < count → size * r + size ≤ count * size
 fits size r count lt = omega (arith, mul-le-mul_left size lt)
+
+-- each part is as long as it is asked for
+pub part_whole : (count : ℕ) (bytes : List ℕ) (r : ℕ) → r < count
+    → length (get_or (parts count (length bytes / count) bytes) r []) ≡ length bytes / count
+part_whole count bytes r lt =
+    let size : ℕ = length bytes / count in
+    ap length (part_at count size bytes r lt)
+    ∙ length-take size (drop (size * r) bytes)
+    ∙ omega (arith, length-drop (size * r) bytes, fits size r count lt, mul-div-le (length bytes) count)
 
 part_size : (count size : ℕ) (bytes : List ℕ) (r : ℕ) → r < count → length bytes ≡ count * size
     → length (take size (drop (size * r) bytes)) ≡ size

@@ -2,6 +2,7 @@ pub mod Agreeing
 pub mod Alone
 pub mod Clean
 pub mod Coming
+pub mod Converted
 pub mod Counting
 pub mod Damaged
 pub mod Givens
@@ -12,6 +13,7 @@ pub mod Missing
 pub mod Once
 pub mod Pairs
 pub mod Reading
+pub mod Reordered
 pub mod Running
 pub mod Same
 pub mod Telling

@@ -1,5 +1,5 @@
 -- What readings have to be for the laws of mending.
-use Rattle.std.specs.Prelude.{◌≡◌, ◌⊎◌, ℕ, ◌+◌, ◌*◌, ◌<◌, List, [], All, length, slice_index_or}
+use Rattle.std.specs.Prelude.{⊤, ◌≡◌, ◌≢◌, ◌⊎◌, ℕ, ◌+◌, ◌*◌, ◌<◌, List, [], All, length, slice_index_or, Option, Some, None}
 use Rattle.std.specs.List.{flat_map}
 use Rattle.bit_lists.specs.Counting.{below}
 use Rattle.raw_subcode.specs.Channels.{program_symbols}
@@ -10,6 +10,9 @@ use Rattle.rw_interleave.specs.Interleave.{Carries}
 use Rattle.rw_interleave.specs.Stream.{IsDamaged}
 use Rattle.rw_mend.specs.Drops.{IsDropped}
 use Rattle.rw_mend.specs.Words.{given_at}
+use Rattle.rw_mend.specs.declared.choice.Mended.{Mended}
+use Rattle.rw_mend.specs.declared.choice.WordSource.{WordSource}
+use Rattle.rw_mend.specs.declared.choice.WordSource.TheVariants.{Reading, Agreed}
 use Rattle.rw_mend.specs.declared.voices.Voice.{Voice}
 use Rattle.rw_mend.specs.declared.voices.Voice.TheVariants.{Near}
 
@@ -60,3 +63,29 @@ pub record AreDamagedReadings (lead_in blocks : ℕ) (packs readings : List (Lis
   pub symbols : List ℕ
   pub carries : Carries blocks symbols packs
   pub damage : All (λ bytes. IsDamaged symbols Raw (program_symbols Raw bytes lead_in)) readings
+
+-- Whatever codeword another reading than r gives counts for nothing, or is what is written of reading r: the codeword
+-- that it gives, or zeros.
+pub record CountsAlone (words : ℕ) (programs : List (List ℕ)) (r : ℕ) : Type 0 where
+  pub within : r < length programs
+  pub others : (n s : ℕ) (codeword : List ℕ) (doubts : ℕ) → n < words → s < length programs → s ≢ r
+      → ¬ IsDropped words programs s n → given_at programs s n ≡ Near codeword doubts
+      → codeword ≡ voice_bytes (given_at programs r n)
+
+-- it is a codeword on which two readings agree
+abbrev pub IsAgreedWord : Option Mended → Type 0
+IsAgreedWord (Some mended) = mended.source ≡ Agreed
+IsAgreedWord None = ⊥
+
+-- Two orders of some readings name the same at word n: two readings that give the same there, or an agreement of two.
+abbrev pub IsSameSource : List (List ℕ) → List (List ℕ) → ℕ → WordSource → WordSource → Type 0
+IsSameSource programs others n (Reading r) (Reading k) = given_at programs r n ≡ given_at others k n
+IsSameSource programs others n Agreed Agreed = ⊤
+IsSameSource programs others n one other = ⊥
+
+-- the same codeword is found, and the same is named; or nothing in both
+abbrev pub IsSameFind : List (List ℕ) → List (List ℕ) → ℕ → Option Mended → Option Mended → Type 0
+IsSameFind programs others n (Some one) (Some other) = (one.pack ≡ other.pack)
+    × IsSameSource programs others n one.source other.source
+IsSameFind programs others n None None = ⊤
+IsSameFind programs others n one other = ⊥

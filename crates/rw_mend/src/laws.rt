@@ -1,15 +1,21 @@
 // What follows from the definitions.
-ghost use Rattle.std.specs.Prelude.{◌≡◌, ◌<◌, ◌/◌, ◌++◌, [], ◌∷◌, List, ℕ, drop, length, map};
+ghost use Rattle.std.specs.Prelude.{◌≡◌, ◌<◌, ◌≤◌, ◌-◌, ◌/◌, ◌%◌, ◌++◌, [], ◌∷◌, IsPermutation, List, None, ℕ, drop, length, map, slice_index_or};
 ghost use Rattle.bit_lists.specs.Counting.{parts};
 ghost use Rattle.std.specs.List.{concat};
 ghost use Rattle.std.specs.declared.option.Option.{Option};
+ghost use Rattle.raw_subcode.specs.Channels.{program_symbols};
+ghost use Rattle.raw_subcode.specs.Sizes.{block_bytes};
+ghost use Rattle.raw_subcode.specs.declared.form.Form.TheVariants.{Raw};
 ghost use Rattle.rw_interleave.specs.Interleave.{whole_packs};
+ghost use Rattle.rw_interleave.specs.Stream.{IsRecovered};
+ghost use Rattle.rw_interleave.specs.Texts.{cdg_bytes};
 ghost use Rattle.rw_merge.specs.Readings.{IsDamagedTwice};
 ghost use Rattle.rw_mend.specs.Choice.{IsMending, voice_of_reading};
-ghost use Rattle.rw_mend.specs.Laws.{AllGive, AreDamagedReadings, AreEnough, IsCleanBeside, given_text};
-ghost use Rattle.rw_mend.specs.Many.{AreAllMendedInto};
+ghost use Rattle.rw_mend.specs.Drops.{IsDropCount};
+ghost use Rattle.rw_mend.specs.Laws.{AllGive, AreDamagedReadings, AreEnough, CountsAlone, IsAgreedWord, IsCleanBeside, IsSameFind, given_text, voice_bytes};
+ghost use Rattle.rw_mend.specs.Many.{AreAllMendedInto, programs_of, words_in_each};
 ghost use Rattle.rw_mend.specs.Streams.{AreMended, IsMendedInto, mended_bytes, mended_text};
-ghost use Rattle.rw_mend.specs.Words.{program_of};
+ghost use Rattle.rw_mend.specs.Words.{given_at, program_of};
 ghost use Rattle.rw_mend.specs.declared.choice.Mended.{Mended};
 ghost use Rattle.rw_mend.specs.declared.streams.MendCounts.{MendCounts};
 ghost use Rattle.rw_mend.specs.declared.tallies.Tallies.{Tallies};
@@ -84,4 +90,62 @@ pub fn damaged_readings_give_back_the_packs()
     ensures merged { (lead_in blocks : ℕ) (packs : List (List ℕ)) (first second : List ℕ)
         → IsDamagedTwice lead_in blocks packs first second
         → AreDamagedReadings lead_in blocks packs (first ∷ second ∷ []) }
+{}
+
+/// A law: what a reading gives by itself is what a conversion writes of it.
+pub fn a_reading_gives_its_conversion()
+    ensures { (lead_in r : ℕ) (programs : List (List ℕ)) (bytes : List ℕ) (found : List (Option (List ℕ)))
+        → length bytes % block_bytes ≡ 0 → slice_index_or programs r [] ≡ program_of lead_in bytes
+        → IsRecovered Raw (program_symbols Raw bytes lead_in) found
+        → given_text (whole_packs (length bytes / block_bytes - lead_in)) programs r ≡ cdg_bytes found }
+{}
+
+/// A law: where whatever another reading gives counts for nothing, or is what is written of one reading, that comes out,
+/// but for the words on which two readings agree. Where none are agreed the calls write what a conversion writes of it.
+pub fn a_reading_that_counts_alone_is_converted()
+    ensures words { (words r : ℕ) (programs : List (List ℕ)) (said : List (List Voice))
+        (found : List (Option Mended)) → CountsAlone words programs r → AreMended words programs said found
+        → (n : ℕ) → n < words → ¬ IsAgreedWord (slice_index_or found n None)
+        → mended_bytes (slice_index_or found n None) ≡ voice_bytes (given_at programs r n) }
+    ensures two { (lead_in r : ℕ) (first second old new : List ℕ) (counts : MendCounts)
+        (found : List (Option (List ℕ))) → length first % block_bytes ≡ 0 → length second ≡ length first
+        → CountsAlone (whole_packs (length first / block_bytes - lead_in))
+        (program_of lead_in first ∷ program_of lead_in second ∷ []) r
+        → IsMendedInto lead_in first second old new counts → counts.agreed ≡ 0
+        → IsRecovered Raw (program_symbols Raw (slice_index_or (first ∷ second ∷ []) r []) lead_in) found
+        → new ≡ cdg_bytes found ++ drop (length (cdg_bytes found)) old }
+    ensures many { (count lead_in r : ℕ) (readings old new old_sources new_sources : List ℕ)
+        (tallies : Tallies) (found : List (Option (List ℕ))) → (length readings / count) % block_bytes ≡ 0
+        → CountsAlone (words_in_each count lead_in readings) (programs_of count lead_in readings) r
+        → AreAllMendedInto count lead_in readings old new old_sources new_sources tallies
+        → tallies.agreed ≡ 0
+        → IsRecovered Raw (program_symbols Raw
+        (slice_index_or (parts count (length readings / count) readings) r []) lead_in) found
+        → new ≡ cdg_bytes found ++ drop (length (cdg_bytes found)) old }
+{}
+
+/// A law: another order of the readings changes nothing but which of them is named where several give the same. So the
+/// calls write the same, and count as many words that are agreed, and that have no codeword; and what each reading gives
+/// counts for nothing as often.
+pub fn the_order_of_readings_changes_names_alone()
+    ensures words { (words : ℕ) (programs others : List (List ℕ)) (said saying : List (List Voice))
+        (found other : List (Option Mended)) → IsPermutation programs others
+        → AreMended words programs said found → AreMended words others saying other
+        → (n : ℕ) → n < words
+        → IsSameFind programs others n (slice_index_or found n None) (slice_index_or other n None) }
+    ensures text { (words : ℕ) (programs others : List (List ℕ)) (said saying : List (List Voice))
+        (found other : List (Option Mended)) → IsPermutation programs others
+        → AreMended words programs said found → AreMended words others saying other
+        → mended_text found ≡ mended_text other }
+    ensures many { (count lead_in : ℕ) (readings others old new turned old_sources sources named : List ℕ)
+        (told retold : Tallies) → count ≤ 254 → length others ≡ length readings
+        → IsPermutation (parts count (length readings / count) readings)
+        (parts count (length others / count) others)
+        → AreAllMendedInto count lead_in readings old new old_sources sources told
+        → AreAllMendedInto count lead_in others old turned old_sources named retold
+        → (turned ≡ new) × (retold.agreed ≡ told.agreed) × (retold.none ≡ told.none) }
+    ensures dropped { (words : ℕ) (programs others : List (List ℕ)) (r k count again : ℕ)
+        → IsPermutation programs others → slice_index_or programs r [] ≡ slice_index_or others k []
+        → IsDropCount words programs r words count → IsDropCount words others k words again
+        → count ≡ again }
 {}

@@ -17,7 +17,9 @@ mod ways;
 pub use choice::{MOST_READINGS, Mended, WordSource, mend};
 pub use laws::{
     a_clean_codeword_is_mended, a_clean_reading_comes_out, a_codeword_that_counts_alone_is_mended,
+    a_reading_gives_its_conversion, a_reading_that_counts_alone_is_converted,
     damaged_readings_give_back_the_packs, one_codeword_is_mended, packs_come_back,
+    the_order_of_readings_changes_names_alone,
 };
 pub use many::mend_readings;
 pub use streams::{MendCounts, mend_streams};

@@ -1,0 +1,286 @@
+-- What a reading gives is what a conversion writes of it, and so is what comes out where it alone counts.
+use Rattle.std.proofs.Common.{◌≡◌, ◌==◌, ℕ, zero, suc, ◌-◌, ◌*◌, ◌/◌, ◌%◌, ◌<◌, ◌≤◌, Bool, true, false, List, [], ◌∷◌, ◌++◌, length, get_or, map, drop, refl, sym, ap, ◌∙◌, subst, inl, inr, arith, length-drop, Some, None}
+use Rattle.std.specs.Prelude.{count_by, if◌then◌else◌}
+use Rattle.std.specs.List.{concat}
+use Rattle.std.specs.declared.option.Option.{Option}
+use Rattle.std.proofs.lemmas.Bool.{cases_eq, false≢true}
+use Rattle.std.proofs.lemmas.List.{ext_get_or, get_or-map, length-map}
+use Rattle.std.proofs.lemmas.List.Sums.{get_or-le-sum_by}
+use Rattle.std.proofs.lemmas.List.FromFn.{get_or-map-range_with_len, length-map-range_with_len}
+use Rattle.bit_lists.specs.Counting.{below, parts}
+use Rattle.raw_subcode.specs.Channels.{program_symbols, symbols_of}
+use Rattle.raw_subcode.specs.declared.form.Form.TheVariants.{Raw}
+use Rattle.rw_code.specs.Codeword.{Reads}
+use Rattle.rw_code.specs.Finding.{IsFinding}
+use Rattle.rw_interleave.specs.Interleave.{word_of, whole_packs}
+use Rattle.rw_interleave.specs.Stream.{IsRecovered}
+use Rattle.rw_interleave.specs.Texts.{cdg_bytes, entry_bytes}
+use Rattle.rw_merge.proofs.Slots.{program_is}
+use Rattle.rw_mend.specs.Choice.{IsMending, IsMendedBy, voice_of_reading}
+use Rattle.rw_mend.specs.Drops.{AreVoices, IsDropped}
+use Rattle.rw_mend.specs.Laws.{CountsAlone, IsAgreedWord, given_text, voice_bytes}
+use Rattle.rw_mend.specs.Many.{AreAllMendedInto, programs_of, words_in_each}
+use Rattle.rw_mend.specs.Streams.{AreMended, IsMendedInto, is_mended_by, mended_bytes, mended_text, way_by, way_of, ways_of}
+use Rattle.rw_mend.specs.Tallies.{source_byte}
+use Rattle.rw_mend.specs.Voices.{is_idle_pack, is_idle_voice, voice_of}
+use Rattle.rw_mend.specs.Words.{given_at, program_of, reading_at}
+use Rattle.rw_mend.specs.declared.choice.Mended.{Mended}
+use Rattle.rw_mend.specs.declared.choice.WordSource.{WordSource}
+use Rattle.rw_mend.specs.declared.choice.WordSource.TheVariants.{Reading, Agreed}
+use Rattle.rw_mend.specs.declared.streams.MendCounts.{MendCounts}
+use Rattle.rw_mend.specs.declared.tallies.Tallies.{Tallies}
+use Rattle.rw_mend.specs.declared.ways.Way.TheVariants.{Together}
+use Rattle.rw_mend.specs.declared.voices.WordReading.{WordReading}
+use Rattle.rw_mend.specs.declared.voices.Voice.{Voice}
+use Rattle.rw_mend.specs.declared.voices.Voice.TheVariants.{Silent, Lost, Near}
+use Rattle.rw_mend.proofs.Alone.{counted, mended_alone}
+use Rattle.rw_mend.proofs.Clean.{pack_of}
+use Rattle.rw_mend.proofs.Damaged.{IsOrIdle, near_given, unread_or_not, written}
+use Rattle.rw_mend.proofs.Givens.{is_word, reading-word}
+use Rattle.rw_mend.proofs.Heaps.{part_whole, parts_length}
+use Rattle.rw_mend.proofs.Hearing.{lost_is, silent_is}
+use Rattle.rw_mend.proofs.Kept.{each_text, flat_joined, graphics_are, said_kept}
+use Rattle.rw_mend.proofs.Once.{best_counts}
+
+-- ---- A reading by itself.
+
+bytes_given : (voice : Voice) (codeword : List ℕ) → IsOrIdle voice codeword → voice_bytes voice ≡ codeword
+bytes_given voice codeword (inl (doubts, is)) = ap voice_bytes is
+bytes_given voice codeword (inr (silent, idle)) = ap voice_bytes silent ∙ sym idle
+
+-- what is written of a word by itself
+pub written_is : (program : List ℕ) (n : ℕ) (found : Option (List ℕ))
+    → IsFinding (word_of (symbols_of program) n) found
+    → voice_bytes (voice_of (reading_at program n)) ≡ entry_bytes found
+written_is program n (Some codeword) reads =
+    bytes_given (voice_of (reading_at program n)) codeword (near_given program n codeword reads)
+written_is program n None none =
+    let reading : WordReading = reading_at program n in
+    elim (unread_or_not reading.coverage) [
+      | inl unread ↦ ap voice_bytes (sym (silent_is reading unread))
+      | inr read ↦
+          ap voice_bytes
+          (sym (lost_is reading read (is_word program n) (λ codeword reads.
+          none codeword (subst (λ w. Reads w codeword) (reading-word program n) reads))))
+    ]
+
+pub given_converted : (lead_in r : ℕ) (programs : List (List ℕ)) (bytes : List ℕ)
+    (found : List (Option (List ℕ))) → length bytes % 96 ≡ 0
+    → get_or programs r [] ≡ program_of lead_in bytes
+    → IsRecovered Raw (program_symbols Raw bytes lead_in) found
+    → given_text (whole_packs (length bytes / 96 - lead_in)) programs r ≡ cdg_bytes found
+given_converted lead_in r programs bytes found whole program is =
+    let words : ℕ = whole_packs (length bytes / 96 - lead_in) in
+    let given : ℕ → List ℕ = λ (n : ℕ). voice_bytes (given_at programs r n) in
+    let rest : List ℕ = drop (96 * lead_in) bytes in
+    let symbols : program_symbols Raw bytes lead_in ≡ symbols_of rest =
+    program_is lead_in (length bytes / 96) bytes (omega (arith, whole))
+    ∙ ap (λ m. symbols_of (drop m bytes)) (omega arith) in
+    let size : length (symbols_of rest) ≡ length bytes - 96 * lead_in =
+    length-map rest (λ byte. byte % 64) ∙ length-drop (96 * lead_in) bytes in
+    let is' : IsRecovered Raw (symbols_of rest) found = subst (λ s. IsRecovered Raw s found) symbols is in
+    let blocks : length (symbols_of rest) / 96 ≡ length bytes / 96 - lead_in = omega (arith, size, whole) in
+    let count : length found ≡ words = is'.count ∙ ap whole_packs blocks in
+    let same : map given (below words) ≡ map entry_bytes found =
+    ext_get_or [] (map given (below words)) (map entry_bytes found)
+    (length-map-range_with_len given 0 words ∙ sym (length-map found entry_bytes ∙ count)) (λ n lt.
+    let within : n < words = omega (arith, lt, length-map-range_with_len given 0 words) in
+    get_or-map-range_with_len given 0 words n n [] within (omega arith)
+    ∙ ap (λ p. voice_bytes (voice_of (reading_at p n))) program
+    ∙ written_is rest n (get_or found n None) (is'.each n (omega (arith, within, blocks)))
+    ∙ sym (get_or-map entry_bytes found n None [] (omega (arith, within, count)))) in
+    flat_joined given (below words) ∙ ap concat same ∙ sym (flat_joined entry_bytes found)
+
+-- ---- A reading that alone counts.
+
+near_bytes : (voice : Voice) → is_idle_voice voice ≡ true → is_idle_pack (voice_bytes voice) ≡ true
+near_bytes Silent is = absurd (false≢true is)
+near_bytes (Lost word) is = absurd (false≢true is)
+near_bytes (Near pack doubts) is = is
+
+never_dropped : (words : ℕ) (programs : List (List ℕ)) (r n : ℕ) → CountsAlone words programs r
+    → ¬ IsDropped words programs r n
+never_dropped words programs r n is dropped =
+    let m : ℕ = dropped.drops.word in
+    let lt : m < words = dropped.drops.within in
+    let misses = dropped.drops.misses in
+    let s : ℕ = misses.graphics.reading in
+    let busy = graphics_are (given_at programs s m) misses.graphics.graphics in
+    let idle : is_idle_pack (voice_bytes (given_at programs r m)) ≡ true =
+    near_bytes (given_at programs r m) misses.idle in
+    let same : busy.0 ≡ voice_bytes (given_at programs r m) =
+    elim (cases_eq s r) [
+      | inl own ↦ ap voice_bytes (sym busy.1) ∙ ap (λ k. voice_bytes (given_at programs k m)) own
+      | inr other ↦
+          is.others m s busy.0 0 lt misses.graphics.within other
+          (λ left. false≢true (sym busy.2 ∙ ap is_idle_voice (sym busy.1) ∙ left.idle)) busy.1
+    ] in
+    false≢true (sym busy.2 ∙ ap is_idle_pack same ∙ idle)
+
+-- whatever codeword is said is that of the reading
+said_alone : (words : ℕ) (programs : List (List ℕ)) (r n s : ℕ) (voices : List Voice) (codeword : List ℕ)
+    (doubts : ℕ) → CountsAlone words programs r → n < words → AreVoices words programs n voices
+    → s < length programs → voice_of_reading voices s ≡ Near codeword doubts
+    → codeword ≡ voice_bytes (given_at programs r n)
+said_alone words programs r n s voices codeword doubts is lt are within near =
+    let given =
+    counted words programs n s (voice_of_reading voices s) codeword doubts (are.each s within) near in
+    elim (cases_eq s r) [
+      | inl own ↦ ap voice_bytes (sym given.1) ∙ ap (λ k. voice_bytes (given_at programs k n)) own
+      | inr other ↦ is.others n s codeword doubts lt within other given.0 given.1
+    ]
+
+found_alone : (voices : List Voice) (codeword : List ℕ) (mended : Mended) (source : WordSource)
+    → source ≡ mended.source
+    → ((s : ℕ) (other : List ℕ) (more : ℕ) → s < length voices → voice_of_reading voices s ≡ Near other more
+    → other ≡ codeword)
+    → ¬ IsAgreedWord (Some mended) → IsMendedBy source voices mended.pack → mended.pack ≡ codeword
+found_alone voices codeword mended (Reading k) is only apart by =
+    let near = best_counts voices k by.0 in
+    sym (pack_of (voice_of_reading voices k) near.0 mended.pack near.1 near.2 by.1)
+    ∙ only k near.0 near.1 by.0.within near.2
+found_alone voices codeword mended Agreed is only apart by = absurd (apart (sym is))
+
+-- what comes out where some voice is silent or lost, and none is another codeword than is written of it
+found_beside : (voices : List Voice) (own : Voice) (r : ℕ) (found : Option Mended) → r < length voices
+    → voice_of_reading voices r ≡ own
+    → ((s : ℕ) (other : List ℕ) (more : ℕ) → s < length voices → voice_of_reading voices s ≡ Near other more
+    → other ≡ voice_bytes own)
+    → ¬ IsAgreedWord found → IsMending voices found → mended_bytes found ≡ voice_bytes own
+found_beside voices (Near pack doubts) r found within is only apart mending =
+    mended_alone voices pack r doubts found within is only mending
+found_beside voices Silent r None within is only apart none = refl
+found_beside voices (Lost word) r None within is only apart none = refl
+found_beside voices Silent r (Some mended) within is only apart by =
+    found_alone voices (voice_bytes Silent) mended mended.source refl only apart by
+found_beside voices (Lost word) r (Some mended) within is only apart by =
+    found_alone voices (voice_bytes (Lost word)) mended mended.source refl only apart by
+
+pub word_alone : (words : ℕ) (programs : List (List ℕ)) (r n : ℕ) (said : List (List Voice))
+    (found : List (Option Mended)) → CountsAlone words programs r → AreMended words programs said found
+    → n < words → ¬ IsAgreedWord (get_or found n None)
+    → mended_bytes (get_or found n None) ≡ voice_bytes (given_at programs r n)
+word_alone words programs r n said found is mended lt apart =
+    let voices : List Voice = get_or said n [] in
+    let are = mended.voices n lt in
+    found_beside voices (given_at programs r n) r (get_or found n None) (omega (arith, is.within, are.count))
+    (said_kept words programs n r (voice_of_reading voices r) (are.each r is.within)
+    (never_dropped words programs r n is))
+    (λ s other more inside near.
+    said_alone words programs r n s voices other more is lt are (omega (arith, inside, are.count)) near)
+    apart (mended.each n lt)
+
+pub text_alone : (words : ℕ) (programs : List (List ℕ)) (r : ℕ) (said : List (List Voice))
+    (found : List (Option Mended)) → CountsAlone words programs r → AreMended words programs said found
+    → ((n : ℕ) → n < words → ¬ IsAgreedWord (get_or found n None))
+    → mended_text found ≡ given_text words programs r
+text_alone words programs r said found is mended apart =
+    each_text words programs r found mended.count (λ n lt.
+    word_alone words programs r n said found is mended lt (apart n lt))
+
+-- ---- No word is agreed where none is counted.
+
+none_of : (b : Bool) → (if b then 1 else 0) ≤ 0 → b ≡ false
+none_of true none = absurd (omega (arith, none))
+none_of false none = refl
+
+none_counted : {X : Type 0} (p : X → Bool) (xs : List X) (n : ℕ) (d : X) → count_by p xs ≡ 0 → n < length xs
+    → p (get_or xs n d) ≡ false
+none_counted {X} p xs n d none lt =
+    let one : X → ℕ = λ (x : X). if p x then 1 else 0 in
+    none_of (p (get_or xs n d)) (subst (λ c. one (get_or xs n d) ≤ c) none (get_or-le-sum_by one xs n d lt))
+
+agreed_byte : (found : Option Mended) → IsAgreedWord found → (source_byte found == 254) ≡ true
+agreed_byte None is = absurd is
+agreed_byte (Some mended) is =
+    ap (λ s. source_byte (Some (record { pack = mended.pack; source = s })) == 254) is
+
+pub not_agreed_byte : (words : ℕ) (found : List (Option Mended)) → length found ≡ words
+    → count_by (λ f. source_byte f == 254) found ≡ 0
+    → (n : ℕ) → n < words → ¬ IsAgreedWord (get_or found n None)
+not_agreed_byte words found size none n lt is =
+    false≢true
+    (sym
+    (none_counted (λ (f : Option Mended). source_byte f == 254) found n None none (omega (arith, lt, size)))
+    ∙ agreed_byte (get_or found n None) is)
+
+agreed_way : (voices : List Voice) (found : Option Mended) → IsAgreedWord found
+    → is_mended_by Together (way_of voices found) ≡ true
+agreed_way voices None is = absurd is
+agreed_way voices (Some mended) is =
+    ap (λ s. is_mended_by Together (Some (way_by s voices mended.pack))) is
+
+ways_at : (said : List (List Voice)) (found : List (Option Mended)) (n : ℕ) → n < length said
+    → n < length found → (n < length (ways_of said found))
+    × (get_or (ways_of said found) n None ≡ way_of (get_or said n []) (get_or found n None))
+ways_at [] found n lt lt' = absurd (omega (arith, lt))
+ways_at (voices ∷ said) [] n lt lt' = absurd (omega (arith, lt'))
+ways_at (voices ∷ said) (f ∷ found) zero lt lt' = (omega arith, refl)
+ways_at (voices ∷ said) (f ∷ found) (suc n) lt lt' =
+    let rest = ways_at said found n (omega (arith, lt)) (omega (arith, lt')) in
+    (omega (arith, rest.0), rest.1)
+
+not_agreed_way : (words : ℕ) (said : List (List Voice)) (found : List (Option Mended)) → length said ≡ words
+    → length found ≡ words → count_by (is_mended_by Together) (ways_of said found) ≡ 0
+    → (n : ℕ) → n < words → ¬ IsAgreedWord (get_or found n None)
+not_agreed_way words said found said_size size none n lt is =
+    let at = ways_at said found n (omega (arith, lt, said_size)) (omega (arith, lt, size)) in
+    false≢true
+    (sym (none_counted (is_mended_by Together) (ways_of said found) n None none at.0)
+    ∙ ap (is_mended_by Together) at.1
+    ∙ agreed_way (get_or said n []) (get_or found n None) is)
+
+-- ---- What the calls write.
+
+one_of_two : (first second : List ℕ) (r : ℕ) → r < 2 → length second ≡ length first
+    → length (get_or (first ∷ second ∷ []) r []) ≡ length first
+one_of_two first second zero lt same = refl
+one_of_two first second (suc zero) lt same = same
+one_of_two first second (suc (suc r)) lt same = absurd (omega (arith, lt))
+
+pub converted_two : (lead_in r : ℕ) (first second old new : List ℕ) (counts : MendCounts)
+    (found : List (Option (List ℕ))) → length first % 96 ≡ 0 → length second ≡ length first
+    → CountsAlone (whole_packs (length first / 96 - lead_in))
+    (program_of lead_in first ∷ program_of lead_in second ∷ []) r
+    → IsMendedInto lead_in first second old new counts → counts.agreed ≡ 0
+    → IsRecovered Raw (program_symbols Raw (get_or (first ∷ second ∷ []) r []) lead_in) found
+    → new ≡ cdg_bytes found ++ drop (length (cdg_bytes found)) old
+converted_two lead_in r first second old new counts found whole same is done none recovered =
+    let words : ℕ = whole_packs (length first / 96 - lead_in) in
+    let readings : List (List ℕ) = first ∷ second ∷ [] in
+    let programs : List (List ℕ) = map (program_of lead_in) readings in
+    let bytes : List ℕ = get_or readings r [] in
+    let size : length bytes ≡ length first = one_of_two first second r is.within same in
+    written (mended_text done.found) (cdg_bytes found) new old
+    (text_alone words programs r done.said done.found is done.mended
+    (not_agreed_way words done.said done.found done.mended.said_count done.mended.count
+    (sym done.counts_are.agreed ∙ none))
+    ∙ ap (λ n. given_text (whole_packs (n / 96 - lead_in)) programs r) (sym size)
+    ∙ given_converted lead_in r programs bytes found (ap (λ n. n % 96) size ∙ whole)
+    (get_or-map (program_of lead_in) readings r [] [] is.within) recovered)
+    done.text
+
+pub converted_many : (count lead_in r : ℕ) (readings old new old_sources new_sources : List ℕ)
+    (tallies : Tallies) (found : List (Option (List ℕ))) → (length readings / count) % 96 ≡ 0
+    → CountsAlone (words_in_each count lead_in readings) (programs_of count lead_in readings) r
+    → AreAllMendedInto count lead_in readings old new old_sources new_sources tallies → tallies.agreed ≡ 0
+    → IsRecovered Raw
+    (program_symbols Raw (get_or (parts count (length readings / count) readings) r []) lead_in) found
+    → new ≡ cdg_bytes found ++ drop (length (cdg_bytes found)) old
+converted_many count lead_in r readings old new old_sources new_sources tallies found whole is done none
+    recovered =
+    let each : ℕ = length readings / count in
+    let words : ℕ = words_in_each count lead_in readings in
+    let all : List (List ℕ) = parts count each readings in
+    let programs : List (List ℕ) = map (program_of lead_in) all in
+    let bytes : List ℕ = get_or all r [] in
+    let inside : r < length all = omega (arith, is.within, length-map all (program_of lead_in)) in
+    let size : length bytes ≡ each =
+    part_whole count readings r (omega (arith, inside, parts_length count each readings)) in
+    written (mended_text done.found) (cdg_bytes found) new old
+    (text_alone words programs r done.said done.found is done.mended
+    (not_agreed_byte words done.found done.mended.count (sym done.tallies_are.agreed ∙ none))
+    ∙ ap (λ n. given_text (whole_packs (n / 96 - lead_in)) programs r) (sym size)
+    ∙ given_converted lead_in r programs bytes found (ap (λ n. n % 96) size ∙ whole)
+    (get_or-map (program_of lead_in) all r [] [] inside) recovered)
+    done.text
