@@ -1,5 +1,5 @@
 -- Parts of two windows that are the same.
-use Rattle.std.proofs.Common.{◌≡◌, ℕ, ◌+◌, ◌-◌, ◌*◌, ◌/◌, ◌%◌, ◌<◌, ◌≤◌, Bool, true, List, length, take, drop, get_or, sym, ap, ap₂, subst, ◌∙◌, inl, inr, arith}
+use Rattle.std.proofs.Common.{◌≡◌, ℕ, ◌+◌, ◌-◌, ◌*◌, ◌/◌, ◌%◌, ◌<◌, ◌≤◌, Bool, true, List, length, take, drop, get_or, sym, ap, ap₂, ◌∙◌, inl, inr, arith}
 use borrow.Rule.Slice.PartMut.{put_mid}
 use Rattle.std.proofs.lemmas.Bool.{cases_lt}
 use Rattle.std.proofs.lemmas.Bool.Decides.{nat_tests}
@@ -7,7 +7,7 @@ use Rattle.picture_script.proofs.Windows.{written-at, length-written}
 use Rattle.std.specs.Str.{bytes_eq}
 use Rattle.std.proofs.lemmas.Grind.{same_number_lists}
 use Rattle.std.proofs.lemmas.Slice.Eq.{bytes_eq-Decides}
-use Rattle.std.proofs.lemmas.List.{get_or-take, get_or-drop, get_or_past, length-take, length-drop}
+use Rattle.std.proofs.lemmas.List.{get_or-take, get_or-drop, length-take, length-drop}
 use Rattle.std.proofs.lemmas.List.FromFn.{length-map-range_with_len, get_or-map-range_with_len}
 use Rattle.picture_script.specs.Board.{pixel_of, tile_of}
 use Rattle.picture_script.proofs.Drawn.{tile_is}
@@ -100,29 +100,6 @@ row_of_tiles a b row first all i from to =
     line_of_tile a b row column (d / 288) (omega arith) (all column (omega arith) (omega arith)) i
     (omega arith) (omega arith)
 
--- six pixels of a row, read
-pub line_read : (pixels line : List ℕ) (x y i : ℕ) → 288 * y + x + 6 ≤ length pixels
-    → line ≡ take (288 * y + x + 6 - (288 * y + x)) (drop (288 * y + x) pixels) → i < 6
-    → get_or line i 0 ≡ pixel_of pixels (x + i) y
-unfolding pixel_of
-line_read pixels line x y i within is lt =
-    let at : 288 * y + x + i ≡ 288 * y + (x + i) = omega arith in
-    ap (λ xs. get_or xs i 0) is
-    ∙ get_or-take (288 * y + x + 6 - (288 * y + x)) (drop (288 * y + x) pixels) i 0 (omega arith)
-    ∙ get_or-drop (288 * y + x) pixels i 0
-    ∙ ap (λ n. get_or pixels n 0) at
-
-pub line_small : (pixels line : List ℕ) (x y : ℕ) → 288 * y + x + 6 ≤ length pixels
-    → line ≡ take (288 * y + x + 6 - (288 * y + x)) (drop (288 * y + x) pixels) → length line ≡ 6
-    → ((k : ℕ) → get_or pixels k 0 < 16)
-    → (i : ℕ) → get_or line i 0 < 16
-unfolding pixel_of
-line_small pixels line x y within is size small i = elim (cases_lt i 6) [
-  | inl lt ↦ subst (λ n. n < 16) (sym (line_read pixels line x y i within is lt)) (small (288 * y + (x + i)))
-  | inr past ↦ subst (λ n. n < 16) (sym (get_or_past {X = ℕ} line i 0 (omega (arith, size)))) (omega arith)
-]
-
--- a line of a tile is written
 pub tile_line : (pixels old piece : List ℕ) (left top j : ℕ) → length old ≡ 72 → j < 12 → length piece ≡ 6
     → ((i : ℕ) → i < 6 → get_or piece i 0 ≡ pixel_of pixels (left + i) (top + j))
     → ((q : ℕ) → q < 6 * j → get_or old q 0 ≡ pixel_of pixels (left + q % 6) (top + q / 6))

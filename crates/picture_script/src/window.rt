@@ -78,7 +78,7 @@ impl Window {
         ])
     }
 
-    /// Reads six pixels of a row.
+    /// Reads six pixels of a row, one by one: so they are moved together, without a look at where they lie.
     pub(crate) fn read_line(&self, x: usize, y: usize, out: &mut [u8])
         requires count { length out.old ≡ tile_width }
         requires width { x + tile_width ≤ window_width }
@@ -88,7 +88,9 @@ impl Window {
         ensures range { (i : ℕ) → slice_index out.new i < colour_count }
     {
         let start = WINDOW_WIDTH * y + x;
-        out.copy_from_slice(&self.pixels[start..start + TILE_WIDTH]);
+        for i in 0..TILE_WIDTH {
+            out[i] = self.pixels[start + i];
+        }
     }
 
     /// Sets all pixels to those of another window.
