@@ -1,4 +1,5 @@
 """`mend`: the best of any number of readings, put side by side by their times; never less than the better one."""
+import binascii
 import random
 import re
 import unittest
@@ -24,6 +25,16 @@ def noisy(stream: bytes, places: range, seed: int, length: int = 60) -> bytes:
 def wrong(packs: bytes, truth: bytes) -> int:
     """How many packs are not as they should be."""
     return sum(packs[at : at + PACK] != truth[at : at + PACK] for at in range(0, len(truth), PACK))
+
+
+def is_frame(block: bytes) -> bool:
+    """Whether the check of a block's Q channel is that of its first 80 bits."""
+    frame = int("".join(str(byte >> 6 & 1) for byte in block), 2).to_bytes(12, "big")
+    return binascii.crc_hqx(frame[:10], 0) ^ 0xFFFF == int.from_bytes(frame[10:], "big")
+
+
+def blocks_of(stream: bytes) -> list[bytes]:
+    return [stream[at : at + BLOCK] for at in range(0, len(stream), BLOCK)]
 
 
 class MendCase(FolderTest):
@@ -289,6 +300,35 @@ class MendedStreamTest(MendCase):
         self.assertEqual((counts["one"], counts["two"]), ("0", "0"))
         none = int(re.search(r"(\d+) words have no codeword", self.ran.told)[1])  # type: ignore[index]
         self.assertEqual(int(counts["bad"]), none)
+
+    def test_frames_are_those_chosen(self) -> None:
+        """Of each block the first reading whose check is good gives P and Q, or else the first."""
+        chance, readings = random.Random(11), []
+        for _ in range(3):
+            stream = bytearray(self.whole)
+            for block in chance.sample(range(60, len(self.whole) // BLOCK), 400):
+                stream[BLOCK * block + chance.randrange(BLOCK)] ^= 0x40
+                stream[BLOCK * block + chance.randrange(BLOCK)] ^= 0x80
+            readings.append(bytes(stream))
+        stream = self.mended(*readings, name="out.raw")
+        lines = [program("q", stdin=reading).splitlines() for reading in readings]
+        columns = [blocks_of(reading) for reading in readings]
+        chosen = [next((r for r in range(3) if is_frame(columns[r][n])), 0) for n in range(len(columns[0]))]
+        self.assertGreater(chosen.count(1), 100)
+        self.assertEqual(program("q", stdin=stream).splitlines(), [lines[r][n] for n, r in enumerate(chosen)])
+        for block, (r, own) in enumerate(zip(chosen, blocks_of(stream))):
+            self.assertEqual(bytes(byte & 0xC0 for byte in own), bytes(byte & 0xC0 for byte in columns[r][block]), block)
+
+    def test_packs_of_all_forms(self) -> None:
+        """The program finds the packs of the .cdg file in a stream of each form, and no wrong symbol."""
+        first, second = known.scratched(self.whole, 21, 30), known.scratched(self.whole, 22, 30)
+        packs = self.mended(first, second)
+        for name in ("out.raw", "out.subcode", "out.sub"):
+            stream = self.mended(first, second, name=name)
+            raw = program("raw", stdin=stream) if name.endswith(".sub") else stream
+            self.assertEqual(program("convert", "--lead-in", 60, stdin=raw), packs)
+            counts = dict(line.split() for line in program("check", "--lead-in", 60, stdin=raw).decode().splitlines())
+            self.assertEqual((counts["one"], counts["two"], counts["bad"]), ("0", "0", "0"))
 
     def test_q_of_a_reading_that_is_left_out(self) -> None:
         """A reading without graphics gives its Q where the other's is bad."""

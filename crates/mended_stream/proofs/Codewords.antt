@@ -15,7 +15,8 @@ use Rattle.rw_mend.specs.declared.voices.Voice.TheVariants.{Silent, Lost, Near}
 use Rattle.rw_mend.proofs.Givens.{given_codeword}
 
 -- a voice that is a codeword is near it
-near_of : (voice : Voice) (codeword : List ℕ) → IsOf codeword voice → (doubts : ℕ) × (voice ≡ Near codeword doubts)
+near_of : (voice : Voice) (codeword : List ℕ) → IsOf codeword voice
+    → (doubts : ℕ) × (voice ≡ Near codeword doubts)
 near_of Silent codeword is = absurd is
 near_of (Lost word) codeword is = absurd is
 near_of (Near pack doubts) codeword is = (doubts, ap (λ p. Near p doubts) is)
@@ -58,10 +59,12 @@ source_of : (source : WordSource) (voices : List Voice) (codeword : List ℕ) (m
     → mended.source ≡ source → length voices ≤ 254
     → IsMendedBy source voices codeword → source_byte (Some mended) ≢ 255
 source_of (Reading r) voices codeword mended is few by same =
-    let number : r ≡ 255 = sym (ap (λ s. source_byte (Some (record { pack = mended.pack; source = s }))) is) ∙ same in
+    let number : r ≡ 255 =
+    sym (ap (λ s. source_byte (Some (record { pack = mended.pack; source = s }))) is) ∙ same in
     omega (arith, number, by.0.within, few)
 source_of Agreed voices codeword mended is few by same =
-    let number : 254 ≡ 255 = sym (ap (λ s. source_byte (Some (record { pack = mended.pack; source = s }))) is) ∙ same in
+    let number : 254 ≡ 255 =
+    sym (ap (λ s. source_byte (Some (record { pack = mended.pack; source = s }))) is) ∙ same in
     omega (arith, number)
 
 -- and its source is not told as none
@@ -69,7 +72,8 @@ pub own_source : (words : ℕ) (programs : List (List ℕ)) (said : List (List V
     (found : List (Option Mended)) (n : ℕ) (own : Mended) → AreMended words programs said found → n < words
     → length programs ≤ 254 → get_or found n None ≡ Some own → source_byte (get_or found n None) ≢ 255
 own_source words programs said found n own are within few is same =
-    source_of own.source (get_or said n []) own.pack own refl (omega (arith, (are.voices n within).count, few))
+    source_of own.source (get_or said n []) own.pack own refl
+    (omega (arith, (are.voices n within).count, few))
     (subst (IsMending (get_or said n [])) is (are.each n within)) (ap source_byte (sym is) ∙ same)
 
 -- ---- The text of words.

@@ -1,6 +1,9 @@
 pub mod Choosing
 pub mod Codewords
+pub mod Frames
 pub mod Recovered
+pub mod Single
 pub mod Standing
 pub mod Streaming
+pub mod Under
 pub mod Writing

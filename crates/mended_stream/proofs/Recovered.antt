@@ -83,7 +83,8 @@ module _ (lead_in : ℕ) (readings : List (List ℕ)) (found : List (Option Mend
       → get_or symbols (place n i) 0 ≡ get_or own.pack i 0
   mended_symbol n i own lt small here =
       let at : ℕ = stream_place lead_in n i in
-      let inside : at < length stream = within lead_in (length stream) (length found) n i whole is.words lt small in
+      let inside : at < length stream =
+      within lead_in (length stream) (length found) n i whole is.words lt small in
       program_symbol lead_in (place n i) stream whole
       ∙ (is.bytes at inside).mended n i own (record { word = lt; symbol = small; is = here; place = refl })
 
@@ -91,7 +92,8 @@ module _ (lead_in : ℕ) (readings : List (List ℕ)) (found : List (Option Mend
       → get_or symbols (place n i) 0 ≡ read_byte readings (stream_place lead_in n i) % 64
   other_symbol n i lt small none =
       let at : ℕ = stream_place lead_in n i in
-      let inside : at < length stream = within lead_in (length stream) (length found) n i whole is.words lt small in
+      let inside : at < length stream =
+      within lead_in (length stream) (length found) n i whole is.words lt small in
       program_symbol lead_in (place n i) stream whole
       ∙ (is.bytes at inside).others (λ m j own there.
       let here = slot_of lead_in n i at small refl in

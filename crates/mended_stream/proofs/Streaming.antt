@@ -114,7 +114,8 @@ first_long : (count size : ℕ) (readings : List ℕ) → 0 < count → length r
     → length (get_or (parts count size readings) 0 []) ≡ size
 first_long count size readings some long =
     let none : size * 0 ≡ 0 = omega arith in
-    ap (λ (l : List ℕ). length l) (part_at count size readings 0 some ∙ ap (λ n. take size (drop n readings)) none)
+    ap (λ (l : List ℕ). length l)
+    (part_at count size readings 0 some ∙ ap (λ n. take size (drop n readings)) none)
     ∙ length-take-le size readings (omega (arith, long, mul-le-mul_right size some))
 
 -- what is put in the middle of a buffer
@@ -139,7 +140,8 @@ pub stream_done : (count lead_in start : ℕ) (readings old new packs sources ne
     → length readings / count ≤ length old
     → AreAllMendedInto count lead_in readings (slice_range old start (length readings / count)) packs sources
     new_sources tallies
-    → length new ≡ length (take start old ++ (packs ++ drop (length readings / count - start) (drop start old)))
+    → length new
+    ≡ length (take start old ++ (packs ++ drop (length readings / count - start) (drop start old)))
     → drop (length readings / count) new
     ≡ drop (length readings / count)
     (take start old ++ (packs ++ drop (length readings / count - start) (drop start old)))
@@ -203,7 +205,8 @@ stream_done count lead_in start readings old new packs sources new_sources words
             subst (IsMendedByte lead_in all found p) (sym (get_or-take size new p 0 within))
             (mended_byte lead_in all programs are.said found words
             (drop (size - 24 * words.count) mended) p (get_or new p 0)
-            (subst (λ n. AreMended n programs are.said found) (sym count_is) are.mended) programs_few each begin
+            (subst (λ n. AreMended n programs are.said found) (sym count_is) are.mended) programs_few each
+            begin
             (λ n small. ap (λ l. get_or l n 0) own
             ∙ source_at found (drop (length found) sources) new_sources n told small)
             (λ j small. ap (λ l. get_or l j 0) text_there

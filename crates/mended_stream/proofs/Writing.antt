@@ -77,9 +77,11 @@ put_there list block new m k is fits size lt =
 -- one block more
 pub bytes_more : (words : Words) (text list block new framed read : List ℕ) (readings : List (List ℕ)) (b : ℕ)
     → new ≡ take (96 * b) list ++ block ++ drop (96 * b + 96) list → 96 * b ≤ length list
-    → length block ≡ 96 → framed ≡ first_framed (blocks_at readings b) → read ≡ first_read (blocks_at readings b)
+    → length block ≡ 96 → framed ≡ first_framed (blocks_at readings b)
+    → read ≡ first_read (blocks_at readings b)
     → AreBytes words text readings (96 * b) list
-    → ((k : ℕ) → k < 96 → IsByte words text (96 * b + k) (get_or framed k 0) (get_or read k 0) (get_or block k 0))
+    → ((k : ℕ) → k < 96
+    → IsByte words text (96 * b + k) (get_or framed k 0) (get_or read k 0) (get_or block k 0))
     → AreBytes words text readings (96 * (b + 1)) new
 bytes_more words text list block new framed read readings b is fits size framed_is read_is before here p lt =
     elim (leb_tells (96 * b) p) [

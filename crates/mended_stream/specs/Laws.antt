@@ -1,5 +1,5 @@
 -- What is found again in a mended stream.
-use Rattle.std.specs.Prelude.{◌≡◌, ◌%◌, ◌<◌, ℕ, List, length, map, slice_index_or, Option, Some, None}
+use Rattle.std.specs.Prelude.{◌≡◌, ◌%◌, ◌<◌, ℕ, List, [], length, map, slice_index_or, Option, Some, None}
 use Rattle.bit_lists.specs.Counting.{below}
 use Rattle.rw_code.specs.Finding.{IsFinding}
 use Rattle.rw_code.specs.Sizes.{word_symbols}
@@ -20,3 +20,8 @@ pub record AreFoundAgain (lead_in : ℕ) (readings : List (List ℕ)) (found : L
       → slice_index_or recovered n None ≡ Some own.pack
   pub others : (n : ℕ) → n < length found → slice_index_or found n None ≡ None
       → IsFinding (read_word lead_in readings n) (slice_index_or recovered n None)
+
+-- there are some readings, and each is so long
+pub record AreAsLong (size : ℕ) (readings : List (List ℕ)) : Type 0 where
+  pub some : 0 < length readings
+  pub each : (r : ℕ) → r < length readings → length (slice_index_or readings r []) ≡ size

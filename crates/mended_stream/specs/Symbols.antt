@@ -39,3 +39,10 @@ HasText words text = symbols_a_slot * words.count ≤ length text
 abbrev pub AreBytes : Words → List ℕ → List (List ℕ) → ℕ → List ℕ → Type 0
 AreBytes words text readings size bytes = (p : ℕ) → p < size
     → IsByte words text p (framed_byte readings p) (read_byte readings p) (slice_index bytes p)
+
+-- Each word of which a symbol stands in block b was mended: the words of the block's slots, and of the seven before.
+pub record AreMendedUnder (words : Words) (b : ℕ) : Type 0 where
+  pub first : 4 * words.lead_in + 7 ≤ 4 * b
+  pub last : 4 * b + 4 ≤ 4 * words.lead_in + words.count
+  pub found : (n : ℕ) → 4 * b ≤ 4 * words.lead_in + 7 + n → 4 * words.lead_in + n < 4 * b + 4
+      → slice_index words.sources.now n ≢ 255

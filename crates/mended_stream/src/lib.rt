@@ -7,5 +7,8 @@ mod readings;
 mod streams;
 mod words;
 
-pub use laws::{each_word_stands_in_the_stream, mended_packs_are_recovered};
+pub use laws::{
+    each_word_stands_in_the_stream, frames_are_those_chosen, mended_packs_are_recovered,
+    one_reading_is_corrected,
+};
 pub use streams::mend_stream;

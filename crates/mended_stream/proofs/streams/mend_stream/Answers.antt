@@ -16,6 +16,7 @@ returns c =
     let fits : 24 * words ≤ size = omega (arith, number, c.requires.whole) in
     stream_done count c.args.lead_in start readings c.args.blocks.now c.write_blocks.new.blocks
     c.mend_readings-tallies.new.packs c.args.sources.now c.mend_readings-tallies.new.sources _
-    c.mend_readings-tallies.result c.write_blocks.ensures.bytes c.requires.some c.requires.few c.requires.equal
+    c.mend_readings-tallies.result c.write_blocks.ensures.bytes c.requires.some c.requires.few
+    c.requires.equal
     number refl refl c.requires.sources refl fits c.requires.room c.mend_readings-tallies.ensures
     c.write_blocks.ensures.size c.write_blocks.ensures.behind

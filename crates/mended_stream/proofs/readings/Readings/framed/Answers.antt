@@ -17,7 +17,8 @@ returns-then-is_framed-clause-block c =
     let framed : is_framed_block (block_at (get_or all r []) b) ≡ true =
     ap is_framed_block (sym c.block-block.ensures.block) ∙ cc in
     c.block-block.ensures.block
-    ∙ sym (first_block is_framed_block all b r (first_read (blocks_at all b)) within c.loop-r.invariant framed)
+    ∙ sym
+    (first_block is_framed_block all b r (first_read (blocks_at all b)) within c.loop-r.invariant framed)
 
 pub returns-clause-block : goal.returns-clause-block
 unfolding first_framed

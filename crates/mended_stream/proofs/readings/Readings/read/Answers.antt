@@ -18,7 +18,8 @@ returns-then-not-is_empty-clause-block c =
     let full : is_empty_block (block_at (get_or all r []) b) ≡ false =
     ap is_empty_block (sym c.block-block.ensures.block) ∙ cc in
     c.block-block.ensures.block
-    ∙ sym (first_block (λ (block : List ℕ). not (is_empty_block block)) all b r (get_or (blocks_at all b) 0 [])
+    ∙ sym
+    (first_block (λ (block : List ℕ). not (is_empty_block block)) all b r (get_or (blocks_at all b) 0 [])
     within (λ k lt. ap not (c.loop-r.invariant k lt)) (ap not full))
 
 pub returns-clause-block : goal.returns-clause-block

@@ -1,6 +1,6 @@
 use Rattle.std.proofs.Common.{◌≡◌, ◌<◌, ◌+◌, ◌*◌, ℕ, length, get_or}
 use Rattle.mended_stream.specs.Symbols.{IsByte}
-use Rattle.mended_stream.proofs.words.Words.block.Given as goal
+use Rattle.mended_stream.proofs.words.Words.mixed_block.Given as goal
 
 abbrev pub invariant-loop-k : goal.invariant-loop-k
 invariant-loop-k l = record {

@@ -3,7 +3,7 @@ use Rattle.std.proofs.Math.ListN.{set, length-set}
 use Rattle.std.proofs.lemmas.List.{get_or-set_other, get_or-set_same}
 use Rattle.mended_stream.specs.Symbols.{IsByte}
 use Rattle.mended_stream.proofs.Standing.{byte_of}
-use Rattle.mended_stream.proofs.words.Words.block.Goals as goal
+use Rattle.mended_stream.proofs.words.Words.mixed_block.Goals as goal
 
 pub loop-k-preserved : goal.loop-k-preserved
 loop-k-preserved c =
@@ -25,7 +25,8 @@ loop-k-preserved c =
           (get_or c.args.read.now j 0) y) (sym (get_or-set_other block k j x 0 (λ e. omega (arith, e, lt))))
           (c.loop-k.invariant.bytes j lt))
           (subst (λ y. IsByte words text (96 * c.args.b + k) f r y) (sym (get_or-set_same block k x 0 within))
-          (byte_of words text (96 * c.args.b + k) f r c.symbol.result c.symbol.ensures.small c.symbol.ensures.symbol));
+          (byte_of words text (96 * c.args.b + k) f r c.symbol.result c.symbol.ensures.small
+          c.symbol.ensures.symbol));
     }
 
 pub returns : goal.returns
