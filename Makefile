@@ -41,9 +41,10 @@ check:
 	tools/build/take_gate.sh
 	tools/check/check_repository.sh
 
-# How fast each command is, beside cat.
+# How fast each command is, beside what moving its bytes takes, and what users wait for at the desk.
 bench:
 	bench/throughput.py
+	bench/desk.py
 
 # The commands of the guide, as they stand.
 guide:

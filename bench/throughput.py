@@ -1,8 +1,9 @@
 #!/usr/bin/env python3
 """Prints the table of bench/README.md: for each command on inputs of 40 MB the processor time that it takes, in
-milliseconds, beside that of `cat` and of a plain program, how many times ours goes into the plain program's, and the most
-memory that was held. Each time is user and system time of the process alone, the least of RUNS runs (nine, or what the
-environment says), in turn with the others of its row, through the same pipes. The plain program is bench/reference.rs,
+milliseconds, beside the physical limit and a plain program, how many times the limit goes into ours and ours into the plain
+program's, and the most memory that was held. The limit is what `cat` takes to bring as many bytes in and out: half of its
+time for each byte that is read, and half for each that is written. Each time is user and system time of the process alone,
+the least of RUNS runs (nine, or what the environment says), in turn with the others of its row, through the same pipes. The plain program is bench/reference.rs,
 unverified Rust that does the work of some commands; it is built where rustc is there, and what it writes is compared with
 what we write.
 
@@ -173,6 +174,8 @@ def told_time(block: int) -> str:
     return f"{block // 4500:02}:{block // 75 % 60:02}:{block % 75:02}"
 
 
+# What `cat` copies, for the limit.
+COPIED = 96 * BLOCKS
 CLEAN = 24 * (4 * BLOCKS - 7)
 AUTHORED = 96 * 400_170
 # What is run, the names of its inputs, what they are, and how many bytes have to come out (where that is known).
@@ -216,19 +219,27 @@ def plain_run(program: str | None, words: str, given: Sequence[str]) -> list[str
     return other
 
 
-def row(program: str | None, what: str, words: str, given: Sequence[str], size: int | None) -> str:
+def limit(copied: float, given: Sequence[str], out: int) -> float:
+    """What it takes to bring these bytes in and out, where to copy COPIED bytes takes so long."""
+    return copied * (sum(os.path.getsize(it) for it in given) + out) / (2 * COPIED)
+
+
+def row(program: str | None, what: str, words: str, given: Sequence[str], size: int | None, copy: str) -> str:
     """A line of the table, once the command is seen to write what it should."""
     ran = through_pipes(ribjasper(words), given)
     if ran.status > 1 or ran.written == 0 or (size is not None and ran.written != size):
         raise ValueError(f"wrote {ran.written} bytes with status {ran.status}")
     other = plain_run(program, words, given)
-    runs = [(ribjasper(words), given), *([(other, given)] if other else []), *((["cat"], [it]) for it in given)]
-    took, *rest = best(runs)
-    plain = rest.pop(0) if other else None
-    copied = sum(rest) if given else None
+    runs: list[tuple[list[str], Sequence[str]]] = [(ribjasper(words), given), (["cat"], [copy])]
+    if other:
+        runs.append((other, given))
+    took, copied, *rest = best(runs)
+    least = limit(copied, given, ran.written)
+    plain = rest[0] if rest else None
     ratio = "-" if plain is None else f"{plain / took:.2f}"
     held = f"{peak(ribjasper(words), given) / 1024:.1f}"
-    cells = [f"`{words.split()[0]}`", what, milliseconds(copied), milliseconds(took), milliseconds(plain), ratio, held]
+    cells = [f"`{words.split()[0]}`", what, milliseconds(least), milliseconds(took), f"{took / least:.2f}",
+             milliseconds(plain), ratio, held]
     return f"| {' | '.join(cells)} |"
 
 
@@ -241,11 +252,11 @@ def main() -> int:
         program = reference(Path(folder))
         at = f"load {os.getloadavg()[0]:.1f}, {os.cpu_count()} processors"
         print(f"Processor milliseconds, the least of {RUNS} runs; {at}.\n")
-        print("| Command | Input | `cat` | Ours | The plain program | Its time to ours | MB held |")
-        print("|---|---|---|---|---|---|---|", flush=True)
+        print("| Command | Input | Limit | Ours | Ours to it | The plain program | Its time to ours | MB held |")
+        print("|---|---|---|---|---|---|---|---|", flush=True)
         for words, names, what, size in ROWS:
             try:
-                print(row(program, what, words, [files[name] for name in names], size), flush=True)
+                print(row(program, what, words, [files[name] for name in names], size, files["clean"]), flush=True)
             except ValueError as why:
                 print(f"{words}: {why}", file=sys.stderr)
                 failed = True

@@ -32,6 +32,8 @@ AS_SECOND = bytes(number | SECOND * (0 < number <= FULL) for number in range(256
 PIECE = re.compile(r"\s*\S+\s*")
 # No letter of any font, whose picture is that of a letter that is missing.
 NO_LETTER = "\U0010ffff"
+# Which letters files are known to have, or to lack.
+KNOWN: dict[tuple[Path, str], bool] = {}
 
 
 @dataclass
@@ -59,6 +61,8 @@ class Font:
             raise Missing(f"this needs the package {FONT_PACKAGE} (apt-get install {FONT_PACKAGE}), or --font FILE")
         self._made: dict[tuple[int, int], Any] = {}
         self._faces: dict[str, int | None] = {}
+        # Letters that the first file has, and those that are not drawn.
+        self._plain: set[str] = set()
         self._widths: dict[tuple[str, int], float] = {}
         self.face(0, size)
 
@@ -78,8 +82,12 @@ class Font:
         return self._faces[letter]
 
     def has(self, number: int, letter: str) -> bool:
-        face = self.face(number, self.size)
-        return bytes(face.getmask(letter)) != bytes(face.getmask(NO_LETTER))
+        """Whether a file has a letter; in one size it has those that it has in others."""
+        key = self.paths[number], letter
+        if key not in KNOWN:
+            face = self.face(number, self.size)
+            KNOWN[key] = bytes(face.getmask(letter)) != bytes(face.getmask(NO_LETTER))
+        return KNOWN[key]
 
     def missing(self, text: str) -> set[str]:
         """The letters of a text that no file has."""
@@ -87,7 +95,9 @@ class Font:
 
     def runs(self, text: str) -> list[tuple[int, str]]:
         """The stretches of a text that one file has, with its number, in the order of reading."""
-        if all(self.face_of(letter) == 0 for letter in set(text) if is_drawn(letter)):
+        letters = set(text) - self._plain
+        if all(self.face_of(letter) == 0 for letter in letters if is_drawn(letter)):
+            self._plain |= letters
             return [(0, text)]
         runs: list[tuple[int, str]] = []
         for letter in text:
@@ -182,9 +192,9 @@ def text_of(words: list[list[Syllable]]) -> str:
     return "".join(syllable.text for word in words for syllable in word).strip()
 
 
-def rows_of(line: Line, font: Font) -> int:
-    """How many rows a line needs."""
-    return len(filled(words_of(line), font, ROOM))
+def fits(words: list[list[Syllable]], font: Font, room: float) -> bool:
+    """Whether all words have room in one row."""
+    return font.width(text_of(words), font.size) <= room
 
 
 def wrapped(line: Line, font: Font) -> list[list[list[Syllable]]]:
@@ -219,12 +229,14 @@ def sung_later(rows: list[list[list[Syllable]]]) -> list[list[list[Syllable]]]:
 
 def filled(words: list[list[Syllable]], font: Font, room: float) -> list[list[list[Syllable]]]:
     """The words in rows, each row as full as it can be."""
-    rows = [[words[0]]]
-    for word in words[1:]:
-        if font.width(text_of([*rows[-1], word]), font.size) <= room:
-            rows[-1].append(word)
-        else:
-            rows.append([word])
+    rows: list[list[list[Syllable]]] = []
+    while words:
+        # More words are wider, so the first number of them that has no room is looked for by halves.
+        count = len(words)
+        if not fits(words, font, room):
+            count = bisect.bisect_left(range(2, count), True, key=lambda most: not fits(words[:most], font, room)) + 1
+        rows.append(words[:count])
+        words = words[count:]
     return rows
 
 

@@ -1,7 +1,7 @@
 """Pages of a few rows, and the steps that draw, light and clear them on the screen."""
 import functools
 from dataclasses import dataclass, field
-from typing import Iterator
+from typing import Iterable
 
 from .lettering import Font, Letters, Setter, is_leftward, text_of, wrapped
 from .raster import TILE_HEIGHT, TILE_WIDTH, WIDTH, Raster, Span, joined
@@ -19,8 +19,19 @@ DOT = ("......", "......", "......", ".####.", "######", "######", "######", "##
        "......")
 # What is sung has the number of the same level with one more bit, so that one pack a tile lights a word.
 LIT = bytes(number | (SUNG if number & FULL else 0) for number in range(16)) + bytes(range(16, 256))
+# Where no ink is.
+NO_INK = bytes([255, *bytes(255)])
 # The columns that are drawn in one step.
 STEP = TILE_WIDTH
+
+# A row of pixels with its number.
+Row = tuple[int, bytes]
+
+
+def over(ground: bytes, inks: bytes) -> bytes:
+    """Inks over a row of the ground, which is seen where they are 0."""
+    seen = int.from_bytes(ground, "big") & int.from_bytes(inks.translate(NO_INK), "big")
+    return (seen | int.from_bytes(inks, "big")).to_bytes(len(inks), "big")
 
 
 @dataclass(eq=False)
@@ -50,7 +61,7 @@ class Placed:
         rows = [bytearray(row) for row in self.empty.rows[self.area.start : self.area.stop]]
         if self.letters:
             for row, inks in zip(rows[self.top - self.area.start :], self.letters.rows):
-                row[:] = bytes(ink or ground for ink, ground in zip(inks, row))
+                row[:] = over(row, inks)
         for dot in self.dots:
             for row, marks in zip(rows[self.top - TILE_HEIGHT - self.area.start :], DOT):
                 row[dot : dot + TILE_WIDTH] = bytes(FULL if mark == "#" else old
@@ -63,8 +74,7 @@ class Placed:
         rows = list(self.empty.rows[self.area.start : self.area.stop])
         first = self.top - self.area.start
         for number, inks in enumerate(self.letters.rows if self.letters else [], first):
-            lit = inks.translate(LIT)
-            rows[number] = bytearray(new or ground for new, ground in zip(lit, rows[number]))
+            rows[number] = bytearray(over(rows[number], inks.translate(LIT)))
         return [bytes(row) for row in rows]
 
 
@@ -96,48 +106,54 @@ class Part(Step):
     left: int
     right: int
 
-    def pixels(self) -> Iterator[tuple[int, bytes]]:
-        """The rows that change, with what they are to have in these columns."""
+    def rows(self) -> Iterable[Row]:
+        """The rows that may change, with what they have in these columns."""
         raise NotImplementedError
 
-    def apply(self, raster: Raster) -> None:
-        for number, pixels in self.pixels():
-            raster.rows[number][self.left : self.right] = pixels
+    def differing(self, raster: Raster) -> list[Row]:
+        """Those of its rows that are not what stands."""
+        return [(number, row) for number, row in self.rows() if raster.rows[number] != row]
 
-    def lines(self, raster: Raster) -> list[str]:
-        """The lines of a script that change what stands into this, which then stands."""
-        spans = []
-        for number, pixels in self.pixels():
-            row = raster.rows[number]
-            if row[self.left : self.right] != pixels:
-                row[self.left : self.right] = pixels
-                spans.append(Span(self.left, number, pixels))
+    def apply(self, raster: Raster) -> None:
+        self.draw(raster, self.rows())
+
+    def draw(self, raster: Raster, rows: Iterable[Row]) -> None:
+        """Brings its columns of some of its rows."""
+        for number, row in rows:
+            raster.rows[number][self.left : self.right] = row[self.left : self.right]
+
+    def lines(self, raster: Raster, rows: list[Row]) -> list[str]:
+        """The lines of a script that change what stands into this, which then stands; only these rows can differ."""
+        spans, left, right = [], self.left, self.right
+        for number, row in rows:
+            pixels, stands = row[left:right], raster.rows[number]
+            if stands[left:right] != pixels:
+                stands[left:right] = pixels
+                spans.append(Span(left, number, pixels))
         return list(joined(spans))
 
 
 class Draw(Part):
     """They come, or go, over the empty page."""
 
-    def pixels(self) -> Iterator[tuple[int, bytes]]:
-        for number, row in zip(self.placed.area, self.placed.rows):
-            yield number, row[self.left : self.right]
+    def rows(self) -> Iterable[Row]:
+        return zip(self.placed.area, self.placed.rows)
 
 
 class Light(Part):
     """They take the colour of what is sung."""
 
-    def pixels(self) -> Iterator[tuple[int, bytes]]:
+    def rows(self) -> Iterable[Row]:
         placed = self.placed
-        for number, row in zip(range(placed.top, placed.area.stop), placed.lit[placed.top - placed.area.start :]):
-            yield number, row[self.left : self.right]
+        return zip(range(placed.top, placed.area.stop), placed.lit[placed.top - placed.area.start :])
 
 
 class DotOut(Part):
     """One of the dots that count a line in goes out."""
 
-    def pixels(self) -> Iterator[tuple[int, bytes]]:
-        for number in range(self.placed.top - TILE_HEIGHT, self.placed.top):
-            yield number, bytes(self.placed.empty.rows[number][self.left : self.right])
+    def rows(self) -> Iterable[Row]:
+        empty = self.placed.empty.rows
+        return ((number, bytes(empty[number])) for number in range(self.placed.top - TILE_HEIGHT, self.placed.top))
 
 
 @dataclass

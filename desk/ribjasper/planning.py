@@ -1,5 +1,6 @@
 """What the library's plan of a disc says: what each picture of a script needs, or why there is no plan."""
 import enum
+import struct
 from typing import NamedTuple
 
 from .library import LONGEST_LEAD_IN, NO_MEMORY, Planned, PlanRow, call
@@ -8,6 +9,8 @@ from .times import clock
 # As many pictures as a script may have.
 MOST_PICTURES = 20_000
 PLANNED, LATE, NOT_PLANNED = 0, 4, 3
+# A row of the plan as it lies in memory: six numbers, whether it is late, and three bytes.
+ROW = struct.Struct("=6I?3x")
 
 
 class Reason(enum.IntEnum):
@@ -119,9 +122,8 @@ def plan(sheet: bytes, script: bytes, audio: int, lead_in: int = LONGEST_LEAD_IN
         raise NoPlan(told.why, told.line, told.number)
     if status not in (PLANNED, LATE):
         raise ValueError(f"ribjasper_plan answers {status}")
-    found = [PlannedPicture(one.line, one.ready, one.hold, one.need, one.free, one.first, bool(one.late))
-             for one in rows[: told.pictures]]
-    return Plan(found, told.blocks)
+    listed = memoryview(rows).cast("B")[: ROW.size * told.pictures]
+    return Plan([PlannedPicture._make(row) for row in ROW.iter_unpack(listed)], told.blocks)
 
 
 # So many refused lines of a text are told.

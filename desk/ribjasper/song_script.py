@@ -1,10 +1,13 @@
 """The script of a song: a title, its pages, and what is lit when, so that the plan finds nothing late."""
+import bisect
+import functools
+import itertools
 from dataclasses import dataclass
 from pathlib import Path
-from typing import Iterable, Sequence
+from typing import Callable, Iterable, Sequence
 
 from . import times
-from .lettering import Font, Setter, named, rows_of, wrapped
+from .lettering import ROOM, Font, Setter, filled, fits, named, words_of, wrapped
 from .library import BLOCKS_A_SECOND
 from .output import Refusal, shown
 from .pages import GOES, Draw, Group, Light, Page, Part, Placed, Show, Step, groups_of, laid_out, still_page, texts_of
@@ -117,8 +120,13 @@ def ask_needs(steps: Sequence[Part], ground: Raster) -> None:
     for at in range(0, len(steps), MOST_PICTURES - 1):
         part = steps[at : at + MOST_PICTURES - 1]
         lines = [*lines_between(Raster(), ground), "show 00:01:00 00:01:00"]
-        for number, step in enumerate(part, times.blocks("00:01:01")):
-            lines += [*step.lines(ground), f"show {clock(number)} {clock(number)}"]
+        numbers = itertools.count(times.blocks("00:01:01"))
+        # Steps of one kind at one place bring the same rows, of which only those that differ are looked at.
+        for _, alike in itertools.groupby(part, key=lambda step: (step.placed, type(step))):
+            some = list(alike)
+            rows = some[0].differing(ground)
+            for step, number in zip(some, numbers):
+                lines += [*step.lines(ground, rows), f"show {clock(number)} {clock(number)}"]
         for step, row in zip(part, plan_of(lines).rows[1:]):
             step.need = row.need
 
@@ -170,9 +178,19 @@ def page_of_texts(lines: list[tuple[str, int, int]], empty: Raster, font: Font, 
     return raster
 
 
-def broken(song: Song, font: Font) -> int:
+# The words of a line.
+Words = list[list[Syllable]]
+
+
+def broken(lines: list[Words], font: Font) -> int:
     """How many lines need more than one row."""
-    return sum(rows_of(line, font) > 1 for line in song.lines)
+    return sum(not fits(words, font, ROOM) for words in lines)
+
+
+def first_of(fonts: list[Font], holds: Callable[[Font], bool]) -> int:
+    """The place of the first font of which something holds that then holds of all smaller ones, which follow it; or their
+    number. Letters of a smaller size are no wider and no higher."""
+    return bisect.bisect_left(fonts, True, key=holds)
 
 
 def refuse_missing(song: Song, font: Font, texts: dict[str, str]) -> None:
@@ -196,34 +214,39 @@ def fonts_for(song: Song, wishes: Wishes, notes: list[str]) -> list[Font]:
     refuse_missing(song, fonts[0], texts | {"the title": song.title, "the performer": song.performer,
                                             "the singers": "".join(song.singers), "the style": style.rest})
 
-    def fits(font: Font) -> bool:
+    def is_low(font: Font) -> bool:
         return Setter(font, list(texts.values()), style.align, bool(style.edge)).tile_rows <= style.slot_rows
 
-    fonts = [font for font in fonts if fits(font)]
+    fonts = fonts[first_of(fonts, is_low) :]
     if not fonts:
         smaller = [Font(paths, size) for size in range(min(asked or SIZES[-1], SIZES[-1]), 9, -1)]
-        fonts = [font for font in smaller if fits(font)][:3]
+        fonts = smaller[first_of(smaller, is_low) :][:3]
         if asked:
             notes.append(f"{song.path}: letters of {asked} pixels are too high for {style.rows} rows a page")
     if not fonts:
         raise Refusal(song.path, f"no letters are small enough for {style.rows} rows a page")
-    rows = {font: sum(rows_of(line, font) for line in song.lines) for font in fonts}
-    first = next(font for font in fonts if rows[font] <= MORE_ROWS * min(rows.values()))
-    first = unbroken(song, first, notes, bool(asked))
+    lines = [words_of(line) for line in song.lines]
+
+    @functools.cache
+    def rows(font: Font) -> int:
+        return sum(len(filled(words, font, ROOM)) for words in lines)
+
+    first = fonts[first_of(fonts, lambda font: rows(font) <= MORE_ROWS * rows(fonts[-1]))]
+    first = unbroken(song, lines, first, notes, bool(asked))
     smaller = [font for font in fonts if font.size < first.size and font.size % 4 == 0]
     return [first, *smaller, Font(paths, min(first.size, fonts[-1].size), True)]
 
 
-def unbroken(song: Song, font: Font, notes: list[str], is_asked: bool) -> Font:
+def unbroken(song: Song, lines: list[Words], font: Font, notes: list[str], is_asked: bool) -> Font:
     """The font in a smaller size, where that keeps most lines whole and this one does not."""
-    count = len(song.lines)
-    if 2 * broken(song, font) <= count:
+    count = len(lines)
+    if 2 * broken(lines, font) <= count:
         return font
     sizes = [size for size in (*SIZES, *SMALLER_SIZES) if size < font.size]
     smaller = [Font(font.paths, size) for size in sizes]
-    better = next((one for one in smaller if 2 * broken(song, one) <= count), font)
+    better = [*smaller, font][first_of(smaller, lambda one: 2 * broken(lines, one) <= count)]
     if is_asked and better is not font:
-        notes.append(f"{song.path}: letters of {font.size} pixels break {broken(song, font)} of {count} lines, and so "
+        notes.append(f"{song.path}: letters of {font.size} pixels break {broken(lines, font)} of {count} lines, and so "
                      f"they have {better.size}")
     return better
 
@@ -236,12 +259,12 @@ def lines_of(steps: Sequence[Step], raster: Raster) -> list[str]:
         for step in steps:
             step.apply(raster)
         return lines_between(before, raster)
-    areas = sorted({part.placed.area for part in parts}, key=lambda area: area.start)
-    old = [[bytes(row) for row in raster.rows[area.start : area.stop]] for area in areas]
+    old: dict[int, bytes] = {}
     for part in parts:
-        part.apply(raster)
-    found = [span for area, rows in zip(areas, old)
-             for span in spans(rows, raster.rows[area.start : area.stop], area.start)]
+        rows = part.differing(raster)
+        old = {number: bytes(raster.rows[number]) for number, _ in rows} | old
+        part.draw(raster, rows)
+    found = [span for number, row in sorted(old.items()) for span in spans([row], [raster.rows[number]], number)]
     return list(joined(found))
 
 

@@ -1,0 +1,159 @@
+#!/usr/bin/env python3
+"""Prints what users wait for at the desk: for `report` of a hundred dumps, `lyrics` of a song of four minutes, `film` of forty
+seconds of it and `picture` of a photo, the processor seconds of the desk and of all that it starts (ffmpeg too), the least of
+RUNS runs (three, or what the environment says), and those by the clock. With --desk another desk is measured, as that of another
+checkout, and with --keep the files that were made stay in a folder, to be compared."""
+from __future__ import annotations
+
+import argparse
+import os
+import random
+import shutil
+import subprocess
+import sys
+import tempfile
+import time
+from collections.abc import Callable
+from pathlib import Path
+from typing import NamedTuple
+
+TOP = Path(__file__).resolve().parent.parent
+PROGRAM, LIBRARY = TOP / "bin" / "ribjasper", TOP / "lib" / "libribjasper.so.0"
+RUNS = int(os.environ.get("RUNS", "3"))
+DUMPS, LINES, FILMED = 100, 60, 40
+SHEET = 'FILE "a.wav" WAVE\nTRACK 01 AUDIO\nINDEX 01 00:00:00\n'
+WORDS = "silver road that spins in the light and music runs between notes where nobody looks for a page of words".split()
+
+
+class Took(NamedTuple):
+    """What a run took of the processor and by the clock, in seconds."""
+
+    processor: float
+    clock: float
+
+
+class Row(NamedTuple):
+    """What is measured: a command, what its input is, and its words, with a folder that is made for it."""
+
+    command: str
+    what: str
+    words: list[str]
+
+
+def lyrics() -> str:
+    """A song of four minutes with a time for each word."""
+    chance, lines = random.Random(1), ["[ti:A Song to Measure]", "[ar:The Bench]"]
+    for number in range(LINES):
+        at, words = 8.0 + 3.8 * number, chance.choices(WORDS, k=chance.randrange(5, 9))
+        line = "".join(f"<{clock(at + 3.2 * k / len(words))}>{word} " for k, word in enumerate(words))
+        lines.append(f"[{clock(at)}]{line}<{clock(at + 3.2)}>")
+    return "\n".join(lines) + "\n"
+
+
+def clock(second: float) -> str:
+    return f"{int(second // 60):02}:{second % 60:05.2f}"
+
+
+def photo(path: Path) -> None:
+    """Soft colours with noise, as a camera sees them."""
+    image = __import__("PIL.Image", fromlist=["Image"])
+    small = random.Random(2).randbytes(3 * 12 * 9)
+    soft = image.frombytes("RGB", (12, 9), small).resize((1600, 1200), image.BICUBIC)
+    noise = image.frombytes("RGB", (1600, 1200), random.Random(3).randbytes(3 * 1600 * 1200))
+    image.blend(soft, noise, 0.08).save(path)
+
+
+def program(words: list[str], out: Path) -> Path:
+    """What the program writes."""
+    with open(out, "wb") as file:
+        subprocess.run([PROGRAM, *words], stdin=subprocess.DEVNULL, stdout=file, check=True)
+    return out
+
+
+def dumps(work: Path) -> Path:
+    """A hundred dumps of a megabyte, all but the first scratched."""
+    folder, script = work / "dumps", work / "pictures"
+    folder.mkdir()
+    script.write_bytes(subprocess.run([PROGRAM, "gen", "--seed", "1", "--pictures", "12"], capture_output=True, check=True).stdout)
+    first = program(["author", "--lead-in", "0", "--length", "02:10:00", "--", str(work / "sheet"), str(script)], folder / "000.raw")
+    for number in range(1, DUMPS):
+        program(["scratch", "--lead-in", "0", "--seed", str(number), "--", str(first)], folder / f"{number:03}.raw")
+    return folder
+
+
+def rows(work: Path, desk: Callable[..., list[str]]) -> list[Row]:
+    """What is measured, once its inputs are made."""
+    (work / "sheet").write_text(SHEET)
+    (work / "song.lrc").write_text(lyrics())
+    photo(work / "photo.png")
+    script = work / "song.script"
+    subprocess.run(desk("lyrics", "song.lrc", "-o", "song.script"), cwd=work, check=True, stderr=subprocess.DEVNULL)
+    stream = program(["author", "--lead-in", "0", "--length", "04:10:00", "--", str(work / "sheet"), str(script)], work / "song.raw")
+    (work / "part.raw").write_bytes(stream.read_bytes()[: 96 * (150 + 75 * FILMED)])
+    dumps(work)
+    found = [
+        Row("report", f"{DUMPS} dumps of a megabyte", desk("report", "dumps", "--quiet", "-o", "OUT")),
+        Row("lyrics", f"a song of {LINES} lines", desk("lyrics", "song.lrc", "-o", "OUT.script")),
+        Row("picture", "a photo of 1,600 by 1,200", desk("picture", "photo.png", "-o", "OUT.script")),
+    ]
+    if shutil.which("ffmpeg"):
+        found.insert(2, Row("film", f"{FILMED} seconds of it", desk("film", "part.raw", "-o", "OUT.mp4")))
+    return found
+
+
+def run(words: list[str], work: Path) -> Took:
+    began = time.monotonic()
+    ran = subprocess.Popen(words, cwd=work, stdin=subprocess.DEVNULL, stdout=subprocess.DEVNULL, stderr=subprocess.PIPE)
+    assert ran.stderr is not None
+    said = ran.stderr.read().decode(errors="replace")
+    _, status, used = os.wait4(ran.pid, 0)
+    ran.returncode = os.waitstatus_to_exitcode(status)
+    if ran.returncode:
+        raise ValueError(f"ends with {ran.returncode}: {said.strip()}")
+    return Took(used.ru_utime + used.ru_stime, time.monotonic() - began)
+
+
+def measured(row: Row, work: Path, kept: Path | None) -> str:
+    """A line of the table."""
+    took = []
+    for number in range(RUNS):
+        name = next(word for word in row.words if word.startswith("OUT"))
+        out = work / f"{row.command}{number}{Path(name).suffix}"
+        took.append(run([word.replace(name, out.name) for word in row.words], work))
+    if kept and out.is_file():
+        kept.mkdir(exist_ok=True)
+        shutil.copy(out, kept / f"{row.command}{out.suffix}")
+    return f"| `{row.command}` | {row.what} | {min(took).processor:.1f} | {min(it.clock for it in took):.1f} |"
+
+
+def main() -> int:
+    parser = argparse.ArgumentParser(description="Prints what users wait for at the desk.")
+    parser.add_argument("--desk", type=Path, default=TOP / "desk" / "ribjasper-desk", help="the desk that is measured")
+    parser.add_argument("--keep", type=Path, metavar="FOLDER", help="where one of each output is kept")
+    words = parser.parse_args()
+    python = "/usr/bin/python3" if os.access("/usr/bin/python3", os.X_OK) else sys.executable
+    if not PROGRAM.exists() or not LIBRARY.exists():
+        print("desk: skipped, there is no bin/ribjasper or no lib/libribjasper.so.0 (make, make library)")
+        return 0
+    if subprocess.run([python, "-c", "import PIL"], stderr=subprocess.DEVNULL).returncode:
+        print("desk: skipped, there is no Pillow (python3-pil)")
+        return 0
+    os.environ.setdefault("RIBJASPER_LIBRARY", str(LIBRARY))
+    os.environ.setdefault("RIBJASPER_PROGRAM", str(PROGRAM))
+    failed = False
+    with tempfile.TemporaryDirectory() as folder:
+        found = rows(Path(folder), lambda *those: [python, str(words.desk.resolve()), *those])
+        at = f"load {os.getloadavg()[0]:.1f}, {os.cpu_count()} processors"
+        print(f"Seconds of the desk and what it starts, the least of {RUNS} runs; {at}.\n")
+        print("| Command | Input | Processor | Clock |\n|---|---|---|---|", flush=True)
+        for row in found:
+            try:
+                print(measured(row, Path(folder), words.keep), flush=True)
+            except ValueError as why:
+                print(f"{row.command}: {why}", file=sys.stderr)
+                failed = True
+    return 1 if failed else 0
+
+
+if __name__ == "__main__":
+    sys.exit(main())
