@@ -130,14 +130,17 @@ typedef struct ribjasper_player {
     bool is_open;
 } ribjasper_player;
 
-/* A closed player, to begin with: `ribjasper_player player = RIBJASPER_CLOSED;`, also of a static one. The second is a value
-   in C, which can be assigned to one that is closed: `player = RIBJASPER_CLOSED_PLAYER;`. */
-#define RIBJASPER_CLOSED { { NULL }, false }
+/* A closed player, to begin with and as a value: `ribjasper_player player = RIBJASPER_CLOSED;`, and of one that is closed
+   `player = RIBJASPER_CLOSED;`. A static player needs nothing to begin with, for it is zeros; where compilers hold strictly
+   to C, which takes no value there (gcc with -pedantic), it may begin with RIBJASPER_CLOSED_STATIC. RIBJASPER_CLOSED_PLAYER
+   is the older name of the value. */
+#define RIBJASPER_CLOSED_STATIC { { NULL }, false }
 #ifndef __cplusplus
-#define RIBJASPER_CLOSED_PLAYER ((ribjasper_player) RIBJASPER_CLOSED)
+#define RIBJASPER_CLOSED ((ribjasper_player) RIBJASPER_CLOSED_STATIC)
 #else
-#define RIBJASPER_CLOSED_PLAYER (ribjasper_player RIBJASPER_CLOSED)
+#define RIBJASPER_CLOSED (ribjasper_player RIBJASPER_CLOSED_STATIC)
 #endif
+#define RIBJASPER_CLOSED_PLAYER RIBJASPER_CLOSED
 
 /* Opens a player of a raw stream with no lead-in; refused where memory is short, and for nothing else. One that is open
    already keeps its memory and begins anew, and is never refused. */
@@ -195,7 +198,7 @@ int32_t ribjasper_player_draw_all(ribjasper_player *player, const uint8_t *packs
 
 /* What a player counts since it began, or since the checkpoint that it was brought to: the packs that came (`words`), its
    form and lead-in, the blocks that came, and how many of the packs have no codeword near. Packs that are drawn are not
-   counted. Blocks and bad packs stay at 4,294,967,295. */
+   counted. Blocks and bad packs stay at 4,294,967,295. ribjasper_player_feed_counted counts more. */
 typedef struct ribjasper_counts {
     uint64_t words;
     uint32_t form;
@@ -352,6 +355,25 @@ void ribjasper_block_to_planar(const uint8_t block[RIBJASPER_BLOCK], uint8_t pla
 
 /* Writes the raw block with a planar form. */
 void ribjasper_block_from_planar(const uint8_t planar[RIBJASPER_BLOCK], uint8_t block[RIBJASPER_BLOCK]);
+
+/* What came with blocks that a player was fed, counted. Begin with zeros. Each count stays at its last value. */
+typedef struct ribjasper_tally {
+    uint64_t blocks;         /* how many blocks they are */
+    uint64_t clean;          /* packs that came with no wrong symbol */
+    uint64_t one;            /* with one, which was corrected */
+    uint64_t two;            /* with two, which were corrected */
+    uint64_t bad;            /* packs with no codeword near */
+    uint64_t frames;         /* frames of the Q channel that were read, one a block at most; of RIBJASPER_PACKS none is */
+    uint64_t bad_frames;     /* frames that were refused */
+    uint64_t frame_block;    /* the number of the block with the last frame that was read, from 1, or 0 */
+    ribjasper_q_frame frame; /* this frame, or zeros */
+} ribjasper_tally;
+
+/* Feeds an open player the next block, as ribjasper_player_feed does, and adds what comes with it to `tally`. Where the
+   tally began when the player did, its counts are what the program's command `check` prints of all blocks so far. It is
+   yours: a player that is saved, loaded or copied takes nothing of it along, so keep a copy of it beside the checkpoint
+   and go on with that, or with zeros to count from there. It asks for no memory. */
+int32_t ribjasper_player_feed_counted(ribjasper_player *player, const uint8_t block[RIBJASPER_BLOCK], ribjasper_tally *tally);
 
 /* What is told of a stream that was converted: the bytes written, the blocks of the program, and the packs with no
    codeword near, which are written as 24 zeros. */

@@ -3,8 +3,9 @@
 # compares its screens with those of the command `screen`, byte for byte, at ten moments of the stream of
 # the tour: fed as blocks and drawn as packs. A stream with twenty blocks lost has to be noticed. Runs
 # tests/library/test_library.c, tests/library/test_mend.c, tests/library/test_plan.c, tests/library/test_desk_calls.c, tests/library/test_pixels.c and
-# tests/library/test_sheets.c, and all of it once under the address sanitizer where that is there; tests/library/test_stack.c
-# measures what the calls take of the stack, and tests/library/test_given_back.c counts what they ask for and give back. Skipped where a compiler or what make builds is missing.
+# tests/library/test_sheets.c, and all of it once under the address sanitizer where that is there; tests/library/test_closed.c looks at
+# closed players, and tests/library/test_given_back.c counts what the calls ask for and give back. Skipped where a compiler or what
+# make builds is missing.
 # With the argument `measure` it also tells how many blocks a second the player takes, and how long pictures
 # take beside plain C.
 set -e
@@ -35,6 +36,10 @@ for name in test_mend test_plan test_desk_calls test_pixels test_sheets; do
     "$work/$name"
     "$work/${name}_of_cxx" >/dev/null
 done
+cc $flags -std=c99 tests/library/test_closed.c lib/libribjasper.a -o "$work/test_closed"
+c++ $flags -x c++ tests/library/test_closed.c -x none lib/libribjasper.a -o "$work/test_closed_of_cxx"
+"$work/test_closed"
+"$work/test_closed_of_cxx"
 tests/peers/compare_mending.py --cases 1000 >"$work/mending" || { cat "$work/mending" >&2; exit 1; }
 cp examples/hello.cue examples/hello.script "$work"
 cd "$work"
@@ -48,8 +53,6 @@ for disc in whole scratched; do
     ./test_desk_calls $disc 300 $disc.check $disc.text
 done
 ./test_pixels stream >/dev/null
-cc $flags -std=gnu99 "$top/tests/library/test_stack.c" "$top/lib/libribjasper.a" -o test_stack
-./test_stack
 cc $flags -std=c99 "$top/tests/library/test_given_back.c" "$top/lib/libribjasper.a" $wrap -o test_given_back
 ./test_given_back hello.cue hello.script whole
 moments="2 77 150 301 449 535 777 1111 1350 1649"
@@ -104,7 +107,13 @@ else
 fi
 if [ "$1" = measure ]; then
     ./player -m <stream
-    cc -O3 -Wall -Wextra -Werror -I"$top/include" "$top/tests/library/measure_pixels.c" "$top/lib/libribjasper.a" -o measure_pixels
+    command -v gcc >/dev/null && command -v clang >/dev/null ||
+        { echo "compare_player: pixels are not measured, for want of gcc or clang"; exit "$failed"; }
+    for compiler in gcc clang; do
+        $compiler -O3 -Wall -Wextra -Werror -I"$top/include" -DPLAIN=plain_by_$compiler -c "$top/tests/library/plain_pixels.c" \
+            -o by_$compiler.o
+    done
+    cc $flags "$top/tests/library/measure_pixels.c" by_gcc.o by_clang.o "$top/lib/libribjasper.a" -o measure_pixels
     ./measure_pixels
 fi
 exit "$failed"

@@ -1,8 +1,13 @@
-/* How long the library takes for a picture in each format, beside plain C that is compiled with -O3: each in turn, many
-   times, and of each the median. Its bytes are compared with those of the plain C.
+/* How long the library takes for a picture in each format, beside plain C (tests/library/plain_pixels.c) that two compilers made with
+   -O3: each in turn, many times, and of each the median. Its bytes are compared with those of the plain C.
 
-   cc -O3 -Iinclude tests/library/measure_pixels.c lib/libribjasper.a -o measure_pixels && ./measure_pixels */
-#include "ribjasper.h"
+   gcc -O3 -DPLAIN=plain_by_gcc -Iinclude -c tests/library/plain_pixels.c -o by_gcc.o
+   clang -O3 -DPLAIN=plain_by_clang -Iinclude -c tests/library/plain_pixels.c -o by_clang.o
+   cc -O2 -Iinclude tests/library/measure_pixels.c by_gcc.o by_clang.o lib/libribjasper.a -o measure_pixels && ./measure_pixels
+
+   With the arguments `once` and the number of a line it makes that picture a hundred times, for a tool that counts
+   instructions of the three functions. */
+#include "plain_pixels.h"
 
 #include <stdio.h>
 #include <stdlib.h>
@@ -11,74 +16,10 @@
 
 #define ROUNDS 301
 #define INNER 8
-
-/* What a player in plain C holds. */
-struct plain {
-    uint8_t memory[216][300];
-    uint8_t border, h, v;
-    uint16_t colours[16];
-    uint8_t levels[16];
-};
+#define MAKERS 3
 
 static struct plain plain;
-static uint8_t ours[259200], theirs[259200];
-
-/* Row y of the screen: whole rows of the border at the top and the bottom, else the border at both sides. */
-static void plain_row(const struct plain *it, int y, uint8_t row[300])
-{
-    memset(row, it->border, 300);
-    if (y >= 12 && y < 204)
-        memcpy(row + 6, it->memory[y + it->v] + 6 + it->h, 288);
-}
-
-static void plain_table(const struct plain *it, uint32_t format, uint32_t table[16])
-{
-    int k;
-    for (k = 0; k < 16; k++) {
-        uint32_t red = 17u * (it->colours[k] >> 8), green = 17u * (it->colours[k] >> 4 & 15),
-                 blue = 17u * (it->colours[k] & 15);
-        uint32_t opacity = format == RIBJASPER_RGBA_LEVELS || format == RIBJASPER_BGRA_LEVELS
-                               ? 255u - (4u * it->levels[k] + it->levels[k] / 16u) : 255u;
-        if (format == RIBJASPER_BGRA || format == RIBJASPER_BGRA_LEVELS)
-            table[k] = blue | green << 8 | red << 16 | opacity << 24;
-        else if (format == RIBJASPER_RGB565)
-            table[k] = (red & 0xf8) << 8 | (green & 0xfc) << 3 | blue >> 3;
-        else
-            table[k] = red | green << 8 | blue << 16 | opacity << 24;
-    }
-}
-
-static void plain_pixels(const struct plain *restrict it, uint32_t format, int x, int y, int width, int height,
-                         uint8_t *restrict out, size_t stride)
-{
-    uint32_t table[16];
-    uint8_t row[300];
-    int i, j;
-    plain_table(it, format, table);
-    for (j = 0; j < height; j++) {
-        uint8_t *restrict to = out + stride * (size_t)j;
-        plain_row(it, y + j, row);
-        switch (format) {
-        case RIBJASPER_INDEXED:
-            memcpy(to, row + x, (size_t)width);
-            break;
-        case RIBJASPER_RGB:
-            for (i = 0; i < width - 1; i++)
-                memcpy(to + 3 * i, &table[row[x + i]], 4);
-            memcpy(to + 3 * i, &table[row[x + i]], 3);
-            break;
-        case RIBJASPER_RGB565:
-            for (i = 0; i < width; i++) {
-                uint16_t two = (uint16_t)table[row[x + i]];
-                memcpy(to + 2 * i, &two, 2);
-            }
-            break;
-        default:
-            for (i = 0; i < width; i++)
-                memcpy(to + 4 * i, &table[row[x + i]], 4);
-        }
-    }
-}
+static uint8_t made[MAKERS][259200];
 
 static double now(void)
 {
@@ -103,50 +44,85 @@ static ribjasper_player player = RIBJASPER_CLOSED;
 
 enum { PIXELS, PICTURE, SCREEN };
 
-static void call(int which, uint32_t format, int x, int y, int width, int height, uint32_t stride)
+struct line {
+    const char *name;
+    int which;
+    uint32_t format;
+    int x, y, width, height;
+};
+
+static const struct line lines[] = {
+    { "screen", SCREEN, RIBJASPER_INDEXED, 0, 0, 300, 216 },
+    { "picture", PICTURE, RIBJASPER_RGB, 0, 0, 300, 216 },
+    { "pixels, indexed", PIXELS, RIBJASPER_INDEXED, 0, 0, 300, 216 },
+    { "pixels, RGB", PIXELS, RIBJASPER_RGB, 0, 0, 300, 216 },
+    { "pixels, RGBA", PIXELS, RIBJASPER_RGBA, 0, 0, 300, 216 },
+    { "pixels, BGRA", PIXELS, RIBJASPER_BGRA, 0, 0, 300, 216 },
+    { "pixels, RGBA, levels", PIXELS, RIBJASPER_RGBA_LEVELS, 0, 0, 300, 216 },
+    { "pixels, BGRA, levels", PIXELS, RIBJASPER_BGRA_LEVELS, 0, 0, 300, 216 },
+    { "pixels, RGB565", PIXELS, RIBJASPER_RGB565, 0, 0, 300, 216 },
+    { "half, RGBA", PIXELS, RIBJASPER_RGBA, 75, 50, 150, 108 },
+    { "a row of tiles, RGBA", PIXELS, RIBJASPER_RGBA, 6, 96, 288, 12 },
+    { "a tile, RGBA", PIXELS, RIBJASPER_RGBA, 150, 96, 6, 12 },
+    { "a tile, RGB565", PIXELS, RIBJASPER_RGB565, 150, 96, 6, 12 },
+};
+
+static uint32_t stride_of(const struct line *it)
+{
+    static const uint32_t sizes[] = { 1, 3, 4, 4, 4, 4, 2 };
+    return sizes[it->format] * (uint32_t)it->width;
+}
+
+static void call(const struct line *it)
 {
     int32_t answer;
-    if (which == PICTURE)
-        answer = ribjasper_player_picture(&player, ours);
-    else if (which == SCREEN)
-        answer = ribjasper_player_screen(&player, ours);
+    if (it->which == PICTURE)
+        answer = ribjasper_player_picture(&player, made[0]);
+    else if (it->which == SCREEN)
+        answer = ribjasper_player_screen(&player, made[0]);
     else
-        answer = ribjasper_player_pixels(&player, format, (uint32_t)x, (uint32_t)y, (uint32_t)width, (uint32_t)height,
-                                         ours, sizeof ours, stride);
+        answer = ribjasper_player_pixels(&player, it->format, (uint32_t)it->x, (uint32_t)it->y, (uint32_t)it->width,
+                                         (uint32_t)it->height, made[0], sizeof made[0], stride_of(it));
     if (answer != RIBJASPER_DONE)
         exit(1);
 }
 
-static void compare(const char *name, int which, uint32_t format, int x, int y, int width, int height)
+/* Makes the picture of a line: the library (0), gcc (1) or clang (2). */
+static void make(const struct line *it, int maker)
 {
-    static const uint32_t sizes[] = { 1, 3, 4, 4, 4, 4, 2 };
-    static double our_times[ROUNDS], their_times[ROUNDS];
-    uint32_t stride = sizes[format] * (uint32_t)width;
-    int inner = INNER * (height < 100 ? 64 : 1);
-    int round, n;
-    double one, other;
-    for (round = 0; round < ROUNDS; round++) {
-        double start = now();
-        for (n = 0; n < inner; n++)
-            call(which, format, x, y, width, height, stride);
-        our_times[round] = (now() - start) / inner;
-        start = now();
-        for (n = 0; n < inner; n++) {
-            plain_pixels(&plain, format, x, y, width, height, theirs, stride);
-            __asm__ volatile("" : : : "memory");
-        }
-        their_times[round] = (now() - start) / inner;
-    }
-    if (memcmp(ours, theirs, stride * (size_t)height) != 0) {
-        fprintf(stderr, "measure_pixels: the bytes of %s differ\n", name);
-        exit(1);
-    }
-    one = median(our_times);
-    other = median(their_times);
-    printf("%-22s %8.2f us, plain C %8.2f us, ratio %.2f\n", name, one, other, one / other);
+    if (maker == 0)
+        call(it);
+    else
+        (maker == 1 ? plain_by_gcc : plain_by_clang)(&plain, it->format, it->x, it->y, it->width, it->height, made[maker],
+                                                     stride_of(it));
+    __asm__ volatile("" : : : "memory");
 }
 
-int main(void)
+static void compare(const struct line *it)
+{
+    static double times[MAKERS][ROUNDS];
+    size_t bytes = stride_of(it) * (size_t)it->height;
+    int inner = INNER * (64800 / (it->width * it->height) < 64 ? 64800 / (it->width * it->height) : 64);
+    int round, maker, n;
+    double medians[MAKERS];
+    for (round = 0; round < ROUNDS; round++)
+        for (maker = 0; maker < MAKERS; maker++) {
+            double start = now();
+            for (n = 0; n < inner; n++)
+                make(it, maker);
+            times[maker][round] = (now() - start) / inner;
+        }
+    if (memcmp(made[0], made[1], bytes) != 0 || memcmp(made[0], made[2], bytes) != 0) {
+        fprintf(stderr, "measure_pixels: the bytes of %s differ\n", it->name);
+        exit(1);
+    }
+    for (maker = 0; maker < MAKERS; maker++)
+        medians[maker] = median(times[maker]);
+    printf("%-22s %7.2f us, by gcc %7.2f us (%.2f), by clang %7.2f us (%.2f)\n", it->name, medians[0], medians[1],
+           medians[0] / medians[1], medians[2], medians[0] / medians[2]);
+}
+
+int main(int count, char **words)
 {
     uint8_t pack[24];
     uint32_t n, seed = 7;
@@ -165,19 +141,18 @@ int main(void)
         if (ribjasper_player_draw(&player, pack) != RIBJASPER_DONE)
             return 1;
     }
-    if (ribjasper_player_screen(&player, ours) != 0 || ribjasper_player_border(&player, &plain.border) != 0 ||
+    if (ribjasper_player_screen(&player, made[0]) != 0 || ribjasper_player_border(&player, &plain.border) != 0 ||
         ribjasper_player_colours(&player, plain.colours) != 0 || ribjasper_player_levels(&player, plain.levels) != 0)
         return 1;
     for (n = 0; n < RIBJASPER_PIXELS; n++)
-        plain.memory[n / 300][n % 300] = ours[n];
-    compare("screen", SCREEN, RIBJASPER_INDEXED, 0, 0, 300, 216);
-    compare("picture", PICTURE, RIBJASPER_RGB, 0, 0, 300, 216);
-    compare("pixels, indexed", PIXELS, RIBJASPER_INDEXED, 0, 0, 300, 216);
-    compare("pixels, RGB", PIXELS, RIBJASPER_RGB, 0, 0, 300, 216);
-    compare("pixels, RGBA", PIXELS, RIBJASPER_RGBA, 0, 0, 300, 216);
-    compare("pixels, BGRA, levels", PIXELS, RIBJASPER_BGRA_LEVELS, 0, 0, 300, 216);
-    compare("pixels, RGB565", PIXELS, RIBJASPER_RGB565, 0, 0, 300, 216);
-    compare("a tile, RGBA", PIXELS, RIBJASPER_RGBA, 150, 96, 6, 12);
+        plain.memory[n / 300][n % 300] = made[0][n];
+    if (count == 3 && strcmp(words[1], "once") == 0) {
+        for (n = 0; n < 300; n++)
+            make(&lines[atoi(words[2])], (int)(n % MAKERS));
+    } else {
+        for (n = 0; n < sizeof lines / sizeof *lines; n++)
+            compare(&lines[n]);
+    }
     ribjasper_player_close(&player);
     return 0;
 }

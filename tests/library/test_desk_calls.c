@@ -1,8 +1,10 @@
-/* The calls that tell what stands in a stream and in its lead-in, on streams that are made here: the values come from
-   docs/FORMATS.md. With three arguments, a stream, the blocks of its lead-in and what `check` says of it, followed by what
-   `text` says, the sums of the rows and the lines are compared with those of the program. Linked with a
-   heap that counts (testing.h). */
+/* The calls that tell what stands in a stream and in its lead-in, and the one that counts it as it is fed, on streams that
+   are made here: the values come from docs/FORMATS.md. With three arguments, a stream, the blocks of its lead-in and what
+   `check` says of it, followed by what `text` says, the sums of the rows, a tally and the lines are compared with those of
+   the program. Linked with a heap that counts (testing.h). */
 #include "ribjasper.h"
+
+#include <stddef.h>
 
 #include "testing.h"
 
@@ -257,6 +259,75 @@ static uint8_t *read_file(const char *name, size_t *length)
     return bytes;
 }
 
+/* A tally of a player that is fed block by block: the same numbers as those of the rows, told as `check` tells them. */
+static void tally_as_the_program_says(const uint8_t *stream, size_t blocks, uint32_t lead_in, const char *wanted)
+{
+    ribjasper_player player = RIBJASPER_CLOSED;
+    ribjasper_tally tally, kept;
+    ribjasper_q_frame frame;
+    char lines[200];
+    const char *at;
+    size_t b, last = 0;
+    uint8_t planar[96], bit;
+    memset(&tally, 0, sizeof tally);
+    memset(&frame, 0, sizeof frame);
+    kept = tally;
+    CHECK(ribjasper_player_feed_counted(&player, stream, &tally) == RIBJASPER_REFUSED);
+    CHECK(memcmp(&tally, &kept, sizeof tally) == 0);
+    if (ribjasper_player_open(&player) != RIBJASPER_DONE)
+        return;
+    CHECK(ribjasper_player_begin(&player, RIBJASPER_RAW, lead_in) == RIBJASPER_DONE);
+    for (b = 0; b < blocks; b++) {
+        requests = 0;
+        CHECK(ribjasper_player_feed_counted(&player, stream + 96 * b, &tally) == RIBJASPER_DONE && requests == 0);
+        ribjasper_block_to_planar(stream + 96 * b, planar);
+        if (ribjasper_q_decode(planar + 12, &frame, &bit) == RIBJASPER_DONE)
+            last = b + 1;
+        CHECK(tally.blocks == b + 1 && tally.frame_block == last);
+        CHECK(memcmp(&tally.frame, &frame, offsetof(ribjasper_q_frame, text) + 13) == 0);
+    }
+    sprintf(lines, "clean %lu\none %lu\ntwo %lu\nbad %lu\n", (unsigned long)tally.clean, (unsigned long)tally.one,
+            (unsigned long)tally.two, (unsigned long)tally.bad);
+    at = strstr(wanted, lines);
+    sprintf(lines, "q-good %lu\nq-bad %lu\n", (unsigned long)tally.frames, (unsigned long)tally.bad_frames);
+    CHECK(last > 0 && at != NULL && strstr(at, lines) != NULL);
+    ribjasper_player_close(&player);
+}
+
+/* The limits of a tally: blocks of packs have no frames, a lead-in no packs, and a count stays at its last value. */
+static void tallies(void)
+{
+    static const uint8_t nothing[96] = { 0 };
+    const uint64_t most = UINT64_MAX;
+    ribjasper_player player = RIBJASPER_CLOSED;
+    ribjasper_tally tally;
+    uint8_t noise[96];
+    int b;
+    memset(&tally, 0, sizeof tally);
+    for (b = 0; b < 96; b++)
+        noise[b] = (uint8_t)(b * b * 37 + 11 * b);
+    if (ribjasper_player_open(&player) != RIBJASPER_DONE)
+        return;
+    CHECK(ribjasper_player_begin(&player, RIBJASPER_PACKS, 2) == RIBJASPER_DONE);
+    for (b = 0; b < 5; b++)
+        CHECK(ribjasper_player_feed_counted(&player, b == 3 ? noise : nothing, &tally) == RIBJASPER_DONE);
+    CHECK(tally.blocks == 5 && tally.clean == 8 && tally.one == 0 && tally.two == 0 && tally.bad == 4);
+    CHECK(tally.frames == 0 && tally.bad_frames == 0 && tally.frame_block == 0);
+    CHECK(ribjasper_player_begin(&player, RIBJASPER_RAW, 1) == RIBJASPER_DONE);
+    memset(&tally, 0, sizeof tally);
+    for (b = 0; b < 4; b++)
+        CHECK(ribjasper_player_feed_counted(&player, nothing, &tally) == RIBJASPER_DONE);
+    CHECK(tally.blocks == 4 && tally.clean == 5 && tally.bad == 0 && tally.frames == 0 && tally.bad_frames == 4);
+    tally.blocks = tally.clean = most - 1;
+    tally.bad_frames = most;
+    for (b = 0; b < 2; b++) {
+        CHECK(ribjasper_player_feed_counted(&player, nothing, &tally) == RIBJASPER_DONE);
+        CHECK(tally.blocks == most && tally.clean == most && tally.bad_frames == most && tally.one == 0);
+    }
+    ribjasper_player_close(&player);
+    CHECK(held == 0);
+}
+
 /* The sums of the rows are what `check` says, and the lines what `text` says. */
 static void as_the_program_says(const char *stream_name, uint32_t lead_in, const char *check_name, const char *text_name)
 {
@@ -287,6 +358,7 @@ static void as_the_program_says(const char *stream_name, uint32_t lead_in, const
     CHECK(at != NULL && strstr(at, lines) != NULL);
     CHECK(ribjasper_texts(stream, length, RIBJASPER_RAW, lead_in, out, text_length, &listed) == RIBJASPER_CONVERTED);
     CHECK(listed.bytes == text_length && memcmp(out, text, text_length) == 0);
+    tally_as_the_program_says(stream, length / 96, lead_in, (const char *)wanted);
     free(stream);
     free(wanted);
     free(text);
@@ -300,9 +372,10 @@ int main(int count, char **words)
     refused_surveys();
     words_and_frames();
     lead_ins();
+    tallies();
     if (count == 5)
         as_the_program_says(words[1], (uint32_t)strtoul(words[2], NULL, 10), words[3], words[4]);
     if (!failed)
-        printf("test_desk_calls: each block's row and each lead-in's lines are as they should be\n");
+        printf("test_desk_calls: each block's row, each tally and each lead-in's lines are as they should be\n");
     return failed;
 }

@@ -64,6 +64,16 @@ LIES(ribjasper_counts, lead_in, 12);
 LIES(ribjasper_counts, blocks, 16);
 LIES(ribjasper_counts, bad, 20);
 
+HOLDS(tally, sizeof(ribjasper_tally) == 96);
+LIES(ribjasper_tally, clean, 8);
+LIES(ribjasper_tally, one, 16);
+LIES(ribjasper_tally, two, 24);
+LIES(ribjasper_tally, bad, 32);
+LIES(ribjasper_tally, frames, 40);
+LIES(ribjasper_tally, bad_frames, 48);
+LIES(ribjasper_tally, frame_block, 56);
+LIES(ribjasper_tally, frame, 64);
+
 HOLDS(sheet_row, sizeof(ribjasper_sheet_row) == 28);
 LIES(ribjasper_sheet_row, pregap, 4);
 LIES(ribjasper_sheet_row, postgap, 8);
@@ -130,7 +140,7 @@ static int answers(const ribjasper_player *player, ribjasper_player *other, int3
 int main(void)
 {
     static ribjasper_player zeros;
-    static const ribjasper_player closed = RIBJASPER_CLOSED; /* where no write is allowed */
+    static const ribjasper_player closed = RIBJASPER_CLOSED_STATIC; /* where no write is allowed */
     ribjasper_player player = RIBJASPER_CLOSED, other = RIBJASPER_CLOSED;
     ribjasper_player_close(&zeros);
     if (ribjasper_player_open(&player) != RIBJASPER_DONE || ribjasper_player_open(&other) != RIBJASPER_DONE)

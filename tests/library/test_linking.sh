@@ -24,14 +24,19 @@ strict="-Wall -Wextra -Wpedantic -Werror -Wno-long-long -Iinclude"
 for compiler in cc clang; do
     command -v $compiler >/dev/null || continue
     for standard in c99 c11 c17 c2x; do
-        $compiler -std=$standard $strict -c tests/library/test_layout.c -o "$work/layout.o" || complain "$compiler -std=$standard"
+        for test in layout closed; do
+            $compiler -std=$standard $strict -DSTRICT -c tools/test_$test.c -o "$work/$test.o" ||
+                complain "$compiler -std=$standard of test_$test.c"
+        done
     done
 done
 for compiler in c++ clang++; do
     command -v $compiler >/dev/null || continue
     for standard in c++11 c++14 c++17 c++20; do
-        $compiler -std=$standard $strict -x c++ -c tests/library/test_layout.c -o "$work/layout.o" ||
-            complain "$compiler -std=$standard"
+        for test in layout closed; do
+            $compiler -std=$standard $strict -x c++ -c tools/test_$test.c -o "$work/$test.o" ||
+                complain "$compiler -std=$standard of test_$test.c"
+        done
     done
 done
 

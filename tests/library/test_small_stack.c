@@ -1,7 +1,6 @@
 /* How much of a stack each call of the library takes. Every call is run on a stack of its own, which is painted before; it
    may touch LIMIT bytes of it at most, and one that mends LIMIT_MENDING. malloc and free, which belong to the C library,
-   stand on that stack too. Prints the
-   most that a call took. Its argument is an authored stream with texts, whose first 200 blocks are of the lead-in. */
+   stand on that stack too. Prints the most that a call took. Its argument is an authored stream with texts, whose first 200 blocks are of the lead-in. */
 #define _GNU_SOURCE
 #include "ribjasper.h"
 
@@ -22,6 +21,11 @@ static uint8_t lead_in[BLOCKS * RIBJASPER_BLOCK];
 static uint8_t packs[BLOCKS * RIBJASPER_BLOCK], pixels[RIBJASPER_PICTURE], file[RIBJASPER_CHECKPOINT];
 static ribjasper_row rows[BLOCKS];
 static ribjasper_plan_row plan[16];
+static ribjasper_sheet_row sheet_rows[4];
+static ribjasper_mended_readings mended;
+static ribjasper_change change;
+static ribjasper_tally tally;
+static char in_words[RIBJASPER_ANSWER_TEXT];
 static int32_t answer;
 
 static const char sheet[] = "TITLE \"Demo\"\nFILE \"a.wav\" WAVE\nTRACK 01 AUDIO\nTITLE \"One\"\nINDEX 01 00:00:00\n";
@@ -47,6 +51,25 @@ static void take(void)
         answer = ribjasper_player_take(&player, worn + k * RIBJASPER_BLOCK, taken);
 }
 
+static void feed_all(void)
+{
+    ribjasper_player_feed_all(&other, worn, BLOCKS, &change);
+    answer = ribjasper_player_feed_all(&other, stream, BLOCKS, &change);
+}
+
+static void feed_counted(void)
+{
+    int k;
+    for (k = 0; k < BLOCKS; k++)
+        answer = ribjasper_player_feed_counted(&other, worn + k * RIBJASPER_BLOCK, &tally);
+}
+
+static void tell_counts(void)
+{
+    ribjasper_counts counts;
+    answer = ribjasper_player_counts(&player, &counts);
+}
+
 static void draw(void)
 {
     /* Each instruction in turn: memory, border, tiles, scrolls, transparent colours and the table. */
@@ -58,6 +81,8 @@ static void draw(void)
             pack[at] = at < 2 ? 9 : 1;
         pack[1] = kinds[k];
         answer = ribjasper_player_draw(&player, pack);
+        answer = ribjasper_player_draw_all(&player, pack, 1, &change);
+        answer = ribjasper_pack_change(pack, 3, 4, &change);
         answer = ribjasper_pack_touches(pack);
     }
 }
@@ -75,6 +100,16 @@ static void look(void)
     answer = ribjasper_player_levels(&player, levels);
     answer = ribjasper_player_border(&player, &one);
     answer = ribjasper_player_offsets(&player, &one, &two);
+}
+
+static void look_in_formats(void)
+{
+    uint32_t format;
+    for (format = RIBJASPER_INDEXED; format <= RIBJASPER_RGB565; format++) {
+        answer = ribjasper_player_pixels(&player, format, 3, 4, 150, 200, pixels, sizeof pixels, 600);
+        if (answer != RIBJASPER_DONE)
+            return;
+    }
 }
 
 static void save(void) { answer = ribjasper_player_save(&player, file); }
@@ -100,6 +135,10 @@ static void single(void)
     ribjasper_block_to_planar(worn, block);
     ribjasper_block_from_planar(worn, block);
     ribjasper_block_text_packs(worn, bytes);
+    answer = ribjasper_tile_weight(bytes);
+    ribjasper_answer_text(RIBJASPER_ANSWER_LATE, in_words);
+    answer = (int32_t)(ribjasper_blocks_after(1000) + ribjasper_packs_after(1000) + ribjasper_time_of_blocks(75) +
+                       ribjasper_time_of_packs(300));
     answer = (int32_t)ribjasper_version();
 }
 
@@ -115,6 +154,16 @@ static void mend(void)
     ribjasper_mended told;
     answer = ribjasper_mend(worn, sizeof worn, stream, sizeof stream, 0, packs, sizeof packs, &told);
     answer = ribjasper_mend(idle, sizeof idle, worn, sizeof worn, 0, packs, sizeof packs, &told);
+}
+
+/* All readings at once, of which one has no R to W. */
+static void mend_readings(void)
+{
+    static uint8_t readings[3 * sizeof worn];
+    memcpy(readings, worn, sizeof worn);
+    memcpy(readings + sizeof worn, stream, sizeof stream);
+    memcpy(readings + 2 * sizeof worn, idle, sizeof idle);
+    answer = ribjasper_mend_readings(readings, sizeof readings, 3, 0, packs, sizeof packs, pixels, sizeof pixels, &mended);
 }
 
 static void survey(void)
@@ -139,6 +188,16 @@ static void planned(void)
     answer = ribjasper_plan(lines, sizeof sheet - 1, (const uint8_t *)script, sizeof script - 1, 300, 9000, plan, 16, &told);
     answer = ribjasper_plan(lines, sizeof sheet - 1, (const uint8_t *)refused, sizeof refused - 1, 300, 9000, plan, 16,
                             &told);
+}
+
+static void read_sheet(void)
+{
+    ribjasper_sheet_told told;
+    uint32_t bytes;
+    const uint8_t *lines = (const uint8_t *)sheet;
+    answer = ribjasper_sheet(lines, sizeof sheet - 1, sheet_rows, 4, &told);
+    if (answer == RIBJASPER_CONVERTED)
+        answer = ribjasper_sheet_text(lines, sizeof sheet - 1, RIBJASPER_TITLE, 1, pixels, 100, &bytes);
 }
 
 static void close_player(void) { ribjasper_player_close(&player); }
@@ -185,22 +244,28 @@ int main(int count, char **words)
         { "begin", begin, RIBJASPER_DONE },
         { "feed", feed, RIBJASPER_DONE },
         { "take", take, 4 },
+        { "feed all", feed_all, RIBJASPER_DONE },
+        { "feed and count", feed_counted, RIBJASPER_DONE },
+        { "counts", tell_counts, RIBJASPER_DONE },
         { "draw", draw, RIBJASPER_TOUCHES_COLOURS },
         { "look", look, RIBJASPER_DONE },
+        { "look in formats", look_in_formats, RIBJASPER_DONE },
         { "save", save, RIBJASPER_DONE },
         { "load", load, RIBJASPER_DONE },
         { "copy", copy, RIBJASPER_DONE },
         { "single things", single, RIBJASPER_VERSION },
         { "convert", convert, RIBJASPER_DAMAGED },
         { "mend", mend, RIBJASPER_DAMAGED },
+        { "mend readings", mend_readings, RIBJASPER_DAMAGED },
         { "survey", survey, RIBJASPER_CONVERTED },
         { "texts", texts, RIBJASPER_CONVERTED },
         { "plan", planned, RIBJASPER_NOT_PLANNED },
-        { "close", close_player, RIBJASPER_NOT_PLANNED },
-        { "close another", close_other, RIBJASPER_NOT_PLANNED },
+        { "sheet", read_sheet, RIBJASPER_CONVERTED },
+        { "close", close_player, RIBJASPER_CONVERTED },
+        { "close another", close_other, RIBJASPER_CONVERTED },
     };
     uint32_t number = 1;
-    size_t k, most = 0;
+    size_t k, most = 0, most_mending = 0;
     int failed = 0;
     if (authored == NULL || fread(lead_in, 1, sizeof lead_in, authored) != sizeof lead_in) {
         fputs("no authored stream\n", stderr);
@@ -215,8 +280,12 @@ int main(int count, char **words)
     }
     for (k = 0; k < sizeof calls / sizeof calls[0]; k++) {
         size_t bytes = taken_by(calls[k].call);
-        size_t limit = calls[k].call == mend ? LIMIT_MENDING : LIMIT;
-        most = bytes > most ? bytes : most;
+        int mends = calls[k].call == mend || calls[k].call == mend_readings;
+        size_t limit = mends ? LIMIT_MENDING : LIMIT;
+        if (mends)
+            most_mending = bytes > most_mending ? bytes : most_mending;
+        else
+            most = bytes > most ? bytes : most;
         if (answer != calls[k].answer) {
             printf("%s answers %ld and not %ld\n", calls[k].name, (long)answer, (long)calls[k].answer);
             failed = 1;
@@ -227,6 +296,7 @@ int main(int count, char **words)
             failed = 1;
         }
     }
-    printf("a call takes %lu bytes of the stack at most\n", (unsigned long)most);
+    printf("a call takes %lu bytes of the stack at most, and one that mends %lu\n", (unsigned long)most,
+           (unsigned long)most_mending);
     return failed;
 }

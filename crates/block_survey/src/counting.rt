@@ -10,7 +10,7 @@ use stream_stages::BlockOfWords;
 
 /// How many words have no, one or two wrong symbols, and how many have no codeword near.
 #[derive(Clone, Copy)]
-pub(crate) struct WordMarks {
+pub struct WordMarks {
     pub clean: u8,
     pub one: u8,
     pub two: u8,
@@ -53,8 +53,8 @@ impl WordMarks {
         }
     }
 
-    // Some words, at most as many as end with a block.
-    fn of(words: &[Word]) -> WordMarks
+    /// Some words, at most as many as end with a block.
+    pub fn of(words: &[Word]) -> WordMarks
         requires { length words.now ≤ 4 }
         ensures { result ≡ marks_of words.now }
     {

@@ -9,6 +9,7 @@ mod row;
 mod surveying;
 
 pub use blocks::{block_at, unit_bytes};
+pub use counting::WordMarks;
 pub use laws::rows_add_up_to_check;
 pub use row::{BlockRow, NO_TIME};
 pub use surveying::survey;

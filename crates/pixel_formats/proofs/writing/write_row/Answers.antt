@@ -37,13 +37,16 @@ pub write_twos-requires-clause-size : goal.write_twos-requires-clause-size
 write_twos-requires-clause-size c =
     let part = c.args.part.now in
     line_fits c.args.format c.write_row.new.row part.left part.width (part.left + part.width - part.left) 2
-    (length c.args.line.now) (ap pixel_size c.in-Rgb565.is) (omega arith) c.requires.part.0 c.write_row.array_long c.requires.size
+    (length c.args.line.now) (ap pixel_size c.in-Rgb565.is) (omega arith) c.requires.part.0
+    c.write_row.array_long c.requires.size
 
 pub returns-in-Rgb565 : goal.returns-in-Rgb565
 returns-in-Rgb565 c =
     let part = c.args.part.now in
-    line_shows c.args.format (seen c.args.screen.now) c.args.table.now c.write_row.new.row c.write_twos.new.line
-    part.left part.width (part.left + part.width - part.left) 2 (part.top + c.args.j) (ap pixel_size c.in-Rgb565.is) (omega arith)
+    line_shows c.args.format (seen c.args.screen.now) c.args.table.now c.write_row.new.row
+    c.write_twos.new.line
+    part.left part.width (part.left + part.width - part.left) 2 (part.top + c.args.j)
+    (ap pixel_size c.in-Rgb565.is) (omega arith)
     c.requires.part.0 c.write_row.array_long c.write_row.ensures.pixels c.write_row.ensures.range
     c.requires.bytes c.write_twos.ensures
 
@@ -51,13 +54,16 @@ pub write_threes-requires-clause-size : goal.write_threes-requires-clause-size
 write_threes-requires-clause-size c =
     let part = c.args.part.now in
     line_fits c.args.format c.write_row.new.row part.left part.width (part.left + part.width - part.left) 3
-    (length c.args.line.now) (ap pixel_size c.in-Rgb.is) (omega arith) c.requires.part.0 c.write_row.array_long c.requires.size
+    (length c.args.line.now) (ap pixel_size c.in-Rgb.is) (omega arith) c.requires.part.0
+    c.write_row.array_long c.requires.size
 
 pub returns-in-Rgb : goal.returns-in-Rgb
 returns-in-Rgb c =
     let part = c.args.part.now in
-    line_shows c.args.format (seen c.args.screen.now) c.args.table.now c.write_row.new.row c.write_threes.new.line
-    part.left part.width (part.left + part.width - part.left) 3 (part.top + c.args.j) (ap pixel_size c.in-Rgb.is) (omega arith)
+    line_shows c.args.format (seen c.args.screen.now) c.args.table.now c.write_row.new.row
+    c.write_threes.new.line
+    part.left part.width (part.left + part.width - part.left) 3 (part.top + c.args.j)
+    (ap pixel_size c.in-Rgb.is) (omega arith)
     c.requires.part.0 c.write_row.array_long c.write_row.ensures.pixels c.write_row.ensures.range
     c.requires.bytes c.write_threes.ensures
 
@@ -65,12 +71,17 @@ pub write_fours-requires-clause-size : goal.write_fours-requires-clause-size
 write_fours-requires-clause-size c =
     let part = c.args.part.now in
     line_fits c.args.format c.write_row.new.row part.left part.width (part.left + part.width - part.left) 4
-    (length c.args.line.now) (four_bytes c.args.format c.in_default.not-Indexed c.in_default.not-Rgb565 c.in_default.not-Rgb) (omega arith) c.requires.part.0 c.write_row.array_long c.requires.size
+    (length c.args.line.now)
+    (four_bytes c.args.format c.in_default.not-Indexed c.in_default.not-Rgb565 c.in_default.not-Rgb)
+    (omega arith) c.requires.part.0 c.write_row.array_long c.requires.size
 
 pub returns-in_default : goal.returns-in_default
 returns-in_default c =
     let part = c.args.part.now in
-    line_shows c.args.format (seen c.args.screen.now) c.args.table.now c.write_row.new.row c.write_fours.new.line
-    part.left part.width (part.left + part.width - part.left) 4 (part.top + c.args.j) (four_bytes c.args.format c.in_default.not-Indexed c.in_default.not-Rgb565 c.in_default.not-Rgb) (omega arith)
+    line_shows c.args.format (seen c.args.screen.now) c.args.table.now c.write_row.new.row
+    c.write_fours.new.line
+    part.left part.width (part.left + part.width - part.left) 4 (part.top + c.args.j)
+    (four_bytes c.args.format c.in_default.not-Indexed c.in_default.not-Rgb565 c.in_default.not-Rgb)
+    (omega arith)
     c.requires.part.0 c.write_row.array_long c.write_row.ensures.pixels c.write_row.ensures.range
     c.requires.bytes c.write_fours.ensures

@@ -1,0 +1,126 @@
+// Counts of what came.
+ghost use Rattle.std.specs.Prelude.{◌≡◌, ◌≤◌, [], ℕ, length};
+ghost use Rattle.raw_subcode.specs.declared.form.Form.{Form};
+ghost use Rattle.block_survey.specs.Rows.{bad_words, reading_in, wrong_count};
+ghost use Rattle.player_tally.specs.Tallies.{tallied_count, frame_after, more_read, more_refused, place_after, tallied, IsTallyOf};
+
+use block_survey::WordMarks;
+use plain_frames::{PlainFrame, plain_of};
+use q_channel::decode;
+use raw_subcode::{BLOCK_BYTES, Block, Form};
+use rw_code::Word;
+
+/// What came with blocks. A count stays at its last value, 18,446,744,073,709,551,615.
+#[repr(C)]
+#[derive(Clone, Copy, PartialEq, Eq, Debug)]
+pub struct PlayerTally {
+    /// Blocks.
+    pub blocks: u64,
+    /// Words that are codewords.
+    pub clean: u64,
+    /// Words one symbol from a codeword.
+    pub one: u64,
+    /// Words two symbols from a codeword.
+    pub two: u64,
+    /// Words with no codeword within two symbols.
+    pub bad: u64,
+    /// Frames of the Q channel that were read.
+    pub frames: u64,
+    /// Frames that were refused.
+    pub bad_frames: u64,
+    /// The number of the block with the last frame that was read, from 1; or 0.
+    pub frame_block: u64,
+    /// The last frame that was read, or zeros.
+    pub frame: PlainFrame,
+}
+
+impl PlayerTally {
+    /// Nothing came.
+    pub fn nothing() -> PlayerTally
+        ensures { (form : Form) (lead_in : ℕ) → IsTallyOf form lead_in [] result }
+    {
+        PlayerTally {
+            blocks: 0,
+            clean: 0,
+            one: 0,
+            two: 0,
+            bad: 0,
+            frames: 0,
+            bad_frames: 0,
+            frame_block: 0,
+            frame: PlainFrame {
+                kind: 0,
+                time: 0,
+                absolute: 0,
+                control: 0,
+                mode: 0,
+                track: 0,
+                index: 0,
+                disc: 0,
+                frame: 0,
+                text: [0; 13],
+            },
+        }
+    }
+
+    /// Counts a block of a stream of this form, with which these words came.
+    pub(crate) fn count(&mut self, form: Form, words: &[Word], block: &[u8; BLOCK_BYTES])
+        requires { length words.now ≤ 4 }
+        ensures { self.new ≡ tallied form words.now block.now self.old }
+    {
+        self.blocks = self.blocks.saturating_add(1);
+        self.count_words(words);
+        self.count_frame(form, block);
+    }
+
+    // Counts words.
+    fn count_words(&mut self, words: &[Word])
+        requires { length words.now ≤ 4 }
+        ensures { self.new ≡ record self.old {
+          clean = tallied_count self.old.clean (wrong_count 0 words.now);
+          one = tallied_count self.old.one (wrong_count 1 words.now);
+          two = tallied_count self.old.two (wrong_count 2 words.now);
+          bad = tallied_count self.old.bad (bad_words words.now);
+        } }
+    {
+        let marks = WordMarks::of(words);
+        self.clean = self.clean.saturating_add(u64::from(marks.clean));
+        self.one = self.one.saturating_add(u64::from(marks.one));
+        self.two = self.two.saturating_add(u64::from(marks.two));
+        self.bad = self.bad.saturating_add(u64::from(marks.bad));
+    }
+
+    // Counts the frame of a block, and keeps one that is read.
+    fn count_frame(&mut self, form: Form, block: &[u8; BLOCK_BYTES])
+        ensures { self.new ≡ record self.old {
+          frames = more_read self.old.frames (reading_in form block.now);
+          bad_frames = more_refused self.old.bad_frames (reading_in form block.now);
+          frame_block = place_after self.old.frame_block self.old.blocks (reading_in form block.now);
+          frame = frame_after self.old.frame (reading_in form block.now);
+        } }
+    {
+        match form {
+            Form::Raw | Form::Sector => self.count_bits(block),
+            Form::Cooked => {}
+        }
+    }
+
+    // Counts the frame of a block with a Q channel.
+    fn count_bits(&mut self, block: &[u8; BLOCK_BYTES])
+        ensures { self.new ≡ record self.old {
+          frames = more_read self.old.frames (reading_in Form.Raw block.now);
+          bad_frames = more_refused self.old.bad_frames (reading_in Form.Raw block.now);
+          frame_block = place_after self.old.frame_block self.old.blocks (reading_in Form.Raw block.now);
+          frame = frame_after self.old.frame (reading_in Form.Raw block.now);
+        } }
+    {
+        match decode(&Block::from_bytes(block).q_frame()) {
+            Ok(frame) => {
+                self.frames = self.frames.saturating_add(1);
+                self.frame_block = self.blocks;
+                self.frame = plain_of(&frame);
+            }
+            Err(_) => self.bad_frames = self.bad_frames.saturating_add(1),
+        }
+    }
+}

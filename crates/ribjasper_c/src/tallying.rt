@@ -1,0 +1,48 @@
+// A player that is fed a block, and what came with it, counted.
+ghost use Rattle.std.specs.Prelude.{◌≡◌, if◌then◌else◌, ◌∷◌, [], List, ℕ, pos, negsuc};
+ghost use Rattle.live_player.specs.Lives.{Given};
+ghost use Rattle.live_player.specs.Lives.Given.{Fed};
+ghost use Rattle.live_player.specs.Steps.{TakesBlock, words_come};
+ghost use Rattle.live_player.specs.declared.live.LivePlayer.{LivePlayer};
+ghost use Rattle.player_tally.specs.Tallies.{tallied, IsTallyOf};
+ghost use Rattle.raw_subcode.specs.declared.form.Form.{Form};
+ghost use Rattle.ribjasper_c.specs.Handles.{IsPlaying, PlayersGo};
+ghost use Rattle.stream_stages.specs.Steps.{words_give};
+
+use crate::Playing;
+use crate::answers::{DONE, NOT_DONE};
+use player_tally::{PlayerTally, feed_and_count};
+use raw_subcode::BLOCK_BYTES;
+
+/// Feeds an open player the next block, and counts what came with it. 0, or -1 where it is closed.
+#[unsafe(no_mangle)]
+pub extern "C" fn ribjasper_player_feed_counted(
+    player: &mut Playing,
+    block: &[u8; BLOCK_BYTES],
+    tally: &mut PlayerTally,
+) -> i32
+    ensures counts { result ≡ pos 0 → (live : LivePlayer) → player.old.handle.players ≡ live ∷ []
+        → tally.new ≡ tallied live.words.form (words_come (words_give live.words block.now)) block.now
+        tally.old }
+    // Where it is known what the player was given, and the tally is that of all of it.
+    ensures tallies { result ≡ pos 0 → (form : Form) (lead_in : ℕ) (given : List Given)
+        → IsPlaying form lead_in given player.old.handle.players → IsTallyOf form lead_in given tally.old
+        → IsTallyOf form lead_in (Fed block.now ∷ given) tally.new }
+    ensures fed { result ≡ pos 0 → (form : Form) (lead_in : ℕ) (given : List Given)
+        → IsPlaying form lead_in given player.old.handle.players
+        → IsPlaying form lead_in (Fed block.now ∷ given) player.new.handle.players }
+    ensures takes { result ≡ pos 0
+        → PlayersGo player.old.handle.players player.new.handle.players (TakesBlock block.now) }
+    ensures answer { result ≡ (if player.old.is_open then pos 0 else negsuc 0) }
+    ensures stays { player.new.is_open ≡ player.old.is_open }
+    ensures refused { result ≡ negsuc 0 → player.new.handle.players ≡ player.old.handle.players }
+    ensures same { result ≡ negsuc 0 → tally.new ≡ tally.old }
+{
+    if !player.is_open {
+        return NOT_DONE;
+    }
+    let mut live = player.take_out();
+    feed_and_count(&mut live, block, tally);
+    player.put_back(live);
+    DONE
+}

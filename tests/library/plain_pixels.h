@@ -1,0 +1,19 @@
+/* What a player in plain C holds, and its picture as each compiler makes it. */
+#ifndef PLAIN_PIXELS_H
+#define PLAIN_PIXELS_H
+
+#include "ribjasper.h"
+
+struct plain {
+    uint8_t memory[216][300];
+    uint8_t border, h, v;
+    uint16_t colours[16];
+    uint8_t levels[16];
+};
+
+typedef void plain_pixels(const struct plain *restrict it, uint32_t format, int x, int y, int width, int height,
+                          uint8_t *restrict out, size_t stride);
+
+extern plain_pixels plain_by_gcc, plain_by_clang;
+
+#endif

@@ -1,0 +1,54 @@
+/* A closed player as the header has it: to begin with, as a value, in lists and structs, static and not. Compiled in each
+   standard of C and C++; with STRICT without what strict C does not take, a static player that begins with the value. */
+#include "ribjasper.h"
+
+#include <stdio.h>
+
+typedef struct holder {
+    int number;
+    ribjasper_player player;
+} holder;
+
+static ribjasper_player of_zeros;
+static ribjasper_player begun = RIBJASPER_CLOSED_STATIC;
+static const ribjasper_player constant = RIBJASPER_CLOSED_STATIC;
+static holder held = { 1, RIBJASPER_CLOSED_STATIC };
+static ribjasper_player two[2] = { RIBJASPER_CLOSED_STATIC, RIBJASPER_CLOSED_STATIC };
+#ifndef STRICT
+static ribjasper_player by_value = RIBJASPER_CLOSED;
+#endif
+
+static int is_closed(const ribjasper_player *player)
+{
+    uint8_t border;
+    return player->handle.at == NULL && !player->is_open && ribjasper_player_border(player, &border) == RIBJASPER_REFUSED;
+}
+
+static ribjasper_player closed(void)
+{
+    return RIBJASPER_CLOSED;
+}
+
+int main(void)
+{
+    ribjasper_player player = RIBJASPER_CLOSED, list[2] = { RIBJASPER_CLOSED, RIBJASPER_CLOSED }, copy = closed();
+    holder holds = { 2, RIBJASPER_CLOSED };
+    int all;
+    if (ribjasper_player_open(&player) != RIBJASPER_DONE || is_closed(&player))
+        return 1;
+    ribjasper_player_close(&player);
+    player = RIBJASPER_CLOSED;
+    of_zeros = RIBJASPER_CLOSED;
+    begun = RIBJASPER_CLOSED_PLAYER;
+    held.player = RIBJASPER_CLOSED;
+    two[1] = list[1] = RIBJASPER_CLOSED;
+    all = is_closed(&player) && is_closed(&of_zeros) && is_closed(&begun) && is_closed(&constant) &&
+          is_closed(&held.player) && is_closed(&two[0]) && is_closed(&two[1]) && is_closed(&list[0]) &&
+          is_closed(&list[1]) && is_closed(&copy) && is_closed(&holds.player);
+#ifndef STRICT
+    all = all && is_closed(&by_value);
+#endif
+    if (!all)
+        puts("test_closed: a player is not closed");
+    return !all;
+}
