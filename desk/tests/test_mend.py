@@ -305,11 +305,11 @@ class MendedStreamTest(MendCase):
         """Of each block the first reading whose check is good gives P and Q, or else the first."""
         chance, readings = random.Random(11), []
         for _ in range(3):
-            stream = bytearray(self.whole)
+            worn = bytearray(self.whole)
             for block in chance.sample(range(60, len(self.whole) // BLOCK), 400):
-                stream[BLOCK * block + chance.randrange(BLOCK)] ^= 0x40
-                stream[BLOCK * block + chance.randrange(BLOCK)] ^= 0x80
-            readings.append(bytes(stream))
+                worn[BLOCK * block + chance.randrange(BLOCK)] ^= 0x40
+                worn[BLOCK * block + chance.randrange(BLOCK)] ^= 0x80
+            readings.append(bytes(worn))
         stream = self.mended(*readings, name="out.raw")
         lines = [program("q", stdin=reading).splitlines() for reading in readings]
         columns = [blocks_of(reading) for reading in readings]

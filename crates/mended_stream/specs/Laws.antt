@@ -9,7 +9,8 @@ use Rattle.mended_stream.specs.Symbols.{stream_place}
 
 -- word n of the stream of the blocks that were first read
 abbrev pub read_word : ℕ → List (List ℕ) → ℕ → List ℕ
-read_word lead_in readings n = map (λ i. read_byte readings (stream_place lead_in n i) % 64) (below word_symbols)
+read_word lead_in readings n =
+    map (λ i. read_byte readings (stream_place lead_in n i) % 64) (below word_symbols)
 
 -- What is recovered from a mended stream: the codeword of each word that was mended, and of each other word what is found
 -- for the symbols that were first read.

@@ -32,8 +32,8 @@ abbrev pub HaveSources : Words → Type 0
 HaveSources words = words.count ≤ length words.sources.now
 
 -- the text of all words
-abbrev pub HasText : Words → List ℕ → Type 0
-HasText words text = symbols_a_slot * words.count ≤ length text
+abbrev pub HasWordText : Words → List ℕ → Type 0
+HasWordText words text = symbols_a_slot * words.count ≤ length text
 
 -- Each byte of the stream that stands before a size.
 abbrev pub AreBytes : Words → List ℕ → List (List ℕ) → ℕ → List ℕ → Type 0

@@ -1,17 +1,17 @@
 // The blocks of a stream, written over the text of its words.
 ghost use Rattle.std.specs.Prelude.{◌≡◌, ◌<◌, ◌≤◌, ◌+◌, ◌-◌, ◌*◌, ◌/◌, ◌%◌, ◌++◌, length, take, drop};
 ghost use Rattle.raw_subcode.specs.Sizes.{block_bytes, most_units, symbols_a_slot};
-ghost use Rattle.mended_stream.specs.Readings.{AreHeld, all_of};
+ghost use Rattle.mended_stream.specs.Readings.{AreHeld, held_parts};
 ghost use Rattle.mended_stream.specs.Symbols.{AreBytes, HaveSources};
 
-use crate::readings::Readings;
+use crate::readings::HeldReadings;
 use crate::words::Words;
 use raw_subcode::{BLOCK_BYTES, SYMBOLS_A_SLOT};
 
 /// Writes the blocks of a stream to the front of a buffer, which has the text of the words at the end of the stream's
 /// place. The text of a word stands seven slots behind the word's own, so no block is written over text that it or a
 /// later one needs.
-pub(crate) fn write_blocks(readings: &Readings, words: &Words, blocks: &mut [u8])
+pub(crate) fn write_blocks(readings: &HeldReadings, words: &Words, blocks: &mut [u8])
     requires held { AreHeld readings.now }
     requires sources { HaveSources words.now }
     requires whole { readings.now.size % block_bytes ≡ 0 }
@@ -25,7 +25,7 @@ pub(crate) fn write_blocks(readings: &Readings, words: &Words, blocks: &mut [u8]
     ensures size { length blocks.new ≡ length blocks.old }
     ensures behind { drop readings.now.size blocks.new ≡ drop readings.now.size blocks.old }
     ensures bytes { AreBytes words.now
-        (drop (readings.now.size - symbols_a_slot * words.now.count) blocks.old) (all_of readings.now)
+        (drop (readings.now.size - symbols_a_slot * words.now.count) blocks.old) (held_parts readings.now)
         readings.now.size blocks.new }
 {
     let start = readings.size - SYMBOLS_A_SLOT * words.count;

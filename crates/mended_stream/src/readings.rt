@@ -4,26 +4,26 @@ ghost use Rattle.std.specs.List.{list_all};
 ghost use Rattle.raw_subcode.specs.Sizes.{block_bytes};
 ghost use Rattle.rw_mend.specs.Words.{block_at, is_empty_block};
 ghost use Rattle.mended_stream.specs.Chosen.{blocks_at, first_framed, first_read, is_framed_block};
-ghost use Rattle.mended_stream.specs.Readings.{AreHeld, all_of};
+ghost use Rattle.mended_stream.specs.Readings.{AreHeld, held_parts};
 
 use q_channel::is_frame;
 use raw_subcode::{BLOCK_BYTES, Block};
 
 /// Readings of equal length, one behind another.
 #[derive(Clone, Copy)]
-pub(crate) struct Readings<'a> {
+pub(crate) struct HeldReadings<'a> {
     pub(crate) bytes: &'a [u8],
     pub(crate) count: usize,
     /// The bytes of each.
     pub(crate) size: usize,
 }
 
-impl<'a> Readings<'a> {
+impl<'a> HeldReadings<'a> {
     /// The block of the first reading whose Q channel is a frame there, or else of the first that was read there.
     pub(crate) fn framed(&self, b: usize) -> &'a [u8]
         requires held { AreHeld self.now }
         requires inside { block_bytes * b + block_bytes ≤ self.now.size }
-        ensures block { result.now ≡ first_framed (blocks_at (all_of self.now) b) }
+        ensures block { result.now ≡ first_framed (blocks_at (held_parts self.now) b) }
         ensures size { length result.now ≡ block_bytes }
     {
         for r in 0..self.count {
@@ -39,7 +39,7 @@ impl<'a> Readings<'a> {
     pub(crate) fn read(&self, b: usize) -> &'a [u8]
         requires held { AreHeld self.now }
         requires inside { block_bytes * b + block_bytes ≤ self.now.size }
-        ensures block { result.now ≡ first_read (blocks_at (all_of self.now) b) }
+        ensures block { result.now ≡ first_read (blocks_at (held_parts self.now) b) }
         ensures size { length result.now ≡ block_bytes }
     {
         for r in 0..self.count {
@@ -56,7 +56,7 @@ impl<'a> Readings<'a> {
         requires held { AreHeld self.now }
         requires within { r < self.now.count }
         requires inside { block_bytes * b + block_bytes ≤ self.now.size }
-        ensures block { result.now ≡ block_at (slice_index_or (all_of self.now) r []) b }
+        ensures block { result.now ≡ block_at (slice_index_or (held_parts self.now) r []) b }
         ensures size { length result.now ≡ block_bytes }
     {
         let at = self.size * r + BLOCK_BYTES * b;

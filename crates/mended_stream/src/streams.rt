@@ -5,7 +5,7 @@ ghost use Rattle.rw_mend.specs.Many.{words_in_each};
 ghost use Rattle.mended_stream.specs.Stream.{AreMendedIntoStream};
 
 use crate::blocks::write_blocks;
-use crate::readings::Readings;
+use crate::readings::HeldReadings;
 use crate::words::Words;
 use raw_subcode::{BLOCK_BYTES, SLOTS_A_BLOCK};
 use rw_code::SYMBOLS;
@@ -39,7 +39,7 @@ pub fn mend_stream(
     let words = (SLOTS_A_BLOCK * program).saturating_sub(PACKS_KEPT_BACK);
     let text = size - SYMBOLS * words;
     let tallies = mend_readings(readings, count, lead_in, &mut blocks[text..size], sources);
-    let all = Readings {
+    let all = HeldReadings {
         bytes: readings,
         count,
         size,

@@ -2,7 +2,7 @@
 ghost use Rattle.std.specs.Prelude.{◌≡◌, ◌≢◌, true, ◌<◌, ◌≤◌, ◌+◌, ◌-◌, ◌*◌, ◌/◌, ◌%◌, ◌^◌, List, ℕ, length, slice_index};
 ghost use Rattle.raw_subcode.specs.Sizes.{block_bytes, most_units, symbols_a_slot};
 ghost use Rattle.rw_interleave.specs.Interleave.{swapped};
-ghost use Rattle.mended_stream.specs.Symbols.{AreMendedUnder, HasText, HaveSources, IsByte, IsSymbol};
+ghost use Rattle.mended_stream.specs.Symbols.{AreMendedUnder, HasWordText, HaveSources, IsByte, IsSymbol};
 
 use raw_subcode::{BLOCK_BYTES, SLOTS_A_BLOCK, SYMBOLS_A_SLOT};
 use rw_interleave::{PACKS_KEPT_BACK, place};
@@ -65,7 +65,7 @@ impl<'a> Words<'a> {
         read: &[u8],
     ) -> [u8; BLOCK_BYTES]
         requires sources { HaveSources self.now }
-        requires text { HasText self.now text.now }
+        requires text { HasWordText self.now text.now }
         requires lead_in { self.now.lead_in ≤ most_units }
         requires number { b ≤ most_units }
         requires framed { length framed.now ≡ block_bytes }
@@ -83,7 +83,7 @@ impl<'a> Words<'a> {
 
     // The same where each word of which a symbol stands in the block was mended: it is not looked at word by word.
     fn mended_block(&self, text: &[u8], b: usize, framed: &[u8]) -> [u8; BLOCK_BYTES]
-        requires text { HasText self.now text.now }
+        requires text { HasWordText self.now text.now }
         requires number { b ≤ most_units }
         requires mended { AreMendedUnder self.now b }
         requires framed { length framed.now ≡ block_bytes }
@@ -122,7 +122,7 @@ impl<'a> Words<'a> {
     // Block b where they were not.
     fn mixed_block(&self, text: &[u8], b: usize, framed: &[u8], read: &[u8]) -> [u8; BLOCK_BYTES]
         requires sources { HaveSources self.now }
-        requires text { HasText self.now text.now }
+        requires text { HasWordText self.now text.now }
         requires lead_in { self.now.lead_in ≤ most_units }
         requires number { b ≤ most_units }
         requires framed { length framed.now ≡ block_bytes }
@@ -142,7 +142,7 @@ impl<'a> Words<'a> {
     #[inline]
     fn symbol(&self, text: &[u8], p: usize, other: u8) -> u8
         requires sources { HaveSources self.now }
-        requires text { HasText self.now text.now }
+        requires text { HasWordText self.now text.now }
         requires lead_in { self.now.lead_in ≤ most_units }
         requires number { p < 2 ^ 32 }
         ensures symbol { IsSymbol self.now text.now p other result }

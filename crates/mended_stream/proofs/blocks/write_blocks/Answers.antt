@@ -1,5 +1,5 @@
 use Rattle.std.proofs.Common.{◌≡◌, ◌≤◌, ◌+◌, ◌-◌, ◌*◌, ℕ, length, get_or, drop, ap, ◌∙◌, subst, arith, length-drop}
-use Rattle.mended_stream.specs.Readings.{all_of}
+use Rattle.mended_stream.specs.Readings.{held_parts}
 use Rattle.mended_stream.specs.Symbols.{IsByte}
 use Rattle.mended_stream.proofs.Writing.{bytes_more, kept_behind, same_byte, text_is}
 use Rattle.mended_stream.proofs.blocks.write_blocks.Goals as goal
@@ -34,7 +34,7 @@ loop-b-preserved c =
       behind = kept_behind list block c.put.new.blocks old b c.put.ensures.blocks fits size
           c.loop-b.invariant.behind;
       bytes = bytes_more words (drop start old) list block c.put.new.blocks c.framed.result.now
-          c.read.result.now (all_of readings) b c.put.ensures.blocks fits size c.framed.ensures.block
+          c.read.result.now (held_parts readings) b c.put.ensures.blocks fits size c.framed.ensures.block
           c.read.ensures.block c.loop-b.invariant.bytes (λ k lt.
           same_byte words list old readings.size start (96 * b + k) b (get_or c.framed.result.now k 0)
           (get_or c.read.result.now k 0) (get_or block k 0) (omega arith) c.requires.late

@@ -1,5 +1,5 @@
 use Rattle.mended_stream.proofs.Choosing.{block_is}
-use Rattle.mended_stream.proofs.readings.Readings.block.Goals as goal
+use Rattle.mended_stream.proofs.readings.HeldReadings.block.Goals as goal
 
 pub returns-clause-block : goal.returns-clause-block
 returns-clause-block c =

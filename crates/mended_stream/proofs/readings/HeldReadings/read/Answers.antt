@@ -2,15 +2,15 @@ use Rattle.std.proofs.Common.{◌≡◌, ◌<◌, ℕ, false, List, [], length, 
 use Rattle.std.specs.Prelude.{not}
 use Rattle.rw_mend.specs.Words.{block_at, is_empty_block}
 use Rattle.mended_stream.specs.Chosen.{blocks_at, first_read}
-use Rattle.mended_stream.specs.Readings.{all_of}
+use Rattle.mended_stream.specs.Readings.{held_parts}
 use Rattle.mended_stream.proofs.Choosing.{block_of_reading, first_block, no_block, parts_length}
-use Rattle.mended_stream.proofs.readings.Readings.read.Goals as goal
+use Rattle.mended_stream.proofs.readings.HeldReadings.read.Goals as goal
 
 pub returns-then-not-is_empty-clause-block : goal.returns-then-not-is_empty-clause-block
 unfolding first_read
 returns-then-not-is_empty-clause-block c =
     let held = c.args.self.now in
-    let all = all_of held in
+    let all = held_parts held in
     let b = c.args.b in
     let r = c.loop-r.r in
     let within : r < length all =
@@ -26,7 +26,7 @@ pub returns-clause-block : goal.returns-clause-block
 unfolding first_read
 returns-clause-block c =
     let held = c.args.self.now in
-    let all = all_of held in
+    let all = held_parts held in
     let b = c.args.b in
     let count : length all ≡ held.count = parts_length held.count held.size held.bytes.now in
     c.block.ensures.block

@@ -1,15 +1,15 @@
 use Rattle.std.proofs.Common.{◌≡◌, ◌<◌, true, [], length, get_or, ap, sym, ◌∙◌, arith}
 use Rattle.rw_mend.specs.Words.{block_at}
 use Rattle.mended_stream.specs.Chosen.{blocks_at, first_framed, first_read, is_framed_block}
-use Rattle.mended_stream.specs.Readings.{all_of}
+use Rattle.mended_stream.specs.Readings.{held_parts}
 use Rattle.mended_stream.proofs.Choosing.{first_block, no_block, parts_length}
-use Rattle.mended_stream.proofs.readings.Readings.framed.Goals as goal
+use Rattle.mended_stream.proofs.readings.HeldReadings.framed.Goals as goal
 
 pub returns-then-is_framed-clause-block : goal.returns-then-is_framed-clause-block
 unfolding first_framed
 returns-then-is_framed-clause-block c =
     let held = c.args.self.now in
-    let all = all_of held in
+    let all = held_parts held in
     let b = c.args.b in
     let r = c.loop-r.r in
     let within : r < length all =
@@ -24,7 +24,7 @@ pub returns-clause-block : goal.returns-clause-block
 unfolding first_framed
 returns-clause-block c =
     let held = c.args.self.now in
-    let all = all_of held in
+    let all = held_parts held in
     let b = c.args.b in
     let count : length all ≡ held.count = parts_length held.count held.size held.bytes.now in
     c.read.ensures.block

@@ -1,7 +1,0 @@
-use Rattle.std.proofs.Common.{◌≡◌, ◌<◌, ℕ, true, [], get_or}
-use Rattle.rw_mend.specs.Words.{block_at, is_empty_block}
-use Rattle.mended_stream.specs.Readings.{all_of}
-use Rattle.mended_stream.proofs.readings.Readings.read.Given as goal
-
-abbrev pub invariant-loop-r : goal.invariant-loop-r
-invariant-loop-r l = (k : ℕ) → k < l.r → is_empty_block (block_at (get_or (all_of l.self) k []) l.b) ≡ true
