@@ -8,6 +8,7 @@ use Rattle.std.proofs.lemmas.Bool.Decides.{nat_tests}
 use Rattle.std.proofs.lemmas.List.{get_or-set_other, get_or-set_same}
 use Rattle.bit_lists.specs.Counting.{below}
 use Rattle.cdg_instructions.specs.Sizes.{tile_pixels}
+use Rattle.cdg_instructions.specs.declared.instr.Instr.{Instr}
 use Rattle.tile_author.specs.Plan.{are_equal, delta, steps, plan, weight}
 use Rattle.picture_script.specs.Script.{Drawing, picture_pixel, picture_tile}
 use Rattle.picture_script.specs.Board.{Board, IsPicture, tile_of}
@@ -175,6 +176,20 @@ later_start (suc k) start h is = omega arith
 pub before_none : (script : List Drawing) (k row column : ℕ) (start : Option ℕ) → start ≡ None
     → tiles_before script k start row column ≡ picture_tile script (k - 1) row column
 before_none script k row column start is = ap (λ s. tiles_before script k s row column) is
+
+-- a light tile is drawn by one instruction, whatever other tile stands there
+pub drawn_alone : (script : List Drawing) (k row column : ℕ) (start : Option ℕ) (before : Board)
+    (new : List ℕ) (instr : Instr) → 1 ≤ row → row ≤ 16 → 1 ≤ column → column ≤ 48 → start ≡ None
+    → IsPicture script (k - 1) before → tile_of before.pixels row column ≢ new
+    → new ≡ picture_tile script k row column
+    → ((old : List ℕ) → length old ≡ 72 → old ≢ new → plan row column old new ≡ instr ∷ [])
+    → instr ∷ [] ≡ plan row column (tiles_before script k start row column) (picture_tile script k row column)
+drawn_alone script k row column start before new instr row_ge row_le column_ge column_le none was other new_is
+    light =
+    sym (light (tile_of before.pixels row column) (tile_size before.pixels row column) other)
+    ∙ ap₂ (plan row column)
+    (tile_picture script (k - 1) row column before row_ge row_le column_ge column_le was
+    ∙ sym (before_none script k row column start none)) new_is
 
 pub start_none : (start : Option ℕ) (none : Bool) → is_some start ≡ not none → none ≡ true → start ≡ None
 start_none None none told h = refl

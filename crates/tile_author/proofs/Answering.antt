@@ -1,5 +1,5 @@
 -- What the calls answer, from what they computed.
-use Rattle.std.proofs.Common.{◌≡◌, ◌≢◌, ℕ, ◌<◌, ◌≤◌, Bool, true, false, List, [], length, map, refl, sym, ap, ap₂, ◌∙◌, subst, arith, bit_xor, replicate}
+use Rattle.std.proofs.Common.{◌≡◌, ◌≢◌, ℕ, ◌<◌, ◌≤◌, Bool, true, false, List, [], ◌∷◌, length, map, refl, sym, ap, ap₂, ◌∙◌, inl, inr, subst, arith, bit_xor, replicate}
 use Rattle.std.specs.Prelude.{slice_index, ◌==◌, if◌then◌else◌, min, max}
 use Rattle.std.specs.List.{list_all}
 use Rattle.std.proofs.lemmas.List.{ext_get_or}
@@ -8,7 +8,7 @@ use Rattle.cdg_instructions.specs.Instruction.{IsTilePixels}
 use Rattle.cdg_instructions.specs.Drawing.{Turns, IsLeast}
 use Rattle.cdg_instructions.specs.declared.instr.Instr.{Instr}
 use Rattle.tile_author.specs.Plan.{basis, delta, are_equal, steps, weight, plan, planned}
-use Rattle.tile_author.proofs.Needed.{length-delta, delta_at}
+use Rattle.tile_author.proofs.Needed.{length-delta, delta_at, equal_tells}
 use Rattle.tile_author.proofs.Shortest.{delta-tile, plan_equal, plan_draws, plan_combines, good_plan, least}
 use Rattle.tile_author.proofs.OneColour.{least_from_colour, least_same}
 
@@ -120,3 +120,17 @@ pub list_draws_one : (row column : ℕ) (old new : List ℕ) (items : List Instr
     → items ≡ plan row column old new
 list_draws_one row column old new items h one is =
     list_draws row column old new items 1 (weight (delta old new)) h one refl (some_weight (delta old new)) is
+
+-- the one instruction of a tile of weight 1
+pub light_is : (row column : ℕ) (old new : List ℕ) (instr : Instr) → length old ≡ 72 → length new ≡ 72
+    → old ≢ new → 1 ≡ weight new → instr ≡ planned true row column new 0
+    → plan row column old new ≡ instr ∷ []
+light_is row column old new instr old_size new_size other light is =
+    elim (equal_tells old new old_size new_size) [
+      | inl same ↦ absurd (other same.1)
+      | inr differ ↦
+          sym (list_draws_one row column old new (map (planned true row column new) (below (weight new)))
+          differ.0 light refl)
+          ∙ ap (λ n. map (planned true row column new) (below n)) (sym light)
+          ∙ ap (λ i. i ∷ []) (sym is)
+    ]

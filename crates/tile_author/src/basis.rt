@@ -240,8 +240,8 @@ impl Basis {
         lines
     }
 
-    // Instruction j of those that draw the pixels, or that combine them with what stands.
-    fn instruction(
+    /// Instruction j of those that draw the pixels, or that combine them with what stands.
+    pub(crate) fn instruction(
         &self,
         pixels: &[u8; PIXELS],
         draws: bool,

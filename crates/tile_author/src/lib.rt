@@ -1,7 +1,7 @@
 //! Shortest lists of instructions that turn one tile into another.
 #![tactic(auto)]
 
-ghost use Rattle.std.specs.Prelude.{◌≡◌, ◌≢◌, ◌==◌, ℕ, ◌<◌, ◌≤◌, List, length, replicate, slice_index, bit_xor, ◌^◌, true};
+ghost use Rattle.std.specs.Prelude.{◌≡◌, ◌≢◌, ◌↔◌, ◌==◌, ℕ, ◌<◌, ◌≤◌, List, [], ◌∷◌, IfSome, IsSome, length, replicate, slice_index, bit_xor, ◌^◌, true};
 ghost use Rattle.std.specs.List.{list_all};
 ghost use Rattle.cdg_instructions.specs.Instruction.{IsTilePixels};
 ghost use Rattle.cdg_instructions.specs.Sizes.{colour_count, column_values, row_values, screen_columns, screen_rows, tile_pixels};
@@ -49,6 +49,21 @@ pub fn plan(old: &Tile, new: &Tile, row: u8, column: u8) -> ArrayVec<Instr, 4>
     ensures count { length result.items ≡ steps old.now new.now }
 {
     list(old.pixels(), new.pixels(), row, column)
+}
+
+/// The one instruction that draws a tile of weight 1 wherever another tile stands, which need not be known. A heavier
+/// tile has none.
+pub fn light_plan(new: &Tile, row: u8, column: u8) -> Option<Instr>
+    ensures plan { IfSome result (λ instr. (old : List ℕ) → length old ≡ tile_pixels → old ≢ new.now
+        → plan row column old new.now ≡ instr ∷ []) }
+    ensures some { IsSome result ↔ weight new.now ≡ 1 }
+{
+    let pixels = new.pixels();
+    let drawn = Basis::of(pixels);
+    if drawn.weight() > 1 {
+        return None;
+    }
+    Some(drawn.instruction(pixels, true, row, column, 0))
 }
 
 /// The length of a shortest list that draws the tile where everywhere one colour stands, unless the tile is that

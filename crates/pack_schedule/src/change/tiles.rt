@@ -1,9 +1,10 @@
 // The tiles of a picture: how many instructions bring them, from each start at once, and which from one.
-ghost use Rattle.std.specs.Prelude.{◌≡◌, ◌<◌, ◌≤◌, ◌+◌, ◌-◌, ◌++◌, ℕ, List, length, slice_index, replicate, Some, None};
+ghost use Rattle.std.specs.Prelude.{◌≡◌, ◌≢◌, ◌<◌, ◌≤◌, ◌+◌, ◌-◌, ◌++◌, ℕ, List, length, slice_index, replicate, Some, None};
 ghost use Rattle.cdg_instructions.specs.Sizes.{colour_count, tile_pixels, window_columns, window_rows};
 ghost use Rattle.tile_author.specs.Sizes.{most_steps};
-ghost use Rattle.tile_author.specs.Plan.{steps};
-ghost use Rattle.picture_script.specs.Board.{IsPicture};
+ghost use Rattle.tile_author.specs.Plan.{plan, steps};
+ghost use Rattle.picture_script.specs.Board.{IsPicture, tile_of};
+ghost use Rattle.picture_script.specs.Script.{picture_tile};
 ghost use Rattle.picture_changes.specs.Change.{most_tile_steps, tiles_before, IsStart};
 ghost use Rattle.picture_changes.specs.PlannedChange.{planned_tiles, tile_steps};
 ghost use Rattle.pack_schedule.specs.SameTiles.{AreSameRows};
@@ -15,7 +16,7 @@ use crate::change::weights::{Weighed, weigh_tile};
 use arrayvec::ArrayVec;
 use cdg_instructions::{COLOURS, Instr, PIXELS, Tile, WINDOW_COLUMNS, WINDOW_ROWS, WINDOW_TILES};
 use picture_script::{Canvas, Script};
-use tile_author::{MOST_STEPS, plan};
+use tile_author::{MOST_STEPS, light_plan, plan};
 
 /// The sums over tiles of what they take: from what stands there, and from a colour; and of the tiles that are all
 /// one colour.
@@ -106,9 +107,44 @@ impl ChangeList {
             if preset.is_none() && is_same_tile(&same, before, now, row, column) {
                 continue;
             }
-            let old = old_tile(script, k, preset, before, row, column);
-            self.push_all(&plan(&old, &now.tile(row, column), row, column));
+            self.push_tile(script, k, preset, before, now, row, column);
         }
+    }
+
+    // Adds the plan of a tile that differs from what stands there. A light tile is drawn, without a look at what stands.
+    fn push_tile(
+        &mut self,
+        script: &Script,
+        k: u32,
+        preset: Option<u8>,
+        before: &Canvas,
+        now: &Canvas,
+        row: u8,
+        column: u8,
+    )
+        requires few { length self.old ≤ most_tile_steps }
+        requires now { IsPicture script.now k now.now }
+        requires before { 0 < k → IsPicture script.now (k - 1) before.now }
+        requires start { IsStart k preset }
+        requires row_first { 1 ≤ row }
+        requires row_last { row ≤ window_rows }
+        requires column_first { 1 ≤ column }
+        requires column_last { column ≤ window_columns }
+        requires differs { preset ≡ None
+            → tile_of before.now.pixels row column ≢ tile_of now.now.pixels row column }
+        ensures whole { self.new ≡ self.old ++ plan row column
+            (tiles_before script.now k preset row column) (picture_tile script.now k row column) }
+        ensures few { length self.new ≤ length self.old + most_steps }
+    {
+        let new = now.tile(row, column);
+        if preset.is_none() {
+            if let Some(instr) = light_plan(&new, row, column) {
+                self.push(instr);
+                return;
+            }
+        }
+        let old = old_tile(script, k, preset, before, row, column);
+        self.push_all(&plan(&old, &new, row, column));
     }
 
     // Adds the instructions of a tile.

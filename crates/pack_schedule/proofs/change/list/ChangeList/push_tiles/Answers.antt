@@ -1,4 +1,4 @@
-use Rattle.std.proofs.Common.{◌≡◌, ◌∙◌, ℕ, ◌+◌, ◌-◌, ◌/◌, ◌%◌, [], ◌++◌, ap, ap₂, sym, arith, append-nil}
+use Rattle.std.proofs.Common.{◌≡◌, ◌∙◌, ℕ, ◌+◌, ◌-◌, ◌/◌, ◌%◌, [], ◌++◌, ap, sym, arith, append-nil}
 use Rattle.picture_script.specs.Script.{picture_tile}
 use Rattle.picture_changes.specs.Change.{tiles_before}
 use Rattle.pack_schedule.proofs.SameTileLaws.{before_none, later_start, plan_self, same_picture_tile, start_none}
@@ -15,12 +15,9 @@ loop-i-preserved c =
     let row = c.loop-i.i / 48 + 1 in
     let column = c.loop-i.i % 48 + 1 in (
       plans_more c.args.script.now c.args.k c.loop-i.i c.args.preset c.args.self.now c.loop-i.self
-          c.push_all.new.self c.loop-i.invariant.0
-          (c.push_all.ensures.whole
-          ∙ ap (λ xs. c.loop-i.self ++ xs) (c.plan.ensures.plan
-          ∙ ap₂ (plan row column) c.old_tile-old.ensures
-          (c.tile.ensures.picture c.args.script.now c.args.k c.requires.now))),
-      omega (arith, c.push_all.ensures.few, c.loop-i.invariant.1),
+          c.push_tile.new.self c.loop-i.invariant.0
+          c.push_tile.ensures.whole,
+      omega (arith, c.push_tile.ensures.few, c.loop-i.invariant.1),
     )
 
 pub returns : goal.returns
