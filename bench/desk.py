@@ -138,6 +138,8 @@ def main() -> int:
     if subprocess.run([python, "-c", "import PIL"], stderr=subprocess.DEVNULL).returncode:
         print("desk: skipped, there is no Pillow (python3-pil)")
         return 0
+    # As users have it: what Python makes of its sources is kept.
+    os.environ.pop("PYTHONDONTWRITEBYTECODE", None)
     os.environ.setdefault("RIBJASPER_LIBRARY", str(LIBRARY))
     os.environ.setdefault("RIBJASPER_PROGRAM", str(PROGRAM))
     failed = False
