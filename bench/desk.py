@@ -6,6 +6,7 @@ checkout, and with --keep the files that were made stay in a folder, to be compa
 from __future__ import annotations
 
 import argparse
+import math
 import os
 import random
 import shutil
@@ -21,6 +22,7 @@ TOP = Path(__file__).resolve().parent.parent
 PROGRAM, LIBRARY = TOP / "bin" / "ribjasper", TOP / "lib" / "libribjasper.so.0"
 RUNS = int(os.environ.get("RUNS", "3"))
 DUMPS, LINES, FILMED = 100, 60, 40
+PHOTO = (1600, 1200)
 SHEET = 'FILE "a.wav" WAVE\nTRACK 01 AUDIO\nINDEX 01 00:00:00\n'
 WORDS = "silver road that spins in the light and music runs between notes where nobody looks for a page of words".split()
 
@@ -55,12 +57,17 @@ def clock(second: float) -> str:
 
 
 def photo(path: Path) -> None:
-    """Soft colours with noise, as a camera sees them."""
-    image = __import__("PIL.Image", fromlist=["Image"])
-    small = random.Random(2).randbytes(3 * 12 * 9)
-    soft = image.frombytes("RGB", (12, 9), small).resize((1600, 1200), image.BICUBIC)
-    noise = image.frombytes("RGB", (1600, 1200), random.Random(3).randbytes(3 * 1600 * 1200))
-    image.blend(soft, noise, 0.08).save(path)
+    """Soft colours with noise, as a camera sees them, as a pixmap."""
+    wide, high = PHOTO
+    chance, grain = random.Random(2), int.from_bytes(bytes([15]) * 3 * wide, "big")
+    bends = [(chance.uniform(1, 9), chance.uniform(1, 9), chance.uniform(0, 6)) for _ in range(3)]
+    with open(path, "wb") as file:
+        file.write(b"P6\n%d %d\n255\n" % PHOTO)
+        for y in range(high):
+            if y % 8 == 0:
+                soft = bytes(int(120 + 110 * math.sin(a * x / wide + b * y / high + c)) for x in range(wide) for a, b, c in bends)
+            noise = chance.getrandbits(24 * wide) & grain
+            file.write((int.from_bytes(soft, "big") + noise).to_bytes(3 * wide, "big"))
 
 
 def program(words: list[str], out: Path) -> Path:
@@ -85,7 +92,7 @@ def rows(work: Path, desk: Callable[..., list[str]]) -> list[Row]:
     """What is measured, once its inputs are made."""
     (work / "sheet").write_text(SHEET)
     (work / "song.lrc").write_text(lyrics())
-    photo(work / "photo.png")
+    photo(work / "photo.ppm")
     script = work / "song.script"
     subprocess.run(desk("lyrics", "song.lrc", "-o", "song.script"), cwd=work, check=True, stderr=subprocess.DEVNULL)
     stream = program(["author", "--lead-in", "0", "--length", "04:10:00", "--", str(work / "sheet"), str(script)], work / "song.raw")
@@ -94,7 +101,7 @@ def rows(work: Path, desk: Callable[..., list[str]]) -> list[Row]:
     found = [
         Row("report", f"{DUMPS} dumps of a megabyte", desk("report", "dumps", "--quiet", "-o", "OUT")),
         Row("lyrics", f"a song of {LINES} lines", desk("lyrics", "song.lrc", "-o", "OUT.script")),
-        Row("picture", "a photo of 1,600 by 1,200", desk("picture", "photo.png", "-o", "OUT.script")),
+        Row("picture", "a photo of 1,600 by 1,200", desk("picture", "photo.ppm", "-o", "OUT.script")),
     ]
     if shutil.which("ffmpeg"):
         found.insert(2, Row("film", f"{FILMED} seconds of it", desk("film", "part.raw", "-o", "OUT.mp4")))
@@ -138,6 +145,8 @@ def main() -> int:
     if subprocess.run([python, "-c", "import PIL"], stderr=subprocess.DEVNULL).returncode:
         print("desk: skipped, there is no Pillow (python3-pil)")
         return 0
+    # As users have it: what Python makes of its sources is kept.
+    os.environ.pop("PYTHONDONTWRITEBYTECODE", None)
     os.environ.setdefault("RIBJASPER_LIBRARY", str(LIBRARY))
     os.environ.setdefault("RIBJASPER_PROGRAM", str(PROGRAM))
     failed = False

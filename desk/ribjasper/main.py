@@ -14,12 +14,14 @@ from . import beside, failures, output
 from .failures import Failure, failure_of
 from .library import version
 
-# Each module has `add_parser(subparsers)`, which adds its command with set_defaults(run=run), and
+# Each command has a module with `add_parser(subparsers)`, which adds it with set_defaults(run=run), and
 # `run(arguments) -> int`, the exit number.
 COMMANDS = (
-    "identify", "damage", "mend", "q_fix", "convert", "sums", "report", "sheets", "texts",
+    "identify", "damage", "mend", "q-fix", "convert", "sums", "report", "sheet", "texts",
     "plan", "picture", "lyrics", "image", "film", "album", "pair", "look",
 )  # fmt: skip
+# Modules that are not called as their commands.
+MODULES = {"q-fix": "q_fix", "sheet": "sheets"}
 
 
 class Version(argparse.Action):
@@ -46,7 +48,8 @@ class Parser(argparse.ArgumentParser):
 
 
 @functools.lru_cache(maxsize=None)
-def parser() -> argparse.ArgumentParser:
+def parser(command: str | None = None) -> argparse.ArgumentParser:
+    """The parser of all commands, or, which is there sooner, that of one of them."""
     top = Parser(
         prog="ribjasper-desk",
         description="Works on dumps and songs of the subcode channels of Compact Discs, over the proved library.",
@@ -56,8 +59,8 @@ def parser() -> argparse.ArgumentParser:
     )
     top.add_argument("--version", action=Version, help="print the version and end")
     commands = top.add_subparsers(metavar="COMMAND", required=True, parser_class=Parser)
-    for name in COMMANDS:
-        importlib.import_module(f".{name}", __package__).add_parser(commands)
+    for name in COMMANDS if command is None else [command]:
+        importlib.import_module(f".{MODULES.get(name, name)}", __package__).add_parser(commands)
     return top
 
 
@@ -121,9 +124,10 @@ def inputs_of(arguments: argparse.Namespace | None) -> str:
 def followed(words: Sequence[str] | None) -> int:
     """Does what the words ask for; what goes wrong is a line and a number."""
     arguments = None
+    words = sys.argv[1:] if words is None else words
     try:
         try:
-            arguments = parser().parse_args(words)
+            arguments = parser(words[0] if words and words[0] in COMMANDS else None).parse_args(words)
             status: int = arguments.run(arguments)
         except SystemExit as end:
             status = end.code if isinstance(end.code, int) else 0
