@@ -18,3 +18,4 @@ pub mod TextLines
 pub mod LeadInReading
 pub mod Finished
 pub mod Repeats
+pub mod EmptyBlocks
