@@ -17,3 +17,5 @@ pub mod Pieces
 pub mod TextLines
 pub mod LeadInReading
 pub mod Finished
+pub mod Repeats
+pub mod EmptyBlocks

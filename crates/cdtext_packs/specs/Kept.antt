@@ -1,5 +1,5 @@
 -- What a reader keeps: at place n of 256 the kept pack with the number n.
-use Rattle.std.specs.Prelude.{ℕ, not, ◌&&◌, List, map, find, replicate, set, slice_index_or, Option, Some, None, is_some, ◌==◌, if◌then◌else◌}
+use Rattle.std.specs.Prelude.{◌≡◌, ℕ, true, not, ◌&&◌, List, map, find, replicate, set, slice_index_or, Option, Some, None, is_some, ◌==◌, if◌then◌else◌}
 use Rattle.bit_lists.specs.Counting.{below}
 use Rattle.cdtext_packs.specs.Packs.{most_text_packs, pack_number, check_matches, is_first_block, is_good}
 use Rattle.cdtext_packs.specs.declared.kinds.Offer.{Offer}
@@ -12,6 +12,10 @@ nothing_kept = replicate most_text_packs None
 -- the kept pack with a number
 abbrev pub with_number : List (Option (List ℕ)) → ℕ → Option (List ℕ)
 with_number kept n = slice_index_or kept n None
+
+-- each kept pack is good
+abbrev pub AreGood : List (Option (List ℕ)) → Type 0
+AreGood kept = (n : ℕ) (pack : List ℕ) → with_number kept n ≡ Some pack → is_good pack ≡ true
 
 -- what becomes of a pack that is offered where these are kept
 abbrev pub offer_of : List (Option (List ℕ)) → List ℕ → Offer

@@ -1,5 +1,7 @@
 // The stage that reads the text packs of the lead-in.
-ghost use Rattle.std.specs.Prelude.{◌≡◌, ◌≤◌, ◌<◌, List, ℕ, None, IfOk, take};
+ghost use Rattle.std.specs.Prelude.{◌≡◌, ◌≤◌, ◌<◌, ◌+◌, ◌-◌, ◌^◌, List, ℕ, None, IfOk, min, replicate, take, true};
+ghost use Rattle.raw_subcode.specs.Channels.{symbols_of};
+ghost use Rattle.raw_subcode.specs.Sizes.{block_bytes};
 ghost use Rattle.cdg_io.specs.Run.{run_state};
 ghost use Rattle.disc_time.specs.Counts.{most_lead_in};
 ghost use Rattle.cdtext_packs.specs.LeadIn.{lead_in_packs};
@@ -49,6 +51,14 @@ impl LeadInTexts {
         self.other = 0;
     }
 
+    // Counts the four packs of a block without symbols: bytes of zeros, whose check does not match.
+    #[inline]
+    fn count_empty(&mut self)
+        ensures { self.new ≡ record self.old { bad = min (self.old.bad + 4) (2 ^ 32 - 1) } }
+    {
+        self.bad = self.bad.saturating_add(4);
+    }
+
     // Offers a pack to the reader, and counts the answer.
     #[tactic(auto, unfolding(crate::specs::TextSteps::offered))]
     fn offer(&mut self, pack: &[u8; PACK_BYTES])
@@ -60,6 +70,18 @@ impl LeadInTexts {
             Offer::OtherBlock => self.other = self.other.saturating_add(1),
         }
     }
+}
+
+// Whether no symbol of a block is other than 0: most lead-ins carry no texts.
+#[inline]
+fn is_empty(block: &[u8; BLOCK_BYTES]) -> bool
+    ensures { result ≡ true → symbols_of block.now ≡ replicate block_bytes 0 }
+{
+    let mut all = 0;
+    for byte in block {
+        all |= *byte;
+    }
+    all % 64 == 0
 }
 
 impl Stage for LeadInTexts {
@@ -75,6 +97,10 @@ impl Stage for LeadInTexts {
     fn feed(&mut self, block: &[u8; BLOCK_BYTES]) -> Option<Piece> {
         if self.left > 0 {
             self.left -= 1;
+            if is_empty(block) {
+                self.count_empty();
+                return None;
+            }
             let block = Block::from_bytes(block);
             self.offer(&block.text_pack(0));
             self.offer(&block.text_pack(1));

@@ -1,5 +1,5 @@
 // A pack of eighteen bytes. Clauses call its sizes by the names of specs/Packs.antt.
-ghost use Rattle.std.specs.Prelude.{◌≡◌, ◌∷◌, List, ℕ, length};
+ghost use Rattle.std.specs.Prelude.{◌≡◌, ◌∷◌, List, ℕ, length, true};
 ghost use Rattle.cdtext_packs.specs.Packs.{pack_type, pack_track, pack_number, pack_text, check_matches, is_first_block, sealed, text_bytes};
 
 use std::marker::Model;
@@ -50,6 +50,14 @@ impl TextPack {
         ensures { result ≡ bytes.now }
     {
         TextPack { bytes: *bytes }
+    }
+
+    /// Whether it is the same pack as another.
+    #[inline]
+    pub(crate) fn has_bytes_of(&self, other: &TextPack) -> bool
+        ensures { result ≡ true → self.now ≡ other.now }
+    {
+        self.bytes == other.bytes
     }
 
     /// Its type.

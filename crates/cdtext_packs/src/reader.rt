@@ -1,6 +1,7 @@
 // The reader of packs in any order, with any repeats.
 ghost use Rattle.std.specs.Prelude.{◌≡◌, ◌≤◌, ◌⊎◌, List, ℕ, Option, true, length, vec_len, IsOk, IfOk, IfErr, Ok, Err};
-ghost use Rattle.cdtext_packs.specs.Kept.{nothing_kept, offer_of, kept_by};
+ghost use Rattle.cdtext_packs.specs.Kept.{AreGood, nothing_kept, offer_of, kept_by};
+ghost use Rattle.cdtext_packs.specs.declared.kinds.Offer.TheVariants.{Again};
 ghost use Rattle.cdtext_packs.specs.Packs.{most_text_packs};
 ghost use Rattle.cdtext_packs.specs.Reading.{keeps_nothing, first_missing, read_numbers, read_sized, read_texts};
 ghost use Rattle.disc_time.specs.Counts.{most_tracks};
@@ -13,7 +14,7 @@ use disc_time::MOST_TRACKS;
 use std::alloc::{AllocError, Global};
 use std::marker::Model;
 
-/// The packs that are kept: at most one of each number.
+/// The packs that are kept: at most one of each number. Each of them is good.
 #[derive(Drop)]
 pub struct TextReader {
     kept: Vec<Option<TextPack>>,
@@ -24,7 +25,7 @@ impl Model for TextReader {
 
     ghost view = { λ r. r.kept.items };
 
-    ghost invariant = { λ r. vec_len r.kept ≡ most_text_packs };
+    ghost invariant = { λ r. (vec_len r.kept ≡ most_text_packs) × AreGood r.kept.items };
 }
 
 impl TextReader {
@@ -49,6 +50,31 @@ impl TextReader {
         ensures kept { self.new ≡ kept_by result self.old pack.now }
     {
         let pack = TextPack::from_bytes(pack);
+        // A lead-in repeats its packs.
+        if self.keeps(&pack) {
+            Offer::Again
+        } else {
+            self.offer_other(pack)
+        }
+    }
+
+    // Whether this pack is kept.
+    #[inline]
+    fn keeps(&self, pack: &TextPack) -> bool
+        ensures { result ≡ true → offer_of self.now pack.now ≡ Again }
+    {
+        match &self.kept[usize::from(pack.number())] {
+            Some(kept) => kept.has_bytes_of(pack),
+            None => false,
+        }
+    }
+
+    // Keeps a pack if it is good and its number is new.
+    #[inline(never)]
+    fn offer_other(&mut self, pack: TextPack) -> Offer
+        ensures answer { result ≡ offer_of self.old pack }
+        ensures kept { self.new ≡ kept_by result self.old pack }
+    {
         if !pack.check_matches() {
             return Offer::BadCrc;
         }

@@ -96,7 +96,7 @@ impl Gather {
     }
 
     /// Whether the words that come with a block are four of zeros, and the slots stay as they are.
-    #[inline]
+    #[inline(always)]
     pub fn stays_idle(&self, block: &[u8; BLOCK_BYTES]) -> bool
         ensures next { result ≡ true
             → self.now ≡ run_state gather_next self.now (slots_in block.now 0 slots_a_block) }

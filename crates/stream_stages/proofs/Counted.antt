@@ -1,6 +1,6 @@
 -- What is counted of words and blocks, one after another.
-use Rattle.std.proofs.Common.{◌≡◌, ℕ, ◌+◌, ◌^◌, ◌<◌, ◌≤◌, Bool, true, false, List, [], ◌∷◌, ◌++◌, length, get_or, map, take, Some, refl, sym, ap, ap₂, ◌∙◌, arith}
-use Rattle.std.specs.Prelude.{if◌then◌else◌, count_by, is_none, is_ok, is_err, replicate, Result}
+use Rattle.std.proofs.Common.{◌≡◌, ℕ, zero, suc, ◌+◌, ◌-◌, ◌^◌, ◌<◌, ◌≤◌, Bool, true, false, List, [], ◌∷◌, ◌++◌, length, get_or, map, take, Some, refl, sym, ap, ap₂, ◌∙◌, arith}
+use Rattle.std.specs.Prelude.{if◌then◌else◌, min, count_by, is_none, is_ok, is_err, replicate, Result}
 use Rattle.std.specs.declared.option.Option.{Option}
 use Rattle.std.specs.List.{zip}
 use Rattle.std.proofs.lemmas.List.{take_more}
@@ -9,17 +9,19 @@ use Rattle.arrayvec.specs.ArrayVec.{ArrayVec}
 use Rattle.cdg_io.specs.Run.{run_state}
 use Rattle.cdg_io.specs.declared.stage.Then.{Then}
 use Rattle.cdg_io.proofs.Runs.{then_next}
-use Rattle.rw_code.specs.Codeword.{IsCodeword, differences}
+use Rattle.rw_code.specs.Codeword.{IsCodeword, IsWord, differences}
+use Rattle.rw_code.specs.Packs.{idle_pack}
 use Rattle.rw_code.specs.Finding.{finding}
 use Rattle.raw_subcode.specs.Channels.{q_bits}
 use Rattle.q_channel.specs.ReadingOf.{reading_of}
 use Rattle.q_channel.specs.declared.frame.QFrame.{QFrame}
 use Rattle.q_channel.specs.declared.frame.QFault.{QFault}
-use Rattle.stream_stages.proofs.Recovers.{found_itself}
+use Rattle.stream_stages.proofs.Recovers.{found_itself, found_some}
 use Rattle.stream_stages.specs.Steps.{words_next, words_give}
 use Rattle.stream_stages.specs.Check.{has_wrong, found_passes, is_idle, is_graphics, is_unknown, is_foreign}
-use Rattle.stream_stages.specs.CheckSteps.{tick, wrong_counted, kind_counted, count_found, count_next, count_after, counts_next, frames_next, counting_next}
+use Rattle.stream_stages.specs.CheckSteps.{tick, near_counted, with_near, wrong_counted, kind_counted, count_found, count_next, count_after, counts_next, frames_next, counting_next}
 use Rattle.stream_stages.specs.declared.block_words.BlockWords.{BlockWords}
+use Rattle.stream_stages.specs.declared.counting.NearIdle.{NearIdle}
 use Rattle.stream_stages.specs.declared.counting.WordCounts.{WordCounts}
 use Rattle.stream_stages.specs.declared.counting.FrameCounts.{FrameCounts}
 use Rattle.stream_stages.specs.declared.counting.Counting.{Counting}
@@ -40,6 +42,113 @@ pub idle_counted : (s : WordCounts) (word : List ℕ) → word ≡ replicate 24 
     → record s { clean = tick true s.clean; idle = tick true s.idle } ≡ count_found s word (Some word)
 unfolding count_found tick differences
 idle_counted s word zeros = sym (ap (λ (w : List ℕ). count_found s w (Some w)) zeros)
+
+-- ---- words for which the idle pack is found, counted together at the end
+
+later_hit : (hit : Bool) (n c : ℕ) → tick hit (min (n + c) (2 ^ 32 - 1)) ≡ min (tick hit n + c) (2 ^ 32 - 1)
+unfolding tick
+later_hit true n c = omega arith
+later_hit false n c = refl
+
+-- another word may be counted before them
+near_later : (s : WordCounts) (near : NearIdle) (word : List ℕ) (found : Option (List ℕ))
+    → count_found (with_near s near) word found ≡ with_near (count_found s word found) near
+unfolding count_found
+near_later s near word found = λ i. record {
+  clean = later_hit (has_wrong 0 (word, found)) s.clean near.clean i;
+  one = later_hit (has_wrong 1 (word, found)) s.one near.one i;
+  two = later_hit (has_wrong 2 (word, found)) s.two near.two i;
+  bad = tick (is_none found) s.bad;
+  idle = later_hit (found_passes is_idle found) s.idle (near.clean + near.one + near.two) i;
+  graphics = tick (found_passes is_graphics found) s.graphics;
+  unknown = tick (found_passes is_unknown found) s.unknown;
+  foreign = tick (found_passes is_foreign found) s.foreign;
+}
+
+one_more : (n c : ℕ) → min (n + (c + 1)) (2 ^ 32 - 1) ≡ min (min (n + c) (2 ^ 32 - 1) + 1) (2 ^ 32 - 1)
+one_more n c = omega arith
+
+none_more : (n c : ℕ) → min (n + (c + 0)) (2 ^ 32 - 1) ≡ min (n + c) (2 ^ 32 - 1)
+none_more n c = omega arith
+
+idle_one : (n a b c x y z : ℕ) → x + y + z ≡ 1 → min (n + (a + x + (b + y) + (c + z))) (2 ^ 32 - 1)
+    ≡ min (min (n + (a + b + c)) (2 ^ 32 - 1) + 1) (2 ^ 32 - 1)
+idle_one n a b c x y z one = omega (arith, one)
+
+near_one : (s : WordCounts) (near : NearIdle) (wrong : ℕ) → wrong ≤ 2
+    → with_near s (near_counted near wrong) ≡ kind_counted (wrong_counted (with_near s near) wrong) 0 0
+unfolding tick
+near_one s near zero few = λ i. record {
+  clean = one_more s.clean near.clean i;
+  one = none_more s.one near.one i;
+  two = none_more s.two near.two i;
+  bad = s.bad;
+  idle = idle_one s.idle near.clean near.one near.two 1 0 0 refl i;
+  graphics = s.graphics;
+  unknown = s.unknown;
+  foreign = s.foreign;
+}
+near_one s near (suc zero) few = λ i. record {
+  clean = none_more s.clean near.clean i;
+  one = one_more s.one near.one i;
+  two = none_more s.two near.two i;
+  bad = s.bad;
+  idle = idle_one s.idle near.clean near.one near.two 0 1 0 refl i;
+  graphics = s.graphics;
+  unknown = s.unknown;
+  foreign = s.foreign;
+}
+near_one s near (suc (suc zero)) few = λ i. record {
+  clean = none_more s.clean near.clean i;
+  one = none_more s.one near.one i;
+  two = one_more s.two near.two i;
+  bad = s.bad;
+  idle = idle_one s.idle near.clean near.one near.two 0 0 1 refl i;
+  graphics = s.graphics;
+  unknown = s.unknown;
+  foreign = s.foreign;
+}
+near_one s near (suc (suc (suc n))) few = absurd (omega (arith, few))
+
+-- one of them
+pub near_step : (s : WordCounts) (near : NearIdle) (word : List ℕ) (wrong : ℕ) → IsCodeword idle_pack
+    → IsWord word → wrong ≡ differences word idle_pack → wrong ≤ 2
+    → with_near s (near_counted near wrong) ≡ count_next (with_near s near) word
+near_step s near word wrong codeword is same few =
+    near_one s near wrong few ∙ fixed_counted (with_near s near) word idle_pack wrong 0 0 same refl refl
+    ∙ ap (count_found (with_near s near) word)
+    (found_some word idle_pack is (record { is_codeword = codeword; is_near = omega (arith, same, few) }))
+
+-- and another word
+pub other_step : (s new : WordCounts) (near : NearIdle) (word : List ℕ) → new ≡ count_next s word
+    → with_near new near ≡ count_next (with_near s near) word
+other_step s new near word is =
+    ap (λ (t : WordCounts). with_near t near) is ∙ sym (near_later s near word (finding word))
+
+-- there is one more of them
+pub near_few : (near : NearIdle) (wrong n : ℕ) → wrong ≤ 2 → near.clean + near.one + near.two ≤ n
+    → (near_counted near wrong).clean + (near_counted near wrong).one + (near_counted near wrong).two ≤ n + 1
+near_few near zero n few before = omega (arith, before)
+near_few near (suc zero) n few before = omega (arith, before)
+near_few near (suc (suc zero)) n few before = omega (arith, before)
+near_few near (suc (suc (suc m))) n few before = absurd (omega (arith, few))
+
+none_near : (n : ℕ) → n < 2 ^ 32 → min (n + 0) (2 ^ 32 - 1) ≡ n
+none_near n fits = omega (arith, fits)
+
+-- none of them
+pub near_none : (s : WordCounts) → s.clean < 2 ^ 32 → s.one < 2 ^ 32 → s.two < 2 ^ 32 → s.idle < 2 ^ 32
+    → with_near s (record { clean = 0; one = 0; two = 0 }) ≡ s
+near_none s clean one two idle = λ i. record {
+  clean = none_near s.clean clean i;
+  one = none_near s.one one i;
+  two = none_near s.two two i;
+  bad = s.bad;
+  idle = none_near s.idle idle i;
+  graphics = s.graphics;
+  unknown = s.unknown;
+  foreign = s.foreign;
+}
 
 -- ---- four idle words
 

@@ -11,6 +11,7 @@ use Rattle.q_channel.specs.ReadingOf.{reading_of}
 use Rattle.stream_stages.specs.Steps.{fresh_words, words_next, words_give}
 use Rattle.stream_stages.specs.Stages.{counts_of, words_of}
 use Rattle.stream_stages.specs.Check.{has_wrong, found_passes, is_idle, is_graphics, is_unknown, is_foreign, stream_lines, wrong_lines, pack_count_lines, frame_count_lines}
+use Rattle.stream_stages.specs.declared.counting.NearIdle.{NearIdle}
 use Rattle.stream_stages.specs.declared.counting.WordCounts.{WordCounts}
 use Rattle.stream_stages.specs.declared.counting.FrameCounts.{FrameCounts}
 use Rattle.stream_stages.specs.declared.counting.Counting.{Counting}
@@ -34,6 +35,23 @@ kind_counted s mode code = record s {
   graphics = tick (is_graphics mode code) s.graphics;
   unknown = tick (is_unknown mode code) s.unknown;
   foreign = tick (is_foreign mode code) s.foreign;
+}
+
+-- one more of the words for which the idle pack is found
+abbrev pub near_counted : NearIdle → ℕ → NearIdle
+near_counted near wrong = record {
+  clean = near.clean + (if wrong == 0 then 1 else 0);
+  one = near.one + (if wrong == 1 then 1 else 0);
+  two = near.two + (if wrong == 2 then 1 else 0);
+}
+
+-- after such words
+abbrev pub with_near : WordCounts → NearIdle → WordCounts
+with_near s near = record s {
+  clean = min (s.clean + near.clean) (2 ^ 32 - 1);
+  one = min (s.one + near.one) (2 ^ 32 - 1);
+  two = min (s.two + near.two) (2 ^ 32 - 1);
+  idle = min (s.idle + (near.clean + near.one + near.two)) (2 ^ 32 - 1);
 }
 
 -- after a word for which this is found

@@ -1,5 +1,5 @@
 // From words to the bytes of packs.
-ghost use Rattle.std.specs.Prelude.{◌≡◌, [], length, map};
+ghost use Rattle.std.specs.Prelude.{◌≡◌, [], Some, length, map};
 ghost use Rattle.raw_subcode.specs.Sizes.{symbols_a_slot};
 ghost use Rattle.rw_code.specs.Codeword.{IsCodeword};
 ghost use Rattle.rw_code.specs.Finding.{finding};
@@ -78,6 +78,16 @@ impl Correction {
     }
 }
 
+// Puts an empty piece where none stands to be written over: for the first block. It is a function of its own so that
+// blocks do not pay for its variables.
+#[cold]
+#[inline(never)]
+fn put_empty(out: &mut Option<Piece>)
+    ensures { out.new ≡ Some [] }
+{
+    *out = Some(Piece::new());
+}
+
 impl Stage for Correction {
     type Item = BlockOfWords;
 
@@ -87,9 +97,6 @@ impl Stage for Correction {
 
     ghost gives = { correction_gives };
 
-    // A piece is made anew only where none stands to be written over: for the first block.
-    #[cold]
-    #[inline(never)]
     #[tactic(auto, unfolding(crate::specs::Steps::correction_gives))]
     fn feed(&mut self, words: &BlockOfWords) -> Option<Piece> {
         let mut piece = Piece::new();
@@ -100,9 +107,12 @@ impl Stage for Correction {
     #[inline]
     #[tactic(auto, unfolding(crate::specs::Steps::correction_gives))]
     fn emit(&mut self, words: &BlockOfWords, out: &mut Option<Piece>) {
+        if out.is_none() {
+            put_empty(out);
+        }
         match out {
             Some(piece) => self.recover_block(words, piece),
-            None => *out = self.feed(words),
+            None => unreachable!(),
         }
     }
 }

@@ -1,12 +1,12 @@
 // Counts of words, packs and frames.
-ghost use Rattle.std.specs.Prelude.{◌≡◌, ◌==◌, replicate, true, false, Some, None};
+ghost use Rattle.std.specs.Prelude.{◌≡◌, ◌<◌, ◌+◌, ◌-◌, ◌^◌, replicate, true, false, Some, None};
 ghost use Rattle.raw_subcode.specs.Sizes.{slots_a_block};
 ghost use Rattle.rw_code.specs.Codeword.{IsCodeword, differences};
 ghost use Rattle.rw_code.specs.Packs.{idle_pack};
 ghost use Rattle.stream_stages.specs.Steps.{fresh_words};
 ghost use Rattle.stream_stages.specs.Stages.{counts_of, words_of};
 ghost use Rattle.stream_stages.specs.Check.{is_known};
-ghost use Rattle.stream_stages.specs.CheckSteps.{tick, wrong_counted, kind_counted, count_found, count_next, count_after, counts_next, counts_give, frames_next, counting_next, counting_gives, nothing_counted};
+ghost use Rattle.stream_stages.specs.CheckSteps.{tick, near_counted, with_near, wrong_counted, kind_counted, count_found, count_next, count_after, counts_next, counts_give, frames_next, counting_next, counting_gives, nothing_counted};
 
 use crate::BlockWords;
 use crate::block_words::{BlockOfWords, idle_is_codeword};
@@ -83,16 +83,78 @@ fn is_known(code: u8) -> bool
     matches!(code, 1 | 2 | 6 | 20 | 24 | 28 | 30 | 31 | 38)
 }
 
+// A law: a count is a number of 32 bits.
+#[inline]
+fn counts_fit(count: u32)
+    ensures { count < 2 ^ 32 }
+{
+    let _ = count;
+}
+
+// Words for which the idle pack is found, by the number of their wrong symbols.
+#[derive(Clone, Copy)]
+struct NearIdle {
+    clean: u32,
+    one: u32,
+    two: u32,
+}
+
+impl NearIdle {
+    // None of them.
+    #[inline]
+    fn none() -> NearIdle
+        ensures { result ≡ record { clean = 0; one = 0; two = 0 } }
+    {
+        NearIdle {
+            clean: 0,
+            one: 0,
+            two: 0,
+        }
+    }
+
+    // One more, with so many wrong symbols.
+    #[inline]
+    fn count(&mut self, wrong: u8)
+        requires { self.old.clean + self.old.one + self.old.two < 2 ^ 32 - 1 }
+        ensures { self.new ≡ near_counted self.old wrong }
+    {
+        self.clean += u32::from(wrong == 0);
+        self.one += u32::from(wrong == 1);
+        self.two += u32::from(wrong == 2);
+    }
+}
+
 impl WordCounts {
-    // Counts the words of a block, one by one.
+    // Counts the words of a block, one by one. Those for which the idle pack is found are many: they are counted apart,
+    // and at the end together.
     #[inline(never)]
     fn count_each(&mut self, words: &ArrayVec<Word, SLOTS_A_BLOCK>)
         requires { IsCodeword idle_pack }
         ensures { self.new ≡ counts_next self.old words.now }
     {
+        // Where none is counted together, each count is as it was.
+        counts_fit(self.idle);
+        let mut near = NearIdle::none();
         for word in words.as_slice() {
-            self.count(word);
+            let wrong = word.weight();
+            if wrong <= MOST_WRONG {
+                near.count(wrong);
+            } else {
+                self.count_corrected(word);
+            }
         }
+        self.count_near(near);
+    }
+
+    // Counts words for which the idle pack is found.
+    fn count_near(&mut self, near: NearIdle)
+        requires { near.clean + near.one + near.two < 2 ^ 32 }
+        ensures { self.new ≡ with_near self.old near }
+    {
+        self.clean = self.clean.saturating_add(near.clean);
+        self.one = self.one.saturating_add(near.one);
+        self.two = self.two.saturating_add(near.two);
+        self.idle = self.idle.saturating_add(near.clean + near.one + near.two);
     }
 
     // Counts the words that come with a block.
@@ -106,22 +168,6 @@ impl WordCounts {
             None => self.count_four_idle(),
             Some(words) => self.count_each(words),
         }
-    }
-
-    // Counts a word by what is found for it.
-    #[inline]
-    fn count(&mut self, word: &Word)
-        requires { IsCodeword idle_pack }
-        ensures { self.new ≡ count_next self.old word.now }
-    {
-        // Most words of a disc are the idle pack or near it.
-        let wrong = word.weight();
-        if wrong <= MOST_WRONG {
-            self.count_wrong(wrong);
-            self.count_kind(0, 0);
-            return;
-        }
-        self.count_corrected(word);
     }
 
     // Counts a word by what its correction finds.
