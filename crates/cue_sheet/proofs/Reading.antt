@@ -7,12 +7,9 @@ use Rattle.text_lines.proofs.ReadOn.{read_on-taken, read_on-refused, read_on-end
 use Rattle.std.proofs.lemmas.Bool.{cases_Bool}
 use Rattle.cue_sheet.specs.CueSheet.{IsSheet, sheet_from}
 use Rattle.cue_sheet.specs.Grammar.{CueState, nothing_said, has_index_one, track_with, sheet_step, ended, read_cue}
-use Rattle.cue_sheet.specs.Answers.{IsCueAnswer}
-use Rattle.cue_sheet.specs.Steps.{unless, end_reason, sheet_said, TakesLine, IsEmpty, Says, RefusesLine}
+use Rattle.cue_sheet.specs.Steps.{unless, end_reason, sheet_said, TakesLine, IsEmpty, Says}
 use Rattle.cue_sheet.specs.declared.fault.CueWhy.{CueWhy}
 use Rattle.cue_sheet.specs.declared.fault.CueWhy.TheVariants.{NoFile, NoTrack, NoIndex}
-use Rattle.cue_sheet.specs.declared.fault.CueStop.{CueStop}
-use Rattle.cue_sheet.specs.declared.fault.CueStop.TheVariants.{Fault, NoMemory}
 use Rattle.cue_sheet.proofs.Good.{IsGood, good_start, good_more, good_sheet}
 use Rattle.cue_sheet.proofs.Stepping.{ended_is}
 
@@ -60,14 +57,12 @@ reading_goes_on text rest line next number old new reading lines shorter (Says s
     (subst IsGood (sym is) (good_more old said reading.good range free))
 
 -- a line that is not taken is the first that is refused
-pub reading_stops : (text rest line next : List ℕ) (number : ℕ) (old : CueState) (stop : CueStop)
+pub reading_stops : (text rest line next : List ℕ) (number : ℕ) (old : CueState) (why : CueWhy)
     → Reading text rest number old → lines_in rest ≡ line ∷ lines_in next
-    → RefusesLine old number line stop → IsCueAnswer (read_cue text) (Err stop)
-reading_stops text rest line next number old (Fault at why) reading lines refuses =
+    → sheet_step old line ≡ Err why → read_cue text ≡ Err (number, why)
+reading_stops text rest line next number old why reading lines refuses =
     reading.same ∙ (ap (read_on sheet_step ended number old) lines
-    ∙ (read_on-refused sheet_step ended number old why line (lines_in next) refuses.1
-    ∙ ap (λ n. Err (n, why)) (sym refuses.0)))
-reading_stops text rest line next number old NoMemory reading lines refuses = tt
+    ∙ read_on-refused sheet_step ended number old why line (lines_in next) refuses)
 
 pub reading_ends : (text rest : List ℕ) (number : ℕ) (draft : CueState) (why : Option CueWhy)
     → Reading text rest number draft → lines_in rest ≡ [] → why ≡ end_reason draft

@@ -5,8 +5,10 @@ use Rattle.cue_sheet.specs.CueSheet.{CueSheet}
 use Rattle.text_lines.specs.Text.{trimmed, first_word, argument_of, is_some_bytes}
 use Rattle.cue_sheet.specs.CueLines.{command_named, said_by, CueLine, SaysNothing, SaysCatalogue, SaysFile, SaysTitle, SaysPerformer, SaysSongwriter, SaysTrack, SaysFlags, SaysIsrc, SaysPregap, SaysIndex, SaysPostgap}
 use Rattle.cue_sheet.specs.Grammar.{CueState, has_index_one, lacks_index, follows_number, follows_index, begun, with_index, once, taken, is_second_file, is_placed, spelled_line, obeyed, sheet_step, ended}
-use Rattle.cue_sheet.specs.Steps.{after, later_sheet_reason, unless, end_reason, sheet_said}
+use Rattle.cue_sheet.specs.Steps.{line_said, is_repeated, after, later_sheet_reason, unless, end_reason, sheet_said}
 use Rattle.cue_sheet.specs.declared.command.SheetCommand.{SheetCommand}
+use Rattle.cue_sheet.specs.declared.line.SheetLine.{SheetLine}
+use Rattle.cue_sheet.specs.declared.line.SheetLine.TheVariants.{Remark, Catalogue, File, Title, Performer, Songwriter, Track, Flags, Isrc, Pregap, Index, Postgap}
 use Rattle.cue_sheet.specs.declared.fault.CueWhy.{CueWhy}
 use Rattle.cue_sheet.specs.declared.fault.CueWhy.TheVariants.{SecondFile, Misplaced, Repeated, NoIndex, NotAudio, NumberOrder, IndexOrder, TimeOrder, NoFile, NoTrack}
 
@@ -105,3 +107,24 @@ step_is s line rest is some =
     ap (λ l. if is_some_bytes l then obeyed s (command_named (first_word l)) (argument_of l) else Ok s)
     (sym is)
     ∙ some_is s rest some
+
+-- a line that begins no track and is no index line is refused only where it stands there already
+pub once_reason : (said : CueState) (line : SheetLine) (again : Bool)
+    → ((number : ℕ) (audio : Bool) → line ≡ Track number audio → ⊥)
+    → ((number time : ℕ) → line ≡ Index number time → ⊥)
+    → again ≡ is_repeated said.section (line_said line)
+    → (if again then Some Repeated else None) ≡ later_sheet_reason said (line_said line)
+unfolding later_sheet_reason
+once_reason said Remark again no_track no_index is = ap (λ b. if b then Some Repeated else None) is
+once_reason said (Catalogue digits) again no_track no_index is =
+    ap (λ b. if b then Some Repeated else None) is
+once_reason said File again no_track no_index is = ap (λ b. if b then Some Repeated else None) is
+once_reason said (Title s) again no_track no_index is = ap (λ b. if b then Some Repeated else None) is
+once_reason said (Performer s) again no_track no_index is = ap (λ b. if b then Some Repeated else None) is
+once_reason said (Songwriter s) again no_track no_index is = ap (λ b. if b then Some Repeated else None) is
+once_reason said (Flags control) again no_track no_index is = ap (λ b. if b then Some Repeated else None) is
+once_reason said (Isrc code) again no_track no_index is = ap (λ b. if b then Some Repeated else None) is
+once_reason said (Pregap time) again no_track no_index is = ap (λ b. if b then Some Repeated else None) is
+once_reason said (Postgap time) again no_track no_index is = ap (λ b. if b then Some Repeated else None) is
+once_reason said (Track number audio) again no_track no_index is = absurd (no_track number audio refl)
+once_reason said (Index number time) again no_track no_index is = absurd (no_index number time refl)

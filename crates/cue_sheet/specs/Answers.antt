@@ -5,8 +5,8 @@ use Rattle.cue_sheet.specs.declared.fault.CueWhy.{CueWhy}
 use Rattle.cue_sheet.specs.declared.fault.CueStop.{CueStop}
 use Rattle.cue_sheet.specs.declared.fault.CueStop.TheVariants.{Fault, NoMemory}
 
--- the answer for a text that is read as this, unless memory runs out
+-- the answer for a text that is read as this; memory may be wanting for a sheet alone
 abbrev pub IsCueAnswer : Result CueSheet (ℕ × CueWhy) → Result CueSheet CueStop → Type 0
 IsCueAnswer read (Ok sheet) = read ≡ Ok sheet
 IsCueAnswer read (Err (Fault line why)) = read ≡ Err (line, why)
-IsCueAnswer read (Err NoMemory) = Unit {0}
+IsCueAnswer read (Err NoMemory) = (sheet : CueSheet) × (read ≡ Ok sheet)

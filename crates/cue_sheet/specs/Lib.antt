@@ -5,3 +5,4 @@ pub mod Grammar
 pub mod Steps
 pub mod Answers
 pub mod SheetBytes
+pub mod Judging

@@ -6,8 +6,6 @@ use Rattle.cue_sheet.specs.Grammar.{CueState, has_index_one, lacks_index, follow
 use Rattle.cue_sheet.specs.declared.command.SheetCommand.{SheetCommand}
 use Rattle.cue_sheet.specs.declared.fault.CueWhy.{CueWhy}
 use Rattle.cue_sheet.specs.declared.fault.CueWhy.TheVariants.{Repeated, NoIndex, NotAudio, NumberOrder, IndexOrder, TimeOrder, NoFile, NoTrack}
-use Rattle.cue_sheet.specs.declared.fault.CueStop.{CueStop}
-use Rattle.cue_sheet.specs.declared.fault.CueStop.TheVariants.{Fault, NoMemory}
 use Rattle.cue_sheet.specs.declared.line.SheetLine.{SheetLine}
 use Rattle.cue_sheet.specs.declared.line.SheetLine.TheVariants.{Remark, Catalogue, File, Title, Performer, Songwriter, Track, Flags, Isrc, Pregap, Index, Postgap}
 
@@ -64,6 +62,10 @@ after s (SaysPostgap n) = in_section s (record s.section { postgap = Some n })
 after s (SaysIndex number time) = record (with_index s number time) { latest = max time s.latest }
 after s (SaysTrack number audio) = begun s number
 
+-- what is kept of it, which has no need of the file and of the latest time
+abbrev pub stripped : CueState → CueState
+stripped s = record s { has_file = false; latest = 0 }
+
 -- an answer, or the reason for which there is none
 abbrev pub unless : {X : Type 0} → X → Option CueWhy → Result X CueWhy
 unless x None = Ok x
@@ -91,8 +93,3 @@ pub data TakesLine (old : CueState) (line : List ℕ) (new : CueState) : Type 0 
   IsEmpty : sheet_step old line ≡ Ok new → new ≡ old → TakesLine old line new
   Says : (line_said : CueLine) → sheet_step old line ≡ Ok new → IsLineInRange line_said
       → later_sheet_reason old line_said ≡ None → new ≡ after old line_said → TakesLine old line new
-
--- why a line is not taken
-abbrev pub RefusesLine : CueState → ℕ → List ℕ → CueStop → Type 0
-RefusesLine old number line (Fault at why) = (at ≡ number) × (sheet_step old line ≡ Err why)
-RefusesLine old number line NoMemory = Unit {0}

@@ -36,7 +36,7 @@ pub enum CueStop {
     /// The first line that is refused, counted from 1, with the first reason. The end of a sheet counts as the line
     /// after its last one.
     Fault { line: u32, why: CueWhy },
-    /// Memory ran out.
+    /// No line is refused, and memory ran out.
     NoMemory,
 }
 

@@ -6,8 +6,10 @@ mod argument;
 mod command;
 mod draft;
 mod fault;
+mod judge;
 mod laws;
 mod line;
+mod reader;
 mod section;
 mod sheet;
 

@@ -30,8 +30,8 @@ pub(crate) struct Track {
 
 impl Section {
     ghost use Rattle.cue_sheet.specs.Views.{section_of, section_text};
-    ghost use Rattle.cue_sheet.specs.Grammar.{nothing_said, no_section, has_index_one, follows_index};
-    ghost use Rattle.cue_sheet.specs.Steps.{line_said, after, is_repeated};
+    ghost use Rattle.cue_sheet.specs.Grammar.{nothing_said, no_section};
+    ghost use Rattle.cue_sheet.specs.Steps.{line_said, after};
     ghost use Rattle.cue_sheet.specs.CueLines.{SaysTrack};
 
     /// Nothing said.
@@ -48,40 +48,6 @@ impl Section {
             pregap: None,
             postgap: None,
             indices: Vec::new(alloc),
-        }
-    }
-
-    /// Whether there is an index line of number 1.
-    pub(crate) fn has_index_one(&self) -> bool
-        ensures { result ≡ has_index_one (section_of self.now) }
-    {
-        self.indices.iter().any(|line| line.0 == 1)
-    }
-
-    /// Whether an index line of that number may come next: one more than the last, or 0 or 1 where there is none.
-    pub(crate) fn follows(&self, number: u8) -> bool
-        ensures { result ≡ follows_index self.now.indices.items number }
-    {
-        match self.indices.last() {
-            Some(last) => usize::from(number) == usize::from(last.0) + 1,
-            None => number <= 1,
-        }
-    }
-
-    /// Whether a line that may stand once stands here already.
-    pub(crate) fn is_repeated(&self, line: &SheetLine<'_>) -> bool
-        ensures { result ≡ is_repeated (section_of self.now) (line_said line.now) }
-    {
-        match line {
-            SheetLine::Catalogue(_) => self.catalogue.is_some(),
-            SheetLine::Title(_) => self.title.is_some(),
-            SheetLine::Performer(_) => self.performer.is_some(),
-            SheetLine::Songwriter(_) => self.songwriter.is_some(),
-            SheetLine::Flags(_) => self.control.is_some(),
-            SheetLine::Isrc(_) => self.isrc.is_some(),
-            SheetLine::Pregap(_) => self.pregap.is_some(),
-            SheetLine::Postgap(_) => self.postgap.is_some(),
-            _ => false,
         }
     }
 

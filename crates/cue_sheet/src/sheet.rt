@@ -6,8 +6,8 @@ ghost use Rattle.text_lines.specs.Text.{most_text_bytes};
 ghost use Rattle.cue_sheet.specs.CueSheet.{CueSheet, IsSheet, IsText, IsTrack, is_capital_code, is_catalogue_number, track_of, text_at, index_line_of};
 ghost use Rattle.cue_sheet.specs.Views.{sheet_value, track_value};
 
-use crate::draft::SheetDraft;
 use crate::fault::{CueStop, CueText};
+use crate::reader::SheetReader;
 use crate::section::{Section, Track};
 use std::alloc::Global;
 use std::marker::Model;
@@ -32,17 +32,17 @@ impl Sheet {
     ghost use Rattle.cue_sheet.specs.Answers.{IsCueAnswer};
 
     /// What the text of a cue sheet says, or its first line that is refused. The text is read once, from front to
-    /// end, and nothing is copied but the texts that the sheet keeps.
+    /// end, and nothing is copied but the texts that the sheet keeps. `NoMemory` comes only where no line is refused.
     pub fn parse(alloc: Global, text: &[u8]) -> Result<Sheet, CueStop>
         requires { length text.now ≤ most_text_bytes }
         ensures { IsCueAnswer (read_cue text.now) result }
     {
-        let mut draft = SheetDraft::new(alloc);
-        if let Err(stop) = draft.read(alloc, text) {
-            drop(draft);
+        let mut reader = SheetReader::new(alloc);
+        if let Err(stop) = reader.read(alloc, text) {
+            drop(reader);
             return Err(stop);
         }
-        Ok(draft.finish()?)
+        Ok(reader.finish()?)
     }
 
     /// The sheet of what holds of the whole disc and of its tracks.

@@ -152,13 +152,19 @@ drawing_shows pixels (Rectangle x y width height colour) h = refl
 drawing_shows pixels (PixelRow y x first count) h = refl
 drawing_shows pixels (ShowLine ready hold) h = absurd (cc)
 
-shows-drawing : (script : List Drawing) (pixels : List ℕ) (line : ScriptLine) → is_drawing line ≡ true
+pub shows-drawing : (script : List Drawing) (pixels : List ℕ) (line : ScriptLine) → is_drawing line ≡ true
     → shows (script ++ said pixels line ∷ []) ≡ shows script
 unfolding shows
 shows-drawing script pixels line h =
     filter_map-append shown_times script (said pixels line ∷ [])
     ∙ ap (λ ts. filter_map shown_times script ++ ts) (drawing_shows pixels line h)
     ∙ append-nil (filter_map shown_times script)
+
+pub shows-row : (script : List Drawing) (x y : ℕ) (colours : List ℕ)
+    → shows (script ++ Row x y colours ∷ []) ≡ shows script
+unfolding shows
+shows-row script x y colours =
+    filter_map-append shown_times script (Row x y colours ∷ []) ∙ append-nil (filter_map shown_times script)
 
 pub shown_count : (pixels : List ℕ) (lines : List ScriptLine) (shown : List Shown)
     → IsIndexed pixels lines shown
@@ -201,7 +207,7 @@ row_said old digits pixels x y count grown size =
 
 -- A picture.
 
-shows-show : (script : List Drawing) (ready hold : ℕ)
+pub shows-show : (script : List Drawing) (ready hold : ℕ)
     → shows (script ++ Show ready hold ∷ []) ≡ shows script ++ (ready, hold) ∷ []
 unfolding shows
 shows-show script ready hold = filter_map-append shown_times script (Show ready hold ∷ [])

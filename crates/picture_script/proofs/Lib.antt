@@ -10,3 +10,4 @@ pub mod Refusals
 pub mod Ranges
 pub mod ShowNumbers
 pub mod RowMarks
+pub mod Counted

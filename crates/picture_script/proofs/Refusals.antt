@@ -1,6 +1,6 @@
 -- Why a line is refused, and what a draft is once it takes one.
-use Rattle.std.proofs.Common.{◌≡◌, inl, inr, get_or, ℕ, ◌+◌, ◌<◌, ◌≤◌, Bool, true, false, List, [], ◌∷◌, length, refl, ap, sym, subst, ◌∙◌, arith}
-use Rattle.std.specs.Prelude.{Option, Some, None, Result, Ok, Err, OnOk, IfErr, if◌then◌else◌, not, ◌||◌, nat_le, nat_lt, slice_index, codes}
+use Rattle.std.proofs.Common.{◌≡◌, inl, inr, get_or, ℕ, ◌+◌, ◌<◌, ◌≤◌, Bool, true, false, List, [], ◌∷◌, ◌++◌, length, refl, ap, sym, subst, ◌∙◌, arith}
+use Rattle.std.specs.Prelude.{Option, Some, None, Result, Ok, Err, if◌then◌else◌, not, ◌||◌, nat_le, nat_lt, slice_index, codes}
 use Rattle.std.specs.Str.{bytes_eq}
 use Rattle.std.proofs.lemmas.Bool.{cases_Bool}
 use Rattle.std.proofs.lemmas.Bool.Decides.{nat_tests}
@@ -9,11 +9,8 @@ use Rattle.text_lines.specs.Text.{words_in, lines_in, without_mark}
 use Rattle.text_lines.proofs.ReadOn.{read_on-taken, read_on-refused, read_on-end}
 use Rattle.picture_script.specs.Script.{Drawing, Colour, Border, Fill, Rect, Row, Show, pictures}
 use Rattle.picture_script.specs.ScriptGrammar.{read_script, script_step, grown, checked_lines, checked_words, is_passed_over, checked_command, colour_line, row_line, show_line, checked_line, is_in_range, is_after_hold, unless_refused, numbers_in, border_line, fill_line, rect_line, border_of, fill_of, rect_of}
-use Rattle.picture_script.specs.Stops.{IsRead, IsRefused}
-use Rattle.picture_script.specs.Lines.{said_in, IsSound, Adds, Stops, Takes}
-use Rattle.picture_script.specs.declared.draft.ScriptDraft.{ScriptDraft}
-use Rattle.picture_script.specs.declared.draft.LineStop.{LineStop}
-use Rattle.picture_script.specs.declared.draft.LineStop.TheVariants.{Refused, NoRoom}
+use Rattle.picture_script.specs.Reader.{Takes, Follows}
+use Rattle.picture_script.specs.declared.reader.ScriptReader.{ScriptReader}
 use Rattle.picture_script.specs.declared.reasons.ScriptWhy.{ScriptWhy}
 use Rattle.picture_script.specs.declared.reasons.ScriptWhy.TheVariants.{UnknownCommand, BadArgument, OutOfRange, TimeOrder, TooMany}
 
@@ -115,15 +112,6 @@ unfolding by_order
 shown_line before said ready hold h le after room =
     checked_show before said ready hold false true false h (test_false hold ready le) after
     (le_false 20000 (pictures before) room)
-
--- a line is taken, unless there is no room
-pub taken : (checked : Result Drawing ScriptWhy) (old new : ScriptDraft) (line : Drawing)
-    (result : Result (Unit {0}) LineStop) → checked ≡ Ok line → OnOk result (Adds old new line)
-    → IfErr result (λ stop. stop ≡ NoRoom)
-    → Takes checked old new result
-taken checked old new line (Ok u) h adds err =
-    (adds.sound, ap (grown (said_in old)) h ∙ ap Ok (sym adds.lines_are))
-taken checked old new line (Err stop) h adds err = subst (Stops checked) (sym err) tt
 
 -- numbers of words, one and five
 pub one_number : (words : List (List ℕ)) (numbers : List ℕ) → Some numbers ≡ numbers_in 1 words
@@ -280,54 +268,30 @@ pub step_heard : (before : List Drawing) (line : List ℕ) → is_passed_over li
 step_heard before line h =
     ap (λ b. if b then Ok before else grown before (checked_words before (words_in line))) h
 
-pub passed : (number : ℕ) (before : List Drawing) (line : List ℕ) (rest : List (List ℕ))
-    → is_passed_over line ≡ true
-    → checked_lines number before (line ∷ rest) ≡ checked_lines (number + 1) before rest
-passed number before line rest h = one_taken number before before line rest (step_passed before line h)
-
-pub accepted : (number : ℕ) (old new : List Drawing) (line : List ℕ) (rest : List (List ℕ))
-    → is_passed_over line ≡ false → grown old (checked_words old (words_in line)) ≡ Ok new
-    → checked_lines number old (line ∷ rest) ≡ checked_lines (number + 1) new rest
-accepted number old new line rest h grow = one_taken number old new line rest (step_heard old line h ∙ grow)
-
-pub refused : (number : ℕ) (old : List Drawing) (line : List ℕ) (rest : List (List ℕ)) (why : ScriptWhy)
-    → is_passed_over line ≡ false → checked_words old (words_in line) ≡ Err why
-    → checked_lines number old (line ∷ rest) ≡ Err (number, why)
+pub one_refused : (number : ℕ) (before : List Drawing) (line : List ℕ) (rest : List (List ℕ))
+    (why : ScriptWhy)
+    → script_step before line ≡ Err why
+    → checked_lines number before (line ∷ rest) ≡ Err (number, why)
 unfolding checked_lines
-refused number old line rest why h stops =
-    read_on-refused script_step (λ script. Ok script) number old why line rest
-    (step_heard old line h ∙ ap (grown old) stops)
+one_refused number before line rest why h =
+    read_on-refused script_step (λ script. Ok script) number before why line rest h
 
 -- A line is read.
 
-pub blank-read : (draft : ScriptDraft) (line : List ℕ) → IsSound draft → is_passed_over line ≡ true
-    → IsRead draft draft line
-blank-read draft line sound h =
-    record { sound = sound; lines_are = λ number rest. passed number (said_in draft) line rest h }
-
-pub taken-read : (old new : ScriptDraft) (line : List ℕ) (result : Result (Unit {0}) LineStop)
-    → is_passed_over line ≡ false → Takes (checked_words (said_in old) (words_in line)) old new result
-    → OnOk result (IsRead old new line)
-taken-read old new line (Ok u) h takes = record {
-  sound = takes.0;
-  lines_are = λ number rest. accepted number (said_in old) (said_in new) line rest h takes.1;
-}
-taken-read old new line (Err stop) h takes = tt
-
-pub taken-refused : (old new : ScriptDraft) (line : List ℕ) (result : Result (Unit {0}) LineStop)
-    → is_passed_over line ≡ false → Takes (checked_words (said_in old) (words_in line)) old new result
-    → IfErr result (IsRefused (said_in old) line)
-taken-refused old new line (Ok u) h takes = tt
-taken-refused old new line (Err (Refused why)) h takes =
-    λ number rest. refused number (said_in old) line rest why h takes
-taken-refused old new line (Err NoRoom) h takes = tt
+pub line_read : (before : List Drawing) (line : List ℕ) (reader : ScriptReader)
+    (result : Result (Unit {0}) ScriptWhy) → is_passed_over line ≡ false
+    → Takes before (checked_words before (words_in line)) reader result
+    → Follows before line reader result
+line_read before line reader (Ok u) heard takes =
+    (before ++ takes.0 ∷ [], step_heard before line heard ∙ ap (grown before) takes.1, takes.2)
+line_read before line reader (Err why) heard takes =
+    step_heard before line heard ∙ ap (grown before) takes
 
 -- The whole text.
 
-pub reading_begins : (text : List ℕ) (draft : ScriptDraft) → said_in draft ≡ []
-    → checked_lines 1 (said_in draft) (lines_in (without_mark text)) ≡ read_script text
+pub reading_begins : (text : List ℕ) → checked_lines 1 [] (lines_in (without_mark text)) ≡ read_script text
 unfolding read_script
-reading_begins text draft h = ap (λ before. checked_lines 1 before (lines_in (without_mark text))) h
+reading_begins text = refl
 
 pub reading_ends : (number : ℕ) (before : List Drawing) (lines : List (List ℕ)) → lines ≡ []
     → checked_lines number before lines ≡ Ok before

@@ -6,3 +6,4 @@ pub mod Sizes
 pub mod Stops
 pub mod ShowLines
 pub mod DrawnRows
+pub mod Reader

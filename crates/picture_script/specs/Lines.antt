@@ -1,17 +1,13 @@
 -- How the lines of a script are kept.
-use Rattle.std.specs.Prelude.{◌≡◌, ℕ, ◌+◌, ◌<◌, ◌≤◌, ⊤, Bool, true, false, ◌&&◌, nat_le, nat_lt, List, [], ◌∷◌, ◌++◌, length, map, take, drop, slice_index_or, All, Result, Ok, Err, MatchResult}
+use Rattle.std.specs.Prelude.{◌≡◌, ℕ, ◌+◌, ◌<◌, ◌≤◌, Bool, true, false, ◌&&◌, nat_le, nat_lt, List, [], ◌∷◌, ◌++◌, length, map, take, drop, slice_index_or, All}
 use Rattle.disc_time.specs.Counts.{time_count}
 use Rattle.picture_script.specs.Script.{Drawing, Colour, Border, Fill, Rect, Row, Show, shows, lines_before}
-use Rattle.picture_script.specs.ScriptGrammar.{grown}
 use Rattle.picture_script.specs.Sizes.{most_pictures}
 use Rattle.picture_script.specs.Board.{AreColours}
 use Rattle.picture_script.specs.declared.line.ScriptLine.{ScriptLine}
 use Rattle.picture_script.specs.declared.line.ScriptLine.TheVariants.{TableColour, BorderColour, Filled, Rectangle, PixelRow, ShowLine}
 use Rattle.picture_script.specs.declared.line.Shown.{Shown}
 use Rattle.picture_script.specs.declared.draft.ScriptDraft.{ScriptDraft}
-use Rattle.picture_script.specs.declared.draft.LineStop.{LineStop}
-use Rattle.picture_script.specs.declared.draft.LineStop.TheVariants.{Refused, NoRoom}
-use Rattle.picture_script.specs.declared.reasons.ScriptWhy.{ScriptWhy}
 use Rattle.cdg_instructions.specs.Sizes.{colour_count, colour_values, window_height, window_width}
 
 -- what a line says; a row's colours stand among those of all rows
@@ -69,16 +65,6 @@ IsSound draft = IsIndexed draft.pixels.items draft.lines.items draft.shown.items
 pub record Adds (old new : ScriptDraft) (line : Drawing) : Type 0 where
   pub sound : IsSound new
   pub lines_are : said_in new ≡ said_in old ++ line ∷ []
-
--- why a line was not taken
-abbrev pub Stops : Result Drawing ScriptWhy → LineStop → Type 0
-Stops checked (Refused why) = checked ≡ Err why
-Stops checked NoRoom = ⊤
-
--- a draft takes a line where it is accepted, and else the reason is told
-abbrev pub Takes : Result Drawing ScriptWhy → ScriptDraft → ScriptDraft → Result (Unit {0}) LineStop → Type 0
-Takes checked old new result = MatchResult result (λ _. IsSound new
-    × (grown (said_in old) checked ≡ Ok (said_in new))) (Stops checked)
 
 -- whether a line draws
 abbrev pub is_drawing : ScriptLine → Bool

@@ -1,38 +1,19 @@
-// The lines of a script while it is read.
-ghost use Rattle.std.specs.Prelude.{◌≡◌, ◌++◌, map, true, OnOk, IfErr};
+// The lines of a script that are kept while it is read.
+ghost use Rattle.std.specs.Prelude.{◌≡◌, ◌++◌, map, true, OnOk};
 ghost use Rattle.std.specs.List.{list_all};
 ghost use Rattle.std.specs.Char.{is_ascii_hexdigit, digit_value};
-ghost use Rattle.picture_script.specs.declared.draft.LineStop;
 
 use crate::line::{ScriptLine, Shown};
-use crate::reasons::ScriptWhy;
+use crate::script::Script;
 use crate::words::hex_digit;
-use std::alloc::{AllocFailed, Global};
+use std::alloc::{AllocError, Global};
 
-/// What has been read of a script.
+/// The lines that were read of a script.
 #[derive(Drop)]
 pub(crate) struct ScriptDraft {
     pub(crate) lines: Vec<ScriptLine>,
     pub(crate) pixels: Vec<u8>,
     pub(crate) shown: Vec<Shown>,
-}
-
-/// Why a line was not taken.
-#[derive(Clone, Copy)]
-pub(crate) enum LineStop {
-    Refused(ScriptWhy),
-    NoRoom,
-}
-
-impl<T: Drop> From<AllocFailed<T>> for LineStop {
-    ghost use Rattle.std.specs.Prelude.{◌≡◌};
-    ghost use Rattle.picture_script.specs.declared.draft.LineStop.TheVariants.{NoRoom};
-
-    ghost from_gives = { λ _ e. e ≡ NoRoom };
-
-    fn from(_error: AllocFailed<T>) -> LineStop {
-        LineStop::NoRoom
-    }
 }
 
 impl ScriptDraft {
@@ -57,29 +38,27 @@ impl ScriptDraft {
     }
 
     /// Takes a line that draws.
-    pub(crate) fn push_line(&mut self, line: ScriptLine) -> Result<(), LineStop>
+    pub(crate) fn push_line(&mut self, line: ScriptLine) -> Result<(), AllocError>
         requires sound { IsSound self.old }
         requires kept { is_kept (length self.old.pixels.items) line ≡ true }
         requires draws { is_drawing line ≡ true }
         ensures ok { OnOk result (Adds self.old self.new (said self.old.pixels.items line)) }
-        ensures err { IfErr result (λ stop. stop ≡ LineStop.NoRoom) }
     {
         self.lines.push(line)?;
         Ok(())
     }
 
     /// Takes a row of pixels.
-    pub(crate) fn push_row(&mut self, x: u16, y: u8, digits: &[u8]) -> Result<(), LineStop>
+    pub(crate) fn push_row(&mut self, x: u16, y: u8, digits: &[u8]) -> Result<(), AllocError>
         requires sound { IsSound self.old }
         requires width { x + length digits.now ≤ window_width }
         requires height { y < window_height }
         requires digits { list_all is_ascii_hexdigit digits.now ≡ true }
         ensures ok { OnOk result (Adds self.old self.new (Row x y (map digit_value digits.now))) }
-        ensures err { IfErr result (λ stop. stop ≡ LineStop.NoRoom) }
     {
         // The pixels of a text of at most 64 MiB are fewer than such a number counts.
         let Ok(first) = u32::try_from(self.pixels.len()) else {
-            return Err(LineStop::NoRoom);
+            return Err(AllocError);
         };
         push_pixels(&mut self.pixels, digits)?;
         self.push_line(ScriptLine::PixelRow {
@@ -91,39 +70,43 @@ impl ScriptDraft {
         Ok(())
     }
 
-    /// Whether a picture is ready after the picture before it was held.
-    pub(crate) fn is_after_hold(&self, ready: u32) -> bool
-        requires { IsSound self.now }
-        ensures { result ≡ is_after_hold (said_in self.now) ready }
-    {
-        match self.shown.last() {
-            Some(before) => before.hold < ready,
-            None => true,
-        }
-    }
-
     /// Takes a picture with its times.
-    pub(crate) fn push_show(&mut self, ready: u32, hold: u32) -> Result<(), LineStop>
+    pub(crate) fn push_show(&mut self, ready: u32, hold: u32) -> Result<(), AllocError>
         requires sound { IsSound self.old }
         requires order { ready ≤ hold }
         requires ending { hold < time_count }
         requires after { is_after_hold (said_in self.old) ready ≡ true }
         requires room { pictures (said_in self.old) < most_pictures }
         ensures ok { OnOk result (Adds self.old self.new (Show ready hold)) }
-        ensures err { IfErr result (λ stop. stop ≡ LineStop.NoRoom) }
     {
         let place = self.lines.len();
         self.lines.push(ScriptLine::ShowLine { ready, hold })?;
         self.shown.push(Shown { place, ready, hold })?;
         Ok(())
     }
+
+    /// The script of these lines.
+    pub(crate) fn into_script(self) -> Script
+        requires { IsSound self }
+        ensures { result ≡ said_in self }
+    {
+        let ScriptDraft {
+            lines,
+            pixels,
+            shown,
+        } = self;
+        Script {
+            lines,
+            pixels,
+            shown,
+        }
+    }
 }
 
 // Puts the colours of a row behind those of the rows before.
-fn push_pixels(pixels: &mut Vec<u8>, digits: &[u8]) -> Result<(), LineStop>
+fn push_pixels(pixels: &mut Vec<u8>, digits: &[u8]) -> Result<(), AllocError>
     requires digits { list_all is_ascii_hexdigit digits.now ≡ true }
     ensures ok { OnOk result (pixels.new.items ≡ pixels.old.items ++ map digit_value digits.now) }
-    ensures err { IfErr result (λ stop. stop ≡ LineStop.NoRoom) }
 {
     for digit in digits {
         let Some(colour) = hex_digit(*digit) else {

@@ -1,122 +1,129 @@
-// The commands of a script: each line is taken into the draft, or refused with its first reason.
-ghost use Rattle.std.specs.Prelude.{◌≡◌, ◌<◌, ◌+◌, ◌∷◌, ◌&&◌, [], List, Some, IfOk, IfErr, nat_le, nat_lt};
+// The commands of a script: each line is taken by the reader, or refused with its first reason.
+ghost use Rattle.std.specs.Prelude.{◌≡◌, ◌<◌, ◌+◌, ◌∷◌, ◌&&◌, [], List, Some, Err, IfOk, IfErr, nat_le, nat_lt};
 ghost use Rattle.picture_script.specs.Script.{Drawing, Rect};
 ghost use Rattle.text_lines.specs.Text.{words_in, without_blanks};
 ghost use Rattle.picture_script.specs.ScriptGrammar.{is_in_range, numbers_in, checked_line, checked_words, colour_line, border_line, fill_line, rect_line, row_line, show_line};
-ghost use Rattle.picture_script.specs.Lines.{said_in, IsSound, Stops, Takes};
+ghost use Rattle.picture_script.specs.Reader.{Followed, Takes};
 ghost use Rattle.picture_script.specs.Sizes.{small_number_values};
 ghost use Rattle.cdg_instructions.specs.Sizes.{colour_count, window_height, window_width};
 
-use crate::draft::{LineStop, ScriptDraft};
 use crate::line::ScriptLine;
+use crate::reader::ScriptReader;
 use crate::reasons::ScriptWhy;
 use crate::sizes::MOST_PICTURES;
 use crate::words::{colour_words, numbers, row_words, show_words};
 use cdg_instructions::{COLOURS, WINDOW_HEIGHT, WINDOW_WIDTH};
 use text_lines::after_word;
 
-impl ScriptDraft {
+impl ScriptReader {
     // Takes the words after `colour`.
-    fn take_colour(&mut self, words: &[u8]) -> Result<(), LineStop>
-        requires { IsSound self.old }
-        ensures { Takes (checked_line (said_in self.old) (colour_line (words_in words.now))) self.old self.new
-            result }
+    fn take_colour(&mut self, words: &[u8]) -> Result<(), ScriptWhy>
+        requires { (before : List Drawing) × Followed before self.old }
+        ensures { (before : List Drawing) → Followed before self.old
+            → Takes before (checked_line before (colour_line (words_in words.now))) self.new result }
     {
         let Some((number, value)) = colour_words(words) else {
-            return Err(LineStop::Refused(ScriptWhy::BadArgument));
+            return Err(ScriptWhy::BadArgument);
         };
         if usize::from(number) >= COLOURS {
-            return Err(LineStop::Refused(ScriptWhy::OutOfRange));
+            return Err(ScriptWhy::OutOfRange);
         }
-        self.push_line(ScriptLine::TableColour {
+        self.take_drawing(ScriptLine::TableColour {
             number: number as u8,
             value,
-        })
+        });
+        Ok(())
     }
 
     // Takes the words after `border`.
-    fn take_border(&mut self, words: &[u8]) -> Result<(), LineStop>
-        requires { IsSound self.old }
-        ensures { Takes (checked_line (said_in self.old) (border_line (words_in words.now))) self.old self.new
-            result }
+    fn take_border(&mut self, words: &[u8]) -> Result<(), ScriptWhy>
+        requires { (before : List Drawing) × Followed before self.old }
+        ensures { (before : List Drawing) → Followed before self.old
+            → Takes before (checked_line before (border_line (words_in words.now))) self.new result }
     {
         let colour = colour_number(words)?;
-        self.push_line(ScriptLine::BorderColour { colour })
+        self.take_drawing(ScriptLine::BorderColour { colour });
+        Ok(())
     }
 
     // Takes the words after `fill`.
-    fn take_fill(&mut self, words: &[u8]) -> Result<(), LineStop>
-        requires { IsSound self.old }
-        ensures { Takes (checked_line (said_in self.old) (fill_line (words_in words.now))) self.old self.new
-            result }
+    fn take_fill(&mut self, words: &[u8]) -> Result<(), ScriptWhy>
+        requires { (before : List Drawing) × Followed before self.old }
+        ensures { (before : List Drawing) → Followed before self.old
+            → Takes before (checked_line before (fill_line (words_in words.now))) self.new result }
     {
         let colour = colour_number(words)?;
-        self.push_line(ScriptLine::Filled { colour })
+        self.take_drawing(ScriptLine::Filled { colour });
+        Ok(())
     }
 
     // Takes the words after `rect`.
-    fn take_rect(&mut self, words: &[u8]) -> Result<(), LineStop>
-        requires { IsSound self.old }
-        ensures { Takes (checked_line (said_in self.old) (rect_line (words_in words.now))) self.old self.new
-            result }
+    fn take_rect(&mut self, words: &[u8]) -> Result<(), ScriptWhy>
+        requires { (before : List Drawing) × Followed before self.old }
+        ensures { (before : List Drawing) → Followed before self.old
+            → Takes before (checked_line before (rect_line (words_in words.now))) self.new result }
     {
         let Some(numbers) = numbers::<5>(words) else {
-            return Err(LineStop::Refused(ScriptWhy::BadArgument));
+            return Err(ScriptWhy::BadArgument);
         };
         let [x, y, width, height, colour] = numbers;
         if !is_rect(x, y, width, height, colour) {
-            return Err(LineStop::Refused(ScriptWhy::OutOfRange));
+            return Err(ScriptWhy::OutOfRange);
         }
-        self.push_line(ScriptLine::Rectangle {
+        self.take_drawing(ScriptLine::Rectangle {
             x,
             y: y as u8,
             width,
             height: height as u8,
             colour: colour as u8,
-        })
+        });
+        Ok(())
     }
 
     // Takes the words after `row`.
-    fn take_row(&mut self, words: &[u8]) -> Result<(), LineStop>
-        requires { IsSound self.old }
-        ensures { Takes (checked_line (said_in self.old) (row_line (words_in words.now))) self.old self.new
-            result }
+    fn take_row(&mut self, words: &[u8]) -> Result<(), ScriptWhy>
+        requires { (before : List Drawing) × Followed before self.old }
+        ensures { (before : List Drawing) → Followed before self.old
+            → Takes before (checked_line before (row_line (words_in words.now))) self.new result }
     {
         let Some((x, y, digits)) = row_words(words) else {
-            return Err(LineStop::Refused(ScriptWhy::BadArgument));
+            return Err(ScriptWhy::BadArgument);
         };
         if !is_row(x, y, digits.len()) {
-            return Err(LineStop::Refused(ScriptWhy::OutOfRange));
+            return Err(ScriptWhy::OutOfRange);
         }
-        self.push_row(x, y as u8, digits)
+        self.take_pixels(x, y as u8, digits);
+        Ok(())
     }
 
     // Takes the words after `show`.
-    fn take_show(&mut self, words: &[u8]) -> Result<(), LineStop>
-        requires { IsSound self.old }
-        ensures { Takes (checked_line (said_in self.old) (show_line (words_in words.now))) self.old self.new
-            result }
+    fn take_show(&mut self, words: &[u8]) -> Result<(), ScriptWhy>
+        requires { (before : List Drawing) × Followed before self.old }
+        ensures { (before : List Drawing) → Followed before self.old
+            → Takes before (checked_line before (show_line (words_in words.now))) self.new result }
     {
         let Some((ready, hold)) = show_words(words) else {
-            return Err(LineStop::Refused(ScriptWhy::BadArgument));
+            return Err(ScriptWhy::BadArgument);
         };
         if hold < ready {
-            return Err(LineStop::Refused(ScriptWhy::TimeOrder));
+            return Err(ScriptWhy::TimeOrder);
         }
         if !self.is_after_hold(ready) {
-            return Err(LineStop::Refused(ScriptWhy::TimeOrder));
+            return Err(ScriptWhy::TimeOrder);
         }
-        if self.shown.len() >= MOST_PICTURES {
-            return Err(LineStop::Refused(ScriptWhy::TooMany));
+        if self.pictures >= MOST_PICTURES {
+            return Err(ScriptWhy::TooMany);
         }
-        self.push_show(ready, hold)
+        self.take_picture(ready, hold);
+        Ok(())
     }
 
     /// Takes a trimmed line by its command and the words after it.
-    pub(crate) fn take_line(&mut self, line: &[u8]) -> Result<(), LineStop>
-        requires sound { IsSound self.old }
+    pub(crate) fn take_line(&mut self, line: &[u8]) -> Result<(), ScriptWhy>
+        requires read { (before : List Drawing) × Followed before self.old }
         requires trimmed { without_blanks line.now ≡ line.now }
-        ensures { Takes (checked_words (said_in self.old) (words_in line.now)) self.old self.new result }
+        ensures { (before : List Drawing) → Followed before self.old
+            → Takes before (checked_words before (words_in line.now)) self.new result }
     {
         if let Some(words) = after_word(line, b"colour") {
             self.take_colour(words)
@@ -131,7 +138,7 @@ impl ScriptDraft {
         } else if let Some(words) = after_word(line, b"show") {
             self.take_show(words)
         } else {
-            Err(LineStop::Refused(ScriptWhy::UnknownCommand))
+            Err(ScriptWhy::UnknownCommand)
         }
     }
 }
@@ -161,20 +168,20 @@ fn is_row(x: u16, y: u16, count: usize) -> bool
 }
 
 // The number of a colour, which the words after `border` and `fill` are.
-fn colour_number(words: &[u8]) -> Result<u8, LineStop>
+fn colour_number(words: &[u8]) -> Result<u8, ScriptWhy>
     ensures ok { IfOk result
         (λ colour. (numbers_in 1 (words_in words.now) ≡ Some (colour ∷ [])) × (colour < colour_count)) }
-    ensures border { IfErr result (λ stop. (before : List Drawing)
-        → Stops (checked_line before (border_line (words_in words.now))) stop) }
-    ensures fill { IfErr result (λ stop. (before : List Drawing)
-        → Stops (checked_line before (fill_line (words_in words.now))) stop) }
+    ensures border { IfErr result (λ why. (before : List Drawing)
+        → checked_line before (border_line (words_in words.now)) ≡ Err why) }
+    ensures fill { IfErr result (λ why. (before : List Drawing)
+        → checked_line before (fill_line (words_in words.now)) ≡ Err why) }
 {
     let Some(numbers) = numbers::<1>(words) else {
-        return Err(LineStop::Refused(ScriptWhy::BadArgument));
+        return Err(ScriptWhy::BadArgument);
     };
     let colour = numbers[0];
     if usize::from(colour) >= COLOURS {
-        return Err(LineStop::Refused(ScriptWhy::OutOfRange));
+        return Err(ScriptWhy::OutOfRange);
     }
     Ok(colour as u8)
 }

@@ -7,6 +7,7 @@ mod drawn_rows;
 mod grammar;
 mod line;
 mod parse;
+mod reader;
 mod reasons;
 mod script;
 mod show_lines;

@@ -1,26 +1,23 @@
 // Reads a script from its text, line by line, up to the first that is refused.
-ghost use Rattle.std.specs.Prelude.{◌≡◌, ◌∷◌, ℕ, List};
+ghost use Rattle.std.specs.Prelude.{◌≡◌, ℕ, List};
 ghost use Rattle.text_lines.specs.Text.{without_blanks};
 ghost use Rattle.picture_script.specs.Script.{Drawing};
-ghost use Rattle.picture_script.specs.ScriptGrammar.{checked_lines, is_passed_over};
-ghost use Rattle.picture_script.specs.Stops.{IsRefused, StopsAt};
+ghost use Rattle.picture_script.specs.ScriptGrammar.{is_passed_over};
+ghost use Rattle.picture_script.specs.Reader.{Followed, Follows};
+ghost use Rattle.picture_script.specs.Stops.{StopsAt};
 
-use crate::draft::{LineStop, ScriptDraft};
-use crate::reasons::ScriptStop;
+use crate::reader::ScriptReader;
+use crate::reasons::{ScriptStop, ScriptWhy};
 use crate::script::Script;
 use std::alloc::Global;
 use text_lines::{next_line, trim_start, without_mark};
 
-impl ScriptDraft {
-    ghost use Rattle.std.specs.Prelude.{OnOk, IfErr};
-    ghost use Rattle.picture_script.specs.Stops.{IsRead};
-    ghost use Rattle.picture_script.specs.Lines.{said_in, IsSound};
-
+impl ScriptReader {
     // Reads a line.
-    fn read_line(&mut self, line: &[u8]) -> Result<(), LineStop>
-        requires { IsSound self.old }
-        ensures ok { OnOk result (IsRead self.old self.new line.now) }
-        ensures err { IfErr result (IsRefused (said_in self.old) line.now) }
+    fn read_line(&mut self, line: &[u8]) -> Result<(), ScriptWhy>
+        requires { (before : List Drawing) × Followed before self.old }
+        ensures { (before : List Drawing) → Followed before self.old
+            → Follows before line.now self.new result }
     {
         let rest = trim_start(line);
         if is_nothing(rest) {
@@ -46,45 +43,25 @@ impl Script {
     ///
     /// # Errors
     ///
-    /// `Fault` at the first line that is refused, with its first reason. `NoMemory` where there is no memory for the
-    /// script.
+    /// `Fault` at the first line that is refused, with its first reason, whether or not there is memory. `NoMemory` where
+    /// no line is refused and there is no memory for the script.
     pub fn parse(alloc: Global, text: &[u8]) -> Result<Script, ScriptStop>
         requires { length text.now ≤ most_text_bytes }
         ensures ok { IfOk result (λ script. read_script text.now ≡ Ok script) }
         ensures err { IfErr result (StopsAt (read_script text.now)) }
     {
-        let mut draft = ScriptDraft::new(alloc);
+        let mut reader = ScriptReader::new(alloc);
         let mut rest = without_mark(text);
         let mut number = 1u32;
         while let Some((line, after)) = next_line(rest) {
-            if let Err(stop) = draft.read_line(line) {
-                drop(draft);
-                return Err(stop_at(number, stop));
+            if let Err(why) = reader.read_line(line) {
+                drop(reader);
+                return Err(ScriptStop::Fault { line: number, why });
             }
             number += 1;
             rest = after;
         }
-        let ScriptDraft {
-            lines,
-            pixels,
-            shown,
-        } = draft;
-        Ok(Script {
-            lines,
-            pixels,
-            shown,
-        })
-    }
-}
-
-// Why a script could not be read of which a line, with this number, was not taken.
-fn stop_at(number: u32, stop: LineStop) -> ScriptStop
-    ensures { (before : List Drawing) (line : List ℕ) (rest : List (List ℕ)) → IsRefused before line stop
-        → StopsAt (checked_lines number before (line ∷ rest)) result }
-{
-    match stop {
-        LineStop::Refused(why) => ScriptStop::Fault { line: number, why },
-        LineStop::NoRoom => ScriptStop::NoMemory,
+        reader.finish()
     }
 }
 

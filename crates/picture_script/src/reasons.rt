@@ -19,6 +19,6 @@ pub enum ScriptWhy {
 pub enum ScriptStop {
     /// The first line that is refused, counted from 1 with all lines, and its first reason.
     Fault { line: u32, why: ScriptWhy },
-    /// There was no memory for the script.
+    /// No line is refused, and there was no memory for the script.
     NoMemory,
 }

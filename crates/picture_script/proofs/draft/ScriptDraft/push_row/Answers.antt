@@ -7,8 +7,11 @@ push_line-requires-clause-sound c =
     more-sound c.args.self.now c.push_pixels.new.pixels.items c.args.digits.now c.requires.sound
     c.requires.digits c.in_ok-push_pixels.ensures.ok
 
-pub returns-clause-ok : goal.returns-clause-ok
-returns-clause-ok c =
+pub returns : goal.returns
+returns c =
     let start : c.in-Ok.first ≡ length c.args.self.now.pixels.items = omega (arith, c.len.ensures) in
-    row-added c.args.self.now _ c.push_line.new.self c.args.x c.args.y c.in-Ok.first _ c.args.digits.now
-    c.requires.sound refl c.in_ok-push_pixels.ensures.ok start refl c.in_ok-push_line.ensures.ok
+    record {
+      ok =
+          row-added c.args.self.now _ c.push_line.new.self c.args.x c.args.y c.in-Ok.first _ c.args.digits.now
+          c.requires.sound refl c.in_ok-push_pixels.ensures.ok start refl c.in_ok-push_line.ensures.ok;
+    }

@@ -2,13 +2,18 @@ use Rattle.std.proofs.Common.{◌≡◌, refl, ap, ◌∙◌, ◌++◌, ◌∷�
 use Rattle.picture_script.proofs.Drafts.{show-added}
 use Rattle.picture_script.proofs.draft.ScriptDraft.push_show.Goals as goal
 
-pub returns-clause-ok : goal.returns-clause-ok
-returns-clause-ok c =
+pub returns : goal.returns
+returns c =
     let place : c.len-place.result ≡ length c.args.self.now.lines.items =
     omega (arith, c.len-place.ensures) in
-    show-added c.args.self.now _ c.args.ready c.args.hold c.requires.sound c.requires.order c.requires.ending
-    c.requires.after c.requires.room c.in_ok-push.ensures.items refl
-    (c.in_ok-push-2.ensures.items
-    ∙ ap
-    (λ n. c.args.self.now.shown.items ++ record { place = n; ready = c.args.ready; hold = c.args.hold } ∷ [])
-    place)
+    record {
+      ok =
+          show-added c.args.self.now _ c.args.ready c.args.hold c.requires.sound c.requires.order
+          c.requires.ending
+          c.requires.after c.requires.room c.in_ok-push.ensures.items refl
+          (c.in_ok-push-2.ensures.items
+          ∙ ap
+          (λ n.
+          c.args.self.now.shown.items ++ record { place = n; ready = c.args.ready; hold = c.args.hold } ∷ [])
+          place);
+    }

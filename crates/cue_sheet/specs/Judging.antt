@@ -1,0 +1,45 @@
+-- What the code holds to judge a line by: of what was said before it, all but texts, gaps and times.
+use Rattle.std.specs.Prelude.{◌≡◌, ◌-◌, ◌==◌, ℕ, List, length, Option, Some, None, is_some, slice_index_or, if◌then◌else◌, Result, Err, MatchResult, IfSome}
+use Rattle.cue_sheet.specs.CueSheet.{CueSection}
+use Rattle.cue_sheet.specs.Grammar.{CueState, has_index_one, sheet_step}
+use Rattle.cue_sheet.specs.Steps.{stripped, TakesLine}
+use Rattle.cue_sheet.specs.declared.fault.CueWhy.{CueWhy}
+use Rattle.cue_sheet.specs.declared.judge.SectionMarks.{SectionMarks}
+use Rattle.cue_sheet.specs.declared.judge.SheetJudge.{SheetJudge}
+use Rattle.cue_sheet.specs.declared.reader.SheetReader.{SheetReader}
+
+-- the number of the last index line
+abbrev pub last_index_number : List (ℕ × ℕ) → Option ℕ
+last_index_number lines =
+    if length lines == 0 then None else Some (slice_index_or lines (length lines - 1) (0, 0)).0
+
+-- the marks of a section
+pub record Marks (said : CueSection) (marks : SectionMarks) : Type 0 where
+  pub catalogue : marks.catalogue ≡ is_some said.catalogue
+  pub title : marks.title ≡ is_some said.title
+  pub performer : marks.performer ≡ is_some said.performer
+  pub songwriter : marks.songwriter ≡ is_some said.songwriter
+  pub control : marks.control ≡ is_some said.control
+  pub isrc : marks.isrc ≡ is_some said.isrc
+  pub pregap : marks.pregap ≡ is_some said.pregap
+  pub postgap : marks.postgap ≡ is_some said.postgap
+  pub one : marks.has_index_one ≡ has_index_one said
+  pub last : marks.last_index ≡ last_index_number said.indices
+
+-- the judge of the line after this was said
+pub record Judges (said : CueState) (judge : SheetJudge) : Type 0 where
+  pub file : judge.has_file ≡ said.has_file
+  pub latest : judge.latest ≡ said.latest
+  pub number : judge.number ≡ said.number
+  pub section : Marks said.section judge.section
+
+-- this was said, and is kept if there was memory for it
+pub record Heard (said : CueState) (reader : SheetReader) : Type 0 where
+  pub judged : Judges said reader.judge
+  pub kept : IfSome reader.draft (λ draft. draft ≡ stripped said)
+
+-- the answer to a line after this was said
+abbrev pub Hears : CueState → List ℕ → SheetReader → Result (Unit {0}) CueWhy → Type 0
+Hears said line reader result =
+    MatchResult result (λ _. (next : CueState) × TakesLine said line next × Heard next reader)
+    (λ why. sheet_step said line ≡ Err why)

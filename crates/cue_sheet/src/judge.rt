@@ -1,0 +1,247 @@
+// What the lines of a cue sheet so far say of the lines that may follow.
+ghost use Rattle.std.specs.Prelude.{◌≡◌, ◌≤◌, List, ℕ, None, length};
+ghost use Rattle.text_lines.specs.Text.{most_text_bytes};
+
+use crate::argument::spelled;
+use crate::command::SheetCommand;
+use crate::fault::CueWhy;
+use crate::line::SheetLine;
+use text_lines::split_command;
+
+/// What the lines of a track so far say of the lines that may follow, or those before the first track: which lines that
+/// may stand once stand there, and the index lines.
+#[derive(Clone, Copy)]
+pub(crate) struct SectionMarks {
+    pub(crate) catalogue: bool,
+    pub(crate) title: bool,
+    pub(crate) performer: bool,
+    pub(crate) songwriter: bool,
+    pub(crate) control: bool,
+    pub(crate) isrc: bool,
+    pub(crate) pregap: bool,
+    pub(crate) postgap: bool,
+    pub(crate) has_index_one: bool,
+    pub(crate) last_index: Option<u8>,
+}
+
+impl SectionMarks {
+    ghost use Rattle.cue_sheet.specs.CueSheet.{CueSection};
+    ghost use Rattle.cue_sheet.specs.Grammar.{follows_index, no_section};
+    ghost use Rattle.cue_sheet.specs.Judging.{Marks};
+    ghost use Rattle.cue_sheet.specs.Steps.{is_repeated, line_said};
+
+    /// Of no line.
+    pub(crate) fn none() -> SectionMarks
+        ensures { Marks no_section result }
+    {
+        SectionMarks {
+            catalogue: false,
+            title: false,
+            performer: false,
+            songwriter: false,
+            control: false,
+            isrc: false,
+            pregap: false,
+            postgap: false,
+            has_index_one: false,
+            last_index: None,
+        }
+    }
+
+    /// Whether an index line of that number may come next: one more than the last, or 0 or 1 where there is none.
+    pub(crate) fn follows(&self, number: u8) -> bool
+        ensures { (said : CueSection) → Marks said self.now → result ≡ follows_index said.indices number }
+    {
+        match self.last_index {
+            Some(last) => usize::from(number) == usize::from(last) + 1,
+            None => number <= 1,
+        }
+    }
+
+    /// Whether a line that may stand once stands here already.
+    pub(crate) fn is_repeated(&self, line: &SheetLine<'_>) -> bool
+        ensures { (said : CueSection) → Marks said self.now → result ≡ is_repeated said (line_said line.now) }
+    {
+        match line {
+            SheetLine::Catalogue(_) => self.catalogue,
+            SheetLine::Title(_) => self.title,
+            SheetLine::Performer(_) => self.performer,
+            SheetLine::Songwriter(_) => self.songwriter,
+            SheetLine::Flags(_) => self.control,
+            SheetLine::Isrc(_) => self.isrc,
+            SheetLine::Pregap(_) => self.pregap,
+            SheetLine::Postgap(_) => self.postgap,
+            _ => false,
+        }
+    }
+}
+
+/// What the lines so far say of the lines that may follow. `section` is of the lines of the last track, or of those before
+/// the first one. It takes no memory.
+#[derive(Clone, Copy)]
+pub(crate) struct SheetJudge {
+    pub(crate) has_file: bool,
+    pub(crate) latest: u32,
+    pub(crate) number: Option<u8>,
+    pub(crate) section: SectionMarks,
+}
+
+impl SheetJudge {
+    ghost use Rattle.cue_sheet.specs.Grammar.{CueState, nothing_said, is_second_file, is_placed};
+    ghost use Rattle.cue_sheet.specs.Judging.{Judges};
+    ghost use Rattle.cue_sheet.specs.Steps.{after, line_said, later_sheet_reason, end_reason, IsCheckedLine};
+    ghost use Rattle.cue_sheet.specs.CueLines.{SaysTrack, SaysIndex, command_named};
+    ghost use Rattle.text_lines.specs.Text.{first_word, argument_of};
+
+    /// Nothing said yet.
+    pub(crate) fn new() -> SheetJudge
+        ensures { Judges nothing_said result }
+    {
+        SheetJudge {
+            has_file: false,
+            latest: 0,
+            number: None,
+            section: SectionMarks::none(),
+        }
+    }
+
+    // Whether a command is a FILE after a FILE.
+    fn is_second_file(&self, command: SheetCommand) -> bool
+        ensures { (said : CueState) → Judges said self.now → result ≡ is_second_file said command }
+    {
+        match command {
+            SheetCommand::File => self.has_file,
+            _ => false,
+        }
+    }
+
+    // Whether a command may stand here.
+    fn is_placed(&self, command: SheetCommand) -> bool
+        ensures { (said : CueState) → Judges said self.now → result ≡ is_placed said command }
+    {
+        match command {
+            SheetCommand::Catalogue => self.number.is_none(),
+            SheetCommand::Track => self.has_file,
+            SheetCommand::Flags | SheetCommand::Isrc => self.number.is_some(),
+            SheetCommand::Pregap => self.number.is_some() && self.section.last_index.is_none(),
+            SheetCommand::Index => self.number.is_some() && !self.section.postgap,
+            SheetCommand::Postgap => self.number.is_some() && self.section.has_index_one,
+            _ => true,
+        }
+    }
+
+    // Why a line that is spelled and placed well is refused.
+    #[tactic(auto, unfolding(crate::specs::Steps::later_sheet_reason))]
+    fn later_reason(&self, line: &SheetLine<'_>) -> Option<CueWhy>
+        ensures { (said : CueState) → Judges said self.now
+            → result ≡ later_sheet_reason said (line_said line.now) }
+    {
+        match line {
+            SheetLine::Track { number, audio } => self.track_reason(*number, *audio),
+            SheetLine::Index { number, time } => self.index_reason(*number, *time),
+            _ if self.section.is_repeated(line) => Some(CueWhy::Repeated),
+            _ => None,
+        }
+    }
+
+    // Why a track may not begin here.
+    #[tactic(auto, unfolding(crate::specs::Steps::later_sheet_reason))]
+    fn track_reason(&self, number: u8, audio: bool) -> Option<CueWhy>
+        ensures { (said : CueState) → Judges said self.now
+            → result ≡ later_sheet_reason said (SaysTrack number audio) }
+    {
+        if self.number.is_some() && !self.section.has_index_one {
+            return Some(CueWhy::NoIndex);
+        }
+        if !audio {
+            return Some(CueWhy::NotAudio);
+        }
+        match self.number {
+            Some(last) if usize::from(number) != usize::from(last) + 1 => Some(CueWhy::NumberOrder),
+            _ => None,
+        }
+    }
+
+    // Why an index may not stand here.
+    #[tactic(auto, unfolding(crate::specs::Steps::later_sheet_reason))]
+    fn index_reason(&self, number: u8, time: u32) -> Option<CueWhy>
+        ensures { (said : CueState) → Judges said self.now
+            → result ≡ later_sheet_reason said (SaysIndex number time) }
+    {
+        if !self.section.follows(number) {
+            return Some(CueWhy::IndexOrder);
+        }
+        if time < self.latest {
+            return Some(CueWhy::TimeOrder);
+        }
+        None
+    }
+
+    /// Why the sheet may not end here.
+    pub(crate) fn end_reason(&self) -> Option<CueWhy>
+        ensures { (said : CueState) → Judges said self.now → result ≡ end_reason said }
+    {
+        if !self.has_file {
+            Some(CueWhy::NoFile)
+        } else if self.number.is_none() {
+            Some(CueWhy::NoTrack)
+        } else if self.section.has_index_one {
+            None
+        } else {
+            Some(CueWhy::NoIndex)
+        }
+    }
+
+    /// What a trimmed line says that is not empty, or the first reason for which it is refused.
+    pub(crate) fn checked<'a>(&self, line: &'a [u8]) -> Result<SheetLine<'a>, CueWhy>
+        requires { length line.now ≤ most_text_bytes }
+        ensures { (said : CueState) → Judges said self.now
+            → IsCheckedLine said (command_named (first_word line.now)) (argument_of line.now) result }
+    {
+        let (word, argument) = split_command(line);
+        let Some(command) = SheetCommand::named(word) else {
+            return Err(CueWhy::UnknownCommand);
+        };
+        if self.is_second_file(command) {
+            return Err(CueWhy::SecondFile);
+        }
+        if !self.is_placed(command) {
+            return Err(CueWhy::Misplaced);
+        }
+        let Some(said) = spelled(command, argument) else {
+            return Err(CueWhy::BadArgument);
+        };
+        match self.later_reason(&said) {
+            Some(why) => Err(why),
+            None => Ok(said),
+        }
+    }
+
+    /// Takes a line that is in order.
+    pub(crate) fn add(&mut self, line: &SheetLine<'_>)
+        ensures { (said : CueState) → Judges said self.old
+            → Judges (after said (line_said line.now)) self.new }
+    {
+        match line {
+            SheetLine::Remark => {}
+            SheetLine::File => self.has_file = true,
+            SheetLine::Catalogue(_) => self.section.catalogue = true,
+            SheetLine::Title(_) => self.section.title = true,
+            SheetLine::Performer(_) => self.section.performer = true,
+            SheetLine::Songwriter(_) => self.section.songwriter = true,
+            SheetLine::Flags(_) => self.section.control = true,
+            SheetLine::Isrc(_) => self.section.isrc = true,
+            SheetLine::Pregap(_) => self.section.pregap = true,
+            SheetLine::Postgap(_) => self.section.postgap = true,
+            SheetLine::Track { number, .. } => {
+                self.number = Some(*number);
+                self.section = SectionMarks::none();
+            }
+            SheetLine::Index { number, time } => {
+                self.latest = self.latest.max(*time);
+                self.section.has_index_one |= *number == 1;
+                self.section.last_index = Some(*number);
+            }
+        }
+    }
+}
