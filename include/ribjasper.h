@@ -524,8 +524,8 @@ typedef struct ribjasper_planned {
 #define RIBJASPER_LEAD_IN_SHORT 8   /* the lead-in needs so many blocks */
 
 /* What the call below answers beside RIBJASPER_USAGE, where `lead_in` is above 450,000 or `audio` above 449,999, and
-   RIBJASPER_NO_MEMORY: then nothing is written. Where it answers RIBJASPER_NO_ROOM, `told` says how many pictures and
-   blocks there are, and no row is written. */
+   RIBJASPER_NO_MEMORY, which comes only where neither text is too long and no line of them is refused: then nothing is
+   written. Where it answers RIBJASPER_NO_ROOM, `told` says how many pictures and blocks there are, and no row is written. */
 #define RIBJASPER_PLANNED 0     /* each picture is in time */
 #define RIBJASPER_NOT_PLANNED 3 /* `told` says why, and no row is written */
 #define RIBJASPER_LATE 4        /* some pictures are late: their rows say which */
@@ -563,7 +563,8 @@ typedef struct ribjasper_sheet_told {
 /* Writes a row for each index line of the cue sheet of `length` bytes, in its order, to the front of the `room` rows at
    `rows`. Answers RIBJASPER_CONVERTED; RIBJASPER_USAGE where the sheet has more than 67,108,864 bytes; RIBJASPER_TORN
    where a line is refused: `told` says which; RIBJASPER_NO_ROOM where there are fewer rows than index lines: `told` says
-   how many there are, and all else; or RIBJASPER_NO_MEMORY. Memory is asked of malloc, and freed before it returns. */
+   how many there are, and all else; or RIBJASPER_NO_MEMORY, which comes only where no line is refused. Memory is asked of
+   malloc, and freed before it returns. */
 RIBJASPER_NODISCARD int32_t ribjasper_sheet(const uint8_t *sheet, size_t length, ribjasper_sheet_row *rows, size_t room,
                                             ribjasper_sheet_told *told);
 

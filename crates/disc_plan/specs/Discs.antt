@@ -47,7 +47,8 @@ HasPlan disc sheet script = IsReadAs disc sheet script × HoldsPictures sheet sc
 abbrev pub IsPlanSheetStop : List ℕ → PlanStop → Type 0
 IsPlanSheetStop text SheetTooLong = most_text_bytes < length text
 IsPlanSheetStop text (Sheet line why) = (length text ≤ most_text_bytes) × (read_cue text ≡ Err (line, why))
-IsPlanSheetStop text NoMemory = length text ≤ most_text_bytes
+IsPlanSheetStop text NoMemory =
+    (sheet : CueSheet) × (length text ≤ most_text_bytes) × (read_cue text ≡ Ok sheet)
 IsPlanSheetStop text _ = ⊥
 
 -- why a text is no script
@@ -55,11 +56,12 @@ abbrev pub IsPlanScriptStop : List ℕ → PlanStop → Type 0
 IsPlanScriptStop text ScriptTooLong = most_text_bytes < length text
 IsPlanScriptStop text (Script line why) =
     (length text ≤ most_text_bytes) × (read_script text ≡ Err (line, why))
-IsPlanScriptStop text NoMemory = length text ≤ most_text_bytes
+IsPlanScriptStop text NoMemory =
+    (script : List Drawing) × (length text ≤ most_text_bytes) × (read_script text ≡ Ok script)
 IsPlanScriptStop text _ = ⊥
 
 -- why a disc has no plan in so many rows: each reason comes only where those before it do not hold, and want of memory
--- where the sheet is not too long
+-- where neither text is too long and no line of them is refused
 abbrev pub IsPlanStop : DiscTexts → ℕ → PlanStop → Type 0
 IsPlanStop disc room (Disc stop) = (sheet : CueSheet) × (script : List Drawing) × IsReadAs disc sheet script
     × IsDiscRefusal sheet script disc.lead_in disc.audio stop
@@ -70,6 +72,7 @@ IsPlanStop disc room ScriptTooLong = (sheet : CueSheet) × HasSheetText disc she
     × IsPlanScriptStop disc.script ScriptTooLong
 IsPlanStop disc room (Script line why) = (sheet : CueSheet) × HasSheetText disc sheet
     × IsPlanScriptStop disc.script (Script line why)
+IsPlanStop disc room NoMemory = (sheet : CueSheet) × (script : List Drawing) × IsReadAs disc sheet script
 IsPlanStop disc room stop = IsPlanSheetStop disc.sheet stop
 
 -- The rows of a disc, and what is told of it.

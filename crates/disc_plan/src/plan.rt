@@ -1,7 +1,7 @@
 // The plan of a disc.
 ghost use Rattle.std.specs.Prelude.{◌≡◌, ◌≤◌, OnErr, IfErr, IfOk, drop, length};
 ghost use Rattle.disc_time.specs.Counts.{most_program};
-ghost use Rattle.disc_plan.specs.Discs.{planned_disc, IsPlan, IsPlanStop};
+ghost use Rattle.disc_plan.specs.Discs.{planned_disc, IsPlan, IsPlanScriptStop, IsPlanStop};
 
 use crate::disc::PlannedDisc;
 use crate::reading::{read_script, read_sheet};
@@ -15,9 +15,9 @@ use subcode_author::accept_disc;
 ///
 /// # Errors
 ///
-/// The reasons of `PlanStop` in their order, which is that in which the program refuses to write the disc. A sheet that
-/// is too long is told without memory. Each text is read into memory, so the reasons of its lines, and those that come
-/// after them, are told only where memory was found for it: `NoMemory` may come in their place. Then no row is written.
+/// The reasons of `PlanStop` in their order, which is that in which the program refuses to write the disc. Those of the
+/// texts are found without memory. `Disc` and `NoRoom` are found only where there is memory for both texts: `NoMemory`
+/// may come in their place. Then no row is written.
 pub fn plan_disc(
     alloc: Global,
     sheet: &[u8],
@@ -33,8 +33,15 @@ pub fn plan_disc(
         (length rows.old)) }
     ensures untouched { OnErr result (rows.new ≡ rows.old) }
 {
-    let cues = read_sheet(alloc, sheet)?;
-    let drawings = read_script(alloc, script)?;
+    let cues = match read_sheet(alloc, sheet) {
+        Ok(cues) => cues,
+        Err(PlanStop::NoMemory) => return Err(stop_of_script(alloc, script)),
+        Err(stop) => return Err(stop),
+    };
+    let drawings = match read_script(alloc, script) {
+        Ok(drawings) => drawings,
+        Err(stop) => return Err(stop),
+    };
     let blocks = match accept_disc(&cues, &drawings, lead_in, audio) {
         Ok(blocks) => blocks,
         Err(stop) => return Err(PlanStop::Disc { stop }),
@@ -50,5 +57,18 @@ pub fn plan_disc(
             late,
         }),
         Err(_) => Err(PlanStop::NoMemory),
+    }
+}
+
+// Why a script is refused; where it is not, want of memory.
+fn stop_of_script(alloc: Global, script: &[u8]) -> PlanStop
+    ensures { IsPlanScriptStop script.now result }
+{
+    match read_script(alloc, script) {
+        Ok(drawings) => {
+            drop(drawings);
+            PlanStop::NoMemory
+        }
+        Err(stop) => stop,
     }
 }

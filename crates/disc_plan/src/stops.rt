@@ -19,6 +19,6 @@ pub enum PlanStop {
     Disc { stop: AuthorStop },
     /// There are fewer rows than pictures. The program has so many blocks.
     NoRoom { pictures: u32, blocks: u32 },
-    /// Memory ran out.
+    /// No line of either text is refused, and memory ran out.
     NoMemory,
 }

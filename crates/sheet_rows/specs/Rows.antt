@@ -76,13 +76,13 @@ abbrev pub AreRowsOf : List ℕ → List SheetRow → List SheetRow → ToldShee
 AreRowsOf text old new told = (sheet : CueSheet) × IsTextOfSheet text sheet × (told ≡ told_sheet sheet)
     × (new ≡ sheet_rows sheet ++ drop (length (sheet_rows sheet)) old)
 
--- why the text of a sheet gives no rows where there are so many; memory may run out where it is not too long
+-- why the text of a sheet gives no rows where there are so many; memory may run out for a sheet alone
 abbrev pub IsRowsStop : List ℕ → ℕ → SheetStop → Type 0
 IsRowsStop text room TooLong = most_text_bytes < length text
 IsRowsStop text room (Fault line why) = (length text ≤ most_text_bytes) × (read_cue text ≡ Err (line, why))
 IsRowsStop text room (NoRoom told) = (sheet : CueSheet) × IsTextOfSheet text sheet
     × (told ≡ told_sheet sheet) × (room < length (sheet_rows sheet))
-IsRowsStop text room NoMemory = length text ≤ most_text_bytes
+IsRowsStop text room NoMemory = (sheet : CueSheet) × IsTextOfSheet text sheet
 
 -- a text of the sheet stands at the front, and has so many bytes
 abbrev pub IsTextOf : CueText → ℕ → List ℕ → List ℕ → List ℕ → ℕ → Type 0
@@ -99,4 +99,4 @@ IsTextStop kind place text room NoTrack = (sheet : CueSheet) × IsTextOfSheet te
     × (length sheet.tracks < place)
 IsTextStop kind place text room (no_room_for bytes) = (sheet : CueSheet) × IsTextOfSheet text sheet
     × (place ≤ length sheet.tracks) × (bytes ≡ length (text_at kind sheet place)) × (room < bytes)
-IsTextStop kind place text room no_memory_for = length text ≤ most_text_bytes
+IsTextStop kind place text room no_memory_for = (sheet : CueSheet) × IsTextOfSheet text sheet
