@@ -27,5 +27,6 @@ mod ThinTold
 mod Thinning
 mod Told
 mod TurnRuns
+mod Wants
 pub mod WholeInputs
 mod Written

@@ -8,14 +8,15 @@ use Rattle.cdg_io.specs.declared.whole.ReadStop.{ReadStop}
 use Rattle.cdg_io.specs.declared.whole.ReadStop.TheVariants as read
 use Rattle.rw_merge.specs.Merging.{EndIsTold, EndIsUntold}
 use Rattle.text_lines.specs.Text.{most_text_bytes}
-use Rattle.cdg_cmd.specs.Authors.{IsScriptStop, IsSheetStop, TakesAtStop}
-use Rattle.cdg_cmd.specs.Ends.{ScriptEnds, SheetEnds}
+use Rattle.cdg_cmd.specs.Authors.{IsScriptStop, IsSheetStop, IsInputStop, TakesAtStop}
+use Rattle.cdg_cmd.specs.Ends.{ScriptEnds, SheetEnds, TextEnds}
 use Rattle.cdg_cmd.specs.Presses.{IsFileStop}
 use Rattle.cdg_cmd.specs.Stops.{read_status}
 use Rattle.cdg_cmd.specs.declared.status.Which.{Which}
 use Rattle.cdg_cmd.specs.declared.status.Which.TheVariants.{First, Second}
 use Rattle.cdg_cmd.specs.declared.status.Status.{Status}
-use Rattle.cdg_cmd.specs.declared.status.Status.TheVariants.{Done, Refused, ReadFault, NoMemory}
+use Rattle.cdg_cmd.specs.declared.status.Refusal.TheVariants.{TooLong}
+use Rattle.cdg_cmd.specs.declared.status.Status.TheVariants.{Done, Damaged, Usage, Refused, Late, ReadFault, WriteFault, NoMemory}
 use Rattle.cdg_cmd.proofs.TextStops.{known_within, taken_at_fault}
 
 -- what is known where an input was not read whole
@@ -55,32 +56,16 @@ module _ {S : Type 0} (left : S → Bytes) (faults : S → ℕ) (ends : S → Co
   abbrev Unread : ReadStop → Type 0
   Unread stop = IsUnread left faults ends before after stop
 
-  sheet_at : (stop : ReadStop) → Unread stop → IsSheetStop (left before) (read_status First stop)
-  sheet_at read.Failed u = tt
-  sheet_at read.TooLong u = u.long refl
-  sheet_at read.NoMemory u = known_within left ends most_text_bytes before after (u.lacking refl)
+  text_at : (which : Which) (stop : ReadStop) → Unread stop
+      → IsInputStop which (left before) (read_status which stop)
+  text_at which read.Failed u = refl
+  text_at which read.TooLong u = u.long refl
+  text_at which read.NoMemory u = known_within left ends most_text_bytes before after (u.lacking refl)
 
-  pub no_sheet : (stop : ReadStop) (status : Status) → status ≡ read_status First stop → Unread stop
-      → IsSheetStop (left before) status
-  no_sheet stop status is u = subst (IsSheetStop (left before)) (sym is) (sheet_at stop u)
-
-  script_at : (stop : ReadStop) → Unread stop → IsScriptStop (left before) (read_status Second stop)
-  script_at read.Failed u = tt
-  script_at read.TooLong u = u.long refl
-  script_at read.NoMemory u = known_within left ends most_text_bytes before after (u.lacking refl)
-
-  pub no_script : (stop : ReadStop) (status : Status) → status ≡ read_status Second stop → Unread stop
-      → IsScriptStop (left before) status
-  no_script stop status is u = subst (IsScriptStop (left before)) (sym is) (script_at stop u)
-
-  file_at : (stop : ReadStop) → Unread stop → IsFileStop (left before) (read_status Second stop)
-  file_at read.Failed u = tt
-  file_at read.TooLong u = u.long refl
-  file_at read.NoMemory u = known_within left ends most_text_bytes before after (u.lacking refl)
-
-  pub no_file : (stop : ReadStop) (status : Status) → status ≡ read_status Second stop → Unread stop
-      → IsFileStop (left before) status
-  no_file stop status is u = subst (IsFileStop (left before)) (sym is) (file_at stop u)
+  pub no_text : (which : Which) (stop : ReadStop) (status : Status) → status ≡ read_status which stop
+      → Unread stop
+      → IsInputStop which (left before) status
+  no_text which stop status is u = subst (IsInputStop which (left before)) (sym is) (text_at which stop u)
 
   takes : (which : Which) (stop : ReadStop) → Unread stop
       → TakesAtStop (change left before after) (read_status which stop)
@@ -94,28 +79,96 @@ module _ {S : Type 0} (left : S → Bytes) (faults : S → ℕ) (ends : S → Co
   takes_unread which stop status is u =
       subst (TakesAtStop (change left before after)) (sym is) (takes which stop u)
 
-  sheet_ends_at : (stop : ReadStop) → Unread stop
-      → SheetEnds (input left ends before after) (read_status First stop)
-  sheet_ends_at read.Failed u = u.untold (λ e. cc)
-  sheet_ends_at read.TooLong u =
-      (inl (u.untold (λ e. cc)), long_untold (left before) _ _ (u.long refl) (u.untold (λ e. cc)))
-  sheet_ends_at read.NoMemory u = (u.lacking refl).told
+  text_ends_at : (which : Which) (stop : ReadStop) → Unread stop
+      → TextEnds (input left ends before after) (read_status which stop)
+  text_ends_at which read.Failed u = u.untold (λ e. cc)
+  text_ends_at which read.TooLong u = u.untold (λ e. cc)
+  text_ends_at which read.NoMemory u = (u.lacking refl).told
 
-  pub sheet_ends : (stop : ReadStop) (status : Status) → status ≡ read_status First stop → Unread stop
-      → SheetEnds (input left ends before after) status
-  sheet_ends stop status is u =
-      subst (SheetEnds (input left ends before after)) (sym is) (sheet_ends_at stop u)
+  pub text_ends : (which : Which) (stop : ReadStop) (status : Status) → status ≡ read_status which stop
+      → Unread stop
+      → TextEnds (input left ends before after) status
+  text_ends which stop status is u =
+      subst (TextEnds (input left ends before after)) (sym is) (text_ends_at which stop u)
 
-  second_ends_at : (stop : ReadStop) → Unread stop
-      → ScriptEnds (input left ends before after) (read_status Second stop)
-  second_ends_at read.Failed u = u.untold (λ e. cc)
-  second_ends_at read.TooLong u = u.untold (λ e. cc)
-  second_ends_at read.NoMemory u = inr ((u.lacking refl).end, (u.lacking refl).told)
+-- What holds where an input gives no text, of the cue sheet, of the script and of the file
 
-  pub second_ends : (stop : ReadStop) (status : Status) → status ≡ read_status Second stop → Unread stop
-      → ScriptEnds (input left ends before after) status
-  second_ends stop status is u =
-      subst (ScriptEnds (input left ends before after)) (sym is) (second_ends_at stop u)
+second_is_not_first : ◌≡◌ {A = Which} Second First → ⊥
+second_is_not_first e = (cc)
+
+first_is_not_second : ◌≡◌ {A = Which} First Second → ⊥
+first_is_not_second e = (cc)
+
+pub no_sheet : (left : Bytes) (status : Status) → IsInputStop First left status → IsSheetStop left status
+no_sheet left (ReadFault First) why = tt
+no_sheet left (ReadFault Second) why = absurd (second_is_not_first why)
+no_sheet left (Refused TooLong) why = why
+no_sheet left (Refused reason) why = absurd why
+no_sheet left NoMemory why = why
+no_sheet left Done why = absurd why
+no_sheet left (Damaged n) why = absurd why
+no_sheet left Usage why = absurd why
+no_sheet left (Late picture need free) why = absurd why
+no_sheet left WriteFault why = absurd why
+
+pub no_script : (left : Bytes) (status : Status) → IsInputStop Second left status → IsScriptStop left status
+no_script left (ReadFault First) why = absurd (first_is_not_second why)
+no_script left (ReadFault Second) why = tt
+no_script left (Refused TooLong) why = why
+no_script left (Refused reason) why = absurd why
+no_script left NoMemory why = why
+no_script left Done why = absurd why
+no_script left (Damaged n) why = absurd why
+no_script left Usage why = absurd why
+no_script left (Late picture need free) why = absurd why
+no_script left WriteFault why = absurd why
+
+pub no_file : (left : Bytes) (status : Status) → IsInputStop Second left status → IsFileStop left status
+no_file left (ReadFault First) why = absurd (first_is_not_second why)
+no_file left (ReadFault Second) why = tt
+no_file left (Refused TooLong) why = why
+no_file left (Refused reason) why = absurd why
+no_file left NoMemory why = why
+no_file left Done why = absurd why
+no_file left (Damaged n) why = absurd why
+no_file left Usage why = absurd why
+no_file left (Late picture need free) why = absurd why
+no_file left WriteFault why = absurd why
+
+pub sheet_ends : (sheet : Input) (status : Status) → IsInputStop First sheet.left.before status
+    → TextEnds sheet status
+    → SheetEnds sheet status
+sheet_ends sheet (ReadFault First) why ends = ends
+sheet_ends sheet (ReadFault Second) why ends = absurd (second_is_not_first why)
+sheet_ends sheet (Refused TooLong) why ends = (inl ends, long_untold sheet.left.before _ _ why ends)
+sheet_ends sheet (Refused reason) why ends = absurd why
+sheet_ends sheet NoMemory why ends = ends
+sheet_ends sheet Done why ends = absurd why
+sheet_ends sheet (Damaged n) why ends = absurd why
+sheet_ends sheet Usage why ends = absurd why
+sheet_ends sheet (Late picture need free) why ends = absurd why
+sheet_ends sheet WriteFault why ends = absurd why
+
+pub second_ends : (script : Input) (status : Status) → IsInputStop Second script.left.before status
+    → TakesAtStop script.left status → TextEnds script status → ScriptEnds script status
+second_ends script (ReadFault which) why taken ends = ends
+second_ends script (Refused TooLong) why taken ends = ends
+second_ends script (Refused reason) why taken ends = absurd why
+second_ends script NoMemory why taken ends = inr (taken, ends)
+second_ends script Done why taken ends = absurd why
+second_ends script (Damaged n) why taken ends = absurd why
+second_ends script Usage why taken ends = absurd why
+second_ends script (Late picture need free) why taken ends = absurd why
+second_ends script WriteFault why taken ends = absurd why
+
+-- the same status ends the call that made it
+pub same_stop : {A B : Type 0} (fault status : Status) (f f' : ℕ) → TellsFault {T = A} fault f f' (Err status)
+    → TellsFault {T = B} fault f f' (Err status)
+same_stop fault status f f' told = record {
+  later = told.later;
+  rose = λ e. told.rose (ap Err (cc));
+  same = λ other. told.same (λ e. other (ap Err (cc)));
+}
 
 -- The fault of a read is told as that of its input.
 

@@ -15,6 +15,7 @@ use Rattle.subcode_author.specs.declared.stops.AuthorStop.TheVariants as stop
 use Rattle.cdg_io.specs.Change.{Bytes, Change}
 use Rattle.cdg_cmd.specs.Call.{Call}
 use Rattle.cdg_cmd.specs.Stops.{author_status}
+use Rattle.cdg_cmd.specs.declared.status.Which.{Which}
 use Rattle.cdg_cmd.specs.declared.status.Which.TheVariants.{First, Second}
 use Rattle.cdg_cmd.specs.declared.status.Refusal.TheVariants.{TooLong, PastEnd, Cue, Script, LengthShort, DiscTooLong, LeadInShort, TextTooLong}
 use Rattle.cdg_cmd.specs.declared.status.Status.{Status}
@@ -37,6 +38,13 @@ ReadsSheet input sheet = IsAtEnd input.after × IfSome input.before (λ text. Is
 -- an input was read to its end, and what it held is the text of this script
 abbrev pub ReadsScript : Change Bytes → List Drawing → Type 0
 ReadsScript input script = IsAtEnd input.after × IfSome input.before (λ text. IsScriptText text script)
+
+-- why an input gives no text or file: memory is lacking only for one that is not too long
+abbrev pub IsInputStop : Which → Bytes → Status → Type 0
+IsInputStop which left (ReadFault failed) = failed ≡ which
+IsInputStop which left (Refused TooLong) = IfSome left (λ text. most_text_bytes < length text)
+IsInputStop which left NoMemory = IfSome left (λ text. length text ≤ most_text_bytes)
+IsInputStop which left status = ⊥
 
 -- why the first input gives no sheet: memory is lacking only for one that is not too long
 abbrev pub IsSheetStop : Bytes → Status → Type 0

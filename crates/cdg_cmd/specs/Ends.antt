@@ -48,6 +48,11 @@ abbrev pub EndsWithin : Input → Type 0
 EndsWithin input = (EndIsUntold input ⊎ EndIsTold input) × IfSome input.left.before (λ text.
     (length text ≤ most_text_bytes → EndIsTold input) × (most_text_bytes < length text → EndIsUntold input))
 
+-- Of an input that gives no text or file: its end is told where there is no memory for it, and else not.
+abbrev pub TextEnds : Input → Status → Type 0
+TextEnds input NoMemory = EndIsTold input
+TextEnds input status = EndIsUntold input
+
 -- The cue sheet of `author` and `press`, which is read to its end also where there is no memory for it. The second input
 -- too may be too long.
 abbrev pub SheetEnds : Input → Status → Type 0

@@ -3,6 +3,7 @@
 
 mod command;
 mod making;
+mod memory;
 mod packs;
 mod status;
 mod streams;

@@ -1,17 +1,20 @@
 // The commands that make a stream or a script.
-ghost use Rattle.std.specs.Prelude.{◌≡◌, ◌≢◌, ◌≤◌, ◌<◌, ◌⊎◌, IfOk, IfErr, OnOk, Err};
+ghost use Rattle.std.specs.Prelude.{◌≡◌, ◌≢◌, ◌≤◌, ◌<◌, ◌⊎◌, IfOk, IfErr, IfSome, OnOk, Err, length};
+ghost use Rattle.std.specs.Io.KnownBytes.{IsAtEnd};
 ghost use Rattle.disc_time.specs.Counts.{most_lead_in, time_count};
 ghost use Rattle.cdg_io.specs.Causes.{RoseOnce, TellsFault};
-ghost use Rattle.cdg_cmd.specs.Authors.{AuthorsWith, IsScriptStop, IsSheetStop, ReadsScript, ReadsSheet, TakesAtStop};
-ghost use Rattle.cdg_io.specs.Change.{change, input};
+ghost use Rattle.cdg_cmd.specs.Authors.{AuthorsWith, IsScriptStop, IsSheetStop, IsInputStop, ReadsScript, ReadsSheet, TakesAtStop};
+ghost use Rattle.text_lines.specs.Text.{most_text_bytes};
+ghost use Rattle.cdg_io.specs.Change.{change, from_to, input};
 ghost use Rattle.cdg_cmd.specs.Call.{call};
-ghost use Rattle.cdg_cmd.specs.Ends.{ScriptEnds, SheetEnds};
+ghost use Rattle.cdg_cmd.specs.Ends.{ScriptEnds, SheetEnds, TextEnds};
 ghost use Rattle.cdg_cmd.specs.Faults.{TellsFaults, IsTold};
 ghost use Rattle.cdg_cmd.specs.Keeps.{MayReadSecond};
-ghost use Rattle.cdg_cmd.specs.Presses.{IsFileStop, PressesWith, ReadsFile};
+ghost use Rattle.cdg_cmd.specs.Presses.{PressesWith};
 ghost use Rattle.cdg_workload.specs.Script.{generated_script, most_generated};
 ghost use Rattle.cdg_cmd.specs.Answer.{Generates, Tries};
 
+use crate::memory::CountedMemory;
 use crate::status::{author_status, press_status, read_status, script_status, sheet_status};
 use crate::{Command, Status, Which};
 use cdg_io::{Failed, Sink, Source, read_whole};
@@ -19,54 +22,86 @@ use cdg_press::press_stream;
 use cdg_workload::write_script;
 use cue_sheet::Sheet;
 use picture_script::Script;
-use std::alloc::Global;
 use stream_trial::{TrialStop, trial};
 use subcode_author::{accepted_scripts_have_streams, author_stream};
 use text_lines::MOST_TEXT_BYTES;
 
+// The text or the file of an input, or the status that says why there is none.
+fn read_text<S: Source>(
+    memory: &mut CountedMemory,
+    which: Which,
+    source: &mut S,
+) -> Result<Vec<u8>, Status>
+    ensures all { IfOk result (λ v. IfSome (S.left source.old) (λ all. v.items ≡ all)) }
+    ensures end { OnOk result (IsAtEnd (S.left source.new)) }
+    ensures within { IfOk result (λ v. length v.items ≤ most_text_bytes) }
+    ensures err { IfErr result (IsInputStop which (S.left source.old)) }
+    ensures taken { IfErr result (TakesAtStop (change S.left source.old source.new)) }
+    ensures fault { TellsFault (Status.ReadFault which) (S.faults source.old) (S.faults source.new) result }
+    ensures wants { TellsFault Status.NoMemory memory.old memory.new result }
+    ensures told { OnOk result (RoseOnce (S.ends source.old) (S.ends source.new)) }
+    ensures once { IfErr result (TextEnds (input S.left S.ends source.old source.new)) }
+{
+    match read_whole(memory.alloc(), source, MOST_TEXT_BYTES) {
+        Ok(text) => Ok(text),
+        Err(stop) => {
+            memory.note(&stop);
+            Err(read_status(which, stop))
+        }
+    }
+}
+
 // The cue sheet of the first input, or the status that says why there is none.
-fn read_sheet<S: Source>(alloc: Global, first: &mut S) -> Result<Sheet, Status>
+fn read_sheet<S: Source>(memory: &mut CountedMemory, first: &mut S) -> Result<Sheet, Status>
     ensures ok { IfOk result (ReadsSheet (change S.left first.old first.new)) }
     ensures err { IfErr result (IsSheetStop (S.left first.old)) }
     ensures taken { IfErr result (TakesAtStop (change S.left first.old first.new)) }
     ensures fault { TellsFault (Status.ReadFault Which.First)
         (S.faults first.old) (S.faults first.new) result }
+    ensures wants { TellsFault Status.NoMemory memory.old memory.new result }
     ensures told { OnOk result (RoseOnce (S.ends first.old) (S.ends first.new)) }
     ensures once { IfErr result (SheetEnds (input S.left S.ends first.old first.new)) }
 {
-    let text = match read_whole(alloc, first, MOST_TEXT_BYTES) {
+    let text = match read_text(memory, Which::First, first) {
         Ok(text) => text,
-        Err(stop) => return Err(read_status(Which::First, stop)),
+        Err(status) => return Err(status),
     };
-    match Sheet::parse(alloc, &text) {
+    match Sheet::parse(memory.alloc(), &text) {
         Ok(sheet) => Ok(sheet),
-        Err(stop) => Err(sheet_status(stop)),
+        Err(stop) => {
+            memory.note(&stop);
+            Err(sheet_status(stop))
+        }
     }
 }
 
 // The picture script of the second input, or the status that says why there is none.
-fn read_script<S: Source>(alloc: Global, second: &mut S) -> Result<Script, Status>
+fn read_script<S: Source>(memory: &mut CountedMemory, second: &mut S) -> Result<Script, Status>
     ensures ok { IfOk result (ReadsScript (change S.left second.old second.new)) }
     ensures err { IfErr result (IsScriptStop (S.left second.old)) }
     ensures taken { IfErr result (TakesAtStop (change S.left second.old second.new)) }
     ensures fault { TellsFault (Status.ReadFault Which.Second)
         (S.faults second.old) (S.faults second.new) result }
+    ensures wants { TellsFault Status.NoMemory memory.old memory.new result }
     ensures told { OnOk result (RoseOnce (S.ends second.old) (S.ends second.new)) }
     ensures once { IfErr result (ScriptEnds (input S.left S.ends second.old second.new)) }
 {
-    let text = match read_whole(alloc, second, MOST_TEXT_BYTES) {
+    let text = match read_text(memory, Which::Second, second) {
         Ok(text) => text,
-        Err(stop) => return Err(read_status(Which::Second, stop)),
+        Err(status) => return Err(status),
     };
-    match Script::parse(alloc, &text) {
+    match Script::parse(memory.alloc(), &text) {
         Ok(script) => Ok(script),
-        Err(stop) => Err(script_status(stop)),
+        Err(stop) => {
+            memory.note(&stop);
+            Err(script_status(stop))
+        }
     }
 }
 
 /// Writes the stream of a cue sheet, which is the first input, and a picture script, which is the second.
 pub(crate) fn run_author<S: Source, T: Source, K: Sink>(
-    alloc: Global,
+    memory: &mut CountedMemory,
     lead_in: u32,
     length: u32,
     first: &mut S,
@@ -85,12 +120,14 @@ pub(crate) fn run_author<S: Source, T: Source, K: Sink>(
         (first.new, second.new, out.new)) result }
     ensures first_ended { SheetEnds (input S.left S.ends first.old first.new) result }
     ensures second_ended { ScriptEnds (input T.left T.ends second.old second.new) result }
+    // Memory is wanted where a call says that none was found, and nowhere else.
+    ensures wants { IsTold Status.NoMemory (from_to memory.old memory.new) result }
 {
-    let sheet = match read_sheet(alloc, first) {
+    let sheet = match read_sheet(memory, first) {
         Ok(sheet) => sheet,
         Err(status) => return status,
     };
-    let script = match read_script(alloc, second) {
+    let script = match read_script(memory, second) {
         Ok(script) => script,
         Err(status) => return status,
     };
@@ -98,28 +135,14 @@ pub(crate) fn run_author<S: Source, T: Source, K: Sink>(
     sheet.tracks_are_in_order();
     script.times_rise_and_colours_are_in_range();
     accepted_scripts_have_streams();
-    author_status(author_stream(alloc, &sheet, &script, lead_in, length, out))
-}
-
-// The file of the second input, which may be as long as a text, or the status that says why there is none.
-fn read_file<S: Source>(alloc: Global, second: &mut S) -> Result<Vec<u8>, Status>
-    ensures ok { IfOk result (λ v. ReadsFile (change S.left second.old second.new) v.items) }
-    ensures err { IfErr result (IsFileStop (S.left second.old)) }
-    ensures taken { IfErr result (TakesAtStop (change S.left second.old second.new)) }
-    ensures fault { TellsFault (Status.ReadFault Which.Second)
-        (S.faults second.old) (S.faults second.new) result }
-    ensures told { OnOk result (RoseOnce (S.ends second.old) (S.ends second.new)) }
-    ensures once { IfErr result (ScriptEnds (input S.left S.ends second.old second.new)) }
-{
-    match read_whole(alloc, second, MOST_TEXT_BYTES) {
-        Ok(file) => Ok(file),
-        Err(stop) => Err(read_status(Which::Second, stop)),
-    }
+    let authored = author_stream(memory.alloc(), &sheet, &script, lead_in, length, out);
+    memory.note_answer(&authored);
+    author_status(authored)
 }
 
 /// Writes the stream of a cue sheet, which is the first input, and a file of packs, which is the second.
 pub(crate) fn run_press<S: Source, T: Source, K: Sink>(
-    alloc: Global,
+    memory: &mut CountedMemory,
     lead_in: u32,
     length: u32,
     first: &mut S,
@@ -138,16 +161,20 @@ pub(crate) fn run_press<S: Source, T: Source, K: Sink>(
         (first.new, second.new, out.new)) result }
     ensures first_ended { SheetEnds (input S.left S.ends first.old first.new) result }
     ensures second_ended { ScriptEnds (input T.left T.ends second.old second.new) result }
+    // Memory is wanted where a call says that none was found, and nowhere else.
+    ensures wants { IsTold Status.NoMemory (from_to memory.old memory.new) result }
 {
-    let sheet = match read_sheet(alloc, first) {
+    let sheet = match read_sheet(memory, first) {
         Ok(sheet) => sheet,
         Err(status) => return status,
     };
-    let file = match read_file(alloc, second) {
+    let file = match read_text(memory, Which::Second, second) {
         Ok(file) => file,
         Err(status) => return status,
     };
-    press_status(press_stream(alloc, &sheet, &file, lead_in, length, out))
+    let pressed = press_stream(memory.alloc(), &sheet, &file, lead_in, length, out);
+    memory.note_answer(&pressed);
+    press_status(pressed)
 }
 
 /// Writes the script of a seed.
@@ -166,14 +193,23 @@ pub(crate) fn run_gen<K: Sink>(seed: u64, pictures: u32, out: &mut K) -> Status
 
 /// Writes the lines of a trial of a seed.
 #[tactic(auto, using(crate::proofs::Written::told_done, crate::proofs::Written::told_cut, crate::proofs::Written::told_nothing))]
-pub(crate) fn run_trial<K: Sink>(alloc: Global, seed: u64, pictures: u32, out: &mut K) -> Status
+pub(crate) fn run_trial<K: Sink>(
+    memory: &mut CountedMemory,
+    seed: u64,
+    pictures: u32,
+    out: &mut K,
+) -> Status
     requires { (1 ≤ pictures) × (pictures ≤ most_generated) }
     ensures does { result ≢ Status.NoMemory → Tries seed pictures (change K.held out.old out.new) result }
     ensures never { (result ≡ Status.Done) ⊎ (result ≡ Status.WriteFault) ⊎ (result ≡ Status.NoMemory) }
     ensures no_memory { result ≡ Status.NoMemory → out.new ≡ out.old }
     ensures faults { IsTold Status.WriteFault (change K.faults out.old out.new) result }
+    // Memory is wanted where a call says that none was found, and nowhere else.
+    ensures wants { IsTold Status.NoMemory (from_to memory.old memory.new) result }
 {
-    match trial(alloc, seed, pictures, out) {
+    let tried = trial(memory.alloc(), seed, pictures, out);
+    memory.note_answer(&tried);
+    match tried {
         Ok(()) => Status::Done,
         Err(TrialStop::WriteFault) => Status::WriteFault,
         Err(TrialStop::NoMemory) => Status::NoMemory,

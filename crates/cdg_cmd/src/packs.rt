@@ -2,12 +2,13 @@
 ghost use Rattle.std.specs.Prelude.{◌≡◌, ◌≢◌, ◌≤◌, ◌<◌, ◌⊎◌};
 ghost use Rattle.disc_time.specs.Counts.{most_lead_in, time_count};
 ghost use Rattle.cdg_cmd.specs.Answer.{Does};
-ghost use Rattle.cdg_io.specs.Change.{change, input};
+ghost use Rattle.cdg_io.specs.Change.{change, from_to, input};
 ghost use Rattle.cdg_cmd.specs.Call.{call, one_input};
 ghost use Rattle.cdg_cmd.specs.Ends.{ReadingsEnd, EndsInTurn, EndsFirst, CheckpointEnds, RestEnds};
-ghost use Rattle.cdg_cmd.specs.Faults.{TellsFaults, TellsOne};
+ghost use Rattle.cdg_cmd.specs.Faults.{IsTold, TellsFaults, TellsOne};
 ghost use Rattle.cdg_cmd.specs.Keeps.{MayWrite, MayReadSecond};
 
+use crate::memory::CountedMemory;
 use crate::status::{merge_status, pump_status, resume_status, thin_status};
 use crate::{Command, Status};
 use cdg_checkpoint::Checkpointer;
@@ -17,11 +18,9 @@ use cdg_workload::scratch;
 use q_channel::{BlockForms, PlanarForms};
 use raw_subcode::MOST_UNITS;
 use rw_merge::Merger;
-use std::alloc::Global;
 
 /// Writes the packs on which two readings of a stream agree, as their blocks are read.
 pub(crate) fn run_merge<S: Source, T: Source, K: Sink>(
-    alloc: Global,
     lead_in: u32,
     first: &mut S,
     second: &mut T,
@@ -38,32 +37,38 @@ pub(crate) fn run_merge<S: Source, T: Source, K: Sink>(
     ensures ended { ReadingsEnd (input S.left S.ends first.old first.new)
         (input T.left T.ends second.old second.new) result }
 {
-    match Merger::start(alloc) {
-        Ok(mut merger) => merge_status(merger.run(lead_in, first, second, out)),
-        Err(_) => unreachable!(),
-    }
+    merge_status(Merger::new().run(lead_in, first, second, out))
 }
 
 /// Writes the thin form of a file of packs as they are read.
 #[tactic(auto, using(crate::proofs::ThinTold::told_one, crate::proofs::Played::told_none, crate::proofs::ThinTold::never_memory, crate::proofs::ThinTold::ended_in_turn))]
-pub(crate) fn run_thin<S: Source, K: Sink>(alloc: Global, source: &mut S, out: &mut K) -> Status
+pub(crate) fn run_thin<S: Source, K: Sink>(
+    memory: &mut CountedMemory,
+    source: &mut S,
+    out: &mut K,
+) -> Status
     ensures does { result ≢ Status.NoMemory → Does Command.Thin
         (one_input S.left K.held (source.old, out.old) (source.new, out.new)) result }
     ensures no_memory { result ≡ Status.NoMemory → (source.new ≡ source.old) × (out.new ≡ out.old) }
     ensures faults { TellsOne (change S.faults source.old source.new)
         (change K.faults out.old out.new) result }
     ensures ended { EndsInTurn (input S.left S.ends source.old source.new) result }
+    // Memory is wanted where a call says that none was found, and nowhere else.
+    ensures wants { IsTold Status.NoMemory (from_to memory.old memory.new) result }
 {
-    match Thinner::start(alloc) {
+    match Thinner::start(memory.alloc()) {
         Ok(mut thinner) => thin_status(thinner.run(source, out)),
-        Err(_) => Status::NoMemory,
+        Err(stop) => {
+            memory.note(&stop);
+            Status::NoMemory
+        }
     }
 }
 
 /// Writes the checkpoint after a stream.
 #[tactic(auto, using(crate::proofs::Played::told_none))]
 pub(crate) fn run_save<S: Source, K: Sink>(
-    alloc: Global,
+    memory: &mut CountedMemory,
     lead_in: u32,
     source: &mut S,
     out: &mut K,
@@ -76,17 +81,22 @@ pub(crate) fn run_save<S: Source, K: Sink>(
     ensures faults { TellsOne (change S.faults source.old source.new)
         (change K.faults out.old out.new) result }
     ensures ended { EndsFirst (input S.left S.ends source.old source.new) result }
+    // Memory is wanted where a call says that none was found, and nowhere else.
+    ensures wants { IsTold Status.NoMemory (from_to memory.old memory.new) result }
 {
-    match Checkpointer::start(alloc) {
+    match Checkpointer::start(memory.alloc()) {
         Ok(mut checkpointer) => pump_status(checkpointer.save(lead_in, source, out)),
-        Err(_) => Status::NoMemory,
+        Err(stop) => {
+            memory.note(&stop);
+            Status::NoMemory
+        }
     }
 }
 
 /// Writes the picture at a moment of a stream of which a checkpoint, which is the first input, and the rest are given.
 #[tactic(auto, using(crate::proofs::MergeTold::told_none, crate::proofs::ResumeTold::never_memory, crate::proofs::ResumeTold::never_usage))]
 pub(crate) fn run_resume<S: Source, T: Source, K: Sink>(
-    alloc: Global,
+    memory: &mut CountedMemory,
     at: u32,
     first: &mut S,
     second: &mut T,
@@ -105,10 +115,15 @@ pub(crate) fn run_resume<S: Source, T: Source, K: Sink>(
         (first.new, second.new, out.new)) result }
     ensures first_ended { CheckpointEnds (input S.left S.ends first.old first.new) result }
     ensures second_ended { RestEnds (input T.left T.ends second.old second.new) result }
+    // Memory is wanted where a call says that none was found, and nowhere else.
+    ensures wants { IsTold Status.NoMemory (from_to memory.old memory.new) result }
 {
-    match Checkpointer::start(alloc) {
+    match Checkpointer::start(memory.alloc()) {
         Ok(mut checkpointer) => resume_status(checkpointer.resume(at, first, second, out)),
-        Err(_) => Status::NoMemory,
+        Err(stop) => {
+            memory.note(&stop);
+            Status::NoMemory
+        }
     }
 }
 

@@ -2,17 +2,17 @@
 ghost use Rattle.std.specs.Prelude.{◌≢◌, ◌≤◌, ◌≡◌, ◌<◌};
 ghost use Rattle.disc_time.specs.Counts.{most_lead_in, time_count};
 ghost use Rattle.cdg_cmd.specs.Answer.{Does, LacksMemory};
-ghost use Rattle.cdg_io.specs.Change.{change, input};
+ghost use Rattle.cdg_io.specs.Change.{change, from_to, input};
 ghost use Rattle.cdg_cmd.specs.Call.{one_input};
 ghost use Rattle.cdg_cmd.specs.Ends.{EndsInTurn, EndsFirst, EndsAsListed};
-ghost use Rattle.cdg_cmd.specs.Faults.{TellsOne};
+ghost use Rattle.cdg_cmd.specs.Faults.{IsTold, TellsOne};
 ghost use Rattle.cdg_cmd.specs.Keeps.{MayWrite};
 
+use crate::memory::CountedMemory;
 use crate::status::play_status;
 use crate::{Command, Status};
 use cdg_io::{Sink, Source};
 use raw_subcode::Form;
-use std::alloc::Global;
 use stream_stages::{Checker, Converter, TextLister, Viewer, list_frames};
 
 /// Writes the packs of a stream as its blocks are read.
@@ -77,7 +77,7 @@ pub(crate) fn run_q<S: Source, K: Sink>(
 /// Writes the texts of the lead-in of a stream, after all of it is read.
 #[tactic(auto, using(crate::proofs::Played::told_none))]
 pub(crate) fn run_text<S: Source, K: Sink>(
-    alloc: Global,
+    memory: &mut CountedMemory,
     lead_in: u32,
     form: Form,
     source: &mut S,
@@ -94,17 +94,26 @@ pub(crate) fn run_text<S: Source, K: Sink>(
     ensures faults { TellsOne (change S.faults source.old source.new)
         (change K.faults out.old out.new) result }
     ensures ended { EndsAsListed (input S.left S.ends source.old source.new) result }
+    // Memory is wanted where a call says that none was found, and nowhere else.
+    ensures wants { IsTold Status.NoMemory (from_to memory.old memory.new) result }
 {
-    match TextLister::start(alloc) {
-        Ok(mut lister) => play_status(lister.text_list(alloc, lead_in, form, source, out)),
-        Err(_) => Status::NoMemory,
+    match TextLister::start(memory.alloc()) {
+        Ok(mut lister) => {
+            let listed = lister.text_list(memory.alloc(), lead_in, form, source, out);
+            memory.note_answer(&listed);
+            play_status(listed)
+        }
+        Err(stop) => {
+            memory.note(&stop);
+            Status::NoMemory
+        }
     }
 }
 
 /// Writes the picture at a moment of a stream.
 #[tactic(auto, using(crate::proofs::Played::told_none))]
 pub(crate) fn run_screen<S: Source, K: Sink>(
-    alloc: Global,
+    memory: &mut CountedMemory,
     lead_in: u32,
     form: Form,
     at: u32,
@@ -120,17 +129,22 @@ pub(crate) fn run_screen<S: Source, K: Sink>(
     ensures faults { TellsOne (change S.faults source.old source.new)
         (change K.faults out.old out.new) result }
     ensures ended { EndsFirst (input S.left S.ends source.old source.new) result }
+    // Memory is wanted where a call says that none was found, and nowhere else.
+    ensures wants { IsTold Status.NoMemory (from_to memory.old memory.new) result }
 {
-    match Viewer::start(alloc) {
+    match Viewer::start(memory.alloc()) {
         Ok(mut viewer) => play_status(viewer.screen_at(lead_in, form, at, source, out)),
-        Err(_) => Status::NoMemory,
+        Err(stop) => {
+            memory.note(&stop);
+            Status::NoMemory
+        }
     }
 }
 
 /// Writes the state of the screen at a moment of a stream.
 #[tactic(auto, using(crate::proofs::Played::told_none))]
 pub(crate) fn run_state<S: Source, K: Sink>(
-    alloc: Global,
+    memory: &mut CountedMemory,
     lead_in: u32,
     form: Form,
     at: u32,
@@ -146,9 +160,14 @@ pub(crate) fn run_state<S: Source, K: Sink>(
     ensures faults { TellsOne (change S.faults source.old source.new)
         (change K.faults out.old out.new) result }
     ensures ended { EndsFirst (input S.left S.ends source.old source.new) result }
+    // Memory is wanted where a call says that none was found, and nowhere else.
+    ensures wants { IsTold Status.NoMemory (from_to memory.old memory.new) result }
 {
-    match Viewer::start(alloc) {
+    match Viewer::start(memory.alloc()) {
         Ok(mut viewer) => play_status(viewer.state_at(lead_in, form, at, source, out)),
-        Err(_) => Status::NoMemory,
+        Err(stop) => {
+            memory.note(&stop);
+            Status::NoMemory
+        }
     }
 }

@@ -15,11 +15,11 @@ ghost use Rattle.round_trips.specs.FrameLines.{frame_lines};
 ghost use Rattle.cdg_cmd.specs.Words.{texts};
 ghost use Rattle.cdg_cmd.specs.Splitting.{split_of};
 ghost use Rattle.cdg_cmd.specs.Spelling.{IsAllowed, Spells};
-ghost use Rattle.cdg_io.specs.Change.{Bytes, change, input};
+ghost use Rattle.cdg_io.specs.Change.{Bytes, change, from_to, input};
 ghost use Rattle.cdg_cmd.specs.Call.{call, dry_call};
 ghost use Rattle.cdg_cmd.specs.Keeps.{Keeps, MayReadSecond, MayWrite, ReadsNone, TakesFirst, TakesNone, WantsMemory, WritesLast};
 ghost use Rattle.cdg_cmd.specs.Answer.{Does, GivesBack, GivesIfFound, LacksMemory};
-ghost use Rattle.cdg_cmd.specs.Faults.{IsAnswered, NoneRose, TellsFaults};
+ghost use Rattle.cdg_cmd.specs.Faults.{IsAnswered, IsTold, NoneRose, TellsFaults};
 ghost use Rattle.cdg_cmd.specs.Profile.{TellsEnds};
 ghost use Rattle.cdg_cmd.specs.Told.{Tells};
 ghost use Rattle.cdg_cmd.specs.Authors.{IsScriptText, IsSheetText};
@@ -29,6 +29,7 @@ ghost use Rattle.cdg_cmd.specs.Resumes.{ResumesFrom};
 ghost use Rattle.cdg_cmd.specs.Unpresses.{Unpresses};
 
 use crate::making::{run_author, run_gen, run_press, run_trial};
+use crate::memory::CountedMemory;
 use crate::packs::{run_merge, run_planar, run_raw, run_resume, run_save, run_scratch, run_thin};
 use crate::status::tell;
 use crate::streams::{run_check, run_convert, run_q, run_screen, run_state, run_text};
@@ -201,7 +202,8 @@ pub fn run<S: Source, T: Source, K: Sink, E: Sink>(
     pressed_packs_come_back();
     a_saved_stream_goes_on_as_the_whole();
     pressed_files_are_shown();
-    let status = answer(alloc, words, first, second, out);
+    let mut memory = CountedMemory::new(alloc);
+    let status = answer(&mut memory, words, first, second, out);
     // A failure there changes nothing.
     let _told = tell(err, status);
     status
@@ -209,7 +211,7 @@ pub fn run<S: Source, T: Source, K: Sink, E: Sink>(
 
 // The same without the error output.
 fn answer<S: Source, T: Source, K: Sink>(
-    alloc: Global,
+    memory: &mut CountedMemory,
     words: &[String],
     first: &mut S,
     second: &mut T,
@@ -233,16 +235,18 @@ fn answer<S: Source, T: Source, K: Sink>(
         (first.new, second.new, out.new)) result }
     ensures ends { (command : Command) → Spells command (texts words.now) → TellsEnds command
         (input S.left S.ends first.old first.new) (input T.left T.ends second.old second.new) result }
+    // Memory is wanted where a call says that none was found, and nowhere else.
+    ensures wants { IsTold Status.NoMemory (from_to memory.old memory.new) result }
 {
     match read_words(words) {
-        Some(command) => perform(alloc, command, first, second, out),
+        Some(command) => perform(memory, command, first, second, out),
         None => Status::Usage,
     }
 }
 
 // Performs a command.
 fn perform<S: Source, T: Source, K: Sink>(
-    alloc: Global,
+    memory: &mut CountedMemory,
     command: Command,
     first: &mut S,
     second: &mut T,
@@ -266,29 +270,31 @@ fn perform<S: Source, T: Source, K: Sink>(
         (first.new, second.new, out.new)) result }
     ensures ends { TellsEnds command (input S.left S.ends first.old first.new)
         (input T.left T.ends second.old second.new) result }
+    // Memory is wanted where a call says that none was found, and nowhere else.
+    ensures wants { IsTold Status.NoMemory (from_to memory.old memory.new) result }
 {
     match command {
         Command::Convert { lead_in, form } => run_convert(lead_in, form, first, out),
-        Command::Screen { lead_in, form, at } => run_screen(alloc, lead_in, form, at, first, out),
-        Command::State { lead_in, form, at } => run_state(alloc, lead_in, form, at, first, out),
+        Command::Screen { lead_in, form, at } => run_screen(memory, lead_in, form, at, first, out),
+        Command::State { lead_in, form, at } => run_state(memory, lead_in, form, at, first, out),
         Command::Check { lead_in, form } => run_check(lead_in, form, first, out),
         Command::Q { lead_in, form } => run_q(lead_in, form, first, out),
-        Command::Text { lead_in, form } => run_text(alloc, lead_in, form, first, out),
+        Command::Text { lead_in, form } => run_text(memory, lead_in, form, first, out),
         Command::Author { lead_in, length } => {
-            run_author(alloc, lead_in, length, first, second, out)
+            run_author(memory, lead_in, length, first, second, out)
         }
         Command::Planar => run_planar(first, out),
         Command::Raw => run_raw(first, out),
         Command::Scratch { lead_in, seed } => run_scratch(lead_in, seed, first, out),
         Command::Gen { seed, pictures } => run_gen(seed, pictures, out),
-        Command::Trial { seed, pictures } => run_trial(alloc, seed, pictures, out),
-        Command::Merge { lead_in } => run_merge(alloc, lead_in, first, second, out),
-        Command::Thin => run_thin(alloc, first, out),
+        Command::Trial { seed, pictures } => run_trial(memory, seed, pictures, out),
+        Command::Merge { lead_in } => run_merge(lead_in, first, second, out),
+        Command::Thin => run_thin(memory, first, out),
         Command::Press { lead_in, length } => {
-            run_press(alloc, lead_in, length, first, second, out)
+            run_press(memory, lead_in, length, first, second, out)
         }
-        Command::Save { lead_in } => run_save(alloc, lead_in, first, out),
-        Command::Resume { at } => run_resume(alloc, at, first, second, out),
+        Command::Save { lead_in } => run_save(memory, lead_in, first, out),
+        Command::Resume { at } => run_resume(memory, at, first, second, out),
     }
 }
 

@@ -62,8 +62,8 @@ pub fn two_readings_give_packs()
     found_packs_are_the_text();
 }
 
-/// Merges two readings of one stream, one pair of streams at a time. All its memory is taken at the start; each
-/// call begins anew, whatever stopped the one before. Seen as the last slots of both readings.
+/// Merges two readings of one stream, one pair of streams at a time. It takes no memory from an allocator. Each call
+/// begins anew, whatever stopped the one before. Seen as the last slots of both readings.
 #[derive(Drop)]
 pub struct Merger {
     first: Gather,
@@ -79,15 +79,22 @@ impl Model for Merger {
 }
 
 impl Merger {
-    /// Makes both windows, which lie in the merger itself: nothing is taken from the allocator.
+    /// Makes both windows, which lie in the merger itself.
+    pub fn new() -> Merger
+        ensures { result ≡ record { first = []; second = [] } }
+    {
+        Merger {
+            first: Gather::new(),
+            second: Gather::new(),
+        }
+    }
+
+    /// `new` as it was promised to callers: it takes nothing from the allocator and does not fail.
     pub fn start(_alloc: Global) -> Result<Merger, AllocError>
         ensures made { IsOk result }
         ensures fresh { IfOk result (λ m. m ≡ record { first = []; second = [] }) }
     {
-        Ok(Merger {
-            first: Gather::new(),
-            second: Gather::new(),
-        })
+        Ok(Merger::new())
     }
 
     /// Writes the packs on which two readings of a stream agree, as their blocks are read: 24 bytes each, every

@@ -1,34 +1,20 @@
+use Rattle.cdg_io.specs.Change.{input}
 use Rattle.cdg_cmd.specs.declared.status.Which.TheVariants.{First}
-use Rattle.cdg_cmd.proofs.TextReads.{no_sheet, sheet_ends, takes_unread, unread, unread_fault}
+use Rattle.cdg_cmd.specs.declared.status.Status.TheVariants.{NoMemory, ReadFault}
+use Rattle.cdg_cmd.proofs.TextReads.{no_sheet, same_stop, sheet_ends}
+use Rattle.cdg_cmd.proofs.Wants as wants
 use Rattle.cdg_cmd.proofs.making.read_sheet.Goals as goal
 
 pub returns-in-Err-clause-err : goal.returns-in-Err-clause-err
-returns-in-Err-clause-err g c =
-    let e = c.in-Err.ensures in
-    let stopped =
-    unread g.S.Source.left g.S.Source.faults g.S.Source.ends c.args.first.now c.read_whole.new.source
-    c.in-Err.stop e.too_long e.one_more e.no_memory e.cut e.not_told in
-    no_sheet g.S.Source.left g.S.Source.faults g.S.Source.ends c.args.first.now c.read_whole.new.source
-    c.in-Err.stop _ c.read_status.ensures stopped
-
-pub returns-in-Err-clause-taken : goal.returns-in-Err-clause-taken
-returns-in-Err-clause-taken g c =
-    let e = c.in-Err.ensures in
-    let stopped =
-    unread g.S.Source.left g.S.Source.faults g.S.Source.ends c.args.first.now c.read_whole.new.source
-    c.in-Err.stop e.too_long e.one_more e.no_memory e.cut e.not_told in
-    takes_unread g.S.Source.left g.S.Source.faults g.S.Source.ends c.args.first.now c.read_whole.new.source
-    First c.in-Err.stop _ c.read_status.ensures stopped
+returns-in-Err-clause-err g c = no_sheet _ _ c.in-Err.ensures.err
 
 pub returns-in-Err-clause-once : goal.returns-in-Err-clause-once
 returns-in-Err-clause-once g c =
-    let e = c.in-Err.ensures in
-    let stopped =
-    unread g.S.Source.left g.S.Source.faults g.S.Source.ends c.args.first.now c.read_whole.new.source
-    c.in-Err.stop e.too_long e.one_more e.no_memory e.cut e.not_told in
-    sheet_ends g.S.Source.left g.S.Source.faults g.S.Source.ends c.args.first.now c.read_whole.new.source
-    c.in-Err.stop _ c.read_status.ensures stopped
+    sheet_ends (input g.S.Source.left g.S.Source.ends c.args.first.now c.read_text.new.source) _
+    c.in-Err.ensures.err c.in-Err.ensures.once
 
 pub returns-in-Err-clause-fault : goal.returns-in-Err-clause-fault
-returns-in-Err-clause-fault g c =
-    unread_fault First c.in-Err.stop _ _ _ c.read_status.ensures c.in-Err.ensures.failed
+returns-in-Err-clause-fault g c = same_stop (ReadFault First) _ _ _ c.in-Err.ensures.fault
+
+pub returns-in-Err-clause-wants : goal.returns-in-Err-clause-wants
+returns-in-Err-clause-wants g c = same_stop NoMemory _ _ _ c.in-Err.ensures.wants

@@ -1,6 +1,9 @@
-use Rattle.std.proofs.Common.{ap}
+use Rattle.std.proofs.Common.{ap, refl}
 use Rattle.cdg_io.specs.Change.{input}
-use Rattle.cdg_cmd.proofs.ResumeTold.{first_ended, reads_second, second_ended, told, untouched}
+use Rattle.cdg_cmd.proofs.ResumeTold.{first_ended, never_memory, reads_second, second_ended, told, untouched}
+use Rattle.cdg_cmd.specs.declared.status.Status.TheVariants.{NoMemory}
+use Rattle.cdg_cmd.proofs.AuthorTold.{still}
+use Rattle.cdg_cmd.proofs.Wants as wants
 use Rattle.cdg_cmd.proofs.packs.run_resume.Goals as goal
 
 pub returns-in-Ok-clause-does : goal.returns-in-Ok-clause-does
@@ -48,3 +51,10 @@ returns-in-Ok-clause-faults g c =
     let done = c.resume.ensures in
     told c.resume.result _ _ _ _ _ _ _ c.resume_status.ensures done.first_fault done.second_fault
     done.write_fault
+
+pub returns-in-Ok-clause-wants : goal.returns-in-Ok-clause-wants
+returns-in-Ok-clause-wants g c = still NoMemory _ _ (never_memory c.resume.result _ c.resume_status.ensures)
+
+pub returns-in-Err-clause-wants : goal.returns-in-Err-clause-wants
+returns-in-Err-clause-wants g c =
+    wants.lacked_first c.in-Err.stop (record {}) _ _ refl c.note.ensures.later c.note.ensures.lacks

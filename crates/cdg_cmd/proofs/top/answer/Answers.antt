@@ -5,8 +5,10 @@ use Rattle.cdg_cmd.specs.Call.{call}
 use Rattle.cdg_cmd.specs.Profile.{TellsEnds}
 use Rattle.cdg_cmd.specs.Keeps.{Keeps, WantsMemory}
 use Rattle.cdg_cmd.specs.declared.command.Command.{Command}
+use Rattle.cdg_cmd.specs.declared.status.Status.TheVariants.{Usage}
 use Rattle.cdg_cmd.proofs.Told.{unchanged}
 use Rattle.cdg_cmd.proofs.Commands.{no_command, same_command}
+use Rattle.cdg_cmd.proofs.Wants as wants
 use Rattle.cdg_cmd.proofs.top.answer.Goals as goal
 
 pub returns-in-Some-clause-usage : goal.returns-in-Some-clause-usage
@@ -87,3 +89,6 @@ returns-in-Some-clause-lacks g c = λ command spelled none.
 pub returns-in-None-clause-lacks : goal.returns-in-None-clause-lacks
 returns-in-None-clause-lacks g c = λ command spelled none.
     absurd (no_command command (c.in-None.ensures.all command spelled))
+
+pub returns-in-None-clause-wants : goal.returns-in-None-clause-wants
+returns-in-None-clause-wants g c = wants.takes_none Usage _ (λ e. cc)

@@ -8,6 +8,7 @@ use Rattle.cdg_cmd.specs.Call.{call}
 use Rattle.cdg_cmd.specs.Profile.{TellsEnds}
 use Rattle.cdg_cmd.specs.declared.command.Command.{Command}
 use Rattle.cdg_cmd.proofs.Told.{of_gen, of_one, of_trial}
+use Rattle.cdg_cmd.proofs.Wants as wants
 use Rattle.cdg_cmd.proofs.top.perform.Goals as goal
 
 pub returns-in-Convert-clause-does : goal.returns-in-Convert-clause-does
@@ -322,3 +323,27 @@ returns-in-Text-clause-lacks g c = λ none.
     (c.args.first.now, c.args.second.now, c.args.out.now)
     (c.run_text.new.source, c.args.second.now, c.run_text.new.out))) (sym c.in-Text.is)
     (c.run_text.ensures.lacks none)
+
+pub returns-in-Convert-clause-wants : goal.returns-in-Convert-clause-wants
+returns-in-Convert-clause-wants g c = wants.takes_none _ _ c.run_convert.ensures.memory
+
+pub returns-in-Check-clause-wants : goal.returns-in-Check-clause-wants
+returns-in-Check-clause-wants g c = wants.takes_none _ _ c.run_check.ensures.memory
+
+pub returns-in-Q-clause-wants : goal.returns-in-Q-clause-wants
+returns-in-Q-clause-wants g c = wants.takes_none _ _ c.run_q.ensures.memory
+
+pub returns-in-Planar-clause-wants : goal.returns-in-Planar-clause-wants
+returns-in-Planar-clause-wants g c = wants.takes_none _ _ c.run_planar.ensures.memory
+
+pub returns-in-Raw-clause-wants : goal.returns-in-Raw-clause-wants
+returns-in-Raw-clause-wants g c = wants.takes_none _ _ c.run_raw.ensures.memory
+
+pub returns-in-Scratch-clause-wants : goal.returns-in-Scratch-clause-wants
+returns-in-Scratch-clause-wants g c = wants.takes_none _ _ c.run_scratch.ensures.memory
+
+pub returns-in-Merge-clause-wants : goal.returns-in-Merge-clause-wants
+returns-in-Merge-clause-wants g c = wants.takes_none _ _ c.run_merge.ensures.memory
+
+pub returns-in-Gen-clause-wants : goal.returns-in-Gen-clause-wants
+returns-in-Gen-clause-wants g c = wants.generates _ _ c.run_gen.ensures.never

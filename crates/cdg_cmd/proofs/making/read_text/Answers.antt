@@ -1,0 +1,39 @@
+use Rattle.cdg_cmd.proofs.TextReads.{no_text, takes_unread, text_ends, unread, unread_fault}
+use Rattle.cdg_cmd.proofs.Wants as wants
+use Rattle.cdg_cmd.proofs.making.read_text.Goals as goal
+
+pub returns-in-Err-clause-err : goal.returns-in-Err-clause-err
+returns-in-Err-clause-err g c =
+    let e = c.in-Err.ensures in
+    let stopped =
+    unread g.S.Source.left g.S.Source.faults g.S.Source.ends c.args.source.now c.read_whole.new.source
+    c.in-Err.stop e.too_long e.one_more e.no_memory e.cut e.not_told in
+    no_text g.S.Source.left g.S.Source.faults g.S.Source.ends c.args.source.now c.read_whole.new.source
+    c.args.which c.in-Err.stop _ c.read_status.ensures stopped
+
+pub returns-in-Err-clause-taken : goal.returns-in-Err-clause-taken
+returns-in-Err-clause-taken g c =
+    let e = c.in-Err.ensures in
+    let stopped =
+    unread g.S.Source.left g.S.Source.faults g.S.Source.ends c.args.source.now c.read_whole.new.source
+    c.in-Err.stop e.too_long e.one_more e.no_memory e.cut e.not_told in
+    takes_unread g.S.Source.left g.S.Source.faults g.S.Source.ends c.args.source.now c.read_whole.new.source
+    c.args.which c.in-Err.stop _ c.read_status.ensures stopped
+
+pub returns-in-Err-clause-once : goal.returns-in-Err-clause-once
+returns-in-Err-clause-once g c =
+    let e = c.in-Err.ensures in
+    let stopped =
+    unread g.S.Source.left g.S.Source.faults g.S.Source.ends c.args.source.now c.read_whole.new.source
+    c.in-Err.stop e.too_long e.one_more e.no_memory e.cut e.not_told in
+    text_ends g.S.Source.left g.S.Source.faults g.S.Source.ends c.args.source.now c.read_whole.new.source
+    c.args.which c.in-Err.stop _ c.read_status.ensures stopped
+
+pub returns-in-Err-clause-fault : goal.returns-in-Err-clause-fault
+returns-in-Err-clause-fault g c =
+    unread_fault c.args.which c.in-Err.stop _ _ _ c.read_status.ensures c.in-Err.ensures.failed
+
+pub returns-in-Err-clause-wants : goal.returns-in-Err-clause-wants
+returns-in-Err-clause-wants g c =
+    wants.unread _ _ c.note.ensures.later c.args.which c.in-Err.stop _ c.read_status.ensures
+    c.note.ensures.lacks c.note.ensures.other
