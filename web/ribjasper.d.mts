@@ -8,6 +8,7 @@ export const BLOCK_BYTES: 96;
 export const PACK_BYTES: 24;
 export const SECTOR_BYTES: 2448;
 export const FILE_BYTES: 65045;
+export const TEXT_PACK_BYTES: 18;
 export const BLOCKS_A_SECOND: 75;
 export const PACKS_A_SECOND: 300;
 /** In place of an absolute time. */
@@ -33,6 +34,36 @@ export interface Converted {
     packs: Uint8Array;
     blocks: number;
     bad: number;
+}
+
+/** A text pack of the lead-in: its eighteen bytes, and whether the last two are the check of the others. */
+export interface TextPack {
+    bytes: Uint8Array;
+    matches: boolean;
+}
+
+/** What a player counts: blocks and words that came since it began, and the words with no codeword near. */
+export interface Counts {
+    form: "raw" | "packs";
+    leadIn: number;
+    blocks: number;
+    words: number;
+    bad: number;
+}
+
+/**
+ * Readings that were mended: the packs; for each word the number of the reading whose codeword it is, 254 where two agree,
+ * 255 where there is none; the blocks of the program; how many words are of each reading, agreed or of none; and how many
+ * idle packs of each reading count for nothing.
+ */
+export interface MendedReadings {
+    packs: Uint8Array;
+    sources: Uint8Array;
+    blocks: number;
+    agreed: number;
+    none: number;
+    ofReading: number[];
+    dropped: number[];
 }
 
 /** Sixteen colours as 0xRGB, their levels (0 to 63), the number of the border's colour, the offsets across and down. */
@@ -80,6 +111,9 @@ export class Ribjasper {
     player(options?: StreamOptions): Player;
     convert(stream: Uint8Array, options?: StreamOptions): Converted;
     survey(stream: Uint8Array, options?: StreamOptions): Survey;
+    /** Throws a RangeError where there are none or more than 254, or they are not whole blocks, each as many. */
+    mendReadings(readings: Uint8Array[], options?: { leadIn?: number }): MendedReadings;
+    textPacks(block: Uint8Array): TextPack[];
     fromPlanar(planar: Uint8Array): Uint8Array;
     touches(pack: Uint8Array): Touched;
 }
@@ -96,6 +130,7 @@ export class Player {
     picture(image: ImageData): ImageData;
     screen(): Uint8Array;
     shown(): Shown;
+    counts(): Counts;
     /** The file of a checkpoint, or null where the stream is not raw or too long. */
     save(): Uint8Array | null;
     /** Throws a RangeError that names the byte which shows that a file is no checkpoint. */

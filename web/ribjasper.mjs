@@ -1,6 +1,6 @@
 // The subcode of compact discs in a web page: a player of CD+G, and what else the calls of crates/ribjasper_web give.
 //
-// All of it is proved Rattle, compiled to WebAssembly (ribjasper.wasm, 63 kB); what stands here passes numbers and bytes
+// All of it is proved Rattle, compiled to WebAssembly (ribjasper.wasm, 83 kB); what stands here passes numbers and bytes
 // on. The module's memory has 64-bit addresses: Chromium 133, Firefox 134 and Node 24 have them, Node 20 and 22 with
 // --experimental-wasm-memory64. Nothing is fetched but ribjasper.wasm itself, and that only where `load` is not given it.
 
@@ -14,6 +14,8 @@ export const BLOCK_BYTES = 96;
 export const PACK_BYTES = 24;
 export const SECTOR_BYTES = 2448;
 export const FILE_BYTES = 65045;
+/** A text pack of the lead-in, in bytes. */
+export const TEXT_PACK_BYTES = 18;
 /** Blocks and packs a second. */
 export const BLOCKS_A_SECOND = 75;
 export const PACKS_A_SECOND = 300;
@@ -27,6 +29,9 @@ const PIXELS = WIDTH * HEIGHT;
 const PLAYER_BYTES = 65080;
 const ROW_BYTES = 12;
 const READ_PACK_BYTES = PACK_BYTES + 4;
+const MOST_READINGS = 254;
+// The tallies of readings that were mended: three numbers and two lists, of four bytes each.
+const TALLY_BYTES = 4 * (3 + 2 * MOST_READINGS);
 const PAGE_BYTES = 65536;
 // How much of a stream is copied into the module's memory at a time: whole blocks and whole sectors.
 const CHUNK_BYTES = 384 * SECTOR_BYTES;
@@ -186,6 +191,64 @@ export class Ribjasper {
         }
     }
 
+    /**
+     * Readings of one raw stream, mended: word by word the best of them, by the rule that include/ribjasper.h tells. They
+     * are 1 to 254, each of as many whole blocks. `packs` are those of a .cdg file, with zeros where there is no codeword;
+     * `sources` names for each word the reading whose codeword it is, 254 where two readings agree, 255 where there is none.
+     */
+    mendReadings(readings, { leadIn = 0 } = {}) {
+        const size = readings.length === 0 ? 0 : readings[0].length;
+        if (readings.some((reading) => reading.length !== size)) {
+            throw new RangeError("readings of one stream are equally long");
+        }
+        const blocks = Math.max(0, Math.floor(size / BLOCK_BYTES) - leadIn);
+        const words = Math.max(0, 4 * blocks - 7);
+        // The tallies stand at a place that four divides, and what has no such need behind them.
+        const bytes = size * readings.length;
+        const room = this.#room.take(TALLY_BYTES + bytes + PACK_BYTES * words + words);
+        try {
+            const first = room.at + TALLY_BYTES;
+            readings.forEach((reading, k) => this.#room.put(first + size * k, reading));
+            const packs = first + bytes;
+            const sources = packs + PACK_BYTES * words;
+            const answer = this.#room.call("mend", BigInt(first), BigInt(bytes), readings.length, leadIn, BigInt(packs),
+                BigInt(PACK_BYTES * words), BigInt(sources), BigInt(words), BigInt(room.at));
+            if (answer === 2) {
+                throw new RangeError(`1 to 254 readings with at most 450,000 lead-in blocks are mended: ${readings.length}, ${leadIn}`);
+            }
+            if (answer !== 0) {
+                throw new RangeError(`a reading is of whole blocks, at most 1,000,000: ${size} bytes`);
+            }
+            const numbers = this.#room.numbers(room.at);
+            const list = (from) => readings.map((_, k) => numbers.getUint32(4 * (from + k), true));
+            return {
+                packs: this.#room.bytes.slice(packs, sources),
+                sources: this.#room.bytes.slice(sources, sources + words),
+                blocks,
+                agreed: numbers.getUint32(0, true),
+                none: numbers.getUint32(4, true),
+                ofReading: list(3),
+                dropped: list(3 + MOST_READINGS),
+            };
+        } finally {
+            this.#room.give(room);
+        }
+    }
+
+    /**
+     * The four text packs of a block of the lead-in, eighteen bytes each, and whether the check of each is right: which are
+     * CD-TEXT. The texts of a whole lead-in are as long as they are, and the module has no heap: the command `text`, the
+     * library for programs in C and the desks read them.
+     */
+    textPacks(block) {
+        const at = this.#room.put(this.#work, exactly(block, BLOCK_BYTES));
+        const to = this.#work + BLOCK_BYTES;
+        return Array.from({ length: 4 }, (_, k) => {
+            const matches = this.#room.call("text_pack", at, k, BigInt(to)) === 1;
+            return { bytes: this.#room.bytes.slice(to, to + TEXT_PACK_BYTES), matches };
+        });
+    }
+
     /** Blocks in the planar form that some drives give (.sub files), as raw blocks. */
     fromPlanar(planar) {
         const blocks = new Uint8Array(planar.length - (planar.length % BLOCK_BYTES));
@@ -317,6 +380,14 @@ export class Player {
             h: numbers.getUint8(49),
             v: numbers.getUint8(50),
         };
+    }
+
+    /** What the player counts since it began: its form and lead-in, the blocks and words that came, and the bad words. */
+    counts() {
+        this.#room.call("counts", this.#at, BigInt(this.#work));
+        const numbers = this.#room.numbers(this.#work);
+        const [form, leadIn, blocks, bad] = [8, 12, 16, 20].map((at) => numbers.getUint32(at, true));
+        return { form: form === 1 ? "packs" : "raw", leadIn, blocks, words: Number(numbers.getBigUint64(0, true)), bad };
     }
 
     /** The file of the checkpoint at which the player is, as the command `save` writes it, or null where it has none. */

@@ -87,6 +87,15 @@ function comparePacks(ribjasper, stream) {
         [sums.clean, sums.one, sums.two, sums.bad, sums.frames, sums.badFrames],
     );
     assert.equal(bad, sums.bad);
+    const fed = ribjasper.player({ leadIn: LEAD_IN });
+    fed.feedAll(stream);
+    const blocks = stream.length / BLOCK_BYTES;
+    assert.deepEqual(fed.counts(),
+        { form: "raw", leadIn: LEAD_IN, blocks, words: 4 * (blocks - LEAD_IN) - 7, bad: Number(numbers.get("bad")) });
+    fed.begin({ form: "packs", leadIn: 2 });
+    fed.feedAll(stream.subarray(0, 5 * BLOCK_BYTES));
+    assert.deepEqual([fed.counts().form, fed.counts().blocks, fed.counts().words], ["packs", 5, 12]);
+    fed.close();
     // What changes nothing is what `thin` makes idle.
     const thin = run(wanted, "thin");
     const player = ribjasper.player();
@@ -123,6 +132,64 @@ function compareForms(ribjasper, stream) {
     one.close();
     other.close();
     console.log("test_web: sectors, blocks and the planar form give the same");
+}
+
+/** What `convert` writes of a clean reading comes out beside a scratched one and one that has no R to W. */
+function compareMending(ribjasper, whole, scratched) {
+    const wanted = run(whole, "convert", "--lead-in", `${LEAD_IN}`);
+    const words = wanted.length / PACK_BYTES;
+    const empty = whole.map((byte) => byte & 0xc0);
+    // A scratch of ten blocks, which is too long to be corrected.
+    const worn = Buffer.from(scratched);
+    worn.subarray(BLOCK_BYTES * (LEAD_IN + 500), BLOCK_BYTES * (LEAD_IN + 510)).forEach((byte, k, part) => {
+        part[k] = byte ^ (1 + (k * 7) % 62);
+    });
+    for (const readings of [[whole], [whole, worn], [worn, whole], [empty, worn, whole, scratched]]) {
+        const mended = ribjasper.mendReadings(readings, { leadIn: LEAD_IN });
+        same(mended.packs, wanted, `the packs of ${readings.length} readings`);
+        assert.deepEqual([mended.sources.length, mended.blocks], [words, whole.length / BLOCK_BYTES - LEAD_IN]);
+        const named = readings.map((_, k) => mended.sources.filter((source) => source === k).length);
+        assert.deepEqual(mended.ofReading, named);
+        assert.deepEqual([mended.agreed, mended.none], [0, 0]);
+        assert.equal(named.reduce((sum, count) => sum + count), words);
+        assert.equal(mended.dropped.length, readings.length);
+    }
+    // A reading alone is what it gives, zeros where it gives nothing.
+    const alone = ribjasper.mendReadings([worn], { leadIn: LEAD_IN });
+    const { packs, bad } = ribjasper.convert(worn, { leadIn: LEAD_IN });
+    same(alone.packs, packs, "the packs of a worn reading");
+    assert.ok(bad > 0);
+    assert.deepEqual([alone.none, alone.sources.filter((source) => source === 255).length], [bad, bad]);
+    assert.equal(ribjasper.mendReadings([whole.subarray(0, 96 * 2)]).packs.length, 24);
+    assert.equal(ribjasper.mendReadings([new Uint8Array(0)]).packs.length, 0);
+    assert.throws(() => ribjasper.mendReadings([]), /1 to 254/);
+    assert.throws(() => ribjasper.mendReadings(new Array(255).fill(whole.subarray(0, 96))), /1 to 254/);
+    assert.throws(() => ribjasper.mendReadings([whole], { leadIn: 450001 }), RangeError);
+    assert.throws(() => ribjasper.mendReadings([whole, whole.subarray(96)]), /equally long/);
+    assert.throws(() => ribjasper.mendReadings([whole.subarray(1)]), /whole blocks/);
+    console.log("test_web: readings are mended, whole beside scratched ones and empty ones, and what is no readings is refused");
+}
+
+/** The text packs of a lead-in: as many are right as the command `text` counts, and each has its six bits in order. */
+function compareTexts(ribjasper) {
+    writeFileSync(join(FOLDER, "titled.cue"), 'TITLE "An album"\nFILE "a" WAVE\nTRACK 01 AUDIO\nTITLE "One"\nINDEX 01 00:00:00\n');
+    writeFileSync(join(FOLDER, "empty.script"), "");
+    const stream = run("", "author", "--lead-in", "30", "--length", "00:00:20", "--", "titled.cue", "empty.script");
+    stream[3 * BLOCK_BYTES + 5] ^= 1;
+    const told = run(stream, "text", "--lead-in", "30").toString().match(/^packs good (\d+) bad (\d+) other (\d+)$/m);
+    const counts = [0, 0];
+    for (let b = 0; b < 30; b += 1) {
+        const block = stream.subarray(BLOCK_BYTES * b, BLOCK_BYTES * (b + 1));
+        ribjasper.textPacks(block).forEach(({ bytes, matches }, k) => {
+            counts[matches ? 0 : 1] += 1;
+            const bits = (list, size) => Array.from(list, (byte) => (byte & (2 ** size - 1)).toString(2).padStart(size, "0")).join("");
+            assert.equal(bits(bytes, 8), bits(block.subarray(24 * k, 24 * k + 24), 6));
+        });
+    }
+    assert.deepEqual(counts, [Number(told[1]) + Number(told[3]), Number(told[2])]);
+    assert.ok(counts[0] > 0 && counts[1] > 0);
+    assert.throws(() => ribjasper.textPacks(stream.subarray(0, 95)), RangeError);
+    console.log("test_web: the text packs of a lead-in are those that the program counts");
 }
 
 function compareCheckpoints(ribjasper, stream) {
@@ -253,6 +320,8 @@ compareScreens(ribjasper, whole, "a clean stream", 30);
 compareScreens(ribjasper, scratched, "a scratched stream", 30);
 comparePacks(ribjasper, scratched);
 compareForms(ribjasper, scratched);
+compareMending(ribjasper, whole, scratched);
+compareTexts(ribjasper);
 compareCheckpoints(ribjasper, scratched);
 await watchMemory(module);
 if (MEASURE === "measure") {

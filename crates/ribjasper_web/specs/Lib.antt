@@ -2,3 +2,5 @@ pub mod Players
 pub mod Shown
 pub mod Packs
 pub mod Touches
+pub mod Mending
+pub mod Counts

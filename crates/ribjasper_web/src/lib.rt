@@ -2,7 +2,9 @@
 #![tactic(auto)]
 
 mod changing;
+mod counting;
 mod forms;
+mod mending;
 mod picture;
 mod playing;
 mod reading;
@@ -11,8 +13,10 @@ mod showing;
 mod state;
 mod surveying;
 mod taking;
+mod texts;
 mod words;
 
+pub use counting::WebCounts;
 pub use showing::WebShown;
 pub use state::{PlainWords, WebPlayer};
 pub use taking::WebPack;

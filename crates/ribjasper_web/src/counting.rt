@@ -1,0 +1,53 @@
+// What a player counts.
+ghost use Rattle.std.specs.Prelude.{◌≡◌};
+ghost use Rattle.rw_interleave.specs.Stream.{word_count};
+ghost use Rattle.ribjasper_web.specs.Players.{numbered_form, player_of};
+ghost use Rattle.ribjasper_web.specs.Counts.{web_counts};
+
+use crate::state::WebPlayer;
+use raw_subcode::SLOTS_A_BLOCK;
+use rw_interleave::PACKS_KEPT_BACK;
+
+/// What a player counts since it began.
+#[repr(C)]
+#[derive(Clone, Copy)]
+pub struct WebCounts {
+    /// The words that came, each a pack.
+    pub words: u64,
+    /// The form of its blocks: 0 raw, 1 packs, 2 sectors.
+    pub form: u32,
+    /// The blocks of its lead-in, those that came and those still to come.
+    pub lead_in: u32,
+    /// The blocks that came.
+    pub blocks: u32,
+    /// The words with no codeword near.
+    pub bad: u32,
+}
+
+/// Writes what a player counts.
+#[unsafe(no_mangle)]
+pub extern "C" fn ribjasper_web_counts(player: &WebPlayer, counts: &mut WebCounts)
+    ensures { counts.new ≡ web_counts player.now.words.form (player_of player.now) }
+{
+    *counts = WebCounts {
+        words: words_of(
+            player.words.form,
+            player.blocks.saturating_sub(player.lead_in),
+        ),
+        form: player.words.form,
+        lead_in: player.lead_in,
+        blocks: player.blocks,
+        bad: player.bad,
+    };
+}
+
+// How many words so many blocks of the program bring, in a stream of the form that a number means.
+fn words_of(form: u32, blocks: u32) -> u64
+    ensures { result ≡ word_count (numbered_form form) blocks }
+{
+    let slots = SLOTS_A_BLOCK as u64 * u64::from(blocks);
+    match form {
+        1 => slots,
+        _ => slots.saturating_sub(PACKS_KEPT_BACK as u64),
+    }
+}
