@@ -44,7 +44,8 @@ empty_pack symbols (suc (suc (suc (suc k)))) lt none = absurd (omega (arith, lt)
 
 -- the check of sixteen zeros is not zero
 zeros_do_not_match : check_matches (replicate 18 0) ≡ false
-unfolding check_matches check_of check_bits bits_of_bytes bits_of number_of remainder division_steps division_step
+unfolding check_matches check_of check_bits bits_of_bytes bits_of number_of remainder division_steps
+    division_step
 zeros_do_not_match = refl
 
 zeros_offered : (s : LeadInTexts) (pack : List ℕ) → pack ≡ replicate 18 0
