@@ -392,8 +392,11 @@ RIBJASPER_NODISCARD int32_t ribjasper_convert(const uint8_t *stream, size_t leng
    differ are at most four), if no other two agree on another.
 
    So a reading without a wrong symbol comes out whole beside any others which, where a word of theirs has no wrong symbol,
-   give the same codeword or the idle pack, as noise, scratches and readings without channels R to W do. Where a reading
-   gives a codeword with one or two wrong symbols, another one may have it less wrong, and then that one is taken. */
+   give the same codeword or the idle pack, as noise, scratches and readings without channels R to W do. Readings of which
+   each is damaged in at most two symbols of each word give back every pack. Where whatever the others give counts for
+   nothing, what comes out is what ribjasper_convert writes of the one that is left, but for words on which two agree. The
+   order of the readings changes nothing but which of those that give the same is named. Where a reading gives a codeword
+   with one or two wrong symbols, another one may have it less wrong, and then that one is taken. */
 
 /* What is told of two readings that were mended: the bytes written, the blocks of the program, and how many words have
    the codeword that both readings give, that of the first alone, that of the second alone, or the one on which both

@@ -1,6 +1,8 @@
 -- What a reading of a word gives, by cases.
-use Rattle.std.proofs.Common.{◌≡◌, ◌≢◌, ℕ, List, refl, ap, ◌∙◌, Some, None}
-use Rattle.rw_code.specs.Codeword.{IsWord, Reads}
+use Rattle.std.proofs.Common.{◌≡◌, ◌≢◌, ◌==◌, ℕ, if◌then◌else◌, List, replicate, refl, sym, ap, ap₂, ◌∙◌, subst, arith, Some, None}
+use Rattle.rw_code.specs.Codeword.{IsWord, Reads, differences}
+use Rattle.rw_code.proofs.Differing.{differences_self}
+use Rattle.rw_code.proofs.Errors.{idle_near}
 use Rattle.rw_code.specs.Finding.{finding}
 use Rattle.rw_code.proofs.Finding.{only_finding}
 use Rattle.rw_mend.specs.Voices.{doubts_of, voice_covered, voice_found, voice_of}
@@ -40,3 +42,32 @@ unfolding voice_of
 lost_is reading is_read word none =
     ap (voice_found reading) (only_finding reading.word word None none)
     ∙ read_found reading.coverage reading is_read
+
+-- ---- A word without symbols.
+
+idle_reads : (reading : WordReading) → reading.word ≡ replicate 24 0 → Reads reading.word (replicate 24 0)
+idle_reads reading is =
+    let zeros : List ℕ = replicate 24 0 in
+    subst (λ w. Reads w zeros) (sym is)
+    ((idle_near zeros zeros 0 refl (sym (differences_self zeros)) (omega arith)).0)
+
+idle_word : (reading : WordReading) → reading.word ≡ replicate 24 0 → IsWord reading.word
+idle_word reading is =
+    let zeros : List ℕ = replicate 24 0 in
+    subst IsWord (sym is)
+    ((idle_near zeros zeros 0 refl (sym (differences_self zeros)) (omega arith)).0.is_codeword.is_word)
+
+pub whole_idle : (reading : WordReading) → reading.coverage ≡ Whole → reading.word ≡ replicate 24 0
+    → Near (replicate 24 0) 0 ≡ voice_of reading
+whole_idle reading whole is =
+    let zeros : List ℕ = replicate 24 0 in
+    near_is reading zeros 0 (λ unread. (cc)) (idle_word reading is) (idle_reads reading is)
+    (sym (ap₂ (λ c w. doubts_of c w zeros) whole is ∙ differences_self zeros))
+
+pub partly_idle : (reading : WordReading) → reading.coverage ≡ Partly → reading.word ≡ replicate 24 0
+    → Near (replicate 24 0) 3 ≡ voice_of reading
+partly_idle reading partly is =
+    let zeros : List ℕ = replicate 24 0 in
+    near_is reading zeros 3 (λ unread. (cc)) (idle_word reading is) (idle_reads reading is)
+    (sym (ap₂ (λ c w. doubts_of c w zeros) partly is
+    ∙ ap (λ t. if t then 3 else differences zeros zeros) (ap (λ n. n == 0) (differences_self zeros))))

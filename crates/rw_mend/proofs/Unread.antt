@@ -1,7 +1,7 @@
 -- A word that was not read has no symbols.
-use Rattle.std.proofs.Common.{◌≡◌, ℕ, zero, suc, ◌+◌, ◌-◌, ◌*◌, ◌/◌, ◌%◌, ◌<◌, ◌≤◌, ◌==◌, Bool, true, false, ◌&&◌, if◌then◌else◌, List, [], ◌∷◌, length, get_or, map, drop, replicate, refl, sym, ap, ◌∙◌, subst, inl, inr, arith}
+use Rattle.std.proofs.Common.{◌≡◌, ◌≢◌, ℕ, zero, suc, ◌+◌, ◌-◌, ◌*◌, ◌/◌, ◌%◌, ◌<◌, ◌≤◌, ◌==◌, Bool, true, false, ◌&&◌, if◌then◌else◌, List, [], ◌∷◌, length, get_or, map, drop, replicate, refl, sym, ap, ◌∙◌, subst, inl, inr, arith}
 use Rattle.std.specs.List.{list_all, list_any, range_with_len}
-use Rattle.std.proofs.lemmas.Bool.{false≢true}
+use Rattle.std.proofs.lemmas.Bool.{cases_eq, false≢true}
 use Rattle.std.proofs.lemmas.Bool.Decides.{eqb_tells, leb_tells}
 use Rattle.std.proofs.lemmas.List.{ext_get_or, get_or-drop, get_or-replicate, get_or-take}
 use Rattle.std.proofs.lemmas.List.FromFn.{get_or-map-range_with_len, length-map-range_with_len}
@@ -14,11 +14,11 @@ use Rattle.rw_code.proofs.Differing.{differences_self}
 use Rattle.rw_code.proofs.Errors.{idle_near}
 use Rattle.rw_interleave.specs.Interleave.{place, word_of}
 use Rattle.rw_interleave.proofs.Places.{swapped-lt}
-use Rattle.rw_mend.specs.Words.{block_at, blocks_under, coverage_of, is_empty_block, reading_at}
+use Rattle.rw_mend.specs.Words.{block_at, blocks_under, coverage_of, is_blank_block, is_empty_block, reading_at}
 use Rattle.rw_mend.specs.declared.voices.Coverage.TheVariants.{Whole, Partly, Unread}
 use Rattle.rw_mend.proofs.Givens.{is_word, reading-word}
 
-reading-coverage : (program : List ℕ) (n : ℕ)
+pub reading-coverage : (program : List ℕ) (n : ℕ)
     → (reading_at program n).coverage ≡ coverage_of (blocks_under program n)
 unfolding reading_at
 reading-coverage program n = refl
@@ -34,19 +34,17 @@ both_true : (a b : Bool) → (a && b) ≡ true → a ≡ true
 both_true true b is = refl
 both_true false b is = is
 
-empty_symbols : (block : List ℕ) → is_empty_block block ≡ true
-    → list_all (λ symbol. symbol == 0) (symbols_of block) ≡ true
+empty_blank : (block : List ℕ) → is_empty_block block ≡ true → is_blank_block block ≡ true
 unfolding is_empty_block
-empty_symbols block is = both_true _ _ is
+empty_blank block is = both_true _ _ is
 
-zero_symbol : (block : List ℕ) (j : ℕ) → is_empty_block block ≡ true → get_or (symbols_of block) j 0 ≡ 0
+zero_symbol : (block : List ℕ) (j : ℕ) → is_blank_block block ≡ true → get_or (symbols_of block) j 0 ≡ 0
 zero_symbol block j is =
     let symbols : List ℕ = symbols_of block in
     elim (leb_tells (length symbols) j) [
       | inl past ↦ get_or-eq_default symbols 0 past.1
       | inr within ↦
-          let test =
-          AllPass-from_list_all (λ (symbol : ℕ). symbol == 0) symbols (empty_symbols block is) j 0 within.1 in
+          let test = AllPass-from_list_all (λ (symbol : ℕ). symbol == 0) symbols is j 0 within.1 in
           elim (eqb_tells (get_or symbols j 0) 0) [
             | inl same ↦ same.1
             | inr other ↦ absurd (false≢true (sym other.0 ∙ test))
@@ -83,7 +81,11 @@ empty_under program n b all low high =
     ∙ AllPass-from_list_all is_empty_block blocks all k []
     (omega (arith, lt, length-map-range_with_len (block_at program) (n / 4) count))
 
-no_symbol : (program : List ℕ) (n i : ℕ) → list_all is_empty_block (blocks_under program n) ≡ true → i < 24
+-- the blocks under a word are without symbols
+abbrev pub AreBlank : List ℕ → ℕ → Type 0
+AreBlank program n = (b : ℕ) → n / 4 ≤ b → b ≤ (n + 7) / 4 → is_blank_block (block_at program b) ≡ true
+
+no_symbol : (program : List ℕ) (n i : ℕ) → AreBlank program n → i < 24
     → get_or (symbols_of program) (place n i) 0 ≡ 0
 no_symbol program n i all lt =
     let p : ℕ = place n i in
@@ -92,17 +94,12 @@ no_symbol program n i all lt =
     let small = swapped-lt i lt in
     let at : 96 * b + j ≡ p = omega arith in
     ap (λ q. get_or (symbols_of program) q 0) (sym at) ∙ sym (in_block program b j (omega arith))
-    ∙ zero_symbol (block_at program b) j
-    (empty_under program n b all (omega (arith, small)) (omega (arith, small)))
+    ∙ zero_symbol (block_at program b) j (all b (omega (arith, small)) (omega (arith, small)))
 
-unread_zero : (program : List ℕ) (n : ℕ) → (reading_at program n).coverage ≡ Unread
+pub blank_word : (program : List ℕ) (n : ℕ) → AreBlank program n
     → word_of (symbols_of program) n ≡ replicate 24 0
 unfolding word_of
-unread_zero program n is =
-    let blocks : List (List ℕ) = blocks_under program n in
-    let all =
-    unread_all (list_all is_empty_block blocks) (list_any is_empty_block blocks)
-    (sym (reading-coverage program n) ∙ is) in
+blank_word program n all =
     let symbols : List ℕ = symbols_of program in
     let size = length-map-range_with_len (λ i. get_or symbols (place n i) 0) 0 24 in
     ext_get_or 0 (map (λ i. get_or symbols (place n i) 0) (range_with_len 0 24)) (replicate 24 0) size
@@ -111,6 +108,35 @@ unread_zero program n is =
     get_or-map-range_with_len (λ k. get_or symbols (place n k) 0) 0 24 i i 0 within (omega arith)
     ∙ no_symbol program n i all within
     ∙ sym (get_or-replicate 24 i 0 0 within))
+
+unread_zero : (program : List ℕ) (n : ℕ) → (reading_at program n).coverage ≡ Unread
+    → word_of (symbols_of program) n ≡ replicate 24 0
+unread_zero program n is =
+    let blocks : List (List ℕ) = blocks_under program n in
+    let all =
+    unread_all (list_all is_empty_block blocks) (list_any is_empty_block blocks)
+    (sym (reading-coverage program n) ∙ is) in
+    blank_word program n
+    (λ b low high. empty_blank (block_at program b) (empty_under program n b all low high))
+
+-- the same by the marks of the two or three blocks
+pub blank_by_blocks : (program : List ℕ) (n : ℕ) → is_blank_block (block_at program (n / 4)) ≡ true
+    → is_blank_block (block_at program (n / 4 + 1)) ≡ true
+    → (n % 4 ≢ 0 → is_blank_block (block_at program (n / 4 + 2)) ≡ true)
+    → word_of (symbols_of program) n ≡ replicate 24 0
+blank_by_blocks program n first second third =
+    let blank : ℕ → Bool = λ (b : ℕ). is_blank_block (block_at program b) in
+    blank_word program n (λ b low high.
+    elim (cases_eq b (n / 4)) [
+      | inl is ↦ ap blank is ∙ first
+      | inr other ↦
+          elim (cases_eq b (n / 4 + 1)) [
+            | inl is ↦ ap blank is ∙ second
+            | inr later ↦
+                let last : b ≡ n / 4 + 2 = omega (arith, low, high, other, later) in
+                ap blank last ∙ third (λ whole. omega (arith, low, high, other, later, whole))
+          ]
+    ])
 
 -- the codeword near no symbols is the idle pack
 idle_alone : (codeword : List ℕ) → IsWord (replicate 24 0) → Reads (replicate 24 0) codeword

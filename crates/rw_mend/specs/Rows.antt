@@ -11,7 +11,14 @@ use Rattle.rw_mend.specs.declared.voices.Voice.{Voice}
 
 -- a trail where there is none
 abbrev pub no_trail : Trail
-no_trail = record { first = false; second = false; third = false }
+no_trail = record {
+  first = false;
+  second = false;
+  third = false;
+  first_blank = false;
+  second_blank = false;
+  third_blank = false;
+}
 
 -- the trails of all readings at word n
 pub record AreTrails (programs : List (List ℕ)) (n : ℕ) (trails : List Trail) : Type 0 where

@@ -19,10 +19,13 @@ program_of lead_in bytes = drop (block_bytes * lead_in) bytes
 abbrev pub block_at : List ℕ → ℕ → List ℕ
 block_at program b = slice_range program (block_bytes * b) (block_bytes * b + block_bytes)
 
--- whether a block is empty: its symbols are 0, and its Q channel is no frame
+-- whether a block is without symbols: all are 0
+abbrev pub is_blank_block : List ℕ → Bool
+is_blank_block block = list_all (λ symbol. symbol == 0) (symbols_of block)
+
+-- whether a block is empty: it is without symbols, and its Q channel is no frame
 unfoldable pub is_empty_block : List ℕ → Bool
-is_empty_block block =
-    list_all (λ symbol. symbol == 0) (symbols_of block) && not (is_ok (reading_of (q_bits block)))
+is_empty_block block = is_blank_block block && not (is_ok (reading_of (q_bits block)))
 
 -- the blocks in which the symbols of word n stand, which are those of eight slots
 abbrev pub blocks_under : List ℕ → ℕ → List (List ℕ)

@@ -1,7 +1,7 @@
 // Which blocks under a word are empty.
-ghost use Rattle.std.specs.Prelude.{◌≡◌, ◌==◌, ◌≤◌, ◌<◌, ◌+◌, ◌-◌, ◌*◌, ◌/◌, ◌%◌, ◌^◌, List, ℕ, length, if◌then◌else◌};
+ghost use Rattle.std.specs.Prelude.{true, ◌≡◌, ◌≢◌, ◌==◌, ◌≤◌, ◌<◌, ◌+◌, ◌-◌, ◌*◌, ◌/◌, ◌%◌, ◌^◌, List, ℕ, length, if◌then◌else◌};
 ghost use Rattle.std.specs.List.{list_all};
-ghost use Rattle.rw_mend.specs.Words.{block_at, blocks_under, coverage_of, is_empty_block};
+ghost use Rattle.rw_mend.specs.Words.{block_at, blocks_under, coverage_of, is_blank_block, is_empty_block};
 ghost use Rattle.rw_mend.specs.Trails.{IsTrail};
 ghost use Rattle.raw_subcode.specs.Sizes.{block_bytes};
 
@@ -9,12 +9,16 @@ use crate::Coverage;
 use q_channel::is_frame;
 use raw_subcode::{BLOCK_BYTES, Block};
 
-/// Whether the blocks under a word are empty: two of them, or three where the word does not begin with its block.
+/// Whether the blocks under a word are empty, and whether they are without symbols: two of them, or three where the word
+/// does not begin with its block.
 #[derive(Clone, Copy)]
 pub(crate) struct Trail {
     first: bool,
     second: bool,
     third: bool,
+    first_blank: bool,
+    second_blank: bool,
+    third_blank: bool,
 }
 
 impl Trail {
@@ -24,6 +28,9 @@ impl Trail {
             first: false,
             second: false,
             third: false,
+            first_blank: false,
+            second_blank: false,
+            third_blank: false,
         }
     }
 
@@ -34,14 +41,31 @@ impl Trail {
         ensures { IsTrail program.now n self.new }
     {
         if n == 0 {
-            self.first = is_empty_at(program, 0);
-            self.second = is_empty_at(program, 1);
+            self.first_blank = is_blank_at(program, 0);
+            self.first = is_empty_at(program, 0, self.first_blank);
+            self.second_blank = is_blank_at(program, 1);
+            self.second = is_empty_at(program, 1, self.second_blank);
         } else if n % 4 == 0 {
             self.first = self.second;
             self.second = self.third;
+            self.first_blank = self.second_blank;
+            self.second_blank = self.third_blank;
         } else if n % 4 == 1 {
-            self.third = is_empty_at(program, n / 4 + 2);
+            self.third_blank = is_blank_at(program, n / 4 + 2);
+            self.third = is_empty_at(program, n / 4 + 2, self.third_blank);
         }
+    }
+
+    /// Whether no block under word n has a symbol.
+    #[inline]
+    pub(crate) fn is_blank(&self, n: usize) -> bool
+        ensures { result ≡ true → (self.now.first_blank ≡ true) × (self.now.second_blank ≡ true)
+            × (n % 4 ≢ 0 → self.now.third_blank ≡ true) }
+    {
+        if n % 4 == 0 {
+            return self.first_blank && self.second_blank;
+        }
+        self.first_blank && self.second_blank && self.third_blank
     }
 
     /// How much of word n was read.
@@ -73,21 +97,42 @@ fn covered(all: bool, any: bool) -> Coverage
     }
 }
 
-// Whether a block of a program is empty.
-fn is_empty_at(program: &[u8], b: usize) -> bool
+// Whether a block of a program is without symbols.
+#[inline]
+fn is_blank_at(program: &[u8], b: usize) -> bool
     requires { block_bytes * b + block_bytes ≤ length program.now }
+    ensures { result ≡ is_blank_block (block_at program.now b) }
+{
+    let at = BLOCK_BYTES * b;
+    is_blank(&program[at..at + BLOCK_BYTES])
+}
+
+// Whether a block is without symbols.
+#[inline]
+fn is_blank(block: &[u8]) -> bool
+    ensures { result ≡ is_blank_block block.now }
+{
+    has_no_symbol(block)
+}
+
+// Whether a block of a program is empty.
+#[inline]
+fn is_empty_at(program: &[u8], b: usize, blank: bool) -> bool
+    requires within { block_bytes * b + block_bytes ≤ length program.now }
+    requires blank { blank ≡ is_blank_block (block_at program.now b) }
     ensures { result ≡ is_empty_block (block_at program.now b) }
 {
     let at = BLOCK_BYTES * b;
-    is_empty(&program[at..at + BLOCK_BYTES])
+    is_empty(&program[at..at + BLOCK_BYTES], blank)
 }
 
 // Whether a block is empty.
-fn is_empty(block: &[u8]) -> bool
-    requires { length block.now ≡ block_bytes }
+fn is_empty(block: &[u8], blank: bool) -> bool
+    requires size { length block.now ≡ block_bytes }
+    requires blank { blank ≡ is_blank_block block.now }
     ensures { result ≡ is_empty_block block.now }
 {
-    if !has_no_symbol(block) {
+    if !blank {
         return false;
     }
     let mut bytes = [0; BLOCK_BYTES];

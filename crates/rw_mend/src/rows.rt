@@ -14,6 +14,7 @@ ghost use Rattle.rw_mend.specs.Rows.{AreTrails, IsRow, AreLastMissed, is_left, s
 use crate::choice::MOST_READINGS;
 use crate::cover::Trail;
 use crate::readings::Readings;
+use crate::voices::hear_blank;
 use crate::{Voice, WordReading, hear};
 use rw_code::{SYMBOLS, Word};
 use rw_interleave::place;
@@ -68,7 +69,20 @@ fn hear_one(program: &[u8], n: usize, trail: &mut Trail, voice: &mut Voice)
     ensures voice { voice.new ≡ voice_of (reading_at program.now n) }
 {
     trail.advance(program, n);
-    *voice = hear(&reading(program, n, trail));
+    *voice = heard(program, n, trail);
+}
+
+// What one reading gives for word n. One without symbols, as most are, is not looked at again.
+#[inline]
+fn heard(program: &[u8], n: usize, trail: &Trail) -> Voice
+    requires size { symbols_a_slot * (n + 8) ≤ length program.now }
+    requires trail { IsTrail program.now n trail.now }
+    ensures { result ≡ voice_of (reading_at program.now n) }
+{
+    if trail.is_blank(n) {
+        return hear_blank(trail.coverage(n));
+    }
+    hear(&reading(program, n, trail))
 }
 
 /// Notes which readings miss graphics at word n.

@@ -1,6 +1,8 @@
 // What a reading of a word gives.
 ghost use Rattle.std.specs.Prelude.{◌≡◌, List, ℕ};
 ghost use Rattle.rw_code.specs.Codeword.{differences};
+ghost use Rattle.rw_code.specs.Packs.{idle_pack};
+ghost use Rattle.rw_mend.specs.declared.voices.WordReading.{WordReading};
 ghost use Rattle.rw_mend.specs.Voices.{doubts_of, is_clean_graphics, is_idle_voice, is_idle_pack, voice_of};
 
 use rw_code::{Fixed, Pack, Word, correct};
@@ -60,6 +62,25 @@ pub fn hear(reading: &WordReading) -> Voice
             doubts: doubts(reading.coverage, &fixed),
         },
         None => Voice::Lost { word: reading.word },
+    }
+}
+
+/// What a reading gives by itself of a word without symbols.
+#[inline]
+pub(crate) fn hear_blank(coverage: Coverage) -> Voice
+    ensures { (reading : WordReading) → reading.coverage ≡ coverage → reading.word ≡ idle_pack
+        → result ≡ voice_of reading }
+{
+    match coverage {
+        Coverage::Unread => Voice::Silent,
+        Coverage::Partly => Voice::Near {
+            pack: Pack::idle(),
+            doubts: IDLE_DOUBTS,
+        },
+        Coverage::Whole => Voice::Near {
+            pack: Pack::idle(),
+            doubts: 0,
+        },
     }
 }
 
