@@ -37,6 +37,11 @@ def blocks_of(stream: bytes) -> list[bytes]:
     return [stream[at : at + BLOCK] for at in range(0, len(stream), BLOCK)]
 
 
+def frames_of(stream: bytes) -> list[bytes]:
+    """The lines that the program prints of the Q frames of a stream, one for each block."""
+    return program("q", "--lead-in", 0, stdin=stream, statuses=(0, 1)).splitlines()
+
+
 class MendCase(FolderTest):
     def mended(self, *readings: bytes, status: int = 0, words: tuple[Word, ...] = (), name: str = "out.cdg") -> bytes:
         names = [self.write(f"reading-{number}", content) for number, content in enumerate(readings)]
@@ -311,11 +316,11 @@ class MendedStreamTest(MendCase):
                 worn[BLOCK * block + chance.randrange(BLOCK)] ^= 0x80
             readings.append(bytes(worn))
         stream = self.mended(*readings, name="out.raw")
-        lines = [program("q", stdin=reading).splitlines() for reading in readings]
+        lines = [frames_of(reading) for reading in readings]
         columns = [blocks_of(reading) for reading in readings]
         chosen = [next((r for r in range(3) if is_frame(columns[r][n])), 0) for n in range(len(columns[0]))]
         self.assertGreater(chosen.count(1), 100)
-        self.assertEqual(program("q", stdin=stream).splitlines(), [lines[r][n] for n, r in enumerate(chosen)])
+        self.assertEqual(frames_of(stream), [lines[r][n] for n, r in enumerate(chosen)])
         for block, (r, own) in enumerate(zip(chosen, blocks_of(stream))):
             self.assertEqual(bytes(byte & 0xC0 for byte in own), bytes(byte & 0xC0 for byte in columns[r][block]), block)
 

@@ -151,7 +151,10 @@ static void convert(void)
 
 static void mend(void)
 {
+    static ribjasper_mended_readings of_any;
     ribjasper_mended told;
+    answer = ribjasper_mend_readings(worn, sizeof worn, 2, 0, packs, sizeof packs, pixels, sizeof pixels, &of_any);
+    answer = ribjasper_mend_stream(worn, sizeof worn, 2, 0, packs, sizeof packs, pixels, sizeof pixels, &of_any);
     answer = ribjasper_mend(worn, sizeof worn, stream, sizeof stream, 0, packs, sizeof packs, &told);
     answer = ribjasper_mend(idle, sizeof idle, worn, sizeof worn, 0, packs, sizeof packs, &told);
 }
