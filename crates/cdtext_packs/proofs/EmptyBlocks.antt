@@ -1,5 +1,5 @@
 -- Blocks of the lead-in without symbols.
-use Rattle.std.proofs.Common.{◌≡◌, ℕ, ◌+◌, ◌*◌, ◌-◌, ◌^◌, ◌%◌, ◌<◌, List, [], ◌∷◌, drop, false, get_or, length, replicate, suc, take, zero, refl, ap, ap₂, sym, ◌∙◌, arith}
+use Rattle.std.proofs.Common.{◌≡◌, ℕ, ◌+◌, ◌*◌, ◌-◌, ◌^◌, ◌%◌, ◌<◌, List, [], ◌∷◌, drop, false, get_or, length, replicate, suc, take, zero, refl, true, Bool, eqb, ap, ap₂, sym, ◌∙◌, arith}
 use Rattle.std.specs.Prelude.{min, bit_or}
 use Rattle.std.proofs.lemmas.Nat.{or_mod, le_or_l, le_or_r}
 use Rattle.bit_lists.specs.Bits.{bits_of, bits_of_bytes, number_of, numbers_of}
@@ -43,10 +43,13 @@ empty_pack symbols (suc (suc (suc zero))) lt none =
 empty_pack symbols (suc (suc (suc (suc k)))) lt none = absurd (omega (arith, lt))
 
 -- the check of sixteen zeros is not zero
+zeros_check : check_bits (bits_of_bytes (replicate 16 0)) ≡ replicate 16 true
+unfolding check_bits bits_of_bytes bits_of remainder division_steps division_step
+zeros_check = refl
+
 zeros_do_not_match : check_matches (replicate 18 0) ≡ false
-unfolding check_matches check_of check_bits bits_of_bytes bits_of number_of remainder division_steps
-    division_step
-zeros_do_not_match = refl
+unfolding check_matches check_of number_of
+zeros_do_not_match = ap (λ (bits : List Bool). eqb (number_of bits) 0) zeros_check
 
 zeros_offered : (s : LeadInTexts) (pack : List ℕ) → pack ≡ replicate 18 0
     → offered s pack ≡ record s { bad = counted s.bad }

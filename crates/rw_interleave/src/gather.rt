@@ -12,7 +12,6 @@ ghost use Rattle.rw_interleave.specs.Interleave.{packs_kept_back, word_of, whole
 ghost use Rattle.rw_interleave.specs.Windows.{before_bytes, row_bytes, slot_in, slots_in, early_bytes};
 
 use crate::Slot;
-use crate::diagonal::diagonal;
 use crate::slot::{PACKS_KEPT_BACK, SPAN};
 use arrayvec::ArrayVec;
 use cdg_io::Stage;
@@ -20,7 +19,6 @@ use raw_subcode::{BLOCK_BYTES, SLOTS_A_BLOCK, SYMBOLS_A_SLOT};
 use rw_code::Word;
 use std::alloc::{AllocError, Global};
 use std::marker::Model;
-use std::simd::prelude::*;
 
 /// Gathers words from slots, one at a time, or from the four of a block at once. Seen as the last slots, at most seven.
 /// It takes no memory.
@@ -227,10 +225,10 @@ pub fn gather_gives_words()
 {}
 
 // The bytes of the slots before a block of which a word may have symbols.
-pub(crate) const BEFORE_BYTES: usize = PACKS_KEPT_BACK * SYMBOLS_A_SLOT;
+const BEFORE_BYTES: usize = PACKS_KEPT_BACK * SYMBOLS_A_SLOT;
 
 // The bytes of the first three of them.
-pub(crate) const EARLY_BYTES: usize = BEFORE_BYTES - BLOCK_BYTES;
+const EARLY_BYTES: usize = BEFORE_BYTES - BLOCK_BYTES;
 
 // The bytes of a row.
 const ROW_BYTES: usize = BEFORE_BYTES + BLOCK_BYTES;
@@ -385,8 +383,8 @@ fn first_words(
 }
 
 // The word of eight slots from one on. Symbol i of a pack goes to position p of the slots (`swapped`), p % 8 slots
-// later: lane p % 8 of the diagonal of the eight that p is in. The positions of six symbols are exchanged, all of them
-// in the first and the last eight.
+// later: it stands 24 * (p % 8) + p bytes from there, which are written here as numbers. So symbol 1, which goes to
+// position 18, stands at 24 * 2 + 18 = 66.
 #[inline]
 fn word_at(
     early: &[u8; EARLY_BYTES],
@@ -399,14 +397,60 @@ fn word_at(
         → slice_index (early.now ++ (late.now ++ block.now)) n < symbol_values }
     ensures { result ≡ gathered (slots_in (early.now ++ (late.now ++ block.now)) first span) }
 {
-    let low = diagonal(early, late, block, 3 * first);
-    let middle = diagonal(early, late, block, 3 * first + 1);
-    let high = diagonal(early, late, block, 3 * first + 2);
+    let at = SYMBOLS_A_SLOT * first;
     Word::of_eights(
-        low.shuffle(high, [0, 10, 5, 15, 4, 2, 6, 7]).to_array(),
-        middle.swizzle([0, 1, 2, 3, 4, 5, 6, 7]).to_array(),
-        low.shuffle(high, [8, 9, 1, 11, 12, 13, 14, 3]).to_array(),
+        [
+            symbol(early, late, block, at),
+            symbol(early, late, block, at + 66),
+            symbol(early, late, block, at + 125),
+            symbol(early, late, block, at + 191),
+            symbol(early, late, block, at + 100),
+            symbol(early, late, block, at + 50),
+            symbol(early, late, block, at + 150),
+            symbol(early, late, block, at + 175),
+        ],
+        [
+            symbol(early, late, block, at + 8),
+            symbol(early, late, block, at + 33),
+            symbol(early, late, block, at + 58),
+            symbol(early, late, block, at + 83),
+            symbol(early, late, block, at + 108),
+            symbol(early, late, block, at + 133),
+            symbol(early, late, block, at + 158),
+            symbol(early, late, block, at + 183),
+        ],
+        [
+            symbol(early, late, block, at + 16),
+            symbol(early, late, block, at + 41),
+            symbol(early, late, block, at + 25),
+            symbol(early, late, block, at + 91),
+            symbol(early, late, block, at + 116),
+            symbol(early, late, block, at + 141),
+            symbol(early, late, block, at + 166),
+            symbol(early, late, block, at + 75),
+        ],
     )
+}
+
+// Symbol i of the last seven slots and a block behind them. It stands in line, so that a place that is known costs
+// nothing.
+#[inline(always)]
+fn symbol(
+    early: &[u8; EARLY_BYTES],
+    late: &[u8; BLOCK_BYTES],
+    block: &[u8; BLOCK_BYTES],
+    i: usize,
+) -> u8
+    requires { i < row_bytes }
+    ensures { result ≡ slice_index (early.now ++ (late.now ++ block.now)) i }
+{
+    if i < EARLY_BYTES {
+        early[i]
+    } else if i < BEFORE_BYTES {
+        late[i - EARLY_BYTES]
+    } else {
+        block[i - BEFORE_BYTES]
+    }
 }
 
 // Four words of zeros.
