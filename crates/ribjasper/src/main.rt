@@ -1,13 +1,14 @@
 //! Works on the subcode of Compact Discs, from standard input or named files to standard output.
 #![tactic(auto)]
 
-ghost use Rattle.std.specs.Prelude.{◌≡◌, ◌≢◌, ◌⊎◌, ◌-◌, [], drop, take, length, Err, IfOk, IsErr, IsOk, OnErr};
-ghost use Rattle.std.specs.Io.KnownBytes.{Appends};
+ghost use Rattle.std.specs.Prelude.{◌≡◌, ◌≢◌, ◌⊎◌, ◌-◌, [], drop, take, length, Err, IfOk, IsOk, OnErr};
+ghost use Rattle.std.specs.Io.KnownBytes.{Appends, Keeps};
 ghost use Rattle.std.specs.IoError.{error_kind};
 ghost use Rattle.std.specs.Process.{exit_status};
 ghost use Rattle.std.specs.Vec.Iter.{into_iter_items};
 ghost use Rattle.std.specs.declared.io.Error.{Error};
 ghost use Rattle.cdg_io.specs.Causes.{Rose};
+ghost use Rattle.cdg_io.specs.Waiting.{bytes_with_waiting};
 ghost use Rattle.cdg_cmd.specs.Line.{error_line, exit_of};
 ghost use Rattle.cdg_cmd.specs.Splitting.{split_of};
 
@@ -18,7 +19,7 @@ use cdg_io::{BufferedSink, BufferedSource, Failed, Sink, SteadySink, WriteSink};
 use inputs::{InputReader, named};
 use std::alloc::{AllocError, Global};
 use std::env::Args;
-use std::io::{BufReader, ErrorKind, Stdout};
+use std::io::{BufReader, ErrorKind, Write};
 use std::process::ExitCode;
 use std::{env, io};
 
@@ -65,43 +66,48 @@ fn source(alloc: Global, input: InputReader<'_>) -> io::Result<BufferedSource<In
     Ok(BufferedSource::new(BufReader::with_capacity(alloc, most, input)?))
 }
 
-// Runs the words of a line on its inputs, and on an output in which the last bytes may still wait.
-fn run_words(
+// The status after the last write of what waits: what could not be written is a write fault.
+fn flushed<W: Write>(status: Status, out: &mut BufferedSink<W>) -> Status
+    // Nothing waits any more, or it is reported that something does.
+    ensures settled { (out.new.waiting ≡ []) × (result ≡ status)
+        ⊎ (out.new.waiting ≢ []) × (result ≡ Status.WriteFault) }
+    ensures bytes { Keeps (bytes_with_waiting W.contents out.old) (bytes_with_waiting W.contents out.new) }
+    ensures nothing { out.old.waiting ≡ [] → result ≡ status }
+{
+    match out.flush() {
+        Ok(()) => status,
+        Err(Failed) => Status::WriteFault,
+    }
+}
+
+// Runs the words of a line on its inputs and an output, and writes what waits in the output at the end.
+fn run_words<W: Write>(
     rt: &HostRuntime,
     line: &[String],
-    out: &mut BufferedSink<Stdout>,
-) -> io::Result<Status> {
+    out: &mut BufferedSink<W>,
+) -> io::Result<Status>
+    ensures settled { IfOk result (λ status. (out.new.waiting ≡ []) ⊎ (status ≡ Status.WriteFault)) }
+{
     let (words, names) = parted(line);
     let (first, second) = named(rt, rt.stdin(), names);
     let mut first = source(rt.alloc(), first)?;
     let mut second = source(rt.alloc(), second)?;
-    Ok(run(
+    let status = run(
         rt.alloc(),
         words,
         &mut first,
         &mut second,
         out,
         &mut SteadySink::new(),
-    ))
-}
-
-// The status after the last flush: what could not be written is a write fault.
-fn after_flush(status: Status, flushed: Result<(), Failed>) -> Status
-    ensures written { IsOk flushed → result ≡ status }
-    ensures lost { IsErr flushed → result ≡ Status.WriteFault }
-{
-    match flushed {
-        Ok(()) => status,
-        Err(Failed) => Status::WriteFault,
-    }
+    );
+    Ok(flushed(status, out))
 }
 
 // Runs the words of the program on the inputs and standard output.
 fn run_on_streams(rt: &HostRuntime) -> io::Result<Status> {
     let line = own_words(rt.alloc(), env::args(rt))?;
     let mut out = BufferedSink::new(rt.alloc(), BUFFER, TURN, rt.stdout())?;
-    let status = run_words(rt, &line, &mut out)?;
-    Ok(after_flush(status, out.flush()))
+    run_words(rt, &line, &mut out)
 }
 
 // The status of a run that may have found no memory for its words or its buffers.
