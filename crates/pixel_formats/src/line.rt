@@ -11,9 +11,16 @@ pub(crate) fn write_twos(pixels: &[u8], table: &[[u8; 4]; COLOURS], line: &mut [
     requires entries { (p : ℕ) → p < 16 → length (slice_index_or table.now p []) ≡ 4 }
     ensures { AreLineBytes 2 pixels.now table.now line.new }
 {
-    for i in 0..pixels.len() {
-        put_two(line, 2 * i, &table[usize::from(pixels[i])]);
+    if pixels.is_empty() {
+        return;
     }
+    let last = pixels.len() - 1;
+    // Four bytes are written at once, of which the next pixel writes over the last two.
+    for i in 0..last {
+        put_four(line, 2 * i, &table[usize::from(pixels[i])]);
+    }
+    let last_colour = usize::from(pixels[last]);
+    put_two(line, 2 * last, &table[last_colour]);
 }
 
 /// Writes three bytes for each pixel.

@@ -29,9 +29,10 @@ pub fn write_pixels(
 {
     let table = table_of(screen, format);
     let count = format.size() * part.width;
+    let mut row = [0; SCREEN_WIDTH];
     for j in 0..part.height {
         let line = &mut out[stride * j..stride * j + count];
-        write_row(screen, part, j, format, &table, line);
+        write_row(screen, part, j, format, &table, &mut row, line);
     }
 }
 
@@ -48,13 +49,14 @@ pub fn write_picture(screen: &PlainScreen, bytes: &mut [u8; PICTURE_BYTES])
     write_pixels(screen, &whole, PixelFormat::Rgb, bytes, 3 * SCREEN_WIDTH);
 }
 
-// Writes the bytes of the pixels of row j of a part.
+// Writes the bytes of the pixels of row j of a part. `row` is room for a row of the screen.
 fn write_row(
     screen: &PlainScreen,
     part: &ScreenPart,
     j: usize,
     format: PixelFormat,
     table: &[[u8; 4]; COLOURS],
+    row: &mut [u8; SCREEN_WIDTH],
     line: &mut [u8],
 )
     requires part { IsOnScreen part.now }
@@ -68,8 +70,7 @@ fn write_row(
         → slice_index line.new (pixel_size format * i + k)
         ≡ slice_index (shown_bytes format (seen screen.now) (part.now.left + i) (part.now.top + j)) k }
 {
-    let mut row = [0; SCREEN_WIDTH];
-    screen.write_row(part.top + j, &mut row);
+    screen.write_row(part.top + j, row);
     let pixels = &row[part.left..part.left + part.width];
     match format {
         PixelFormat::Indexed => put_all(line, pixels),
