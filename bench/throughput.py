@@ -234,12 +234,12 @@ def row(program: str | None, what: str, words: str, given: Sequence[str], size: 
     if other:
         runs.append((other, given))
     took, copied, *rest = best(runs)
-    least = limit(copied, given, ran.written)
+    least = limit(copied, given, ran.written) if given else None
     plain = rest[0] if rest else None
     ratio = "-" if plain is None else f"{plain / took:.2f}"
     held = f"{peak(ribjasper(words), given) / 1024:.1f}"
-    cells = [f"`{words.split()[0]}`", what, milliseconds(least), milliseconds(took), f"{took / least:.2f}",
-             milliseconds(plain), ratio, held]
+    cells = [f"`{words.split()[0]}`", what, milliseconds(least), milliseconds(took),
+             "-" if least is None else f"{took / least:.2f}", milliseconds(plain), ratio, held]
     return f"| {' | '.join(cells)} |"
 
 

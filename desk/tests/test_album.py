@@ -172,12 +172,12 @@ class AlbumTest(SongsTest):
 
     def test_texts_and_codes(self) -> None:
         def change(text: str) -> str:
-            text = text.replace('title = "Song 2"', 'title = "Songs \u3042 \\"x\\""', 1)
+            text = text.replace('title = "Song 2"', 'title = "Songs \u03a9 \\"x\\""', 1)
             return text.replace('title = ""\n', 'title = "Caf\u00e9"\ncatalogue = "4006381333931"\n', 1).replace(
                 '# isrc = "GBAAA2600001"', 'isrc = "GB-AAA-26-00001"', 1)
 
         ran = self.album(change=change)
-        self.assertIn("track 2: Latin-1 has no \u3042", ran.told)
+        self.assertIn("track 2: Latin-1 has no \u03a9", ran.told)
         cue = (self.folder / "disc.cue").read_bytes()
         self.assertTrue(cue.startswith(b'CATALOG 4006381333931\nTITLE "Caf\xe9"\n'), cue)
         self.assertIn(b"ISRC GBAAA2600001", cue)

@@ -11,7 +11,7 @@ import { dirname, join, resolve } from "node:path";
 import { fileURLToPath, pathToFileURL } from "node:url";
 import { deflateRawSync } from "node:zlib";
 
-const TOP = join(dirname(fileURLToPath(import.meta.url)), "..");
+const TOP = join(dirname(fileURLToPath(import.meta.url)), "..", "..");
 const [CHROMIUM, PROGRAM, PAGE, FOLDER] = process.argv.slice(2);
 const SECTOR = 2448;
 const BLOCK = 96;

@@ -11,10 +11,10 @@ import { dirname, join } from "node:path";
 import { performance } from "node:perf_hooks";
 import { fileURLToPath } from "node:url";
 
-import { BLOCK_BYTES, FILE_BYTES, PACK_BYTES, SECTOR_BYTES, load } from "../web/ribjasper.mjs";
+import { BLOCK_BYTES, FILE_BYTES, PACK_BYTES, SECTOR_BYTES, load } from "../../web/ribjasper.mjs";
 import { PlainPlayer } from "./plain_player.mjs";
 
-const TOP = join(dirname(fileURLToPath(import.meta.url)), "..");
+const TOP = join(dirname(fileURLToPath(import.meta.url)), "..", "..");
 const [PROGRAM, MODULE, FOLDER, MEASURE] = process.argv.slice(2);
 const LEAD_IN = 300;
 

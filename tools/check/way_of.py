@@ -1,141 +1,124 @@
 #!/usr/bin/env python3
-"""Tells which files a reader meets who follows the calls of a command: way_of.py FILE.. [--top TOP].
+"""Counts the code that runs when a command runs: way_of.py [--files] [--program PROGRAM] WORDS .. <INPUT.
 
-From each FILE (crates/cdg_cmd/src/streams.rt, say) it follows what the code imports, down to the kit: a name that a `use` line
-brings in and that stands outside of clauses leads to the file that declares it, in the same crate or in another. It prints
-these files with their lines, crate by crate, and how many there are. A file that is met counts whole.
-"""
+The words and the input are the program's. Valgrind tells each function that ran, and its symbol the crate, the module and the
+name; so what is reached through traits counts, and what never runs does not. Nothing may be inlined in PROGRAM: in
+crates/ribjasper `rt run --backend rattle --opt-level 0` leaves such a one in out/, which is taken where none is named. It
+prints for each crate how many functions ran, how many lines they have with their clauses, and of how many files and lines those
+are; --files lists the files. Functions of the kit
+are passed over, and laws, which do nothing."""
+from __future__ import annotations
+
 import argparse
 import re
+import site
+import subprocess
 import sys
+import tempfile
+from collections import defaultdict
 from pathlib import Path
-from typing import Iterator, Sequence
 
 TOP = Path(__file__).resolve().parents[2]
-USE = re.compile(r"^\s*(?:pub(?:\(crate\))? )?use ([^;]+);", re.M)
-LEFT_OUT = re.compile(r"//[^\n]*|^\s*(?:pub )?ghost [^;]*;|^\s*#!?\[[^\n]*", re.M)
-CLAUSE = re.compile(r"\b(?:requires|ensures)\*? *\w* *\{")
-DECLARED = re.compile(r"\b(?:fn|struct|enum|trait|const|static|type|mod|macro_rules!) (\w+)")
-WORD = re.compile(r"\w+")
+site.addsitedir(str(TOP / "tools" / "shared"))
+from rattle import graph, items  # noqa: E402
+
+PROGRAM = TOP / "crates" / "ribjasper" / "out" / "ribjasper"
+# A function as callgrind names it, and a generic's types, which its name ends with.
+NAMED = re.compile(r"^c?fn=\(\d+\) (\S.*)$", re.M)
+TYPES = re.compile(r"(::)?<.*")
+
+# What ran of a file: the lines at which functions begin and end.
+Ran = dict[Path, set[tuple[int, int]]]
 
 
-def without_clauses(text: str) -> str:
-    """The code alone: no comments, attributes, ghost lines or clauses."""
-    text = LEFT_OUT.sub("", text)
-    kept: list[str] = []
-    while clause := CLAUSE.search(text):
-        end, depth = clause.end(), 1
-        while depth:
-            depth += {"{": 1, "}": -1}.get(text[end], 0)
-            end += 1
-        kept.append(text[: clause.start()])
-        text = text[end:]
-    return "".join(kept) + text
+def symbols(program: Path, words: list[str]) -> set[str]:
+    """The names of all functions that ran."""
+    with tempfile.TemporaryDirectory() as folder:
+        told = Path(folder) / "told"
+        call = ["valgrind", "-q", "--tool=callgrind", f"--callgrind-out-file={told}", str(program), *words]
+        subprocess.run(call, stdout=subprocess.DEVNULL)
+        return set(NAMED.findall(told.read_text(errors="replace")))
 
 
-def split_list(text: str) -> list[str]:
-    """The parts of a list between commas that stand in no inner braces."""
-    parts, depth = [""], 0
-    for letter in text:
-        depth += {"{": 1, "}": -1}.get(letter, 0)
-        if letter == "," and depth == 0:
-            parts.append("")
-        else:
-            parts[-1] += letter
-    return [part.strip() for part in parts if part.strip()]
+def place_of(symbol: str) -> tuple[Path, str, str] | None:
+    """The file of a function, the type or trait that it belongs to, and its name; nothing where it is the kit's or is made
+    by the compiler."""
+    crate, *segments = TYPES.sub("", symbol.split("'")[0]).split("::")
+    folder = TOP / "crates" / crate / "src"
+    if not segments or not folder.is_dir():
+        return None
+    file = folder / ("main.rt" if (folder / "main.rt").exists() else "lib.rt")
+    while (folder / f"{segments[0]}.rt").exists() and len(segments) > 1:
+        file, folder = folder / f"{segments[0]}.rt", folder / segments[0]
+        segments = segments[1:]
+    # A part of a function, as a closure or a start, has the name of the function before a plus.
+    owner = segments[-2] if len(segments) > 1 else ""
+    return file, owner, segments[-1].partition("+")[0]
 
 
-def paths_of(tree: str, before: Sequence[str] = ()) -> Iterator[tuple[list[str], str]]:
-    """The paths that a `use` line names, each as its segments, and the name under which it is known."""
-    head, brace, rest = tree.partition("{")
-    segments = [*before, *(part.strip() for part in head.split("::") if part.strip())]
-    if brace:
-        for part in split_list(rest.rsplit("}", 1)[0]):
-            yield from paths_of(part, segments)
-        return
-    last, _, known = segments[-1].partition(" as ")
-    yield [*segments[:-1], last], known or last
+def is_law(lines: list[str], at: int) -> bool:
+    """Whether a function is a law, which does nothing when it runs."""
+    above = at
+    while above > 0 and lines[above - 1].lstrip().startswith(("///", "#[")):
+        above -= 1
+    return lines[above].lstrip().startswith("/// A law")
 
 
-class Way:
-    """The files of a repository, and those that are met."""
+def end_of(lines: list[str], at: int) -> int:
+    """The last line of the function that begins at a line."""
+    indent = " " * (len(lines[at]) - len(lines[at].lstrip()))
+    if lines[at].endswith("{}"):
+        return at
+    return next(k for k in range(at + 1, len(lines)) if lines[k].startswith((indent + "}", indent + "{}")))
 
-    def __init__(self, top: Path) -> None:
-        folders = (path / "src" for path in sorted((top / "crates").iterdir()))
-        self.crates = {folder.parent.name: folder for folder in folders if folder.is_dir()}
-        self.met: dict[Path, int] = {}
 
-    def root(self, crate: str) -> Path:
-        roots = [self.crates[crate] / name for name in ("lib.rt", "main.rt")]
-        return next(path for path in roots if path.exists())
+def extent(file: Path, owner: str, name: str) -> tuple[int, int] | None:
+    """The lines of a function from its head to its end, if it is no law; its owner is a type, or a type and a trait in one,
+    or `Any` and a trait that each type of some kind has."""
+    lines = file.read_text().splitlines()
+    for item in items(lines):
+        is_owner = owner.startswith(item.owner or "-") or item.is_of_trait and owner.startswith("Any")
+        if item.kind == "fn" and item.name == name and (is_owner if owner else not item.owner):
+            return None if is_law(lines, item.at) else (item.at, end_of(lines, item.at))
+    return None
 
-    def declaring(self, crate: str, segments: list[str]) -> Path | None:
-        """The file that declares what a path names, from the root of a crate."""
-        file, folder = self.root(crate), self.crates[crate]
-        for at, name in enumerate(segments):
-            inner = [folder / f"{name}.rt", folder / name / "mod.rt"]
-            found = next((path for path in inner if path.exists()), None)
-            if found is None:
-                return self.passed_on(crate, file, name, segments[at:])
-            file, folder = found, folder / name
-        return file
 
-    def passed_on(self, crate: str, file: Path, name: str, segments: list[str]) -> Path | None:
-        """The file of an item that this one declares or passes on."""
-        text = without_clauses(file.read_text())
-        if name in DECLARED.findall(USE.sub("", text)):
-            return file
-        for use in USE.findall(text):
-            for path, known in paths_of(use):
-                if known == name or known == "*":
-                    return self.leads_to(crate, file, path if known == name else [*path[:-1], *segments])
-        return file
+def ran_of(names: set[str]) -> Ran:
+    """The functions of the repository among those that ran, by their files."""
+    found: Ran = defaultdict(set)
+    for name in names:
+        place = place_of(name)
+        lines = extent(*place) if place else None
+        if place and lines:
+            found[place[0]].add(lines)
+    return found
 
-    def leads_to(self, crate: str, file: Path, path: list[str]) -> Path | None:
-        """Where a path of a `use` line in a file leads, or None where it leads into the kit."""
-        first, rest = path[0], path[1:]
-        if first in ("crate", "self"):
-            return self.declaring(crate, rest)
-        if first in self.crates:
-            return self.declaring(first, rest)
-        inner = file.parent / (f"{first}.rt" if file.stem in ("lib", "main", "mod") else f"{file.stem}/{first}.rt")
-        return self.declaring(crate, path) if inner.exists() else None
 
-    def follow(self, file: Path) -> None:
-        """Meets a file and all that it leads to."""
-        if file in self.met:
-            return
-        text = file.read_text()
-        self.met[file] = len(text.splitlines())
-        code = without_clauses(text)
-        words = set(WORD.findall(USE.sub("", code)))
-        crate = file.parts[file.parts.index("src") - 1]
-        for use in USE.findall(code):
-            for path, known in paths_of(use):
-                further = self.leads_to(crate, file, path) if known in words else None
-                if further is not None and further != self.root(crate):
-                    self.follow(further)
+def sizes(files: Ran) -> str:
+    """How much ran: functions and their lines, of so many files and lines."""
+    functions = [lines for ran in files.values() for lines in ran]
+    inner = sum(last - first + 1 for first, last in functions)
+    whole = sum(len(file.read_text().splitlines()) for file in files)
+    return f"{len(functions)} functions of {inner:,} lines, in {len(files)} files of {whole:,}"
 
 
 def main() -> int:
-    parser = argparse.ArgumentParser(
-        description="Tells which files a reader meets who follows the calls of a command."
-    )
-    parser.add_argument("files", nargs="+", metavar="FILE", help="a file of the code, from the top on")
-    parser.add_argument("--top", type=Path, default=TOP, help="the repository (default: this one)")
-    words = parser.parse_args()
-    top = words.top.resolve()
-    way = Way(top)
-    for name in words.files:
-        way.follow(top / name)
-    crates: dict[str, list[tuple[Path, int]]] = {}
-    for file, lines in way.met.items():
-        crates.setdefault(file.relative_to(top / "crates").parts[0], []).append((file, lines))
-    for crate, files in crates.items():
-        print(f"{crate}: {len(files)} files, {sum(lines for _, lines in files)} lines")
-        for file, lines in files:
-            print(f"    {lines:5} {file.relative_to(top)}")
-    print(f"{len(way.met)} files, {sum(way.met.values()):,} lines in {len(crates)} crates")
+    parser = argparse.ArgumentParser(description="Counts the code that runs when a command runs.")
+    parser.add_argument("--files", action="store_true", help="list the files")
+    parser.add_argument("--program", type=Path, default=PROGRAM, help="the program, with nothing inlined")
+    parser.add_argument("words", nargs=argparse.REMAINDER, help="the words of the command")
+    given = parser.parse_args()
+    ran = ran_of(symbols(given.program, given.words))
+    if not ran:
+        print(f"way_of: {given.program} names no function of the repository that ran", file=sys.stderr)
+        return 1
+    for crate in graph():
+        inside = {file: lines for file, lines in ran.items() if file.is_relative_to(TOP / "crates" / crate)}
+        if inside:
+            print(f"{crate}: {sizes(inside)}")
+        for file in sorted(inside) if given.files else ():
+            print(f"    {len(inside[file]):3} of {file.relative_to(TOP)}")
+    print(f"all: {sizes(ran)}")
     return 0
 
 
