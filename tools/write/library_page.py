@@ -8,7 +8,7 @@ TOP = Path(__file__).resolve().parents[2]
 # A comment that begins a line, which may be left out, and the lines up to the next empty one or such comment.
 PARTS = re.compile(r"^(?:/\*(.*?)\*/\n)?((?:(?!/\*|\n)[^\n]*\n)*)", re.M | re.S)
 # Lines that are for the compiler alone, and a word that is.
-GUARDS = re.compile(r'^(#if|#el|#endif|#include|#define RIBJASPER_(H$|NODISCARD)|extern "C"|\}$)')
+GUARDS = re.compile(r'^(#if|#el|#endif|#include|#define RIBJASPER_(H$|NODISCARD)|RIBJASPER_NODISCARD$|extern "C"|\}$)')
 FOR_COMPILERS = "RIBJASPER_NODISCARD "
 
 
