@@ -1,0 +1,30 @@
+#!/bin/sh
+# A stranger's way through README.md, from its first line to its last: a fresh clone of what is committed here, a clean
+# environment, and every block as it stands, with `make demo`, `make` and `make library`. Prints how long each of these took.
+# By hand, before a release: it proves everything anew.
+cd "$(dirname "$0")/../.." || exit 1
+work=$(mktemp -d)
+trap 'rm -rf "$work"' EXIT
+mkdir "$work/home"
+git clone -q . "$work/ribjasper" || exit 1
+cd "$work/ribjasper" || exit 1
+
+# The first block, which is of no language, and then those of the shell.
+awk '/^```$/ && !inside && !seen { inside = 1; next } /^```$/ && inside { exit } inside' README.md >"$work/first"
+awk '/^```sh/ { inside = 1; next } /^```$/ { inside = 0; next } inside' README.md >"$work/blocks"
+
+stranger() {
+    begun=$(date +%s)
+    if ! env -i HOME="$work/home" PATH=/usr/local/bin:/usr/bin:/bin LANG=C.UTF-8 sh -e "$1" >"$work/printed" 2>&1; then
+        tail -n 20 "$work/printed" >&2
+        echo "stranger: $2 fails" >&2
+        exit 1
+    fi
+    echo "stranger: $2: $((($(date +%s) - begun + 30) / 60)) minutes"
+}
+
+while read -r line; do
+    echo "$line" >"$work/line"
+    stranger "$work/line" "${line%%  *}"
+done <"$work/first"
+stranger "$work/blocks" "the blocks of README"
