@@ -32,8 +32,8 @@ def add_parser(commands: Any) -> None:
         description="Puts readings of one disc side by side by their Q times and writes, word by word, the codeword of the "
         "reading that is the least wrong, or that on which readings agree. The output is a .cdg file; or a mended stream: "
         "raw blocks (.raw, .subcode) or planar ones (.sub), with P and Q of the first reading whose frame is good. "
-        "--compare tells whether two dumps are of one disc, how they are offset, and the blocks that differ. Exit 1 where "
-        "a word has no codeword, where one that a reading gives did not come out, or where compared dumps differ.",
+        "--compare says whether two dumps are of one disc, how they are offset, and the blocks that differ. Exit 1 if "
+        "a word has no codeword, if one that a reading gives did not come out, or if compared dumps differ.",
     )
     parser.add_argument("files", nargs="+", metavar="READING")
     parser.add_argument("-o", "--output", metavar="OUT.cdg", help="the packs, or .raw, .subcode, .sub for the stream")

@@ -102,7 +102,7 @@ def add_parser(commands: Any) -> None:
         "sums",
         help="print checksums of files, and compare them with a list",
         description="Prints size, CRC-32, MD5, SHA-1 and SHA-256 of each file. --dat writes them as a list in the form of "
-        "Logiqx, as catalogues of dumps have it; --check compares files with such a list, by name, and ends with 1 where "
+        "Logiqx, as catalogues of dumps have it; --check compares files with such a list, by name, and ends with 1 if "
         "one differs, is not listed or is missing.",
     )
     parser.add_argument("files", nargs="+", metavar="FILE")
