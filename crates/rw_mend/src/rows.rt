@@ -2,8 +2,7 @@
 ghost use Rattle.std.specs.Prelude.{◌≡◌, ◌<◌, ◌≤◌, ◌+◌, ◌-◌, ◌*◌, ◌/◌, ◌%◌, ◌^◌, [], List, ℕ, length, slice_index_or, take, if◌then◌else◌};
 ghost use Rattle.raw_subcode.specs.Channels.{symbols_of};
 ghost use Rattle.raw_subcode.specs.Sizes.{block_bytes, symbols_a_slot};
-ghost use Rattle.rw_code.specs.Sizes.{word_symbols};
-ghost use Rattle.rw_interleave.specs.Interleave.{place, word_of};
+ghost use Rattle.rw_interleave.specs.Interleave.{word_of};
 ghost use Rattle.std.specs.List.{list_any};
 ghost use Rattle.rw_mend.specs.Choice.{voice_of_reading};
 ghost use Rattle.rw_mend.specs.Voices.{is_clean_graphics, voice_of};
@@ -18,18 +17,10 @@ use crate::readings::Readings;
 use crate::voices::hear_blank;
 use crate::{Voice, WordReading, hear};
 use rw_code::{SYMBOLS, Word};
+use rw_interleave::place;
 
 // How many words to each side are looked at.
 const REACH: usize = 7;
-
-// The symbols of the slots that a word is spread over.
-const EIGHT_SLOTS: usize = 192;
-
-// The places in them of the symbols of a word: a table at hand, so that each is known where it is used.
-static PLACES: [usize; SYMBOLS] = [
-    0, 66, 125, 191, 100, 50, 150, 175, 8, 33, 58, 83, 108, 133, 158, 183, 16, 41, 25, 91, 116,
-    141, 166, 75,
-];
 
 /// What each reading gives for a word.
 #[derive(Clone, Copy)]
@@ -187,20 +178,9 @@ fn word_at(program: &[u8], n: usize) -> Word
     requires { symbols_a_slot * (n + 8) ≤ length program.now }
     ensures { result ≡ word_of (symbols_of program.now) n }
 {
-    let slots = &program[SYMBOLS * n..SYMBOLS * n + EIGHT_SLOTS];
     let mut bytes = [0; SYMBOLS];
     for i in 0..SYMBOLS {
-        bytes[i] = slots[place(i)];
+        bytes[i] = program[SYMBOLS * n + place(i) as usize];
     }
     Word::new(&bytes)
-}
-
-// The place of symbol i of a word, in the slots that it is spread over.
-#[inline(always)]
-fn place(i: usize) -> usize
-    requires { i < word_symbols }
-    ensures value { result ≡ place 0 i }
-    ensures within { result < 192 }
-{
-    PLACES[i]
 }

@@ -1,7 +1,7 @@
-use Rattle.std.proofs.Common.{arith, ℕ, ◌≡◌, ◌<◌, ◌%◌, length, get_or, map, take, drop, sym, ap, ◌∙◌, ◌+◌, ◌-◌, ◌*◌, ◌≤◌, below_more}
+use Rattle.std.proofs.Common.{arith, ℕ, ◌≡◌, ◌<◌, ◌%◌, length, get_or, map, sym, ap, ◌∙◌, subst, ◌+◌, ◌*◌, ◌≤◌, below_more}
 use Rattle.std.proofs.Math.ListN.{set, length-set}
 use Rattle.std.specs.Prelude.{slice_index}
-use Rattle.std.proofs.lemmas.List.{get_or-drop, get_or-map, get_or-set_other, get_or-set_same, get_or-take, length-map}
+use Rattle.std.proofs.lemmas.List.{get_or-map, get_or-set_other, get_or-set_same, length-map}
 use Rattle.std.proofs.lemmas.List.FromFn.{fill_by_all}
 use Rattle.raw_subcode.specs.Channels.{symbols_of}
 use Rattle.rw_interleave.specs.Interleave.{place, word_of}
@@ -15,19 +15,21 @@ placed n i p is = omega (arith, is)
 within : (n i size : ℕ) → i < 24 → 24 * (n + 8) ≤ size → place n i < size
 within n i size lt fits = omega (arith, fits, swapped-lt i lt)
 
+pub bounds-program-n : goal.bounds-program-n
+bounds-program-n c =
+    let at = placed c.args.n c.loop-i.i c.place.result c.place.ensures in
+    subst (λ p. p < length c.args.program.now) (sym at)
+    (within c.args.n c.loop-i.i (length c.args.program.now) c.loop-i-test.true c.requires)
+
 pub loop-i-preserved : goal.loop-i-preserved
 loop-i-preserved c =
     let bytes = c.loop-i.bytes in
     let i = c.loop-i.i in
     let program = c.args.program.now in
     let n = c.args.n in
-    let at : ℕ = c.place.result in
-    let x = get_or (take (24 * n + 192 - 24 * n) (drop (24 * n) program)) at 0 in
+    let x = get_or program (24 * n + c.place.result) 0 in
     let here : x ≡ get_or program (place n i) 0 =
-    get_or-take (24 * n + 192 - 24 * n) (drop (24 * n) program) at 0
-    (omega (arith, c.place.ensures.within))
-    ∙ get_or-drop (24 * n) program at 0
-    ∙ ap (λ p. get_or program p 0) (placed n i at c.place.ensures.value) in
+    ap (λ p. get_or program p 0) (placed n i c.place.result c.place.ensures) in
     let long : i < length bytes = omega (arith, c.loop-i.invariant.size, c.loop-i-test.true) in
     record {
       size = length-set bytes i x ∙ c.loop-i.invariant.size;
