@@ -25,7 +25,7 @@ for compiler in cc clang; do
     command -v $compiler >/dev/null || continue
     for standard in c99 c11 c17 c2x; do
         for test in layout closed; do
-            $compiler -std=$standard $strict -DSTRICT -c tools/test_$test.c -o "$work/$test.o" ||
+            $compiler -std=$standard $strict -DSTRICT -c tests/library/test_$test.c -o "$work/$test.o" ||
                 complain "$compiler -std=$standard of test_$test.c"
         done
     done
@@ -34,7 +34,7 @@ for compiler in c++ clang++; do
     command -v $compiler >/dev/null || continue
     for standard in c++11 c++14 c++17 c++20; do
         for test in layout closed; do
-            $compiler -std=$standard $strict -x c++ -c tools/test_$test.c -o "$work/$test.o" ||
+            $compiler -std=$standard $strict -x c++ -c tests/library/test_$test.c -o "$work/$test.o" ||
                 complain "$compiler -std=$standard of test_$test.c"
         done
     done
