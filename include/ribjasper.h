@@ -197,9 +197,10 @@ int32_t ribjasper_player_feed_all(ribjasper_player *player, const uint8_t *block
 /* Draws `count` packs of 24 bytes, one after another at `packs`, and writes what may have changed, as the call above. */
 int32_t ribjasper_player_draw_all(ribjasper_player *player, const uint8_t *packs, size_t count, ribjasper_change *change);
 
-/* What a player counts since it began, or since the checkpoint that it was brought to: the packs that came (`words`), its
-   form and lead-in, the blocks that came, and how many of the packs have no codeword near. Packs that are drawn are not
-   counted. Blocks and bad packs stay at 4,294,967,295. ribjasper_player_feed_counted counts more. */
+/* What a player counts since it began, or since the checkpoint that it was brought to: the packs that came (`words`),
+   its form and lead-in, the blocks that came, and how many of the packs have no codeword near. Packs that are drawn
+   are not counted. Blocks and bad packs stay at 4,294,967,295. ribjasper_player_feed_counted counts more. Two threads
+   that only look at one player at the same time spoil it: give each a copy. */
 typedef struct ribjasper_counts {
     uint64_t words;
     uint32_t form;
@@ -210,22 +211,26 @@ typedef struct ribjasper_counts {
 int32_t ribjasper_player_counts(const ribjasper_player *player, ribjasper_counts *counts);
 
 /* Looking. The calls below that take a const player leave it as it is, but each has to be the only call of that player:
-   two that look at one player at the same time, in two threads, spoil it. Look at a copy, or take turns. */
+   two that look at one player at the same time, in two threads, spoil it. Look at a copy, or take turns: a copy is made
+   by ribjasper_player_copy, in about 2 us, and shows what the player showed then, whatever comes afterwards. */
 
-/* Writes the number of the colour, 0 to 15, of the pixel `x` from the left (0 to 299), `y` from the top (0 to 215). */
+/* Writes the number of the colour, 0 to 15, of the pixel `x` from the left (0 to 299), `y` from the top (0 to 215).
+   Two threads that only look at one player at the same time spoil it: give each a copy. */
 int32_t ribjasper_player_pixel(const ribjasper_player *player, uint32_t x, uint32_t y, uint8_t *pixel);
 
-/* Writes the numbers of the colours, 0 to 15, of all pixels of the screen; pixel (x, y) is number 300 y + x. */
+/* Writes the numbers of the colours, 0 to 15, of all pixels of the screen; pixel (x, y) is number 300 y + x. Two
+   threads that only look at one player at the same time spoil it: give each a copy. */
 int32_t ribjasper_player_screen(const ribjasper_player *player, uint8_t pixels[RIBJASPER_PIXELS]);
 
 /* Writes the numbers of the colours of the `width` pixels from `x` and the `height` rows from `y` of the screen into
    the `room` bytes at `pixels`: row j begins `stride` times j bytes from the front, and what is between the rows is
    left as it was. Refused if x + width is above 300, y + height above 216, `stride` below `width`, or if the last row
-   ends past the room. */
+   ends past the room. Two threads that only look at one player at the same time spoil it: give each a copy. */
 int32_t ribjasper_player_rect(const ribjasper_player *player, uint32_t x, uint32_t y, uint32_t width, uint32_t height,
                               uint8_t *pixels, size_t room, uint32_t stride);
 
-/* Writes red, green and blue of all pixels of the screen; those of pixel (x, y) begin at byte 3 (300 y + x). */
+/* Writes red, green and blue of all pixels of the screen; those of pixel (x, y) begin at byte 3 (300 y + x). Two
+   threads that only look at one player at the same time spoil it: give each a copy. */
 int32_t ribjasper_player_picture(const ribjasper_player *player, uint8_t bytes[RIBJASPER_PICTURE]);
 
 /* How a pixel is written by the call below, by bytes from the first. Opacity is 255 - (4 L + L / 16) of the level L of
@@ -239,25 +244,31 @@ int32_t ribjasper_player_picture(const ribjasper_player *player, uint8_t bytes[R
 #define RIBJASPER_RGB565 6      /* 2 bytes, the low one first: the highest 5 bits of red, 6 of green, 5 of blue */
 
 /* Writes the `width` pixels from `x` and the `height` rows from `y` of the screen, in one of these formats, into the
-   `room` bytes at `out`: row j begins `stride` times j bytes from the front, and what is between the rows is left as it
-   was. Refused if there is no such format, x + width is above 300, y + height above 216, `stride` below the bytes of a
-   row, or if the last row ends past the room. */
+   `room` bytes at `out`: row j begins `stride` times j bytes from the front, and what is between the rows is left as
+   it was. Refused if there is no such format, x + width is above 300, y + height above 216, `stride` below the bytes
+   of a row, or if the last row ends past the room. Two threads that only look at one player at the same time spoil
+   it: give each a copy. */
 int32_t ribjasper_player_pixels(const ribjasper_player *player, uint32_t format, uint32_t x, uint32_t y, uint32_t width,
                                 uint32_t height, uint8_t *out, size_t room, uint32_t stride);
 
-/* Writes colour `k` of the table, 0 to 15, as 0xRGB: four bits each of red, green and blue. */
+/* Writes colour `k` of the table, 0 to 15, as 0xRGB: four bits each of red, green and blue. Two threads that only
+   look at one player at the same time spoil it: give each a copy. */
 int32_t ribjasper_player_colour(const ribjasper_player *player, uint8_t k, uint16_t *colour);
 
-/* Writes all colours of the table in this form. */
+/* Writes all colours of the table in this form. Two threads that only look at one player at the same time spoil it:
+   give each a copy. */
 int32_t ribjasper_player_colours(const ribjasper_player *player, uint16_t colours[RIBJASPER_COLOURS]);
 
-/* Writes the levels of the colours, 0 to 63. */
+/* Writes the levels of the colours, 0 to 63. Two threads that only look at one player at the same time spoil it: give
+   each a copy. */
 int32_t ribjasper_player_levels(const ribjasper_player *player, uint8_t levels[RIBJASPER_COLOURS]);
 
-/* Writes the number of the border's colour, 0 to 15. */
+/* Writes the number of the border's colour, 0 to 15. Two threads that only look at one player at the same time spoil
+   it: give each a copy. */
 int32_t ribjasper_player_border(const ribjasper_player *player, uint8_t *border);
 
-/* Writes how many pixels further right (0 to 5) and further down (0 to 11) in the memory the screen begins. */
+/* Writes how many pixels further right (0 to 5) and further down (0 to 11) in the memory the screen begins. Two
+   threads that only look at one player at the same time spoil it: give each a copy. */
 int32_t ribjasper_player_offsets(const ribjasper_player *player, uint8_t *across, uint8_t *down);
 
 /* Going back and copying. The file of a checkpoint is that of the program's commands `save` and `resume`. */
