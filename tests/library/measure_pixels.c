@@ -63,7 +63,12 @@ static const struct line lines[] = {
     { "pixels, RGB565", PIXELS, RIBJASPER_RGB565, 0, 0, 300, 216 },
     { "half, RGBA", PIXELS, RIBJASPER_RGBA, 75, 50, 150, 108 },
     { "a row of tiles, RGBA", PIXELS, RIBJASPER_RGBA, 6, 96, 288, 12 },
+    { "a tile, indexed", PIXELS, RIBJASPER_INDEXED, 150, 96, 6, 12 },
+    { "a tile, RGB", PIXELS, RIBJASPER_RGB, 150, 96, 6, 12 },
     { "a tile, RGBA", PIXELS, RIBJASPER_RGBA, 150, 96, 6, 12 },
+    { "a tile, BGRA", PIXELS, RIBJASPER_BGRA, 150, 96, 6, 12 },
+    { "a tile, RGBA, levels", PIXELS, RIBJASPER_RGBA_LEVELS, 150, 96, 6, 12 },
+    { "a tile, BGRA, levels", PIXELS, RIBJASPER_BGRA_LEVELS, 150, 96, 6, 12 },
     { "a tile, RGB565", PIXELS, RIBJASPER_RGB565, 150, 96, 6, 12 },
 };
 

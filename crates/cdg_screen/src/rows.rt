@@ -1,12 +1,12 @@
-// Whole rows of the screen and of its memory.
+// Rows of the screen and of its memory, whole or some of their columns.
 ghost use Rattle.std.specs.Prelude.{◌≡◌, ◌<◌, ◌≤◌, ◌+◌, ◌-◌, ◌&&◌, nat_le, nat_lt, if◌then◌else◌, ℕ, [], All, length, slice_index, slice_index_or};
-ghost use Rattle.cdg_instructions.specs.Sizes.{colour_count, screen_height, screen_width, tile_width, window_width};
+ghost use Rattle.cdg_instructions.specs.Sizes.{colour_count, screen_height, screen_width};
 ghost use Rattle.cdg_screen.specs.Memory.{at, seen};
 ghost use Rattle.cdg_screen.specs.Standing.{screen_pixel};
 
 use crate::PlainScreen;
 use crate::memory::Memory;
-use cdg_instructions::{SCREEN_HEIGHT, SCREEN_WIDTH, TILE_HEIGHT, TILE_WIDTH, WINDOW_WIDTH};
+use cdg_instructions::{SCREEN_HEIGHT, SCREEN_WIDTH, TILE_HEIGHT, TILE_WIDTH};
 
 impl PlainScreen {
     /// Writes the numbers of the colours of a row of the screen's pixels. `y` is below 216.
@@ -16,11 +16,32 @@ impl PlainScreen {
             → slice_index row.new x ≡ screen_pixel (seen self.now) x y }
         ensures range { (x : ℕ) → slice_index row.new x < colour_count }
     {
-        fill_row(row, self.border);
-        if y >= TILE_HEIGHT && y < SCREEN_HEIGHT - TILE_HEIGHT {
-            self.memory
-                .write_window(usize::from(self.h), y + usize::from(self.v), row);
+        self.write_columns(0, y, row);
+    }
+
+    /// Writes the numbers of the colours of pixels of row `y` of the screen, from column `x` on: one to each byte of
+    /// `columns`. They are all on the screen.
+    pub fn write_columns(&self, x: usize, y: usize, columns: &mut [u8])
+        requires width { x + length columns.old ≤ screen_width }
+        requires height { y < screen_height }
+        ensures pixels { (i : ℕ) → i < length columns.old
+            → slice_index columns.new i ≡ screen_pixel (seen self.now) (x + i) y }
+        ensures range { (i : ℕ) → slice_index columns.new i < colour_count }
+    {
+        let end = columns.len();
+        // Between these two is the window, and around it the border.
+        let left = TILE_WIDTH.saturating_sub(x).min(end);
+        let right = (SCREEN_WIDTH - TILE_WIDTH).saturating_sub(x).min(end);
+        if y < TILE_HEIGHT || y >= SCREEN_HEIGHT - TILE_HEIGHT || left == right {
+            fill(columns, 0, end, self.border);
+            return;
         }
+        let across = x + left + usize::from(self.h);
+        let down = y + usize::from(self.v);
+        fill(columns, 0, left, self.border);
+        self.memory
+            .copy_columns(across, down, &mut columns[left..right]);
+        fill(columns, right, end, self.border);
     }
 
     /// Row `y` of the memory, 300 numbers of colours. `y` is below 216.
@@ -42,48 +63,47 @@ impl Memory {
         ensures pixels { (x : ℕ) → x < screen_width → slice_index result x ≡ at self.now x y }
         ensures range { All (λ pixel. pixel < colour_count) result }
     {
-        let from = &self.rows[(y + self.top) % SCREEN_HEIGHT];
         let mut row = [0; SCREEN_WIDTH];
-        // What is past the end of the row goes on at its front.
-        write_at(&mut row, 0, &from[self.left..]);
-        write_at(&mut row, SCREEN_WIDTH - self.left, &from[..self.left]);
+        self.copy_columns(0, y, &mut row);
         row
     }
 
-    // Writes the part of a row that the window shows where it is moved by `h`.
-    fn write_window(&self, h: usize, y: usize, row: &mut [u8; SCREEN_WIDTH])
-        requires moved { h ≤ 5 }
+    // Copies pixels of row y, from column x on.
+    fn copy_columns(&self, x: usize, y: usize, columns: &mut [u8])
+        requires width { x + length columns.old ≤ screen_width }
         requires height { y < screen_height }
-        requires range { (x : ℕ) → slice_index row.old x < colour_count }
-        ensures pixels { (x : ℕ) → x < screen_width → slice_index row.new x
-            ≡ (if nat_le tile_width x && nat_lt x (tile_width + window_width)
-            then at self.now (x + h) y else slice_index row.old x) }
-        ensures range { (x : ℕ) → slice_index row.new x < colour_count }
+        ensures pixels { (i : ℕ) → i < length columns.old
+            → slice_index columns.new i ≡ at self.now (x + i) y }
+        ensures range { (i : ℕ) → slice_index columns.new i < colour_count }
     {
-        let from = &self.rows[(y + self.top) % SCREEN_HEIGHT];
+        let row = &self.rows[(y + self.top) % SCREEN_HEIGHT];
+        let first = (x + self.left) % SCREEN_WIDTH;
+        let count = columns.len().min(SCREEN_WIDTH - first);
+        let rest = columns.len() - count;
+        write_at(columns, 0, &row[first..first + count]);
         // What is past the end of the row goes on at its front.
-        let first = (TILE_WIDTH + h + self.left) % SCREEN_WIDTH;
-        let count = WINDOW_WIDTH.min(SCREEN_WIDTH - first);
-        write_at(row, TILE_WIDTH, &from[first..first + count]);
-        write_at(row, TILE_WIDTH + count, &from[..WINDOW_WIDTH - count]);
+        if rest > 0 {
+            write_at(columns, count, &row[..rest]);
+        }
     }
 }
 
-// Makes all pixels of a row one colour.
-fn fill_row(row: &mut [u8; SCREEN_WIDTH], colour: u8)
-    requires { colour < colour_count }
-    ensures pixels { (x : ℕ) → x < screen_width → slice_index row.new x ≡ colour }
-    ensures range { (x : ℕ) → slice_index row.new x < colour_count }
+// Makes the pixels from a place up to another one colour.
+fn fill(columns: &mut [u8], from: usize, to: usize, colour: u8)
+    requires order { from ≤ to }
+    requires room { to ≤ length columns.old }
+    ensures { (i : ℕ) → slice_index columns.new i
+        ≡ (if nat_le from i && nat_lt i to then colour else slice_index columns.old i) }
 {
-    *row = [colour; SCREEN_WIDTH];
+    columns[from..to].fill(colour);
 }
 
-// Writes some pixels from a place of a row on.
-fn write_at(row: &mut [u8; SCREEN_WIDTH], place: usize, pixels: &[u8])
-    requires { place + length pixels.now ≤ screen_width }
-    ensures { (x : ℕ) → x < screen_width → slice_index row.new x
-        ≡ (if nat_le place x && nat_lt x (place + length pixels.now) then slice_index pixels.now (x - place)
-        else slice_index row.old x) }
+// Writes some pixels from a place on.
+fn write_at(columns: &mut [u8], place: usize, pixels: &[u8])
+    requires { place + length pixels.now ≤ length columns.old }
+    ensures { (i : ℕ) → slice_index columns.new i
+        ≡ (if nat_le place i && nat_lt i (place + length pixels.now) then slice_index pixels.now (i - place)
+        else slice_index columns.old i) }
 {
-    row[place..place + pixels.len()].copy_from_slice(pixels);
+    columns[place..place + pixels.len()].copy_from_slice(pixels);
 }

@@ -1,10 +1,9 @@
 -- Bytes and parts of the picture, row by row.
-use Rattle.std.proofs.Common.{◌≡◌, ◌≢◌, ◌+◌, ◌-◌, ◌*◌, ◌/◌, ◌%◌, ◌<◌, ◌≤◌, ◌&&◌, ℕ, suc, if◌then◌else◌, List, [], ◌∷◌, length, get_or, drop, take, sym, ap, ap₂, ◌∙◌, inl, inr, arith, length-drop}
+use Rattle.std.proofs.Common.{◌≡◌, ◌≢◌, ◌+◌, ◌-◌, ◌*◌, ◌/◌, ◌%◌, ◌<◌, ◌≤◌, ◌&&◌, ℕ, suc, if◌then◌else◌, List, [], ◌∷◌, length, get_or, sym, ap, ap₂, ◌∙◌, inl, inr, arith}
 use Rattle.std.specs.Prelude.{nat_le, nat_lt, slice_index}
 use Rattle.std.proofs.Math.Nat.{mul-le-mul_left}
 use Rattle.std.proofs.lemmas.Bool.{cases_lt}
 use Rattle.std.proofs.lemmas.Bool.Decides.{nat_tests}
-use Rattle.std.proofs.lemmas.List.{get_or-drop, get_or-take, length-take-le}
 use Rattle.cdg_screen.specs.Standing.{Standing, screen_pixel}
 use Rattle.cdg_screen.specs.Texts.{colour_bytes}
 use Rattle.cdg_screen.proofs.WholeRows.{else_before, else_behind, then_within}
@@ -135,14 +134,3 @@ module _ (now : Standing) (piece old new first : List ℕ) (left top width strid
           | inr past ↦ written n ∙ else_behind (stride * j) (stride * j + length piece) n _ _ past ∙ kept
         ]
       ]
-
--- a piece of a row
-pub length-piece : (row : List ℕ) (left width k : ℕ) → length row ≡ 300 → left + width ≤ 300 → k ≡ width
-    → length (take k (drop left row)) ≡ width
-length-piece row left width k size fits is =
-    length-take-le k (drop left row) (omega (arith, size, fits, is, length-drop left row)) ∙ is
-
-pub piece_at : (row : List ℕ) (left width k i : ℕ) → k ≡ width → i < width
-    → get_or (take k (drop left row)) i 0 ≡ get_or row (left + i) 0
-piece_at row left width k i is lt =
-    get_or-take k (drop left row) i 0 (omega (arith, is, lt)) ∙ get_or-drop left row i 0

@@ -1,5 +1,5 @@
 // What a screen shows, number by number.
-ghost use Rattle.std.specs.Prelude.{◌≡◌, ◌<◌, ◌≤◌, ◌+◌, ◌-◌, ◌/◌, ◌%◌, ◌&&◌, nat_le, nat_lt, if◌then◌else◌, ◌∷◌, [], ℕ, length, slice_index};
+ghost use Rattle.std.specs.Prelude.{◌≡◌, ◌<◌, ◌≤◌, ◌+◌, ◌-◌, ◌/◌, ◌%◌, nat_le, if◌then◌else◌, ◌∷◌, [], ℕ, length, slice_index};
 ghost use Rattle.cdg_instructions.specs.Sizes.{colour_values, screen_pixels, screen_width};
 ghost use Rattle.cdg_screen.specs.Memory.{seen};
 ghost use Rattle.cdg_screen.specs.Standing.{screen_pixel, standing_after};
@@ -20,11 +20,13 @@ pub(crate) fn pixels(screen: &PlainScreen, pixels: &mut [u8; SCREEN_PIXELS])
     ensures { (n : ℕ) → n < screen_pixels
         → slice_index pixels.new n ≡ screen_pixel (seen screen.now) (n % screen_width) (n / screen_width) }
 {
-    let mut row = [0; SCREEN_WIDTH];
-    for y in 0..SCREEN_HEIGHT {
-        screen.write_row(y, &mut row);
-        write_at(pixels, SCREEN_WIDTH * y, &row);
-    }
+    let whole = ScreenPart {
+        left: 0,
+        top: 0,
+        width: SCREEN_WIDTH,
+        height: SCREEN_HEIGHT,
+    };
+    part_of_screen(screen, &whole, pixels, SCREEN_WIDTH);
 }
 
 /// The pixels of a part of the screen: row j of it stands `stride` times j bytes from the front.
@@ -39,21 +41,10 @@ pub(crate) fn part_of_screen(
     requires room { HasRoomFor part.now stride (length pixels.old) }
     ensures { ShowsPart (seen screen.now) part.now stride pixels.old pixels.new }
 {
-    let mut row = [0; SCREEN_WIDTH];
     for j in 0..part.height {
-        screen.write_row(part.top + j, &mut row);
-        write_at(pixels, stride * j, &row[part.left..part.left + part.width]);
+        let line = &mut pixels[stride * j..stride * j + part.width];
+        screen.write_columns(part.left, part.top + j, line);
     }
-}
-
-// Writes some pixels from a place on.
-fn write_at(room: &mut [u8], place: usize, pixels: &[u8])
-    requires { place + length pixels.now ≤ length room.old }
-    ensures { (n : ℕ) → slice_index room.new n
-        ≡ (if nat_le place n && nat_lt n (place + length pixels.now) then slice_index pixels.now (n - place)
-        else slice_index room.old n) }
-{
-    room[place..place + pixels.len()].copy_from_slice(pixels);
 }
 
 /// The colours of the table.

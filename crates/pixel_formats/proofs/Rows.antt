@@ -1,14 +1,12 @@
 -- Pixels in rows, and rows in a room.
-use Rattle.std.proofs.Common.{◌≡◌, ◌≢◌, ◌+◌, ◌-◌, ◌*◌, ◌<◌, ◌≤◌, ◌&&◌, ℕ, suc, if◌then◌else◌, List, [], ◌++◌, length, length-drop, get_or, take, drop, refl, subst, sym, ap, ◌∙◌, inl, inr, arith}
+use Rattle.std.proofs.Common.{◌≡◌, ◌≢◌, ◌+◌, ◌-◌, ◌*◌, ◌<◌, ◌≤◌, ◌&&◌, ℕ, suc, if◌then◌else◌, List, [], length, get_or, take, drop, refl, subst, sym, ap, ◌∙◌, inl, inr, arith}
 use Rattle.std.specs.Prelude.{nat_le, nat_lt, slice_index}
 use Rattle.std.proofs.Math.Nat.{mul-le-mul_left}
 use Rattle.std.proofs.lemmas.Bool.{cases_lt}
 use Rattle.std.proofs.lemmas.Bool.Decides.{nat_tests}
-use Rattle.std.proofs.lemmas.List.{get_or_append_left, get_or-append_right, get_or-drop, get_or-take, length-take-le}
-use borrow.Rule.Slice.PartMut.{put_mid}
-use Rattle.live_player.proofs.Pictures.{length-piece, piece_at}
+use Rattle.std.proofs.lemmas.List.{get_or-take}
 use Rattle.cdg_screen.specs.Standing.{Standing, screen_pixel}
-use Rattle.cdg_screen.proofs.WholeRows.{between_places, else_before, else_behind, then_within}
+use Rattle.cdg_screen.proofs.WholeRows.{else_before, else_behind, length-part, then_within}
 use Rattle.pixel_formats.specs.Formats.{pixel_bytes, pixel_size, shown_bytes, AreLineBytes}
 use Rattle.pixel_formats.specs.declared.format.PixelFormat.{PixelFormat}
 use Rattle.pixel_formats.specs.declared.format.PixelFormat.TheVariants.{Indexed, Rgb, Rgba, Bgra, RgbaLevels, BgraLevels, Rgb565}
@@ -114,26 +112,7 @@ module _ (byte : ℕ → ℕ → ℕ → ℕ) (piece old new first : List ℕ) (
 pub part_long : (out : List ℕ) (at count bytes : ℕ) → at + count ≤ length out → count ≡ bytes
     → length (take (at + count - at) (drop at out)) ≡ bytes
 part_long out at count bytes fits is =
-    length-take-le (at + count - at) (drop at out) (omega (arith, length-drop at out, fits))
-    ∙ omega (arith, is)
-
--- a number of a list of which a part was written
-pub piece_put : (at k : ℕ) (xs ys : List ℕ) (n : ℕ) → at + length ys ≤ length xs → k ≡ length ys
-    → get_or (put_mid at k xs ys) n 0
-    ≡ (if nat_le at n && nat_lt n (at + length ys) then get_or ys (n - at) 0 else get_or xs n 0)
-piece_put at k xs ys n fits is =
-    let front : length (take at xs) ≡ at = length-take-le at xs (omega (arith, fits)) in
-    between_places at (at + length ys) n (get_or (put_mid at k xs ys) n 0) (get_or ys (n - at) 0)
-    (get_or xs n 0)
-    (λ lt. get_or_append_left (take at xs) (ys ++ drop k (drop at xs)) 0 n (omega (arith, lt, front))
-    ∙ get_or-take at xs n 0 lt)
-    (λ from lt. get_or-append_right (take at xs) (ys ++ drop k (drop at xs)) at n 0 front from
-    ∙ get_or_append_left ys (drop k (drop at xs)) 0 (n - at) (omega (arith, from, lt)))
-    (λ past. get_or-append_right (take at xs) (ys ++ drop k (drop at xs)) at n 0 front (omega (arith, past))
-    ∙ get_or-append_right ys (drop k (drop at xs)) (length ys) (n - at) 0 refl (omega (arith, past))
-    ∙ get_or-drop k (drop at xs) (n - at - length ys) 0
-    ∙ get_or-drop at xs (k + (n - at - length ys)) 0
-    ∙ ap (λ i. get_or xs i 0) (omega (arith, past, is)))
+    length-part out at (at + count - at) (omega (arith, fits)) ∙ omega (arith, is)
 
 -- ---- the bytes of a pixel
 
@@ -162,38 +141,25 @@ shown_number format now x y number k indexed is lt =
 
 -- ---- a row of a part
 
--- a line has room for a part of a row
-pub line_fits : (format : PixelFormat) (row : List ℕ) (left width count size room : ℕ)
-    → pixel_size format ≡ size → count ≡ width → left + width ≤ 300
-    → length row ≡ 300 → room ≡ pixel_size format * width
-    → room ≡ size * length (take count (drop left row))
-line_fits format row left width count size room is count_is fits long room_is =
-    room_is
-    ∙ ap (λ s. s * width) is
-    ∙ ap (λ n. size * n) (sym (length-piece row left width count long fits count_is))
-
--- the bytes of a part of a row of the screen are those that its pixels show
-pub line_shows : (format : PixelFormat) (now : Standing) (table : List (List ℕ)) (row line : List ℕ)
-    (left width count size y : ℕ) → pixel_size format ≡ size → count ≡ width → left + width ≤ 300
-    → length row ≡ 300
-    → ((x : ℕ) → x < 300 → get_or row x 0 ≡ screen_pixel now x y)
-    → ((x : ℕ) → get_or row x 0 < 16)
+-- the bytes of pixels of a row of the screen are those that the pixels show
+pub line_shows : (format : PixelFormat) (now : Standing) (table : List (List ℕ)) (pixels line : List ℕ)
+    (left width y : ℕ) → length pixels ≡ width
+    → ((i : ℕ) → i < width → get_or pixels i 0 ≡ screen_pixel now (left + i) y)
+    → ((i : ℕ) → get_or pixels i 0 < 16)
     → ((p : ℕ) → p < 16 → take (pixel_size format) (get_or table p [])
     ≡ pixel_bytes format p (slice_index now.colours p) (slice_index now.levels p))
-    → AreLineBytes size (take count (drop left row)) table line
+    → AreLineBytes (pixel_size format) pixels table line
     → (i k : ℕ) → i < width → k < pixel_size format
     → get_or line (pixel_size format * i + k) 0 ≡ get_or (shown_bytes format now (left + i) y) k 0
-line_shows format now table row line left width count size y is count_is fits long pixels range bytes
-    written i k i_lt k_lt =
-    let whole : length (take count (drop left row)) ≡ width =
-    length-piece row left width count long fits count_is in
-    let piece : get_or (take count (drop left row)) i 0 ≡ get_or row (left + i) 0 =
-    piece_at row left width count i count_is i_lt in
-    ap (λ s. get_or line (s * i + k) 0) is
-    ∙ written i k (omega (arith, whole, i_lt)) (omega (arith, k_lt, is))
-    ∙ shown_pixel format now table (left + i) y (get_or (take count (drop left row)) i 0) k
-    (piece ∙ pixels (left + i) (omega (arith, i_lt, fits)))
-    (subst (λ v. v < 16) (sym piece) (range (left + i))) k_lt bytes
+line_shows format now table pixels line left width y long shown range bytes written i k i_lt k_lt =
+    written i k (omega (arith, long, i_lt)) k_lt
+    ∙ shown_pixel format now table (left + i) y (get_or pixels i 0) k (shown i i_lt) (range i) k_lt bytes
+
+-- the bytes of so many pixels, by how many bytes each of the format has
+pub of_size : (format : PixelFormat) (size : ℕ) (pixels : List ℕ) (table : List (List ℕ)) (line : List ℕ)
+    → pixel_size format ≡ size
+    → AreLineBytes size pixels table line → AreLineBytes (pixel_size format) pixels table line
+of_size format size pixels table line is written = subst (λ s. AreLineBytes s pixels table line) (sym is) written
 
 -- all other formats have four bytes
 pub four_bytes : (format : PixelFormat) → format ≢ Indexed → format ≢ Rgb565 → format ≢ Rgb

@@ -16,6 +16,27 @@ pub(crate) fn table_of(screen: &PlainScreen, format: PixelFormat) -> [[u8; 4]; C
         ≡ pixel_bytes format p (slice_index (seen screen.now).colours p)
         (slice_index (seen screen.now).levels p) }
 {
+    // Each format has a loop of its own, which the compiler can make for it alone.
+    match format {
+        PixelFormat::Indexed => entries(screen, PixelFormat::Indexed),
+        PixelFormat::Rgb => entries(screen, PixelFormat::Rgb),
+        PixelFormat::Rgba => entries(screen, PixelFormat::Rgba),
+        PixelFormat::Bgra => entries(screen, PixelFormat::Bgra),
+        PixelFormat::RgbaLevels => entries(screen, PixelFormat::RgbaLevels),
+        PixelFormat::BgraLevels => entries(screen, PixelFormat::BgraLevels),
+        PixelFormat::Rgb565 => entries(screen, PixelFormat::Rgb565),
+    }
+}
+
+// The same. It is inlined, so that its format is known where it stands.
+#[inline(always)]
+fn entries(screen: &PlainScreen, format: PixelFormat) -> [[u8; 4]; COLOURS]
+    ensures size { length result ≡ 16 }
+    ensures sizes { (p : ℕ) → p < 16 → length (slice_index_or result p []) ≡ 4 }
+    ensures bytes { (p : ℕ) → p < 16 → take (pixel_size format) (slice_index_or result p [])
+        ≡ pixel_bytes format p (slice_index (seen screen.now).colours p)
+        (slice_index (seen screen.now).levels p) }
+{
     let mut table = [[0; 4]; COLOURS];
     for p in 0..COLOURS {
         let number = p as u8;
@@ -25,6 +46,7 @@ pub(crate) fn table_of(screen: &PlainScreen, format: PixelFormat) -> [[u8; 4]; C
 }
 
 // The bytes of a pixel of a colour of this number and level, those behind them zero.
+#[inline(always)]
 fn entry(format: PixelFormat, number: u8, colour: u16, level: u8) -> [u8; 4]
     requires colour { colour < colour_values }
     requires level { level < level_values }

@@ -1,10 +1,11 @@
 // A part of the screen in a format.
-ghost use Rattle.std.specs.Prelude.{◌≡◌, ◌<◌, ◌≤◌, ◌+◌, ◌*◌, ℕ, [], length, slice_index, slice_index_or, take};
+ghost use Rattle.std.specs.Prelude.{◌≡◌, ◌≢◌, ◌<◌, ◌≤◌, ◌+◌, ◌*◌, ℕ, [], length, slice_index, slice_index_or, take};
 ghost use Rattle.cdg_instructions.specs.Sizes.{screen_height};
 ghost use Rattle.cdg_screen.specs.Memory.{seen};
 ghost use Rattle.live_player.specs.Lives.{picture_byte, picture_bytes};
 ghost use Rattle.live_player.specs.Parts.{IsOnScreen};
-ghost use Rattle.pixel_formats.specs.Formats.{pixel_bytes, pixel_size, shown_bytes, HasPixelRoom, ShowsPixels};
+ghost use Rattle.pixel_formats.specs.Formats.{pixel_bytes, pixel_size, shown_bytes, AreLineBytes, HasPixelRoom, ShowsPixels};
+ghost use Rattle.pixel_formats.specs.declared.format.PixelFormat.{PixelFormat};
 
 use crate::format::PixelFormat;
 use crate::line::{write_fours, write_threes, write_twos};
@@ -31,8 +32,9 @@ pub fn write_pixels(
     let count = format.size() * part.width;
     let mut row = [0; SCREEN_WIDTH];
     for j in 0..part.height {
+        let pixels = &mut row[..part.width];
         let line = &mut out[stride * j..stride * j + count];
-        write_row(screen, part, j, format, &table, &mut row, line);
+        write_row(screen, part, j, format, &table, pixels, line);
     }
 }
 
@@ -49,18 +51,19 @@ pub fn write_picture(screen: &PlainScreen, bytes: &mut [u8; PICTURE_BYTES])
     write_pixels(screen, &whole, PixelFormat::Rgb, bytes, 3 * SCREEN_WIDTH);
 }
 
-// Writes the bytes of the pixels of row j of a part. `row` is room for a row of the screen.
+// Writes the bytes of the pixels of row j of a part. `pixels` is room for their numbers.
 fn write_row(
     screen: &PlainScreen,
     part: &ScreenPart,
     j: usize,
     format: PixelFormat,
     table: &[[u8; 4]; COLOURS],
-    row: &mut [u8; SCREEN_WIDTH],
+    pixels: &mut [u8],
     line: &mut [u8],
 )
     requires part { IsOnScreen part.now }
     requires row { j < part.now.height }
+    requires room { length pixels.old ≡ part.now.width }
     requires size { length line.old ≡ pixel_size format * part.now.width }
     requires sizes { (p : ℕ) → p < 16 → length (slice_index_or table.now p []) ≡ 4 }
     requires bytes { (p : ℕ) → p < 16 → take (pixel_size format) (slice_index_or table.now p [])
@@ -70,20 +73,31 @@ fn write_row(
         → slice_index line.new (pixel_size format * i + k)
         ≡ slice_index (shown_bytes format (seen screen.now) (part.now.left + i) (part.now.top + j)) k }
 {
-    screen.write_row(part.top + j, row);
-    let pixels = &row[part.left..part.left + part.width];
     match format {
-        PixelFormat::Indexed => put_all(line, pixels),
+        PixelFormat::Indexed => screen.write_columns(part.left, part.top + j, line),
+        _ => {
+            screen.write_columns(part.left, part.top + j, pixels);
+            write_colours(format, pixels, table, line);
+        }
+    }
+}
+
+// Writes the bytes of the colours of pixels.
+fn write_colours(
+    format: PixelFormat,
+    pixels: &[u8],
+    table: &[[u8; 4]; COLOURS],
+    line: &mut [u8],
+)
+    requires format { format ≢ PixelFormat.Indexed }
+    requires size { length line.old ≡ pixel_size format * length pixels.now }
+    requires numbers { (i : ℕ) → i < length pixels.now → slice_index pixels.now i < 16 }
+    requires entries { (p : ℕ) → p < 16 → length (slice_index_or table.now p []) ≡ 4 }
+    ensures { AreLineBytes (pixel_size format) pixels.now table.now line.new }
+{
+    match format {
         PixelFormat::Rgb565 => write_twos(pixels, table, line),
         PixelFormat::Rgb => write_threes(pixels, table, line),
         _ => write_fours(pixels, table, line),
     }
-}
-
-// Writes bytes in the place of as many.
-fn put_all(line: &mut [u8], bytes: &[u8])
-    requires { length line.old ≡ length bytes.now }
-    ensures { line.new ≡ bytes.now }
-{
-    line.copy_from_slice(bytes);
 }

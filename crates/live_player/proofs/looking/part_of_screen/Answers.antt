@@ -1,28 +1,42 @@
 use Rattle.cdg_screen.specs.Memory.{seen}
-use Rattle.std.proofs.Common.{◌≡◌, ◌+◌, ◌-◌, ◌<◌, ◌∙◌, ℕ, arith}
-use Rattle.live_player.proofs.Pictures.{length-piece, part_others, part_pixels, piece_at}
+use Rattle.std.proofs.Common.{◌≡◌, ◌+◌, ◌-◌, ◌*◌, ◌<◌, ◌≤◌, ◌∙◌, ℕ, length, take, drop, arith}
+use borrow.Rule.Slice.PartMut.{put_mid}
+use Rattle.cdg_screen.proofs.WholeRows.{length-part, piece_put}
+use Rattle.live_player.proofs.Pictures.{part_others, part_pixels}
 use Rattle.live_player.proofs.looking.part_of_screen.Goals as goal
+
+pub write_columns-requires-clause-width : goal.write_columns-requires-clause-width
+write_columns-requires-clause-width c =
+    let part = c.args.part.now in
+    let at = c.args.stride * c.loop-j.j in
+    omega (arith, c.requires.part.0,
+    length-part c.loop-j.pixels at (at + part.width - at)
+    (omega (arith, c.requires.room c.loop-j.j c.loop-j-test.true, c.loop-j.auto.pixels)))
 
 pub loop-j-preserved : goal.loop-j-preserved
 loop-j-preserved c =
-    let now = (seen c.args.screen.now) in
+    let now = seen c.args.screen.now in
     let part = c.args.part.now in
-    let row = c.write_row.new.row in
     let j = c.loop-j.j in
-    let k = part.left + part.width - part.left in
-    let k_is : k ≡ part.width = omega arith in
-    let size = length-piece row part.left part.width k c.write_row.array_long c.requires.part.0 k_is in
-    let shown =
-    λ (i : ℕ) (lt : i < part.width). piece_at row part.left part.width k i k_is lt
-    ∙ c.write_row.ensures.pixels (part.left + i) (omega (arith, lt, c.requires.part.0)) in
+    let at = c.args.stride * j in
+    let line = c.write_columns.new.columns in
+    let room : at + part.width ≤ length c.loop-j.pixels =
+    omega (arith, c.requires.room j c.loop-j-test.true, c.loop-j.auto.pixels) in
+    let given : length (take (at + part.width - at) (drop at c.loop-j.pixels)) ≡ at + part.width - at =
+    length-part c.loop-j.pixels at (at + part.width - at) (omega (arith, room)) in
+    let size : length line ≡ part.width = c.write_columns.auto.columns ∙ given ∙ omega arith in
+    let shown = λ (i : ℕ) (lt : i < part.width). c.write_columns.ensures.pixels i (omega (arith, lt, given)) in
+    let new = put_mid at (at + part.width - at) c.loop-j.pixels line in
+    let written =
+    λ (n : ℕ). piece_put at (at + part.width - at) c.loop-j.pixels line n (omega (arith, size, room))
+    (omega (arith, size)) in
     record {
-      size = c.write_at.auto.room ∙ c.loop-j.invariant.size;
       pixels =
-          part_pixels now _ c.loop-j.pixels c.write_at.new.room c.args.pixels.now part.left part.top
-          part.width c.args.stride j size c.requires.apart shown c.write_at.ensures c.loop-j.invariant.pixels;
+          part_pixels now line c.loop-j.pixels new c.args.pixels.now part.left part.top part.width
+          c.args.stride j size c.requires.apart shown written c.loop-j.invariant.pixels;
       others =
-          part_others now _ c.loop-j.pixels c.write_at.new.room c.args.pixels.now part.left part.top
-          part.width c.args.stride j size c.requires.apart shown c.write_at.ensures c.loop-j.invariant.others;
+          part_others now line c.loop-j.pixels new c.args.pixels.now part.left part.top part.width
+          c.args.stride j size c.requires.apart shown written c.loop-j.invariant.others;
     }
 
 pub returns : goal.returns

@@ -1,12 +1,11 @@
 use Rattle.cdg_screen.specs.Memory.{seen}
-use Rattle.std.proofs.Common.{◌≡◌, ◌<◌, ◌+◌, ◌*◌, ℕ, length}
+use Rattle.std.proofs.Common.{◌≡◌, ◌<◌, ◌+◌, ◌*◌, ℕ}
 use Rattle.std.specs.Prelude.{slice_index}
 use Rattle.cdg_screen.specs.Standing.{screen_pixel}
 use Rattle.live_player.proofs.looking.part_of_screen.Given as goal
 
 abbrev pub invariant-loop-j : goal.invariant-loop-j
 invariant-loop-j l = record {
-  size : length l.pixels ≡ length l.initial.pixels;
   pixels : (i j : ℕ) → i < l.part.width → j < l.j
       → slice_index l.pixels (j * l.stride + i)
       ≡ screen_pixel (seen l.screen) (l.part.left + i) (l.part.top + j);

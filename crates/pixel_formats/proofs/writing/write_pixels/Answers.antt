@@ -2,7 +2,8 @@ use Rattle.std.proofs.Common.{◌≡◌, ◌+◌, ◌-◌, ◌*◌, ◌≤◌, �
 use Rattle.pixel_formats.specs.Formats.{pixel_size, shown_bytes}
 use Rattle.cdg_screen.specs.Memory.{seen}
 use borrow.Rule.Slice.PartMut.{put_mid}
-use Rattle.pixel_formats.proofs.Rows.{part_long, piece_put, row_others, row_pixels}
+use Rattle.cdg_screen.proofs.WholeRows.{piece_put}
+use Rattle.pixel_formats.proofs.Rows.{part_long, row_others, row_pixels}
 use Rattle.pixel_formats.proofs.writing.write_pixels.Goals as goal
 
 pub write_row-requires-clause-size : goal.write_row-requires-clause-size

@@ -2,7 +2,7 @@ use Rattle.std.proofs.Common.{◌≡◌, ◌<◌, ℕ, [], length, take, get_or}
 use Rattle.std.specs.Prelude.{slice_index}
 use Rattle.cdg_screen.specs.Memory.{seen}
 use Rattle.pixel_formats.specs.Formats.{pixel_bytes, pixel_size}
-use Rattle.pixel_formats.proofs.table.table_of.Given as goal
+use Rattle.pixel_formats.proofs.table.entries.Given as goal
 
 abbrev pub invariant-loop-p : goal.invariant-loop-p
 invariant-loop-p l = record {
