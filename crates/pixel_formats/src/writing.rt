@@ -83,12 +83,7 @@ fn write_row(
 }
 
 // Writes the bytes of the colours of pixels.
-fn write_colours(
-    format: PixelFormat,
-    pixels: &[u8],
-    table: &[[u8; 4]; COLOURS],
-    line: &mut [u8],
-)
+fn write_colours(format: PixelFormat, pixels: &[u8], table: &[[u8; 4]; COLOURS], line: &mut [u8])
     requires format { format ≢ PixelFormat.Indexed }
     requires size { length line.old ≡ pixel_size format * length pixels.now }
     requires numbers { (i : ℕ) → i < length pixels.now → slice_index pixels.now i < 16 }

@@ -9,9 +9,12 @@ pub write_columns-requires-clause-width : goal.write_columns-requires-clause-wid
 write_columns-requires-clause-width c =
     let part = c.args.part.now in
     let at = c.args.stride * c.loop-j.j in
-    omega (arith, c.requires.part.0,
-    length-part c.loop-j.pixels at (at + part.width - at)
-    (omega (arith, c.requires.room c.loop-j.j c.loop-j-test.true, c.loop-j.auto.pixels)))
+    omega (
+      arith,
+      c.requires.part.0,
+      length-part c.loop-j.pixels at (at + part.width - at)
+          (omega (arith, c.requires.room c.loop-j.j c.loop-j-test.true, c.loop-j.auto.pixels)),
+    )
 
 pub loop-j-preserved : goal.loop-j-preserved
 loop-j-preserved c =

@@ -23,11 +23,23 @@ returns-clause-pixels c i lt =
     let first = c.fill-2.new.columns in
     let copied = c.copy_columns.new.columns in
     let order : left < right =
-    omega (arith, c.min-left.ensures, c.saturating_sub.ensures, c.min-right.ensures, c.saturating_sub-2.ensures,
-    c.if-left-right.false) in
+    omega (
+      arith,
+      c.min-left.ensures,
+      c.saturating_sub.ensures,
+      c.min-right.ensures,
+      c.saturating_sub-2.ensures,
+      c.if-left-right.false,
+    ) in
     let left_is : left ≡ 6 - x =
-    omega (arith, c.min-left.ensures, c.saturating_sub.ensures, c.min-right.ensures, c.saturating_sub-2.ensures,
-    order) in
+    omega (
+      arith,
+      c.min-left.ensures,
+      c.saturating_sub.ensures,
+      c.min-right.ensures,
+      c.saturating_sub-2.ensures,
+      order,
+    ) in
     let right_is : right ≡ min (294 - x) end = omega (arith, c.min-right.ensures, c.saturating_sub-2.ensures) in
     let one_size : length first ≡ end = c.fill-2.auto.columns in
     let given : length (take (right - left) (drop left first)) ≡ right - left =
@@ -56,11 +68,23 @@ returns-clause-range c i = elim (cases_lt i (length c.args.columns.now)) [
       let first = c.fill-2.new.columns in
       let copied = c.copy_columns.new.columns in
       let order : left < right =
-      omega (arith, c.min-left.ensures, c.saturating_sub.ensures, c.min-right.ensures,
-      c.saturating_sub-2.ensures, c.if-left-right.false) in
+      omega (
+        arith,
+        c.min-left.ensures,
+        c.saturating_sub.ensures,
+        c.min-right.ensures,
+        c.saturating_sub-2.ensures,
+        c.if-left-right.false,
+      ) in
       let left_is : left ≡ 6 - x =
-      omega (arith, c.min-left.ensures, c.saturating_sub.ensures, c.min-right.ensures,
-      c.saturating_sub-2.ensures, order) in
+      omega (
+        arith,
+        c.min-left.ensures,
+        c.saturating_sub.ensures,
+        c.min-right.ensures,
+        c.saturating_sub-2.ensures,
+        order,
+      ) in
       let right_is : right ≡ min (294 - x) end = omega (arith, c.min-right.ensures, c.saturating_sub-2.ensures) in
       let one_size : length first ≡ end = c.fill-2.auto.columns in
       let given : length (take (right - left) (drop left first)) ≡ right - left =
@@ -73,7 +97,12 @@ returns-clause-range c i = elim (cases_lt i (length c.args.columns.now)) [
       c.self.invariant.border_below
   | inr past ↦
       subst (λ v. v < 16)
-      (sym (get_or_past {X = ℕ} c.fill-3.new.columns i 0 (omega (arith, past, c.fill-3.auto.columns,
-      c.copy_columns.auto.columns, c.fill-2.auto.columns))))
+      (sym (get_or_past {X = ℕ} c.fill-3.new.columns i 0 (omega (
+        arith,
+        past,
+        c.fill-3.auto.columns,
+        c.copy_columns.auto.columns,
+        c.fill-2.auto.columns,
+      ))))
       (omega arith)
 ]
