@@ -83,7 +83,8 @@ pub front_columns : (row one old : List ℕ) (x left first count k i : ℕ) → 
     else get_or old i 0)
     → get_or one i 0 ≡ get_or row ((x + i + left) % 300) 0
 front_columns row one old x left first count k i size left_lt first_is fits k_is x_lt lt is =
-    let long : length (take k (drop first row)) ≡ k = length-part row first k (omega (arith, fits, k_is, size)) in
+    let long : length (take k (drop first row)) ≡ k =
+    length-part row first k (omega (arith, fits, k_is, size)) in
     is
     ∙ then_within 0 (0 + length (take k (drop first row))) i _ _ (omega arith) (omega (arith, long, lt, k_is))
     ∙ get_or-take k (drop first row) (i - 0) 0 (omega (arith, lt, k_is))
@@ -122,7 +123,8 @@ small_between v a b place end x is a_lt b_lt = elim (cases_lt x place) [
   ]
 ]
 
--- Pixel i of columns of a row: the border up to `left`, what was copied from there to `right`, and the border behind it.
+-- Pixel i of columns of a row: the border up to `left`, what was copied from there to `right`, and the border
+-- behind it.
 pub columns_are : (x left right end i border : ℕ) (old first copied third : List ℕ) → left ≡ 6 - x
     → right ≡ min (294 - x) end → left < right → length first ≡ end → length copied ≡ right - left → i < end
     → get_or first i 0 ≡ (if nat_le 0 i && nat_lt i left then border else get_or old i 0)
@@ -132,7 +134,8 @@ pub columns_are : (x left right end i border : ℕ) (old first copied third : Li
     else get_or (put_mid left (right - left) first copied) i 0)
     → get_or third i 0
     ≡ (if nat_le 6 (x + i) && nat_lt (x + i) 294 then get_or copied (i - left) 0 else border)
-columns_are x left right end i border old first copied third left_is right_is order one_size two_size lt one last =
+columns_are x left right end i border old first copied third left_is right_is order one_size two_size lt one
+    last =
     let fits : left + length copied ≤ length first = omega (arith, two_size, one_size, order, right_is) in
     let put = piece_put left (right - left) first copied i fits (omega (arith, two_size)) in
     between_places 6 294 (x + i) (get_or third i 0) (get_or copied (i - left) 0) border

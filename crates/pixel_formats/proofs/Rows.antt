@@ -159,7 +159,8 @@ line_shows format now table pixels line left width y long shown range bytes writ
 pub of_size : (format : PixelFormat) (size : ℕ) (pixels : List ℕ) (table : List (List ℕ)) (line : List ℕ)
     → pixel_size format ≡ size
     → AreLineBytes size pixels table line → AreLineBytes (pixel_size format) pixels table line
-of_size format size pixels table line is written = subst (λ s. AreLineBytes s pixels table line) (sym is) written
+of_size format size pixels table line is written =
+    subst (λ s. AreLineBytes s pixels table line) (sym is) written
 
 -- all other formats have four bytes
 pub four_bytes : (format : PixelFormat) → format ≢ Indexed → format ≢ Rgb565 → format ≢ Rgb

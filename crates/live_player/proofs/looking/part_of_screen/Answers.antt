@@ -28,7 +28,8 @@ loop-j-preserved c =
     let given : length (take (at + part.width - at) (drop at c.loop-j.pixels)) ≡ at + part.width - at =
     length-part c.loop-j.pixels at (at + part.width - at) (omega (arith, room)) in
     let size : length line ≡ part.width = c.write_columns.auto.columns ∙ given ∙ omega arith in
-    let shown = λ (i : ℕ) (lt : i < part.width). c.write_columns.ensures.pixels i (omega (arith, lt, given)) in
+    let shown =
+    λ (i : ℕ) (lt : i < part.width). c.write_columns.ensures.pixels i (omega (arith, lt, given)) in
     let new = put_mid at (at + part.width - at) c.loop-j.pixels line in
     let written =
     λ (n : ℕ). piece_put at (at + part.width - at) c.loop-j.pixels line n (omega (arith, size, room))

@@ -17,11 +17,13 @@ returns-then-rest-gt0-clause-pixels c i lt =
     let full : first + count ≡ 300 = omega (arith, c.min-count.ensures) in
     let x_lt : c.args.x + i < 300 = omega (arith, lt, c.requires.width) in
     let front =
-    λ (early : i < count). front_columns row c.write_at.new.columns c.args.columns.now c.args.x left first count
+    λ (early : i < count).
+    front_columns row c.write_at.new.columns c.args.columns.now c.args.x left first count
     (first + count - first) i size g.left_below refl (omega (arith, full)) (omega arith) x_lt early
     (c.write_at.ensures i) in
     let there =
-    turned_columns row c.write_at.new.columns c.write_at-then-rest-gt0.new.columns c.args.x left first count rest i
+    turned_columns row c.write_at.new.columns c.write_at-then-rest-gt0.new.columns c.args.x left first count
+    rest i
     size g.left_below refl full x_lt (omega (arith, lt)) (omega (arith, c.requires.width)) front
     (c.write_at-then-rest-gt0.ensures i) in
     rw (← c.self.view_is)

@@ -40,7 +40,8 @@ returns-clause-pixels c i lt =
       c.saturating_sub-2.ensures,
       order,
     ) in
-    let right_is : right ≡ min (294 - x) end = omega (arith, c.min-right.ensures, c.saturating_sub-2.ensures) in
+    let right_is : right ≡ min (294 - x) end =
+    omega (arith, c.min-right.ensures, c.saturating_sub-2.ensures) in
     let one_size : length first ≡ end = c.fill-2.auto.columns in
     let given : length (take (right - left) (drop left first)) ≡ right - left =
     length-part first left (right - left) (omega (arith, one_size, right_is, order)) in
@@ -85,7 +86,8 @@ returns-clause-range c i = elim (cases_lt i (length c.args.columns.now)) [
         c.saturating_sub-2.ensures,
         order,
       ) in
-      let right_is : right ≡ min (294 - x) end = omega (arith, c.min-right.ensures, c.saturating_sub-2.ensures) in
+      let right_is : right ≡ min (294 - x) end =
+      omega (arith, c.min-right.ensures, c.saturating_sub-2.ensures) in
       let one_size : length first ≡ end = c.fill-2.auto.columns in
       let given : length (take (right - left) (drop left first)) ≡ right - left =
       length-part first left (right - left) (omega (arith, one_size, right_is, order)) in
