@@ -113,7 +113,8 @@ module _ {A : Type 0} (n n' : ℕ) (later : n ≤ n') where
       → TellsFault {T = B} sheet.NoMemory n n' (Err stop) → TellsFault {T = A} NoMemory n n' (Err status)
   no_sheet stop status is noted =
       subst (λ (s : Status). TellsFault {T = A} NoMemory n n' (Err s)) (sym is)
-      (sheet_at stop (λ e. noted.rose (ap (λ (s : CueStop). Err s) e)) (λ other. noted.same (λ e. other (cc))))
+      (sheet_at stop (λ e. noted.rose (ap (λ (s : CueStop). Err s) e))
+      (λ other. noted.same (λ e. other (cc))))
 
   script_at : (stop : ScriptStop) → (stop ≡ script.NoMemory → Rose n n') → (stop ≢ script.NoMemory → n' ≡ n)
       → TellsFault {T = A} NoMemory n n' (Err (script_status stop))
@@ -125,7 +126,8 @@ module _ {A : Type 0} (n n' : ℕ) (later : n ≤ n') where
       → TellsFault {T = B} script.NoMemory n n' (Err stop) → TellsFault {T = A} NoMemory n n' (Err status)
   no_script stop status is noted =
       subst (λ (s : Status). TellsFault {T = A} NoMemory n n' (Err s)) (sym is)
-      (script_at stop (λ e. noted.rose (ap (λ (s : ScriptStop). Err s) e)) (λ other. noted.same (λ e. other (cc))))
+      (script_at stop (λ e. noted.rose (ap (λ (s : ScriptStop). Err s) e))
+      (λ other. noted.same (λ e. other (cc))))
 
 -- of the answers to a sheet with a script or a file, and of a list of texts
 

@@ -11,4 +11,5 @@ wanted status flushed (inr (something, fault)) rose is = let both = sym fault âˆ
 
 pub returns-clause-wants : goal.returns-clause-wants
 returns-clause-wants g c =
-    wanted c.answer-status.result c.flushed.result c.flushed.ensures.settled c.answer-status.ensures.wants.rose
+    wanted c.answer-status.result c.flushed.result c.flushed.ensures.settled
+    c.answer-status.ensures.wants.rose
