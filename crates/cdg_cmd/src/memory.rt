@@ -279,8 +279,8 @@ impl CountedMemory {
     ) -> Result<(), AuthorStop>
         requires lead_in { lead_in ≤ most_lead_in }
         requires length { length < time_count }
-        ensures put { IsPutFor (disc_of sheet.now script.now lead_in length) (change K.held out.old out.new)
-            result }
+        ensures put { IsPutFor (disc_of sheet.now script.now lead_in length)
+            (change K.held out.old out.new) result }
         ensures untouched { IfErr result (λ stop. stop ≢ AuthorStop.WriteFault → out.new ≡ out.old) }
         ensures write_fault { TellsFault AuthorStop.WriteFault (K.faults out.old) (K.faults out.new) result }
         ensures counted { TellsFault AuthorStop.NoMemory self.old self.new result }
@@ -306,8 +306,8 @@ impl CountedMemory {
         requires lead_in { lead_in ≤ most_lead_in }
         requires length { length < time_count }
         requires file { IsShort file.now }
-        ensures put { IsPressedFor (press_of sheet.now file.now lead_in length) (change K.held out.old out.new)
-            result }
+        ensures put { IsPressedFor (press_of sheet.now file.now lead_in length)
+            (change K.held out.old out.new) result }
         ensures untouched { IfErr result (λ stop. stop ≢ PressStop.WriteFault → out.new ≡ out.old) }
         ensures write_fault { TellsFault PressStop.WriteFault (K.faults out.old) (K.faults out.new) result }
         ensures counted { TellsFault PressStop.NoMemory self.old self.new result }

@@ -97,7 +97,8 @@ pub fn run<S: Source, T: Source, K: Sink, E: Sink>(
     // What the command reads, writes and answers.
     ensures performs { (command : Command) → Spells command (texts words.now) → Performs command
         (input S.left S.ends first.old first.new) (input T.left T.ends second.old second.new)
-        (change K.held out.old out.new) (first.old, second.old, out.old) (first.new, second.new, out.new) result }
+        (change K.held out.old out.new) (first.old, second.old, out.old)
+        (first.new, second.new, out.new) result }
     // A fault is told only where that count of faults rose, and no other count rises.
     ensures faults { TellsFaults (call S.faults T.faults K.faults (first.old, second.old, out.old)
         (first.new, second.new, out.new)) result }
@@ -188,7 +189,8 @@ pub fn answer<S: Source, T: Source, K: Sink>(
         → (first.new ≡ first.old) × (second.new ≡ second.old) × (out.new ≡ out.old) }
     ensures performs { (command : Command) → Spells command (texts words.now) → Performs command
         (input S.left S.ends first.old first.new) (input T.left T.ends second.old second.new)
-        (change K.held out.old out.new) (first.old, second.old, out.old) (first.new, second.new, out.new) result }
+        (change K.held out.old out.new) (first.old, second.old, out.old)
+        (first.new, second.new, out.new) result }
     ensures faults { TellsFaults (call S.faults T.faults K.faults (first.old, second.old, out.old)
         (first.new, second.new, out.new)) result }
     // Memory is wanted where a call says that none was found, and nowhere else.
