@@ -233,7 +233,8 @@ impl CountedMemory {
         ensures within { IfOk result (λ v. length v.items ≤ most_text_bytes) }
         ensures err { IfErr result (IsInputStop which (S.left source.old)) }
         ensures taken { IfErr result (TakesAtStop (change S.left source.old source.new)) }
-        ensures fault { TellsFault (Status.ReadFault which) (S.faults source.old) (S.faults source.new) result }
+        ensures fault { TellsFault (Status.ReadFault which)
+            (S.faults source.old) (S.faults source.new) result }
         ensures wants { TellsFault Status.NoMemory self.old self.new result }
         ensures told { OnOk result (RoseOnce (S.ends source.old) (S.ends source.new)) }
         ensures once { IfErr result (TextEnds (input S.left S.ends source.old source.new)) }
