@@ -46,7 +46,7 @@ use raw_subcode::Form;
 use std::alloc::{AllocError, Global};
 use std::marker::Model;
 use stream_stages::{PlayStop, Played, TextLister, Viewer};
-use stream_trial::{TrialStop, trial};
+use stream_trial::{TrialMemory, TrialStop, trial};
 use subcode_author::{AuthorStop, accepted_scripts_have_streams, author_stream};
 use text_lines::MOST_TEXT_BYTES;
 
@@ -335,7 +335,8 @@ impl CountedMemory {
         ensures untouched { result ≡ Err TrialStop.NoMemory → out.new ≡ out.old }
         ensures counted { TellsFault TrialStop.NoMemory self.old self.new result }
     {
-        let tried = trial(self.alloc, seed, pictures, out);
+        let mut memory = TrialMemory::new(self.alloc);
+        let tried = trial(&mut memory, seed, pictures, out);
         self.note_answer(&tried);
         tried
     }
