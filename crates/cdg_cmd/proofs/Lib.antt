@@ -13,6 +13,7 @@ mod Played
 mod PressTold
 mod PressedBack
 mod PressedShown
+mod Performed
 mod Pumped
 mod Quiet
 mod ResumeTold

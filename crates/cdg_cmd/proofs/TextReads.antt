@@ -1,12 +1,10 @@
 -- From the stop of reading a text to the status of a command.
-use Rattle.std.proofs.Common.{◌≡◌, ◌≢◌, ◌<◌, ◌≤◌, ◌+◌, ℕ, List, length, None, Some, IfSome, IsErrOf, Result, Ok, Err, refl, sym, ap, subst, ◌∙◌, inl, inr, arith}
-use Rattle.std.specs.Io.KnownBytes.{IsAtEnd}
-use Rattle.cdg_io.specs.Causes.{Count, Rose, TellsFault}
-use Rattle.cdg_io.specs.Change.{Bytes, Change, Input, change, input}
+use Rattle.std.proofs.Common.{◌≡◌, ◌≢◌, ◌<◌, ◌≤◌, ◌+◌, ℕ, length, None, Some, IfSome, IsErrOf, Err, refl, sym, ap, subst, inl, inr, arith}
+use Rattle.cdg_io.specs.Causes.{Count, TellsFault}
+use Rattle.cdg_io.specs.Change.{Bytes, Input, change, input}
 use Rattle.cdg_io.specs.Whole.{ConsumesExactly, ReadsWithin, StopsAtFault}
 use Rattle.cdg_io.specs.declared.whole.ReadStop.{ReadStop}
 use Rattle.cdg_io.specs.declared.whole.ReadStop.TheVariants as read
-use Rattle.rw_merge.specs.Merging.{EndIsTold, EndIsUntold}
 use Rattle.text_lines.specs.Text.{most_text_bytes}
 use Rattle.cdg_cmd.specs.Authors.{IsScriptStop, IsSheetStop, IsInputStop, TakesAtStop}
 use Rattle.cdg_cmd.specs.Ends.{ScriptEnds, SheetEnds, TextEnds}

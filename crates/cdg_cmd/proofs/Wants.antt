@@ -1,6 +1,6 @@
 -- When it is said that no memory was found.
 use Rattle.std.proofs.Common.{◌≡◌, ◌≢◌, ◌≤◌, ◌==◌, ◌⊎◌, inl, inr, ℕ, Bool, true, false, Result, Ok, Err, refl, sym, ap, subst, arith, if◌then◌else◌}
-use Rattle.cdg_io.specs.Causes.{Rose, TellsFault}
+use Rattle.cdg_io.specs.Causes.{HasCause, Rose, TellsFault}
 use Rattle.cdg_io.specs.declared.whole.ReadStop.{ReadStop}
 use Rattle.cdg_io.specs.declared.whole.ReadStop.TheVariants as read
 use Rattle.cue_sheet.specs.declared.fault.CueStop.{CueStop}
@@ -55,10 +55,14 @@ stopped {A} status n n' told = record {
   same = λ other. told.same (λ e. other (cc));
 }
 
--- no memory was found before anything was done
-pub lacked_first : {E : Type 0} (stop lack : E) (n n' : ℕ) → stop ≡ lack → n ≤ n' → (stop ≡ lack → Rose n n')
-    → IsTold NoMemory (count n n') NoMemory
-lacked_first stop lack n n' is later lacks = told NoMemory n n' later (lacks is)
+-- memory was found before anything was done, or was not
+module _ {A E : Type 0} (n n' : ℕ) where
+  pub found_first : (value : A) (status : Status) → HasCause {E = E} n n' (Ok value) → status ≢ NoMemory
+      → IsTold NoMemory (count n n') status
+  found_first value status cause silence = silent NoMemory status n n' cause.later silence cause.same
+
+  pub lacked_first : (stop : E) → HasCause {T = A} n n' (Err stop) → IsTold NoMemory (count n n') NoMemory
+  lacked_first stop cause = told NoMemory n n' cause.later cause.failed
 
 -- of a call that was reached with the count as it was
 pub reached : (status : Status) (n n' n'' : ℕ) → n' ≡ n → IsTold NoMemory (count n' n'') status
@@ -105,11 +109,12 @@ module _ {A : Type 0} (n n' : ℕ) (later : n ≤ n') where
       not_lacked n n' later (sheet_status (sheet.Fault line why)) (λ e. cc) (other (λ e. cc))
   sheet_at sheet.NoMemory lacks other = is_lacked n n' later (lacks refl)
 
-  pub no_sheet : (stop : CueStop) (status : Status) → status ≡ sheet_status stop
-      → (stop ≡ sheet.NoMemory → Rose n n') → (stop ≢ sheet.NoMemory → n' ≡ n)
-      → TellsFault {T = A} NoMemory n n' (Err status)
-  no_sheet stop status is lacks other =
-      subst (λ (s : Status). TellsFault {T = A} NoMemory n n' (Err s)) (sym is) (sheet_at stop lacks other)
+  pub no_sheet : {B : Type 0} (stop : CueStop) (status : Status) → status ≡ sheet_status stop
+      → TellsFault {T = B} sheet.NoMemory n n' (Err stop) → TellsFault {T = A} NoMemory n n' (Err status)
+  no_sheet stop status is noted =
+      subst (λ (s : Status). TellsFault {T = A} NoMemory n n' (Err s)) (sym is)
+      (sheet_at stop (λ e. noted.rose (ap (λ (s : CueStop). Err s) e))
+      (λ other. noted.same (λ e. other (cc))))
 
   script_at : (stop : ScriptStop) → (stop ≡ script.NoMemory → Rose n n') → (stop ≢ script.NoMemory → n' ≡ n)
       → TellsFault {T = A} NoMemory n n' (Err (script_status stop))
@@ -117,11 +122,12 @@ module _ {A : Type 0} (n n' : ℕ) (later : n ≤ n') where
       not_lacked n n' later (script_status (script.Fault line why)) (λ e. cc) (other (λ e. cc))
   script_at script.NoMemory lacks other = is_lacked n n' later (lacks refl)
 
-  pub no_script : (stop : ScriptStop) (status : Status) → status ≡ script_status stop
-      → (stop ≡ script.NoMemory → Rose n n') → (stop ≢ script.NoMemory → n' ≡ n)
-      → TellsFault {T = A} NoMemory n n' (Err status)
-  no_script stop status is lacks other =
-      subst (λ (s : Status). TellsFault {T = A} NoMemory n n' (Err s)) (sym is) (script_at stop lacks other)
+  pub no_script : {B : Type 0} (stop : ScriptStop) (status : Status) → status ≡ script_status stop
+      → TellsFault {T = B} script.NoMemory n n' (Err stop) → TellsFault {T = A} NoMemory n n' (Err status)
+  no_script stop status is noted =
+      subst (λ (s : Status). TellsFault {T = A} NoMemory n n' (Err s)) (sym is)
+      (script_at stop (λ e. noted.rose (ap (λ (s : ScriptStop). Err s) e))
+      (λ other. noted.same (λ e. other (cc))))
 
 -- of the answers to a sheet with a script or a file, and of a list of texts
 

@@ -1,5 +1,5 @@
 -- What a command answers and writes.
-use Rattle.std.specs.Prelude.{IfErr, IfSome, ℕ, ◌≡◌, ◌⊎◌, ◌==◌, ⊤, List, length, Result, Ok, Err, if◌then◌else◌}
+use Rattle.std.specs.Prelude.{IfErr, IfSome, ℕ, ◌≡◌, ◌⊎◌, ⊤, List, length, Result}
 use Rattle.std.specs.Io.KnownBytes.{Appends, IsAtEnd}
 use Rattle.cdg_io.specs.Moves.{AppendsPrefix}
 use Rattle.cdg_io.specs.Streams.{Streams, WritesAtEnd}
@@ -12,11 +12,8 @@ use Rattle.stream_stages.specs.Convert.{IsConverted}
 use Rattle.stream_stages.specs.Check.{IsCheckListed}
 use Rattle.stream_stages.specs.Screen.{IsShownBy, Moment, Shows, moment}
 use Rattle.stream_stages.specs.TextListing.{GivesTexts, IsListedBy, ListsTexts}
-use Rattle.cdtext_packs.specs.declared.kinds.TextFault.{TextFault}
-use Rattle.cdtext_packs.specs.declared.kinds.TextFault.TheVariants as fault
 use Rattle.stream_stages.specs.declared.played.Played.{Played}
 use Rattle.stream_stages.specs.declared.played.PlayStop.{PlayStop}
-use Rattle.stream_stages.specs.declared.played.PlayStop.TheVariants as play
 use Rattle.q_channel.specs.QList.{IsQListed}
 use Rattle.q_channel.specs.PlanarStream.{IsBlockStream, IsPlanarStream}
 use Rattle.cdg_cmd.specs.Authors.{AuthorsWith}
@@ -34,10 +31,8 @@ use Rattle.stream_trial.specs.Trial.{IsTrial}
 use Rattle.cdg_cmd.specs.Stops.{play_status}
 use Rattle.cdg_cmd.specs.declared.command.Command.{Command}
 use Rattle.cdg_cmd.specs.declared.command.Command.TheVariants.{Convert, Screen, State, Check, Q, Text, Author, Planar, Raw, Scratch, Gen, Trial, Merge, Thin, Press, Save, Resume}
-use Rattle.cdg_cmd.specs.declared.status.Which.TheVariants.{First}
-use Rattle.cdg_cmd.specs.declared.status.Refusal.TheVariants.{Torn, TooLong, PastEnd, TextMissing, TextNoSize, TextMalformed}
 use Rattle.cdg_cmd.specs.declared.status.Status.{Status}
-use Rattle.cdg_cmd.specs.declared.status.Status.TheVariants.{Done, Damaged, Refused, ReadFault, WriteFault, NoMemory}
+use Rattle.cdg_cmd.specs.declared.status.Status.TheVariants.{Done, ReadFault, WriteFault, NoMemory}
 
 -- whatever the input, a stream that is played is never told to be past its end, nor to have faulty texts; where the
 -- input tells its bytes, the answer is the exact one, unless a fault is told

@@ -17,9 +17,9 @@ use Rattle.cdg_cmd.specs.Call.{Call}
 use Rattle.cdg_cmd.specs.Stops.{author_status}
 use Rattle.cdg_cmd.specs.declared.status.Which.{Which}
 use Rattle.cdg_cmd.specs.declared.status.Which.TheVariants.{First, Second}
-use Rattle.cdg_cmd.specs.declared.status.Refusal.TheVariants.{TooLong, PastEnd, Cue, Script, LengthShort, DiscTooLong, LeadInShort, TextTooLong}
+use Rattle.cdg_cmd.specs.declared.status.Refusal.TheVariants.{TooLong, Cue, Script}
 use Rattle.cdg_cmd.specs.declared.status.Status.{Status}
-use Rattle.cdg_cmd.specs.declared.status.Status.TheVariants.{Done, Refused, Late, ReadFault, WriteFault, NoMemory}
+use Rattle.cdg_cmd.specs.declared.status.Status.TheVariants.{Refused, ReadFault, WriteFault, NoMemory}
 
 -- the text is not too long, and its grammar reads it as this cue sheet
 pub record IsSheetText (text : List ℕ) (sheet : CueSheet) : Type 0 where

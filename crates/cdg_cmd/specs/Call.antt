@@ -1,5 +1,5 @@
 -- What a call found and what it left.
-use Rattle.std.specs.Prelude.{ℕ, List, Some, None}
+use Rattle.std.specs.Prelude.{None}
 use Rattle.cdg_io.specs.Change.{Bytes, Change, Passed, change}
 
 -- a value of each of the two inputs and of the output, before and after a call
@@ -29,11 +29,3 @@ one_input first out before after =
 -- what passed from the first input to the output
 abbrev pub through : Call Bytes → Passed
 through call = record { left = call.first; held = call.out }
-
--- two inputs of these bytes, with what they still give after the call, and an output that does not tell what it takes
-abbrev pub dry_call : List ℕ → List ℕ → Bytes → Bytes → Call Bytes
-dry_call bytes more left more_left = record {
-  first = record { before = Some bytes; after = left };
-  second = record { before = Some more; after = more_left };
-  out = record { before = None; after = None };
-}

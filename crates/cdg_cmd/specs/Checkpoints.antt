@@ -1,5 +1,5 @@
 -- What `save` and `resume` answer, and what they write.
-use Rattle.std.specs.Prelude.{◌≡◌, ◌≢◌, ◌==◌, ◌≤◌, ◌+◌, ℕ, List, length, Result, Ok, Err, IsOk, IfSome, if◌then◌else◌}
+use Rattle.std.specs.Prelude.{◌≡◌, ◌≢◌, ◌≤◌, ◌+◌, ℕ, List, length, Result, Err, IsOk, IfSome}
 use Rattle.raw_subcode.specs.Sizes.{block_bytes, most_units}
 use Rattle.std.specs.Io.KnownBytes.{Consumes, IsAtEnd}
 use Rattle.cdg_io.specs.Moves.{ConsumesBelow}
@@ -15,10 +15,7 @@ use Rattle.cdg_io.specs.Change.{Bytes, Change}
 use Rattle.cdg_cmd.specs.Call.{Call, through}
 use Rattle.cdg_cmd.specs.Endings.{EndsWith}
 use Rattle.cdg_cmd.specs.Stops.{pump_status, resume_status}
-use Rattle.cdg_cmd.specs.declared.status.Which.TheVariants.{First, Second}
-use Rattle.cdg_cmd.specs.declared.status.Refusal.TheVariants.{Torn, TooLong, PastEnd, BadSave, BeforeSave}
 use Rattle.cdg_cmd.specs.declared.status.Status.{Status}
-use Rattle.cdg_cmd.specs.declared.status.Status.TheVariants.{Done, Damaged, Refused, ReadFault, WriteFault}
 
 -- the checkpoint of a stream was written after it
 abbrev pub SavesWith : ℕ → Call Bytes → Status → Type 0

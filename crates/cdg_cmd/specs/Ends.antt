@@ -1,6 +1,6 @@
 -- How often a command comes to the end of an input: the count of told ends rises once, where the input is read to its
 -- end, and nowhere else.
-use Rattle.std.specs.Prelude.{◌≡◌, ◌⊎◌, ◌<◌, ◌≤◌, ℕ, length, IfSome}
+use Rattle.std.specs.Prelude.{◌≡◌, ◌⊎◌, ◌<◌, ◌≤◌, length, IfSome}
 use Rattle.std.specs.Io.KnownBytes.{IsAtEnd}
 use Rattle.cdg_io.specs.Change.{Input}
 use Rattle.checkpoint_files.specs.Table.{file_size}

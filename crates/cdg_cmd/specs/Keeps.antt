@@ -2,7 +2,7 @@
 use Rattle.std.specs.Prelude.{◌≡◌, ◌≢◌, ◌⊎◌, ⊤}
 use Rattle.cdg_io.specs.Causes.{RoseOnce}
 use Rattle.cdg_io.specs.Change.{Bytes, Change, Input}
-use Rattle.cdg_cmd.specs.Profile.{AsItGoes, AtTheEnd, InTurn, MemoryUse, NoInput, OneInput, ReadingOrder, SecondAfter, TakesLater, TakesNothing, WritingTime, profile}
+use Rattle.cdg_cmd.specs.Profile.{AsItGoes, AtTheEnd, InTurn, MemoryUse, NoInput, ReadingOrder, SecondAfter, TakesLater, TakesNothing, WritingTime, profile}
 use Rattle.cdg_cmd.specs.declared.command.Command.{Command}
 use Rattle.cdg_cmd.specs.declared.status.Status.{Status}
 use Rattle.cdg_cmd.specs.declared.status.Status.TheVariants.{Done, Damaged, WriteFault, NoMemory}

@@ -10,6 +10,7 @@ pub mod Keeps
 pub mod LeadInTexts
 pub mod Line
 pub mod Merges
+pub mod Performs
 pub mod Presses
 pub mod Profile
 pub mod Resumes

@@ -1,17 +1,13 @@
 -- What `merge` answers to two readings of a stream, and what it writes.
-use Rattle.std.specs.Prelude.{◌≡◌, ◌==◌, ℕ, List, length, Result, Ok, Err, IfSome, if◌then◌else◌}
+use Rattle.std.specs.Prelude.{◌≡◌, ℕ, List, length, Result, IfSome}
 use Rattle.std.specs.Io.KnownBytes.{Consumes}
 use Rattle.rw_merge.specs.Merging.{FirstIsAtEnd, EndsSecond, IsAnswer, Merges}
 use Rattle.rw_merge.specs.declared.merge.Merged.{Merged}
 use Rattle.rw_merge.specs.declared.merge.MergeStop.{MergeStop}
-use Rattle.rw_merge.specs.declared.merge.MergeStop.TheVariants as merge
 use Rattle.cdg_io.specs.Change.{Bytes}
 use Rattle.cdg_cmd.specs.Call.{Call}
 use Rattle.cdg_cmd.specs.Stops.{merge_status}
-use Rattle.cdg_cmd.specs.declared.status.Which.TheVariants.{First, Second}
-use Rattle.cdg_cmd.specs.declared.status.Refusal.TheVariants.{Torn, TooLong, SecondTorn, Unequal}
 use Rattle.cdg_cmd.specs.declared.status.Status.{Status}
-use Rattle.cdg_cmd.specs.declared.status.Status.TheVariants.{Done, Damaged, Refused, ReadFault, WriteFault}
 
 -- Two readings were merged: the answer, the bytes that were taken of each, what was put for them, and the exact
 -- answer where no fault is told.

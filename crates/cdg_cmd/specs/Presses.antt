@@ -1,5 +1,5 @@
 -- What `press` answers to a cue sheet and a file of packs, and what it writes.
-use Rattle.std.specs.Prelude.{◌≡◌, ◌≢◌, ℕ, ◌<◌, ◌≤◌, ⊤, List, [], length, Result, Ok, Err, IfErr, IfSome, OnOk}
+use Rattle.std.specs.Prelude.{◌≡◌, ◌≢◌, ℕ, ◌<◌, ◌≤◌, ⊤, List, [], length, Result, Err, IfErr, IfSome, OnOk}
 use Rattle.std.specs.Io.KnownBytes.{Appends, IsAtEnd}
 use Rattle.text_lines.specs.Text.{most_text_bytes}
 use Rattle.cue_sheet.specs.CueSheet.{CueSheet}
@@ -13,9 +13,9 @@ use Rattle.cdg_io.specs.Change.{Bytes, Change}
 use Rattle.cdg_cmd.specs.Call.{Call}
 use Rattle.cdg_cmd.specs.Stops.{press_status}
 use Rattle.cdg_cmd.specs.declared.status.Which.TheVariants.{Second}
-use Rattle.cdg_cmd.specs.declared.status.Refusal.TheVariants.{TooLong, LengthShort, DiscTooLong, LeadInShort, TextTooLong, PackTorn, Gap, CdgTooLong}
+use Rattle.cdg_cmd.specs.declared.status.Refusal.TheVariants.{TooLong}
 use Rattle.cdg_cmd.specs.declared.status.Status.{Status}
-use Rattle.cdg_cmd.specs.declared.status.Status.TheVariants.{Done, Refused, ReadFault, WriteFault, NoMemory}
+use Rattle.cdg_cmd.specs.declared.status.Status.TheVariants.{Refused, ReadFault, WriteFault, NoMemory}
 
 -- an input was read to its end, and this file, which is not too long, is what it held
 pub record ReadsFile (input : Change Bytes) (file : List ℕ) : Type 0 where

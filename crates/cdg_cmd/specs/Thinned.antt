@@ -1,19 +1,13 @@
 -- What `thin` answers to a file of packs, and what it writes.
-use Rattle.std.specs.Prelude.{length, Result, Ok, Err, IfSome}
+use Rattle.std.specs.Prelude.{length, IfSome}
 use Rattle.raw_subcode.specs.Sizes.{symbols_a_slot}
 use Rattle.cdg_io.specs.Pump.{IsUnlessFault, answer_of}
-use Rattle.cdg_io.specs.declared.pumping.Pumped.{Pumped}
-use Rattle.cdg_io.specs.declared.pumping.PumpStop.{PumpStop}
-use Rattle.cdg_io.specs.declared.pumping.PumpStop.TheVariants as pump
 use Rattle.cdg_thin.specs.Calls.{Thins, most_file_packs}
 use Rattle.cdg_io.specs.Change.{Bytes}
 use Rattle.cdg_cmd.specs.Call.{Call, through}
 use Rattle.cdg_cmd.specs.Endings.{EndsWith}
 use Rattle.cdg_cmd.specs.Stops.{thin_status}
-use Rattle.cdg_cmd.specs.declared.status.Which.TheVariants.{First}
-use Rattle.cdg_cmd.specs.declared.status.Refusal.TheVariants.{PackTorn, TooLong}
 use Rattle.cdg_cmd.specs.declared.status.Status.{Status}
-use Rattle.cdg_cmd.specs.declared.status.Status.TheVariants.{Done, Refused, ReadFault, WriteFault}
 
 -- the thin form of a file was written as its packs were read
 abbrev pub ThinsWith : Call Bytes → Status → Type 0

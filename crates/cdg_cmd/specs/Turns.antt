@@ -1,19 +1,15 @@
 -- What a command that turns each block of a stream takes, writes and answers.
-use Rattle.std.specs.Prelude.{◌≡◌, ℕ, ◌/◌, List, length, Result, Ok, Err, IfSome}
+use Rattle.std.specs.Prelude.{◌≡◌, ℕ, ◌/◌, List, length, Result, IfSome}
 use Rattle.raw_subcode.specs.Sizes.{block_bytes, most_units}
 use Rattle.cdg_io.specs.Pump.{IsUnlessFault, answer_of}
 use Rattle.cdg_io.specs.Streams.{Streams, as_pumped}
 use Rattle.cdg_io.specs.declared.pumping.Pumped.{Pumped}
 use Rattle.cdg_io.specs.declared.pumping.PumpStop.{PumpStop}
-use Rattle.cdg_io.specs.declared.pumping.PumpStop.TheVariants as pump
 use Rattle.cdg_io.specs.Change.{Bytes, Passed}
 use Rattle.cdg_cmd.specs.Call.{Call, through}
 use Rattle.cdg_cmd.specs.Endings.{EndsWith}
 use Rattle.cdg_cmd.specs.Stops.{pump_status}
-use Rattle.cdg_cmd.specs.declared.status.Which.TheVariants.{First}
-use Rattle.cdg_cmd.specs.declared.status.Refusal.TheVariants.{Torn, TooLong}
 use Rattle.cdg_cmd.specs.declared.status.Status.{Status}
-use Rattle.cdg_cmd.specs.declared.status.Status.TheVariants.{Done, Refused, ReadFault, WriteFault}
 
 -- the number of blocks, and the text that is written for them
 pub record IsTurned (turned : List ℕ → List ℕ → Type 0) (bytes : List ℕ) (pumped : Pumped)

@@ -160,7 +160,6 @@ fn read_blocks(words: &[String]) -> Option<StreamOptions>
     Some(stream)
 }
 
-// The options of a stream and a moment of it.
 #[derive(Clone, Copy)]
 struct TimedOptions {
     pub lead_in: u32,
@@ -168,7 +167,6 @@ struct TimedOptions {
     pub at: u32,
 }
 
-// The options of a stream, and the block of a time.
 fn read_timed(words: &[String]) -> Option<TimedOptions>
     ensures spelled { IfSome result (λ o. (o.lead_in ≤ most_lead_in) × (o.at < time_count)
         × IsTimedOptions o.lead_in o.form o.at (texts words.now)) }
@@ -193,7 +191,6 @@ struct Lengths {
     pub length: u32,
 }
 
-// The lengths of a lead-in and of an audio.
 fn read_lengths(words: &[String]) -> Option<Lengths>
     ensures spelled { IfSome result (λ o. (o.lead_in ≤ most_lead_in) × (o.length < time_count)
         × IsLengths o.lead_in o.length (texts words.now)) }
@@ -210,7 +207,6 @@ fn read_lengths(words: &[String]) -> Option<Lengths>
     }
 }
 
-// A seed and a number of pictures.
 #[derive(Clone, Copy)]
 struct SeedOptions {
     pub seed: u64,
@@ -234,14 +230,12 @@ fn read_seeded(words: &[String]) -> Option<SeedOptions>
     }
 }
 
-// A lead-in and the seed of its scratches.
 #[derive(Clone, Copy)]
 struct ScratchOptions {
     pub lead_in: u32,
     pub seed: u64,
 }
 
-// A lead-in and a seed.
 fn read_scratches(words: &[String]) -> Option<ScratchOptions>
     ensures spelled { IfSome result (λ o. (o.lead_in ≤ most_lead_in) × (o.seed < 2 ^ 64)
         × IsScratchOptions o.lead_in o.seed (texts words.now)) }
@@ -258,7 +252,6 @@ fn read_scratches(words: &[String]) -> Option<ScratchOptions>
     }
 }
 
-// A lead-in alone.
 fn only_lead_in(words: &[String]) -> Option<u32>
     ensures spelled { IfSome result (λ n. (n ≤ most_lead_in) × IsLeadInOption n (texts words.now)) }
     ensures all { (n : ℕ) → n ≤ most_lead_in → IsLeadInOption n (texts words.now) → result ≡ Some n }
@@ -269,7 +262,6 @@ fn only_lead_in(words: &[String]) -> Option<u32>
     }
 }
 
-// A moment alone.
 fn only_moment(words: &[String]) -> Option<u32>
     ensures spelled { IfSome result (λ n. (n < time_count) × IsMoment n (texts words.now)) }
     ensures all { (n : ℕ) → n < time_count → IsMoment n (texts words.now) → result ≡ Some n }
@@ -305,7 +297,6 @@ fn read_number(word: &str, most: u64) -> Option<u64>
     Some(number)
 }
 
-// The blocks of a lead-in.
 fn read_lead_in(option: &str, number: &str) -> Option<u32>
     ensures spelled { IfSome result (λ n. (n ≤ most_lead_in) × (option.now ≡ codes "--lead-in")
         × (number.now ≡ decimal n)) }
@@ -319,7 +310,6 @@ fn read_lead_in(option: &str, number: &str) -> Option<u32>
     Some(lead_in as u32)
 }
 
-// A seed.
 fn read_seed(option: &str, number: &str) -> Option<u64>
     ensures spelled { IfSome result (λ n. (option.now ≡ codes "--seed") × (number.now ≡ decimal n)) }
     ensures all { (n : ℕ) → n < 2 ^ 64 → option.now ≡ codes "--seed" → number.now ≡ decimal n
@@ -374,7 +364,6 @@ fn read_form(words: &[String]) -> Option<Form>
     }
 }
 
-// The form that the option names.
 fn named_form(option: &str, name: &str) -> Option<Form>
     ensures spelled { IfSome result (λ form. (option.now ≡ codes "--form") × (name.now ≡ form_name form)) }
     ensures all { (form : Form) → option.now ≡ codes "--form" → name.now ≡ form_name form

@@ -2,6 +2,7 @@
 #![tactic(auto)]
 
 mod command;
+mod laws;
 mod making;
 mod memory;
 mod packs;
@@ -10,5 +11,7 @@ mod streams;
 mod top;
 
 pub use command::{Command, Split, read_words};
+pub use laws::commands_are_answered;
+pub use memory::CountedMemory;
 pub use status::{Refusal, Status, Which, tell};
-pub use top::{dry_run, run, split};
+pub use top::{answer, run, split};

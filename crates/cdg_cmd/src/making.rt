@@ -1,13 +1,11 @@
 // The commands that make a stream or a script.
-ghost use Rattle.std.specs.Prelude.{◌≡◌, ◌≢◌, ◌≤◌, ◌<◌, ◌⊎◌, IfOk, IfErr, IfSome, OnOk, Err, length};
-ghost use Rattle.std.specs.Io.KnownBytes.{IsAtEnd};
+ghost use Rattle.std.specs.Prelude.{◌≡◌, ◌≢◌, ◌≤◌, ◌<◌, ◌⊎◌, IfOk, IfErr, OnOk, Err, length};
 ghost use Rattle.disc_time.specs.Counts.{most_lead_in, time_count};
 ghost use Rattle.cdg_io.specs.Causes.{RoseOnce, TellsFault};
-ghost use Rattle.cdg_cmd.specs.Authors.{AuthorsWith, IsScriptStop, IsSheetStop, IsInputStop, ReadsScript, ReadsSheet, TakesAtStop};
-ghost use Rattle.text_lines.specs.Text.{most_text_bytes};
+ghost use Rattle.cdg_cmd.specs.Authors.{AuthorsWith, IsScriptStop, IsSheetStop, ReadsScript, ReadsSheet, TakesAtStop};
 ghost use Rattle.cdg_io.specs.Change.{change, from_to, input};
 ghost use Rattle.cdg_cmd.specs.Call.{call};
-ghost use Rattle.cdg_cmd.specs.Ends.{ScriptEnds, SheetEnds, TextEnds};
+ghost use Rattle.cdg_cmd.specs.Ends.{ScriptEnds, SheetEnds};
 ghost use Rattle.cdg_cmd.specs.Faults.{TellsFaults, IsTold};
 ghost use Rattle.cdg_cmd.specs.Keeps.{MayReadSecond};
 ghost use Rattle.cdg_cmd.specs.Presses.{PressesWith};
@@ -15,41 +13,13 @@ ghost use Rattle.cdg_workload.specs.Script.{generated_script, most_generated};
 ghost use Rattle.cdg_cmd.specs.Answer.{Generates, Tries};
 
 use crate::memory::CountedMemory;
-use crate::status::{author_status, press_status, read_status, script_status, sheet_status};
+use crate::status::{author_status, press_status, script_status, sheet_status};
 use crate::{Command, Status, Which};
-use cdg_io::{Failed, Sink, Source, read_whole};
-use cdg_press::press_stream;
+use cdg_io::{Failed, Sink, Source};
 use cdg_workload::write_script;
 use cue_sheet::Sheet;
 use picture_script::Script;
-use stream_trial::{TrialStop, trial};
-use subcode_author::{accepted_scripts_have_streams, author_stream};
-use text_lines::MOST_TEXT_BYTES;
-
-// The text or the file of an input, or the status that says why there is none.
-fn read_text<S: Source>(
-    memory: &mut CountedMemory,
-    which: Which,
-    source: &mut S,
-) -> Result<Vec<u8>, Status>
-    ensures all { IfOk result (λ v. IfSome (S.left source.old) (λ all. v.items ≡ all)) }
-    ensures end { OnOk result (IsAtEnd (S.left source.new)) }
-    ensures within { IfOk result (λ v. length v.items ≤ most_text_bytes) }
-    ensures err { IfErr result (IsInputStop which (S.left source.old)) }
-    ensures taken { IfErr result (TakesAtStop (change S.left source.old source.new)) }
-    ensures fault { TellsFault (Status.ReadFault which) (S.faults source.old) (S.faults source.new) result }
-    ensures wants { TellsFault Status.NoMemory memory.old memory.new result }
-    ensures told { OnOk result (RoseOnce (S.ends source.old) (S.ends source.new)) }
-    ensures once { IfErr result (TextEnds (input S.left S.ends source.old source.new)) }
-{
-    match read_whole(memory.alloc(), source, MOST_TEXT_BYTES) {
-        Ok(text) => Ok(text),
-        Err(stop) => {
-            memory.note(&stop);
-            Err(read_status(which, stop))
-        }
-    }
-}
+use stream_trial::TrialStop;
 
 // The cue sheet of the first input, or the status that says why there is none.
 fn read_sheet<S: Source>(memory: &mut CountedMemory, first: &mut S) -> Result<Sheet, Status>
@@ -62,16 +32,13 @@ fn read_sheet<S: Source>(memory: &mut CountedMemory, first: &mut S) -> Result<Sh
     ensures told { OnOk result (RoseOnce (S.ends first.old) (S.ends first.new)) }
     ensures once { IfErr result (SheetEnds (input S.left S.ends first.old first.new)) }
 {
-    let text = match read_text(memory, Which::First, first) {
+    let text = match memory.read_text(Which::First, first) {
         Ok(text) => text,
         Err(status) => return Err(status),
     };
-    match Sheet::parse(memory.alloc(), &text) {
+    match memory.sheet(&text) {
         Ok(sheet) => Ok(sheet),
-        Err(stop) => {
-            memory.note(&stop);
-            Err(sheet_status(stop))
-        }
+        Err(stop) => Err(sheet_status(stop)),
     }
 }
 
@@ -86,16 +53,13 @@ fn read_script<S: Source>(memory: &mut CountedMemory, second: &mut S) -> Result<
     ensures told { OnOk result (RoseOnce (S.ends second.old) (S.ends second.new)) }
     ensures once { IfErr result (ScriptEnds (input S.left S.ends second.old second.new)) }
 {
-    let text = match read_text(memory, Which::Second, second) {
+    let text = match memory.read_text(Which::Second, second) {
         Ok(text) => text,
         Err(status) => return Err(status),
     };
-    match Script::parse(memory.alloc(), &text) {
+    match memory.script(&text) {
         Ok(script) => Ok(script),
-        Err(stop) => {
-            memory.note(&stop);
-            Err(script_status(stop))
-        }
+        Err(stop) => Err(script_status(stop)),
     }
 }
 
@@ -131,13 +95,7 @@ pub(crate) fn run_author<S: Source, T: Source, K: Sink>(
         Ok(script) => script,
         Err(status) => return status,
     };
-    // What holds of every sheet and script, and so a stream of both there is.
-    sheet.tracks_are_in_order();
-    script.times_rise_and_colours_are_in_range();
-    accepted_scripts_have_streams();
-    let authored = author_stream(memory.alloc(), &sheet, &script, lead_in, length, out);
-    memory.note_answer(&authored);
-    author_status(authored)
+    author_status(memory.author(&sheet, &script, lead_in, length, out))
 }
 
 /// Writes the stream of a cue sheet, which is the first input, and a file of packs, which is the second.
@@ -168,13 +126,11 @@ pub(crate) fn run_press<S: Source, T: Source, K: Sink>(
         Ok(sheet) => sheet,
         Err(status) => return status,
     };
-    let file = match read_text(memory, Which::Second, second) {
+    let file = match memory.read_text(Which::Second, second) {
         Ok(file) => file,
         Err(status) => return status,
     };
-    let pressed = press_stream(memory.alloc(), &sheet, &file, lead_in, length, out);
-    memory.note_answer(&pressed);
-    press_status(pressed)
+    press_status(memory.press(&sheet, &file, lead_in, length, out))
 }
 
 /// Writes the script of a seed.
@@ -207,9 +163,7 @@ pub(crate) fn run_trial<K: Sink>(
     // Memory is wanted where a call says that none was found, and nowhere else.
     ensures wants { IsTold Status.NoMemory (from_to memory.old memory.new) result }
 {
-    let tried = trial(memory.alloc(), seed, pictures, out);
-    memory.note_answer(&tried);
-    match tried {
+    match memory.try_out(seed, pictures, out) {
         Ok(()) => Status::Done,
         Err(TrialStop::WriteFault) => Status::WriteFault,
         Err(TrialStop::NoMemory) => Status::NoMemory,

@@ -1,6 +1,29 @@
-// The memory that commands ask for, with a count of the answers that said that there was none.
-ghost use Rattle.std.specs.Prelude.{◌≡◌, ◌≢◌, ◌≤◌, ◌↔◌, ℕ, IsTrue};
-ghost use Rattle.cdg_io.specs.Causes.{Rose, TellsFault};
+// What commands ask memory for, with a count of the answers that said that there was none. Nothing but the calls here
+// reaches the allocator or raises that count.
+ghost use Rattle.std.specs.Prelude.{◌≡◌, ◌≢◌, ◌≤◌, ◌<◌, ◌↔◌, ℕ, List, Ok, Err, IfErr, IfOk, IfSome, IsTrue, OnOk, length};
+ghost use Rattle.std.specs.Io.KnownBytes.{Appends, IsAtEnd};
+ghost use Rattle.cdg_io.specs.Causes.{HasCause, Rose, RoseOnce, TellsFault};
+ghost use Rattle.cdg_io.specs.Change.{change, input, passed};
+ghost use Rattle.cdg_io.specs.Moves.{AppendsPrefix};
+ghost use Rattle.cdg_cmd.specs.Answer.{IsListAnswer};
+ghost use Rattle.cdg_cmd.specs.Authors.{IsInputStop, IsPutFor, TakesAtStop};
+ghost use Rattle.cdg_cmd.specs.Ends.{TextEnds};
+ghost use Rattle.cdg_cmd.specs.Presses.{IsPressedFor};
+ghost use Rattle.cdg_press.specs.Pressed.{press_of};
+ghost use Rattle.cdg_press.specs.Refusals.{IsShort};
+ghost use Rattle.cdg_screen.specs.Standing.{blank};
+ghost use Rattle.cdg_workload.specs.Script.{most_generated};
+ghost use Rattle.cue_sheet.specs.Answers.{IsCueAnswer};
+ghost use Rattle.cue_sheet.specs.Grammar.{read_cue};
+ghost use Rattle.disc_time.specs.Counts.{most_lead_in, time_count};
+ghost use Rattle.picture_script.specs.ScriptGrammar.{read_script};
+ghost use Rattle.picture_script.specs.Stops.{StopsAt};
+ghost use Rattle.stream_stages.specs.Calls.{EndFirst};
+ghost use Rattle.stream_stages.specs.Faults.{TellsStops};
+ghost use Rattle.stream_stages.specs.TextListing.{ListsTexts};
+ghost use Rattle.stream_trial.specs.Trial.{IsTrial};
+ghost use Rattle.subcode_author.specs.Authored.{disc_of};
+ghost use Rattle.text_lines.specs.Text.{most_text_bytes};
 ghost use Rattle.cdg_io.specs.declared.whole.ReadStop.TheVariants as read;
 ghost use Rattle.cdg_press.specs.declared.stops.PressStop.TheVariants as press;
 ghost use Rattle.cdtext_packs.specs.declared.kinds.TextFault.TheVariants as fault;
@@ -10,20 +33,26 @@ ghost use Rattle.stream_stages.specs.declared.played.PlayStop.TheVariants as pla
 ghost use Rattle.stream_trial.specs.declared.stops.TrialStop.TheVariants as tried;
 ghost use Rattle.subcode_author.specs.declared.stops.AuthorStop.TheVariants as author;
 
-use cdg_io::ReadStop;
-use cdg_press::PressStop;
+use crate::status::read_status;
+use crate::{Status, Which};
+use cdg_checkpoint::Checkpointer;
+use cdg_io::{ReadStop, Sink, Source, read_whole};
+use cdg_press::{PressStop, press_stream};
+use cdg_thin::Thinner;
 use cdtext_packs::TextFault;
-use cue_sheet::CueStop;
-use picture_script::ScriptStop;
+use cue_sheet::{CueStop, Sheet};
+use picture_script::{Script, ScriptStop};
+use raw_subcode::Form;
 use std::alloc::{AllocError, Global};
 use std::marker::Model;
-use stream_stages::PlayStop;
-use stream_trial::TrialStop;
-use subcode_author::AuthorStop;
+use stream_stages::{PlayStop, Played, TextLister, Viewer};
+use stream_trial::{TrialMemory, TrialStop, trial};
+use subcode_author::{AuthorStop, accepted_scripts_have_streams, author_stream};
+use text_lines::MOST_TEXT_BYTES;
 
-/// A stop that may say that no memory was found.
-pub(crate) trait MemoryStop {
-    /// The stop that says so.
+// A stop that may say that no memory was found.
+trait MemoryStop {
+    // The stop that says so.
     ghost no_memory: { Self };
 
     fn is_no_memory(&self) -> bool
@@ -96,7 +125,7 @@ impl MemoryStop for TrialStop {
 
 /// The allocator, with a count of the answers that said that no memory was found. Seen as that count.
 #[derive(Drop)]
-pub(crate) struct CountedMemory {
+pub struct CountedMemory {
     alloc: Global,
     refused: u64,
 }
@@ -108,18 +137,15 @@ impl Model for CountedMemory {
 }
 
 impl CountedMemory {
+    /// Before the first answer.
     pub fn new(alloc: Global) -> CountedMemory
         ensures { result ≡ 0 }
     {
         CountedMemory { alloc, refused: 0 }
     }
 
-    pub fn alloc(&self) -> Global {
-        self.alloc
-    }
-
-    /// Counts a stop that says that no memory was found, and no other.
-    pub fn note<E: MemoryStop>(&mut self, stop: &E)
+    // Counts a stop that says that no memory was found, and no other.
+    fn note<E: MemoryStop>(&mut self, stop: &E)
         ensures later { self.old ≤ self.new }
         ensures lacks { stop.now ≡ E.no_memory → Rose self.old self.new }
         ensures other { stop.now ≢ E.no_memory → self.new ≡ self.old }
@@ -129,12 +155,189 @@ impl CountedMemory {
         }
     }
 
-    /// The same of an answer.
-    pub fn note_answer<T, E: MemoryStop>(&mut self, answer: &Result<T, E>)
+    // The same of an answer.
+    fn note_answer<T, E: MemoryStop>(&mut self, answer: &Result<T, E>)
         ensures { TellsFault E.no_memory self.old self.new answer.now }
     {
         if let Err(stop) = answer {
             self.note(stop);
         }
+    }
+
+    pub(crate) fn viewer(&mut self) -> Result<Viewer, AllocError>
+        ensures { HasCause self.old self.new result }
+    {
+        let viewer = Viewer::start(self.alloc);
+        self.note_answer(&viewer);
+        viewer
+    }
+
+    pub(crate) fn checkpointer(&mut self) -> Result<Checkpointer, AllocError>
+        ensures { HasCause self.old self.new result }
+    {
+        let checkpointer = Checkpointer::start(self.alloc);
+        self.note_answer(&checkpointer);
+        checkpointer
+    }
+
+    pub(crate) fn thinner(&mut self) -> Result<Thinner, AllocError>
+        ensures start { IfOk result (λ thinner. thinner ≡ blank) }
+        ensures counted { HasCause self.old self.new result }
+    {
+        let thinner = Thinner::start(self.alloc);
+        self.note_answer(&thinner);
+        thinner
+    }
+
+    pub(crate) fn lister(&mut self) -> Result<TextLister, AllocError>
+        ensures { HasCause self.old self.new result }
+    {
+        let lister = TextLister::start(self.alloc);
+        self.note_answer(&lister);
+        lister
+    }
+
+    /// Lists the texts of the lead-in of a stream.
+    pub(crate) fn list_texts<S: Source, K: Sink>(
+        &mut self,
+        lister: &mut TextLister,
+        lead_in: u32,
+        form: Form,
+        source: &mut S,
+        out: &mut K,
+    ) -> Result<Played, PlayStop>
+        requires lead_in { lead_in ≤ most_lead_in }
+        requires form { form ≢ Form.Cooked }
+        ensures lists { (taken : List ℕ) × ListsTexts form lead_in
+            (passed S.left K.held (source.old, out.old) (source.new, out.new)) result taken }
+        ensures answer { IsListAnswer form lead_in (S.left source.old) result }
+        ensures untouched { IfErr result (λ stop. stop ≢ PlayStop.WriteFault → out.new ≡ out.old) }
+        ensures faults { TellsStops (S.faults source.old) (S.faults source.new)
+            (K.faults out.old) (K.faults out.new) result }
+        ensures ended { EndFirst result (S.ends source.old) (S.ends source.new) }
+        ensures counted { TellsFault (play.Text fault.NoMemory) self.old self.new result }
+    {
+        let listed = lister.text_list(self.alloc, lead_in, form, source, out);
+        self.note_answer(&listed);
+        listed
+    }
+
+    /// The text or the file of an input, or the status that says why there is none.
+    pub(crate) fn read_text<S: Source>(
+        &mut self,
+        which: Which,
+        source: &mut S,
+    ) -> Result<Vec<u8>, Status>
+        ensures all { IfOk result (λ v. IfSome (S.left source.old) (λ all. v.items ≡ all)) }
+        ensures end { OnOk result (IsAtEnd (S.left source.new)) }
+        ensures within { IfOk result (λ v. length v.items ≤ most_text_bytes) }
+        ensures err { IfErr result (IsInputStop which (S.left source.old)) }
+        ensures taken { IfErr result (TakesAtStop (change S.left source.old source.new)) }
+        ensures fault { TellsFault (Status.ReadFault which)
+            (S.faults source.old) (S.faults source.new) result }
+        ensures wants { TellsFault Status.NoMemory self.old self.new result }
+        ensures told { OnOk result (RoseOnce (S.ends source.old) (S.ends source.new)) }
+        ensures once { IfErr result (TextEnds (input S.left S.ends source.old source.new)) }
+    {
+        match read_whole(self.alloc, source, MOST_TEXT_BYTES) {
+            Ok(text) => Ok(text),
+            Err(stop) => {
+                self.note(&stop);
+                Err(read_status(which, stop))
+            }
+        }
+    }
+
+    pub(crate) fn sheet(&mut self, text: &[u8]) -> Result<Sheet, CueStop>
+        requires { length text.now ≤ most_text_bytes }
+        ensures sheet { IsCueAnswer (read_cue text.now) result }
+        ensures counted { TellsFault sheet.NoMemory self.old self.new result }
+    {
+        let sheet = Sheet::parse(self.alloc, text);
+        self.note_answer(&sheet);
+        sheet
+    }
+
+    pub(crate) fn script(&mut self, text: &[u8]) -> Result<Script, ScriptStop>
+        requires { length text.now ≤ most_text_bytes }
+        ensures ok { IfOk result (λ script. read_script text.now ≡ Ok script) }
+        ensures err { IfErr result (StopsAt (read_script text.now)) }
+        ensures counted { TellsFault script.NoMemory self.old self.new result }
+    {
+        let script = Script::parse(self.alloc, text);
+        self.note_answer(&script);
+        script
+    }
+
+    /// Writes the stream of a sheet and a script.
+    pub(crate) fn author<K: Sink>(
+        &mut self,
+        sheet: &Sheet,
+        script: &Script,
+        lead_in: u32,
+        length: u32,
+        out: &mut K,
+    ) -> Result<(), AuthorStop>
+        requires lead_in { lead_in ≤ most_lead_in }
+        requires length { length < time_count }
+        ensures put { IsPutFor (disc_of sheet.now script.now lead_in length)
+            (change K.held out.old out.new) result }
+        ensures untouched { IfErr result (λ stop. stop ≢ AuthorStop.WriteFault → out.new ≡ out.old) }
+        ensures write_fault { TellsFault AuthorStop.WriteFault (K.faults out.old) (K.faults out.new) result }
+        ensures counted { TellsFault AuthorStop.NoMemory self.old self.new result }
+    {
+        // What holds of every sheet and script, and so a stream of both there is.
+        sheet.tracks_are_in_order();
+        script.times_rise_and_colours_are_in_range();
+        accepted_scripts_have_streams();
+        let authored = author_stream(self.alloc, sheet, script, lead_in, length, out);
+        self.note_answer(&authored);
+        authored
+    }
+
+    /// Writes the stream of a sheet and a file of packs.
+    pub(crate) fn press<K: Sink>(
+        &mut self,
+        sheet: &Sheet,
+        file: &[u8],
+        lead_in: u32,
+        length: u32,
+        out: &mut K,
+    ) -> Result<(), PressStop>
+        requires lead_in { lead_in ≤ most_lead_in }
+        requires length { length < time_count }
+        requires file { IsShort file.now }
+        ensures put { IsPressedFor (press_of sheet.now file.now lead_in length)
+            (change K.held out.old out.new) result }
+        ensures untouched { IfErr result (λ stop. stop ≢ PressStop.WriteFault → out.new ≡ out.old) }
+        ensures write_fault { TellsFault PressStop.WriteFault (K.faults out.old) (K.faults out.new) result }
+        ensures counted { TellsFault PressStop.NoMemory self.old self.new result }
+    {
+        let pressed = press_stream(self.alloc, sheet, file, lead_in, length, out);
+        self.note_answer(&pressed);
+        pressed
+    }
+
+    /// Writes the lines of a trial of a seed.
+    pub(crate) fn try_out<K: Sink>(
+        &mut self,
+        seed: u64,
+        pictures: u32,
+        out: &mut K,
+    ) -> Result<(), TrialStop>
+        requires { (1 ≤ pictures) × (pictures ≤ most_generated) }
+        ensures lines { OnOk result
+            ((text : List ℕ) × IsTrial seed pictures text × Appends (K.held out.old) (K.held out.new) text) }
+        ensures write_fault { TellsFault TrialStop.WriteFault (K.faults out.old) (K.faults out.new) result }
+        ensures part { result ≡ Err TrialStop.WriteFault
+            → (text : List ℕ) × IsTrial seed pictures text
+            × AppendsPrefix (K.held out.old) (K.held out.new) text }
+        ensures untouched { result ≡ Err TrialStop.NoMemory → out.new ≡ out.old }
+        ensures counted { TellsFault TrialStop.NoMemory self.old self.new result }
+    {
+        let mut memory = TrialMemory::new(self.alloc);
+        let tried = trial(&mut memory, seed, pictures, out);
+        self.note_answer(&tried);
+        tried
     }
 }

@@ -11,9 +11,7 @@ ghost use Rattle.cdg_cmd.specs.Keeps.{MayWrite, MayReadSecond};
 use crate::memory::CountedMemory;
 use crate::status::{merge_status, pump_status, resume_status, thin_status};
 use crate::{Command, Status};
-use cdg_checkpoint::Checkpointer;
 use cdg_io::{Sink, Source, pump};
-use cdg_thin::Thinner;
 use cdg_workload::scratch;
 use q_channel::{BlockForms, PlanarForms};
 use raw_subcode::MOST_UNITS;
@@ -56,12 +54,9 @@ pub(crate) fn run_thin<S: Source, K: Sink>(
     // Memory is wanted where a call says that none was found, and nowhere else.
     ensures wants { IsTold Status.NoMemory (from_to memory.old memory.new) result }
 {
-    match Thinner::start(memory.alloc()) {
+    match memory.thinner() {
         Ok(mut thinner) => thin_status(thinner.run(source, out)),
-        Err(stop) => {
-            memory.note(&stop);
-            Status::NoMemory
-        }
+        Err(_) => Status::NoMemory,
     }
 }
 
@@ -84,12 +79,9 @@ pub(crate) fn run_save<S: Source, K: Sink>(
     // Memory is wanted where a call says that none was found, and nowhere else.
     ensures wants { IsTold Status.NoMemory (from_to memory.old memory.new) result }
 {
-    match Checkpointer::start(memory.alloc()) {
+    match memory.checkpointer() {
         Ok(mut checkpointer) => pump_status(checkpointer.save(lead_in, source, out)),
-        Err(stop) => {
-            memory.note(&stop);
-            Status::NoMemory
-        }
+        Err(_) => Status::NoMemory,
     }
 }
 
@@ -118,12 +110,9 @@ pub(crate) fn run_resume<S: Source, T: Source, K: Sink>(
     // Memory is wanted where a call says that none was found, and nowhere else.
     ensures wants { IsTold Status.NoMemory (from_to memory.old memory.new) result }
 {
-    match Checkpointer::start(memory.alloc()) {
+    match memory.checkpointer() {
         Ok(mut checkpointer) => resume_status(checkpointer.resume(at, first, second, out)),
-        Err(stop) => {
-            memory.note(&stop);
-            Status::NoMemory
-        }
+        Err(_) => Status::NoMemory,
     }
 }
 

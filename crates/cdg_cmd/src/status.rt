@@ -111,7 +111,6 @@ impl Status {
     }
 }
 
-/// The status of an input that is not read whole.
 pub(crate) fn read_status(which: Which, stop: ReadStop) -> Status
     ensures { result ≡ read_status which stop }
 {
@@ -122,7 +121,6 @@ pub(crate) fn read_status(which: Which, stop: ReadStop) -> Status
     }
 }
 
-/// The status of a cue sheet that is not accepted.
 pub(crate) fn sheet_status(stop: CueStop) -> Status
     ensures { result ≡ sheet_status stop }
 {
@@ -132,7 +130,6 @@ pub(crate) fn sheet_status(stop: CueStop) -> Status
     }
 }
 
-/// The status of a picture script that is not accepted.
 pub(crate) fn script_status(stop: ScriptStop) -> Status
     ensures { result ≡ script_status stop }
 {
@@ -142,7 +139,6 @@ pub(crate) fn script_status(stop: ScriptStop) -> Status
     }
 }
 
-/// The status of what a player answers.
 pub(crate) fn play_status(answer: Result<Played, PlayStop>) -> Status
     ensures { result ≡ play_status answer }
 {
@@ -170,7 +166,6 @@ fn text_fault_status(fault: TextFault) -> Status
     }
 }
 
-/// The status of what a pump answers.
 pub(crate) fn pump_status(answer: Result<Pumped, PumpStop>) -> Status
     ensures { result ≡ pump_status answer }
 {
@@ -183,7 +178,6 @@ pub(crate) fn pump_status(answer: Result<Pumped, PumpStop>) -> Status
     }
 }
 
-/// The status of what a thinner answers.
 pub(crate) fn thin_status(answer: Result<Pumped, PumpStop>) -> Status
     ensures { result ≡ thin_status answer }
 {
@@ -196,7 +190,6 @@ pub(crate) fn thin_status(answer: Result<Pumped, PumpStop>) -> Status
     }
 }
 
-/// The status of what a merger answers.
 pub(crate) fn merge_status(answer: Result<Merged, MergeStop>) -> Status
     ensures { result ≡ merge_status answer }
 {
@@ -213,7 +206,6 @@ pub(crate) fn merge_status(answer: Result<Merged, MergeStop>) -> Status
     }
 }
 
-/// The status of what a resumed call answers.
 pub(crate) fn resume_status(answer: Result<Resumed, ResumeStop>) -> Status
     ensures { result ≡ resume_status answer }
 {
@@ -231,7 +223,6 @@ pub(crate) fn resume_status(answer: Result<Resumed, ResumeStop>) -> Status
     }
 }
 
-/// The status of the answer to a sheet and a script.
 pub(crate) fn author_status(answer: Result<(), AuthorStop>) -> Status
     ensures { result ≡ author_status answer }
 {
@@ -260,7 +251,6 @@ pub(crate) fn author_status(answer: Result<(), AuthorStop>) -> Status
     }
 }
 
-/// The status of the answer to a sheet and a file.
 pub(crate) fn press_status(answer: Result<(), PressStop>) -> Status
     ensures { result ≡ press_status answer }
 {
@@ -351,7 +341,6 @@ fn push_line(text: &mut ErrorLine, name: &str, line: u32, why: &str)
     text.push_str(why);
 }
 
-// The words of a refusal.
 fn push_refusal(text: &mut ErrorLine, refusal: Refusal)
     requires { length text.old.bytes ≤ 20 }
     ensures text { text.new.bytes ≡ text.old.bytes ++ refusal_words refusal }

@@ -13,7 +13,7 @@ use crate::status::play_status;
 use crate::{Command, Status};
 use cdg_io::{Sink, Source};
 use raw_subcode::Form;
-use stream_stages::{Checker, Converter, TextLister, Viewer, list_frames};
+use stream_stages::{Checker, Converter, list_frames};
 
 /// Writes the packs of a stream as its blocks are read.
 #[tactic(auto, using(crate::proofs::Played::told_one, crate::proofs::Played::never_memory, crate::proofs::Played::ended_in_turn))]
@@ -97,16 +97,11 @@ pub(crate) fn run_text<S: Source, K: Sink>(
     // Memory is wanted where a call says that none was found, and nowhere else.
     ensures wants { IsTold Status.NoMemory (from_to memory.old memory.new) result }
 {
-    match TextLister::start(memory.alloc()) {
+    match memory.lister() {
         Ok(mut lister) => {
-            let listed = lister.text_list(memory.alloc(), lead_in, form, source, out);
-            memory.note_answer(&listed);
-            play_status(listed)
+            play_status(memory.list_texts(&mut lister, lead_in, form, source, out))
         }
-        Err(stop) => {
-            memory.note(&stop);
-            Status::NoMemory
-        }
+        Err(_) => Status::NoMemory,
     }
 }
 
@@ -132,12 +127,9 @@ pub(crate) fn run_screen<S: Source, K: Sink>(
     // Memory is wanted where a call says that none was found, and nowhere else.
     ensures wants { IsTold Status.NoMemory (from_to memory.old memory.new) result }
 {
-    match Viewer::start(memory.alloc()) {
+    match memory.viewer() {
         Ok(mut viewer) => play_status(viewer.screen_at(lead_in, form, at, source, out)),
-        Err(stop) => {
-            memory.note(&stop);
-            Status::NoMemory
-        }
+        Err(_) => Status::NoMemory,
     }
 }
 
@@ -163,11 +155,8 @@ pub(crate) fn run_state<S: Source, K: Sink>(
     // Memory is wanted where a call says that none was found, and nowhere else.
     ensures wants { IsTold Status.NoMemory (from_to memory.old memory.new) result }
 {
-    match Viewer::start(memory.alloc()) {
+    match memory.viewer() {
         Ok(mut viewer) => play_status(viewer.state_at(lead_in, form, at, source, out)),
-        Err(stop) => {
-            memory.note(&stop);
-            Status::NoMemory
-        }
+        Err(_) => Status::NoMemory,
     }
 }

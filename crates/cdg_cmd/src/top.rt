@@ -15,9 +15,10 @@ ghost use Rattle.round_trips.specs.FrameLines.{frame_lines};
 ghost use Rattle.cdg_cmd.specs.Words.{texts};
 ghost use Rattle.cdg_cmd.specs.Splitting.{split_of};
 ghost use Rattle.cdg_cmd.specs.Spelling.{IsAllowed, Spells};
-ghost use Rattle.cdg_io.specs.Change.{Bytes, change, from_to, input};
-ghost use Rattle.cdg_cmd.specs.Call.{call, dry_call};
-ghost use Rattle.cdg_cmd.specs.Keeps.{Keeps, MayReadSecond, MayWrite, ReadsNone, TakesFirst, TakesNone, WantsMemory, WritesLast};
+ghost use Rattle.cdg_io.specs.Change.{change, from_to, input};
+ghost use Rattle.cdg_cmd.specs.Call.{call};
+ghost use Rattle.cdg_cmd.specs.Keeps.{MayReadSecond, MayWrite, ReadsNone, TakesFirst, TakesNone, WritesLast};
+ghost use Rattle.cdg_cmd.specs.Performs.{Performs};
 ghost use Rattle.cdg_cmd.specs.Answer.{Does, GivesBack, GivesIfFound, LacksMemory};
 ghost use Rattle.cdg_cmd.specs.Faults.{IsAnswered, IsTold, NoneRose, TellsFaults};
 ghost use Rattle.cdg_cmd.specs.Profile.{TellsEnds};
@@ -28,23 +29,15 @@ ghost use Rattle.cdg_cmd.specs.LeadInTexts.{AreLinesOf};
 ghost use Rattle.cdg_cmd.specs.Resumes.{ResumesFrom};
 ghost use Rattle.cdg_cmd.specs.Unpresses.{Unpresses};
 
+use crate::laws::commands_are_answered;
 use crate::making::{run_author, run_gen, run_press, run_trial};
 use crate::memory::CountedMemory;
 use crate::packs::{run_merge, run_planar, run_raw, run_resume, run_save, run_scratch, run_thin};
 use crate::status::tell;
 use crate::streams::{run_check, run_convert, run_q, run_screen, run_state, run_text};
 use crate::{Command, Split, Status, read_words};
-use cdg_checkpoint::a_saved_stream_goes_on_as_the_whole;
-use cdg_io::{Sink, Source, SteadySink, SteadySource};
-use picture_changes::needs_are_fewest;
-use round_trips::{
-    copied_text_lists_are_answered, damaged_text_lists_are_answered, frame_lists_are_answered,
-    pressed_files_are_shown, pressed_packs_come_back, shown_moments_give_pictures,
-};
-use rw_interleave::{found_packs_are_the_text, packs_are_recovered};
-use rw_merge::two_readings_give_packs;
+use cdg_io::{Sink, Source};
 use std::alloc::Global;
-use subcode_author::accepted_scripts_are_in_order;
 
 // The number of words before the first `--`.
 fn words_before(line: &[String]) -> Option<usize>
@@ -101,23 +94,11 @@ pub fn run<S: Source, T: Source, K: Sink, E: Sink>(
     ensures usage { ((result ≡ Status.Usage) ↔ ((command : Command) → ¬ (Spells command (texts words.now))))
         × (result ≡ Status.Usage
         → (first.new ≡ first.old) × (second.new ≡ second.old) × (out.new ≡ out.old)) }
-    // What the command does not read, and what it does not write, is left as it was.
-    ensures keeps { (command : Command) → Spells command (texts words.now) → Keeps command
-        (input S.left S.ends first.old first.new) (first.old, second.old, out.old)
+    // What the command reads, writes and answers.
+    ensures performs { (command : Command) → Spells command (texts words.now) → Performs command
+        (input S.left S.ends first.old first.new) (input T.left T.ends second.old second.new)
+        (change K.held out.old out.new) (first.old, second.old, out.old)
         (first.new, second.new, out.new) result }
-    // Where no memory is found nothing was written, nor read where all memory is taken first.
-    ensures memory { (command : Command) → Spells command (texts words.now) → WantsMemory command
-        (first.old, second.old, out.old) (first.new, second.new, out.new) result }
-
-    // What the command answers and writes.
-    ensures does { (command : Command) → Spells command (texts words.now) → result ≢ Status.NoMemory
-        → Does command
-        (call S.left T.left K.held (first.old, second.old, out.old) (first.new, second.new, out.new)) result }
-    // What is known of the inputs where no memory was found.
-    ensures lacks { (command : Command) → Spells command (texts words.now) → result ≡ Status.NoMemory
-        → LacksMemory command
-        (call S.left T.left K.held (first.old, second.old, out.old) (first.new, second.new, out.new)) }
-
     // A fault is told only where that count of faults rose, and no other count rises.
     ensures faults { TellsFaults (call S.faults T.faults K.faults (first.old, second.old, out.old)
         (first.new, second.new, out.new)) result }
@@ -125,9 +106,6 @@ pub fn run<S: Source, T: Source, K: Sink, E: Sink>(
     ensures complete { (command : Command) → Spells command (texts words.now)
         → NoneRose (call S.faults T.faults K.faults
         (first.old, second.old, out.old) (first.new, second.new, out.new)) → IsAnswered result }
-    // The end of an input is told once where it was read to its end, and else not.
-    ensures ends { (command : Command) → Spells command (texts words.now) → TellsEnds command
-        (input S.left S.ends first.old first.new) (input T.left T.ends second.old second.new) result }
     // The error output took the line of the status, or a prefix of it where its count rose.
     ensures told { Tells E.held E.faults err.old err.new result }
 
@@ -190,27 +168,16 @@ pub fn run<S: Source, T: Source, K: Sink, E: Sink>(
         → IfSome (S.left first.old) (λ all. (text : List ℕ) × ShowsAll all text
         × Appends (K.held out.old) (K.held out.new) text) }
 {
-    packs_are_recovered();
-    found_packs_are_the_text();
-    shown_moments_give_pictures();
-    frame_lists_are_answered();
-    copied_text_lists_are_answered();
-    damaged_text_lists_are_answered();
-    accepted_scripts_are_in_order();
-    needs_are_fewest();
-    two_readings_give_packs();
-    pressed_packs_come_back();
-    a_saved_stream_goes_on_as_the_whole();
-    pressed_files_are_shown();
-    let mut memory = CountedMemory::new(alloc);
-    let status = answer(&mut memory, words, first, second, out);
+    commands_are_answered();
+    let status = answer(&mut CountedMemory::new(alloc), words, first, second, out);
     // A failure there changes nothing.
     let _told = tell(err, status);
     status
 }
 
-// The same without the error output.
-fn answer<S: Source, T: Source, K: Sink>(
+/// The same without the error output, with memory that is counted: `NoMemory` is answered only where a call that asks
+/// for memory said that none was found.
+pub fn answer<S: Source, T: Source, K: Sink>(
     memory: &mut CountedMemory,
     words: &[String],
     first: &mut S,
@@ -220,21 +187,12 @@ fn answer<S: Source, T: Source, K: Sink>(
     ensures usage { (result ≡ Status.Usage) ↔ ((command : Command) → ¬ (Spells command (texts words.now))) }
     ensures untouched { result ≡ Status.Usage
         → (first.new ≡ first.old) × (second.new ≡ second.old) × (out.new ≡ out.old) }
-    ensures keeps { (command : Command) → Spells command (texts words.now) → Keeps command
-        (input S.left S.ends first.old first.new) (first.old, second.old, out.old)
+    ensures performs { (command : Command) → Spells command (texts words.now) → Performs command
+        (input S.left S.ends first.old first.new) (input T.left T.ends second.old second.new)
+        (change K.held out.old out.new) (first.old, second.old, out.old)
         (first.new, second.new, out.new) result }
-    ensures memory { (command : Command) → Spells command (texts words.now) → WantsMemory command
-        (first.old, second.old, out.old) (first.new, second.new, out.new) result }
-    ensures does { (command : Command) → Spells command (texts words.now) → result ≢ Status.NoMemory
-        → Does command
-        (call S.left T.left K.held (first.old, second.old, out.old) (first.new, second.new, out.new)) result }
-    ensures lacks { (command : Command) → Spells command (texts words.now) → result ≡ Status.NoMemory
-        → LacksMemory command
-        (call S.left T.left K.held (first.old, second.old, out.old) (first.new, second.new, out.new)) }
     ensures faults { TellsFaults (call S.faults T.faults K.faults (first.old, second.old, out.old)
         (first.new, second.new, out.new)) result }
-    ensures ends { (command : Command) → Spells command (texts words.now) → TellsEnds command
-        (input S.left S.ends first.old first.new) (input T.left T.ends second.old second.new) result }
     // Memory is wanted where a call says that none was found, and nowhere else.
     ensures wants { IsTold Status.NoMemory (from_to memory.old memory.new) result }
 {
@@ -244,7 +202,6 @@ fn answer<S: Source, T: Source, K: Sink>(
     }
 }
 
-// Performs a command.
 fn perform<S: Source, T: Source, K: Sink>(
     memory: &mut CountedMemory,
     command: Command,
@@ -296,21 +253,4 @@ fn perform<S: Source, T: Source, K: Sink>(
         Command::Save { lead_in } => run_save(memory, lead_in, first, out),
         Command::Resume { at } => run_resume(memory, at, first, second, out),
     }
-}
-
-/// What a run on these bytes, as the first input and the second, answers where nothing fails.
-pub fn dry_run(alloc: Global, words: &[String], bytes: &[u8], more: &[u8]) -> Status
-    ensures usage { (result ≡ Status.Usage) ↔ ((command : Command) → ¬ (Spells command (texts words.now))) }
-    // It is what a command does with these bytes, whatever it writes.
-    ensures does { (command : Command) → Spells command (texts words.now) → result ≢ Status.NoMemory
-        → (left more_left : Bytes) × Does command (dry_call bytes.now more.now left more_left) result }
-    ensures answered { (command : Command) → Spells command (texts words.now) → IsAnswered result }
-    ensures takes_none { (command : Command) → Spells command (texts words.now) → TakesNone command
-        → result ≢ Status.NoMemory }
-{
-    let mut first = SteadySource::new(bytes);
-    let mut second = SteadySource::new(more);
-    let mut out = SteadySink::new();
-    let mut err = SteadySink::new();
-    run(alloc, words, &mut first, &mut second, &mut out, &mut err)
 }

@@ -2,7 +2,6 @@ use Rattle.std.proofs.Common.{refl, ◌∙◌}
 use Rattle.std.proofs.KnownBytes.{Appends-nil}
 use Rattle.cdg_io.specs.Change.{input}
 use Rattle.cdg_cmd.specs.Authors.{StopsAtScript, Answers}
-use Rattle.cdg_cmd.proofs.AuthorStatus.{put_for}
 use Rattle.cdg_cmd.proofs.AuthorTold.{script_read, script_stopped, sheet_read, sheet_stopped, told_at_script, told_at_sheet, told_of_both}
 use Rattle.cdg_cmd.proofs.Wants as wants
 use Rattle.cdg_cmd.proofs.making.run_author.Goals as goal
@@ -14,31 +13,15 @@ returns-in-Err-read_script-clause-does g c =
 
 pub returns-clause-does : goal.returns-clause-does
 returns-clause-does g c =
-    Answers c.in-Ok.sheet c.in-Ok-read_script.script c.author_stream-authored.result c.in-Ok.ensures.ok
+    Answers c.in-Ok.sheet c.in-Ok-read_script.script c.author.result c.in-Ok.ensures.ok
     c.in-Ok-read_script.ensures.ok c.author_status.ensures
-    (put_for g.K.Sink.held c.args.out.now c.author_stream-authored.new.out c.in-Ok.sheet
-    c.in-Ok-read_script.script
-    c.args.lead_in c.args.length c.author_stream-authored.result
-    c.author_stream-authored.ensures.authored c.author_stream-authored.ensures.accepted
-    c.author_stream-authored.ensures.stop
-    c.author_stream-authored.ensures.untouched
-    (λ fault accepted. let (n, packs, put) = c.author_stream-authored.ensures.part fault in
-    c.accepted_scripts_have_streams.ensures.part c.in-Ok.sheet c.in-Ok-read_script.script c.args.lead_in
-    c.args.length n packs _ _ c.tracks_are_in_order.ensures
-    (record {
-      held = c.times_rise_and_colours_are_in_range.ensures.held;
-      later = c.times_rise_and_colours_are_in_range.ensures.later;
-    }) (record {
-      border = c.times_rise_and_colours_are_in_range.ensures.borders;
-      colour = c.times_rise_and_colours_are_in_range.ensures.colours;
-    })
-    c.times_rise_and_colours_are_in_range.ensures.pixels c.requires.lead_in accepted put))
+    c.author.ensures.put
 
 pub returns-clause-faults : goal.returns-clause-faults
 returns-clause-faults g c =
-    told_of_both c.in-Ok.sheet c.in-Ok-read_script.script c.author_stream-authored.result _ _ _ _ _ _ _
+    told_of_both c.in-Ok.sheet c.in-Ok-read_script.script c.author.result _ _ _ _ _ _ _
     c.author_status.ensures c.in-Ok.ensures.fault c.in-Ok-read_script.ensures.fault
-    c.author_stream-authored.ensures.write_fault
+    c.author.ensures.write_fault
 
 pub returns-in-Err-clause-faults : goal.returns-in-Err-clause-faults
 returns-in-Err-clause-faults g c = told_at_sheet _ _ _ _ _ _ c.in-Err.ensures.err c.in-Err.ensures.fault
@@ -60,13 +43,13 @@ returns-in-Err-read_script-clause-first_ended g c =
 
 pub returns-clause-first_ended : goal.returns-clause-first_ended
 returns-clause-first_ended g c =
-    sheet_read c.author_stream-authored.result _
+    sheet_read c.author.result _
     (input g.S.Source.left g.S.Source.ends c.args.first.now c.read_sheet.new.first) c.author_status.ensures
     c.in-Ok.ensures.told
 
 pub returns-clause-second_ended : goal.returns-clause-second_ended
 returns-clause-second_ended g c =
-    script_read c.author_stream-authored.result _
+    script_read c.author.result _
     (input g.T.Source.left g.T.Source.ends c.args.second.now c.read_script.new.second)
     c.author_status.ensures c.in-Ok-read_script.ensures.ok.0 c.in-Ok-read_script.ensures.told
 
@@ -83,4 +66,4 @@ returns-clause-wants g c =
     wants.reached _ _ _ _
     (wants.as_it_was c.in-Ok-read_script.script _ _ c.in-Ok-read_script.ensures.wants
     ∙ wants.as_it_was c.in-Ok.sheet _ _ c.in-Ok.ensures.wants)
-    (wants.told_authored _ _ c.author_stream-authored.result _ c.author_status.ensures c.note_answer.ensures)
+    (wants.told_authored _ _ c.author.result _ c.author_status.ensures c.author.ensures.counted)

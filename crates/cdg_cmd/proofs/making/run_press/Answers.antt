@@ -3,7 +3,7 @@ use Rattle.std.proofs.KnownBytes.{Appends-nil}
 use Rattle.cdg_io.specs.Change.{change, input}
 use Rattle.cdg_cmd.specs.Presses.{Presses, ReadsFile, RefusesFile}
 use Rattle.cdg_cmd.proofs.AuthorTold.{sheet_stopped, told_at_sheet}
-use Rattle.cdg_cmd.proofs.PressTold.{file_read, file_stopped, pressed_for, sheet_read, told_at_file, told_of_both}
+use Rattle.cdg_cmd.proofs.PressTold.{file_read, file_stopped, sheet_read, told_at_file, told_of_both}
 use Rattle.cdg_cmd.proofs.TextReads.{no_file, second_ends}
 use Rattle.cdg_cmd.proofs.Wants as wants
 use Rattle.cdg_cmd.proofs.making.run_press.Goals as goal
@@ -25,19 +25,15 @@ returns-clause-does g c =
     let reads =
     subst (ReadsFile (change g.T.Source.left c.args.second.now c.read_text.new.source))
     (sym c.deref.ensures.value) file in
-    Presses c.in-Ok.sheet c.deref.result.now c.press_stream-pressed.result c.in-Ok.ensures.ok reads
+    Presses c.in-Ok.sheet c.deref.result.now c.press.result c.in-Ok.ensures.ok reads
     c.press_status.ensures
-    (pressed_for g.K.Sink.held c.args.out.now c.press_stream-pressed.new.out c.in-Ok.sheet c.deref.result.now
-    c.args.lead_in c.args.length c.press_stream-pressed.result
-    c.press_stream-pressed.ensures.pressed c.press_stream-pressed.ensures.accepted
-    c.press_stream-pressed.ensures.stop
-    c.press_stream-pressed.ensures.untouched c.press_stream-pressed.ensures.prefix)
+    c.press.ensures.put
 
 pub returns-clause-faults : goal.returns-clause-faults
 returns-clause-faults g c =
-    told_of_both c.in-Ok.sheet c.in-Ok-read_text.file c.press_stream-pressed.result _ _ _ _ _ _ _
+    told_of_both c.in-Ok.sheet c.in-Ok-read_text.file c.press.result _ _ _ _ _ _ _
     c.press_status.ensures c.in-Ok.ensures.fault c.in-Ok-read_text.ensures.fault
-    c.press_stream-pressed.ensures.write_fault
+    c.press.ensures.write_fault
 
 pub returns-in-Err-clause-faults : goal.returns-in-Err-clause-faults
 returns-in-Err-clause-faults g c = told_at_sheet _ _ _ _ _ _ c.in-Err.ensures.err c.in-Err.ensures.fault
@@ -60,13 +56,13 @@ returns-in-Err-read_text-clause-first_ended g c =
 
 pub returns-clause-first_ended : goal.returns-clause-first_ended
 returns-clause-first_ended g c =
-    sheet_read c.press_stream-pressed.result _
+    sheet_read c.press.result _
     (input g.S.Source.left g.S.Source.ends c.args.first.now c.read_sheet.new.first) c.press_status.ensures
     c.in-Ok.ensures.told
 
 pub returns-clause-second_ended : goal.returns-clause-second_ended
 returns-clause-second_ended g c =
-    file_read c.press_stream-pressed.result _
+    file_read c.press.result _
     (input g.T.Source.left g.T.Source.ends c.args.second.now c.read_text.new.source)
     c.press_status.ensures c.in-Ok-read_text.ensures.end c.in-Ok-read_text.ensures.told
 
@@ -88,4 +84,4 @@ returns-clause-wants g c =
     wants.reached _ _ _ _
     (wants.as_it_was c.in-Ok-read_text.file _ _ c.in-Ok-read_text.ensures.wants
     ∙ wants.as_it_was c.in-Ok.sheet _ _ c.in-Ok.ensures.wants)
-    (wants.told_pressed _ _ c.press_stream-pressed.result _ c.press_status.ensures c.note_answer.ensures)
+    (wants.told_pressed _ _ c.press.result _ c.press_status.ensures c.press.ensures.counted)

@@ -1,9 +1,6 @@
-use Rattle.std.proofs.Common.{refl}
 use Rattle.cdg_io.specs.Change.{input}
 use Rattle.cdg_cmd.proofs.Pumped.{never_memory, told_one}
 use Rattle.cdg_cmd.proofs.SaveTold.{ended_first, untouched}
-use Rattle.cdg_cmd.specs.declared.status.Status.TheVariants.{NoMemory}
-use Rattle.cdg_cmd.proofs.AuthorTold.{still}
 use Rattle.cdg_cmd.proofs.Wants as wants
 use Rattle.cdg_cmd.proofs.packs.run_save.Goals as goal
 
@@ -36,8 +33,9 @@ returns-in-Ok-clause-ended g c =
     c.pump_status.ensures c.save.ensures.ended
 
 pub returns-in-Ok-clause-wants : goal.returns-in-Ok-clause-wants
-returns-in-Ok-clause-wants g c = still NoMemory _ _ (never_memory c.save.result _ c.pump_status.ensures)
+returns-in-Ok-clause-wants g c =
+    wants.found_first _ _ c.in-Ok.checkpointer _ c.in-Ok.ensures
+    (never_memory c.save.result _ c.pump_status.ensures)
 
 pub returns-in-Err-clause-wants : goal.returns-in-Err-clause-wants
-returns-in-Err-clause-wants g c =
-    wants.lacked_first c.in-Err.stop (record {}) _ _ refl c.note.ensures.later c.note.ensures.lacks
+returns-in-Err-clause-wants g c = wants.lacked_first _ _ _ c.in-Err.ensures

@@ -1,8 +1,5 @@
-use Rattle.std.proofs.Common.{refl}
 use Rattle.cdg_io.specs.Change.{input}
 use Rattle.cdg_cmd.proofs.Played.{ended_first, shown_never_memory, told_one, untouched}
-use Rattle.cdg_cmd.specs.declared.status.Status.TheVariants.{NoMemory}
-use Rattle.cdg_cmd.proofs.AuthorTold.{still}
 use Rattle.cdg_cmd.proofs.Wants as wants
 use Rattle.cdg_cmd.proofs.streams.run_state.Goals as goal
 
@@ -38,8 +35,8 @@ returns-in-Ok-clause-ended g c =
 
 pub returns-in-Ok-clause-wants : goal.returns-in-Ok-clause-wants
 returns-in-Ok-clause-wants g c =
-    still NoMemory _ _ (shown_never_memory c.state_at.result _ c.play_status.ensures c.state_at.ensures.stops)
+    wants.found_first _ _ c.in-Ok.viewer _ c.in-Ok.ensures
+    (shown_never_memory c.state_at.result _ c.play_status.ensures c.state_at.ensures.stops)
 
 pub returns-in-Err-clause-wants : goal.returns-in-Err-clause-wants
-returns-in-Err-clause-wants g c =
-    wants.lacked_first c.in-Err.stop (record {}) _ _ refl c.note.ensures.later c.note.ensures.lacks
+returns-in-Err-clause-wants g c = wants.lacked_first _ _ _ c.in-Err.ensures

@@ -1,6 +1,6 @@
 use Rattle.cdg_cmd.proofs.TextReads.{no_text, takes_unread, text_ends, unread, unread_fault}
 use Rattle.cdg_cmd.proofs.Wants as wants
-use Rattle.cdg_cmd.proofs.making.read_text.Goals as goal
+use Rattle.cdg_cmd.proofs.memory.CountedMemory.read_text.Goals as goal
 
 pub returns-in-Err-clause-err : goal.returns-in-Err-clause-err
 returns-in-Err-clause-err g c =

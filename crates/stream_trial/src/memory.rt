@@ -1,0 +1,109 @@
+// The memory of a trial, with a count of the answers that said that none was found. Nothing but the calls here reaches
+// the allocator or raises that count.
+ghost use Rattle.std.specs.Prelude.{◌≡◌, ◌≤◌, ◌<◌, ◌+◌, ◌*◌, ℕ, List, IfOk, IfErr};
+ghost use Rattle.cdg_io.specs.Causes.{HasCause};
+ghost use Rattle.cdg_workload.specs.Generated.{generated_drawings};
+ghost use Rattle.cdg_workload.specs.Scratches.{scratched};
+ghost use Rattle.cdg_workload.specs.Script.{most_generated};
+ghost use Rattle.disc_time.specs.Counts.{time_count};
+ghost use Rattle.raw_subcode.specs.Channels.{program_symbols};
+ghost use Rattle.raw_subcode.specs.declared.form.Form.TheVariants.{Raw};
+ghost use Rattle.subcode_author.specs.Authored.{IsWrittenStream, disc_of};
+ghost use Rattle.stream_trial.specs.Replay.{IsPlayedOut};
+ghost use Rattle.stream_trial.specs.Trial.{all_changes, trial_audio, trial_blocks};
+ghost use Rattle.stream_trial.specs.TrialSheet.{trial_sheet};
+ghost use Rattle.stream_trial.specs.declared.stops.TrialStop.TheVariants.{NoMemory};
+
+use crate::found::Found;
+use crate::generating::parse_script;
+use crate::needs::count_changes;
+use crate::stops::TrialStop;
+use crate::streams::play_stream;
+use picture_script::Script;
+use std::alloc::Global;
+use std::marker::Model;
+
+/// The allocator, with a count of the answers that said that no memory was found. Seen as that count.
+#[derive(Drop)]
+pub struct TrialMemory {
+    alloc: Global,
+    refused: u64,
+}
+
+impl Model for TrialMemory {
+    ghost Value = { ℕ };
+
+    ghost view = { λ m. m.refused };
+}
+
+impl TrialMemory {
+    /// Before the first answer.
+    pub fn new(alloc: Global) -> TrialMemory
+        ensures { result ≡ 0 }
+    {
+        TrialMemory { alloc, refused: 0 }
+    }
+
+    /// How many answers said that no memory was found.
+    pub fn refused(&self) -> u64
+        ensures { result ≡ self.now }
+    {
+        self.refused
+    }
+
+    // Counts a failure, which is that no memory was found.
+    fn note<T>(&mut self, answer: &Result<T, TrialStop>)
+        ensures { HasCause self.old self.new answer.now }
+    {
+        if answer.is_err() {
+            self.refused = self.refused.saturating_add(1);
+        }
+    }
+
+    /// The generated script of a seed.
+    pub(crate) fn script(&mut self, seed: u64, pictures: u32) -> Result<Script, TrialStop>
+        requires { (1 ≤ pictures) × (pictures ≤ most_generated) }
+        ensures script { IfOk result (λ script. script ≡ generated_drawings seed pictures) }
+        ensures err { IfErr result (λ stop. stop ≡ NoMemory) }
+        ensures counted { HasCause self.old self.new result }
+    {
+        let script = parse_script(self.alloc, seed, pictures);
+        self.note(&script);
+        script
+    }
+
+    /// How many instructions the changes of a generated script have.
+    pub(crate) fn changes(&mut self, script: &Script, blocks: u32) -> Result<u64, TrialStop>
+        requires few { blocks < time_count }
+        requires script { (seed count : ℕ) × (script.now ≡ generated_drawings seed count)
+            × (800 * count + 20 ≤ blocks) }
+        ensures sum { IfOk result (λ sum. sum ≡ all_changes script.now) }
+        ensures err { IfErr result (λ stop. stop ≡ NoMemory) }
+        ensures counted { HasCause self.old self.new result }
+    {
+        let changes = count_changes(self.alloc, script, blocks);
+        self.note(&changes);
+        changes
+    }
+
+    /// What is found of the stream of a script, played with scratches of its seed.
+    pub(crate) fn found(
+        &mut self,
+        script: &Script,
+        seed: u64,
+        pictures: u32,
+    ) -> Result<Found, TrialStop>
+        requires few { pictures ≤ most_generated }
+        requires script { script.now ≡ generated_drawings seed pictures }
+        ensures played { IfOk result (λ found. (bytes : List ℕ) × (packs : List (List ℕ))
+            × IsWrittenStream (disc_of trial_sheet script.now 0 (trial_audio pictures)) bytes packs
+            × IsPlayedOut script.now (trial_blocks pictures) (program_symbols Raw bytes 0)
+            (program_symbols Raw (scratched 0 seed bytes) 0) found) }
+        ensures err { IfErr result (λ stop. stop ≡ NoMemory) }
+        ensures counted { HasCause self.old self.new result }
+    {
+        let found = play_stream(self.alloc, script, seed, pictures);
+        self.note(&found);
+        found
+    }
+}
