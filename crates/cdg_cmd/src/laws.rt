@@ -36,7 +36,7 @@ use rw_merge::two_readings_give_packs;
 use subcode_author::accepted_scripts_are_in_order;
 
 /// A law: what the clauses of `run` say of single commands follows from what a command did.
-pub fn commands_are_answered()
+pub(crate) fn commands_are_answered()
     ensures authors { (disc : Disc) (call : Call Bytes) (status : Status)
         → Did (Command.Author disc.lead_in disc.audio) call status → HavePlace disc
         → IfSome call.first.before (λ cue. IfSome call.second.before (λ text. IsSheetText cue disc.sheet

@@ -11,7 +11,5 @@ mod streams;
 mod top;
 
 pub use command::{Command, Split, read_words};
-pub use laws::commands_are_answered;
-pub use memory::CountedMemory;
 pub use status::{Refusal, Status, Which, tell};
-pub use top::{answer, run, split};
+pub use top::{run, split};

@@ -125,7 +125,7 @@ impl MemoryStop for TrialStop {
 
 /// The allocator, with a count of the answers that said that no memory was found. Seen as that count.
 #[derive(Drop)]
-pub struct CountedMemory {
+pub(crate) struct CountedMemory {
     alloc: Global,
     refused: u64,
 }
@@ -138,7 +138,7 @@ impl Model for CountedMemory {
 
 impl CountedMemory {
     /// Before the first answer.
-    pub fn new(alloc: Global) -> CountedMemory
+    pub(crate) fn new(alloc: Global) -> CountedMemory
         ensures { result ≡ 0 }
     {
         CountedMemory { alloc, refused: 0 }

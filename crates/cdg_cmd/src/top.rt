@@ -175,9 +175,8 @@ pub fn run<S: Source, T: Source, K: Sink, E: Sink>(
     status
 }
 
-/// The same without the error output, with memory that is counted: `NoMemory` is answered only where a call that asks
-/// for memory said that none was found.
-pub fn answer<S: Source, T: Source, K: Sink>(
+// The same without the error output, with memory that is counted.
+fn answer<S: Source, T: Source, K: Sink>(
     memory: &mut CountedMemory,
     words: &[String],
     first: &mut S,

@@ -14,8 +14,8 @@ ghost use Rattle.cdg_cmd.specs.Splitting.{split_of};
 
 mod inputs;
 
-use cdg_cmd::{CountedMemory, Status, answer, split, tell};
-use cdg_io::{BufferedSink, BufferedSource, Failed, Sink, WriteSink};
+use cdg_cmd::{Status, run, split, tell};
+use cdg_io::{BufferedSink, BufferedSource, Failed, Sink, SteadySink, WriteSink};
 use inputs::{InputReader, named};
 use std::alloc::{AllocError, Global};
 use std::env::Args;
@@ -83,19 +83,23 @@ fn flushed<W: Write>(status: Status, out: &mut BufferedSink<W>) -> Status
 // Runs the words of a line on its inputs and an output, and writes what waits in the output at the end.
 fn run_words<W: Write>(
     rt: &HostRuntime,
-    memory: &mut CountedMemory,
     line: &[String],
     out: &mut BufferedSink<W>,
 ) -> io::Result<Status>
     ensures settled { IfOk result (λ status. (out.new.waiting ≡ []) ⊎ (status ≡ Status.WriteFault)) }
-    // No memory was found only where a call that asks for memory said so.
-    ensures wants { IfOk result (λ status. status ≡ Status.NoMemory → Rose memory.old memory.new) }
 {
     let (words, names) = parted(line);
     let (first, second) = named(rt, rt.stdin(), names);
     let mut first = source(rt.alloc(), first)?;
     let mut second = source(rt.alloc(), second)?;
-    let status = answer(memory, words, &mut first, &mut second, out);
+    let status = run(
+        rt.alloc(),
+        words,
+        &mut first,
+        &mut second,
+        out,
+        &mut SteadySink::new(),
+    );
     Ok(flushed(status, out))
 }
 
@@ -103,7 +107,7 @@ fn run_words<W: Write>(
 fn run_on_streams(rt: &HostRuntime) -> io::Result<Status> {
     let line = own_words(rt.alloc(), env::args(rt))?;
     let mut out = BufferedSink::new(rt.alloc(), BUFFER, TURN, rt.stdout())?;
-    run_words(rt, &mut CountedMemory::new(rt.alloc()), &line, &mut out)
+    run_words(rt, &line, &mut out)
 }
 
 // The status of a run that may have found no memory for its words or its buffers.
