@@ -27,7 +27,7 @@ use Rattle.stream_stages.proofs.Slots.{Sized, sized_drop, symbols_small, length-
 use Rattle.stream_stages.proofs.Conversion.{units_sized, blocks_sized}
 use Rattle.block_survey.specs.Rows.{kind_told, row_of_block, ended_words, survey_rows}
 use Rattle.block_survey.specs.Sums.{tells_frame, tells_refusal, AddUpTo}
-use Rattle.block_survey.specs.declared.row.BlockRow.{BlockRow}
+use Rattle.block_survey.specs.declared.surveying.BlockRow.{BlockRow}
 use Rattle.block_survey.proofs.EndedWords.{length-blocks}
 
 -- ---- lists made of numbers

@@ -15,7 +15,7 @@ use Rattle.q_channel.specs.declared.frame.QFault.TheVariants.{BadCrc, BadField}
 use Rattle.plain_frames.specs.Plain.{plain_of, plain_kind}
 use Rattle.plain_frames.specs.declared.plain.PlainFrame.{PlainFrame}
 use Rattle.stream_stages.specs.Check.{has_wrong}
-use Rattle.block_survey.specs.declared.row.BlockRow.{BlockRow}
+use Rattle.block_survey.specs.declared.surveying.BlockRow.{BlockRow}
 
 -- what stands in place of an absolute time
 abbrev pub no_time : ℕ

@@ -1,7 +1,7 @@
 -- What the rows of a stream add up to.
 use Rattle.std.specs.Prelude.{◌≡◌, ℕ, Bool, nat_le, List, ◌++◌, count_by, sum_by}
 use Rattle.stream_stages.specs.Check.{wrong_lines, frame_count_lines}
-use Rattle.block_survey.specs.declared.row.BlockRow.{BlockRow}
+use Rattle.block_survey.specs.declared.surveying.BlockRow.{BlockRow}
 
 -- whether a row tells a frame
 abbrev pub tells_frame : BlockRow → Bool

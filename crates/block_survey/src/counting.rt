@@ -18,7 +18,6 @@ pub struct WordMarks {
 }
 
 impl WordMarks {
-    /// No words.
     pub(crate) fn none() -> WordMarks
         ensures { result ≡ marks_of [] }
     {
@@ -65,7 +64,6 @@ impl WordMarks {
         marks
     }
 
-    // Counts a word more.
     fn add(&mut self, word: &Word)
         requires clean { self.old.clean < 255 }
         requires one { self.old.one < 255 }

@@ -43,7 +43,6 @@ impl FrameMark {
         }
     }
 
-    // What is told of an entry of the table of contents.
     fn of_entry(kind: u8, track: u8) -> FrameMark
         ensures kind { result.kind ≡ kind }
         ensures track { result.track ≡ track }
@@ -58,7 +57,6 @@ impl FrameMark {
         }
     }
 
-    // What is told of a frame.
     #[inline]
     fn of(frame: &QFrame) -> FrameMark
         ensures kind { result.kind ≡ (plain_of frame.now).kind }
@@ -85,7 +83,6 @@ impl FrameMark {
         }
     }
 
-    // What is told of a point of the table of contents.
     fn of_point(point: &TocPoint) -> FrameMark
         ensures kind { result.kind ≡ (plain_of (Toc 0 point.now 0)).kind }
         ensures track { result.track ≡ (plain_of (Toc 0 point.now 0)).track }

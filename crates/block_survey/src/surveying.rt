@@ -1,18 +1,48 @@
 // The rows of a stream.
-ghost use Rattle.std.specs.Prelude.{◌≡◌, ◌≤◌, ◌+◌, ◌-◌, ◌/◌, ◌++◌, IsTrue, length, take, drop, ◌==◌};
+ghost use Rattle.std.specs.Prelude.{◌≡◌, ◌<◌, ◌≤◌, ◌+◌, ◌-◌, ◌/◌, ◌++◌, [], ℕ, List, IsTrue, length, take, drop, slice_index_or, ◌==◌};
 ghost use Rattle.std.specs.List.{list_all};
-ghost use Rattle.raw_subcode.specs.Channels.{unit_size};
+ghost use Rattle.raw_subcode.specs.Channels.{blocks_of, unit_size};
+ghost use Rattle.raw_subcode.specs.Sizes.{block_bytes};
+ghost use Rattle.raw_subcode.specs.declared.form.Form.{Form};
+ghost use Rattle.stream_stages.specs.Check.{IsCheckListed};
 ghost use Rattle.stream_stages.specs.Steps.{words_give, words_next};
 ghost use Rattle.block_survey.specs.Rows.{row_with, survey_rows};
 ghost use Rattle.block_survey.specs.Steps.{marks_of, words_with_block};
+ghost use Rattle.block_survey.specs.Sums.{AddUpTo};
 
-use crate::BlockRow;
-use crate::blocks::{block_at, unit_bytes};
 use crate::counting::WordMarks;
 use crate::reading::FrameMark;
 use cdg_io::Stage;
-use raw_subcode::{BLOCK_BYTES, Form};
+use raw_subcode::{BLOCK_BYTES, Form, SECTOR_BYTES};
 use stream_stages::BlockWords;
+
+/// In place of an absolute time.
+pub const NO_TIME: u32 = u32::MAX;
+
+/// What is found of a block of a stream.
+#[repr(C)]
+#[derive(Clone, Copy, PartialEq, Eq, Debug)]
+pub struct BlockRow {
+    /// The absolute time of a frame of the program area, in blocks, or `NO_TIME`.
+    pub absolute: u32,
+    /// Of the words that end with the block, those that are codewords.
+    pub clean: u8,
+    /// Those with one wrong symbol.
+    pub one: u8,
+    /// Those with two.
+    pub two: u8,
+    /// Those with no codeword within two symbols.
+    pub bad: u8,
+    /// The kind of the Q frame, 0 to 7, as `PlainFrame` numbers them; 253 where the stream is one of packs, 254 where a
+    /// field is out of its range, 255 where the check is wrong.
+    pub q: u8,
+    /// The track of the frame (kinds 0 to 3), or 0.
+    pub track: u8,
+    /// The index of the frame (kind 0), or 0.
+    pub index: u8,
+    /// 1 where all 96 bytes are zero, else 0.
+    pub empty: u8,
+}
 
 /// Writes a row for each whole block of a stream, of which the first `lead_in` are those of the lead-in, to the front of
 /// `rows`. Bytes behind the last whole block are passed over. It takes no memory.
@@ -29,7 +59,6 @@ pub fn survey(form: Form, lead_in: u32, stream: &[u8], rows: &mut [BlockRow])
     }
 }
 
-// The row of the next block of a stream of this form.
 fn next_row(form: Form, words: &mut BlockWords, block: &[u8; BLOCK_BYTES]) -> BlockRow
     ensures next { words.new ≡ words_next words.old block.now }
     ensures row { result ≡ row_with form (words_with_block (words_give words.old block.now)) block.now }
@@ -68,3 +97,41 @@ fn is_empty(block: &[u8; BLOCK_BYTES]) -> bool
 {
     *block == [0; BLOCK_BYTES]
 }
+
+/// How many bytes a block takes in a stream of this form.
+#[inline]
+pub fn unit_bytes(form: Form) -> usize
+    ensures { result ≡ unit_size form }
+{
+    match form {
+        Form::Sector => SECTOR_BYTES,
+        Form::Raw | Form::Cooked => BLOCK_BYTES,
+    }
+}
+
+/// Block b of a stream, which is a whole one.
+#[inline]
+pub fn block_at(form: Form, stream: &[u8], b: usize) -> [u8; BLOCK_BYTES]
+    requires { b < length stream.now / unit_size form }
+    ensures { result ≡ slice_index_or (blocks_of form stream.now) b [] }
+{
+    let size = unit_bytes(form);
+    bytes_at(stream, size * b + size - BLOCK_BYTES)
+}
+
+// As many bytes as a block has, from one on.
+#[inline]
+fn bytes_at(stream: &[u8], at: usize) -> [u8; BLOCK_BYTES]
+    requires { at + block_bytes ≤ length stream.now }
+    ensures { result ≡ take block_bytes (drop at stream.now) }
+{
+    let mut block = [0; BLOCK_BYTES];
+    block.copy_from_slice(&stream[at..at + BLOCK_BYTES]);
+    block
+}
+
+/// A law: for any stream the sums of its rows are the numbers that `check` tells.
+pub fn rows_add_up_to_check()
+    ensures { (form : Form) (lead_in : ℕ) (bytes text : List ℕ) (bad : ℕ)
+        → IsCheckListed form lead_in bytes text bad → AddUpTo (survey_rows form lead_in bytes) text bad }
+{}

@@ -8,7 +8,10 @@ ghost use Rattle.cdg_instructions.specs.declared.instr.Instr.{Instr};
 ghost use Rattle.cdg_instructions.specs.Sizes.{colour_values, tile_height};
 
 use crate::Instr;
-use crate::codes::{self, CONTENT};
+use crate::instr::{
+    BORDER_PRESET, COLOURS_HIGH, COLOURS_LOW, CONTENT, GRAPHICS, MEMORY_PRESET, SCROLL_COPY,
+    SCROLL_PRESET, SET_TILE, TRANSPARENCY, XOR_TILE,
+};
 use crate::sizes::TILE_HEIGHT;
 use rw_code::{Pack, SYMBOLS, Word};
 
@@ -31,7 +34,7 @@ pub fn read_word(word: &Word) -> Instr
     let symbols = word.bytes();
     match symbols[0] {
         0 => Instr::Idle,
-        codes::GRAPHICS => graphics(&symbols),
+        GRAPHICS => graphics(&symbols),
         _ => Instr::Foreign,
     }
 }
@@ -44,22 +47,22 @@ fn graphics(symbols: &[u8; SYMBOLS]) -> Instr
     ensures range { InRange result }
 {
     match symbols[1] {
-        codes::MEMORY_PRESET => Instr::MemoryPreset {
+        MEMORY_PRESET => Instr::MemoryPreset {
             colour: symbols[CONTENT] % 16,
             repeat: symbols[CONTENT + 1] % 16,
         },
-        codes::BORDER_PRESET => Instr::BorderPreset {
+        BORDER_PRESET => Instr::BorderPreset {
             colour: symbols[CONTENT] % 16,
         },
-        codes::SET_TILE | codes::XOR_TILE => tile(symbols),
-        codes::SCROLL_PRESET | codes::SCROLL_COPY => scroll(symbols),
-        codes::TRANSPARENCY => Instr::Transparency {
+        SET_TILE | XOR_TILE => tile(symbols),
+        SCROLL_PRESET | SCROLL_COPY => scroll(symbols),
+        TRANSPARENCY => Instr::Transparency {
             levels: levels(symbols),
         },
-        codes::COLOURS_LOW => Instr::ColoursLow {
+        COLOURS_LOW => Instr::ColoursLow {
             colours: colours(symbols),
         },
-        codes::COLOURS_HIGH => Instr::ColoursHigh {
+        COLOURS_HIGH => Instr::ColoursHigh {
             colours: colours(symbols),
         },
         _ => Instr::Unknown,
@@ -79,7 +82,7 @@ fn tile(symbols: &[u8; SYMBOLS]) -> Instr
     let row = symbols[CONTENT + 2] % 32;
     let column = symbols[CONTENT + 3];
     let lines = lines(symbols);
-    if symbols[1] == codes::SET_TILE {
+    if symbols[1] == SET_TILE {
         Instr::SetTile {
             colour0,
             colour1,
@@ -111,7 +114,7 @@ fn scroll(symbols: &[u8; SYMBOLS]) -> Instr
     let h = (symbols[CONTENT + 1] % 8).min(5);
     let down = moved(symbols[CONTENT + 2]);
     let v = (symbols[CONTENT + 2] % 16).min(11);
-    if symbols[1] == codes::SCROLL_PRESET {
+    if symbols[1] == SCROLL_PRESET {
         Instr::ScrollPreset {
             colour,
             across,
@@ -139,7 +142,6 @@ fn moved(symbol: u8) -> u8
     if symbol / 16 == 3 { 0 } else { symbol / 16 }
 }
 
-// The lines of a tile.
 fn lines(symbols: &[u8; SYMBOLS]) -> [u8; TILE_HEIGHT]
     requires { IsWord symbols.now }
     ensures lines { result ≡ drop 4 (content_of symbols.now) }
@@ -151,7 +153,6 @@ fn lines(symbols: &[u8; SYMBOLS]) -> [u8; TILE_HEIGHT]
     lines
 }
 
-// Sixteen levels.
 fn levels(symbols: &[u8; SYMBOLS]) -> [u8; 16]
     requires { IsWord symbols.now }
     ensures levels { result ≡ content_of symbols.now }
@@ -163,7 +164,6 @@ fn levels(symbols: &[u8; SYMBOLS]) -> [u8; 16]
     levels
 }
 
-// Eight colours of a table.
 fn colours(symbols: &[u8; SYMBOLS]) -> [u16; 8]
     requires { IsWord symbols.now }
     ensures colours { result ≡ map (table_colour symbols.now) (below 8) }
@@ -177,7 +177,6 @@ fn colours(symbols: &[u8; SYMBOLS]) -> [u16; 8]
     colours
 }
 
-// Colour k of a table.
 fn colour(symbols: &[u8; SYMBOLS], k: usize) -> u16
     requires place { k < 8 }
     requires symbols { IsWord symbols.now }

@@ -13,9 +13,6 @@ pub const SCREEN_COLUMNS: usize = 50;
 /// How many rows of tiles the memory has (IEC 60908).
 pub const SCREEN_ROWS: usize = 18;
 
-/// How many tiles the memory has.
-pub const SCREEN_TILES: usize = SCREEN_COLUMNS * SCREEN_ROWS;
-
 /// How many pixels the memory, and with it the screen, is wide.
 pub const SCREEN_WIDTH: usize = SCREEN_COLUMNS * TILE_WIDTH;
 

@@ -1,5 +1,5 @@
 // A tile: 6 by 12 numbers of colours.
-ghost use Rattle.std.specs.Prelude.{◌≡◌, ◌<◌, ◌↔◌, ℕ, List, slice_index, All, MatchOption, IsTrue, replicate};
+ghost use Rattle.std.specs.Prelude.{◌≡◌, ◌<◌, ◌↔◌, ℕ, List, slice_index, All, MatchOption, IsTrue};
 ghost use Rattle.cdg_instructions.specs.Instruction.{IsTilePixels};
 ghost use Rattle.cdg_instructions.specs.Sizes.{tile_pixels};
 
@@ -36,16 +36,6 @@ impl Tile {
             Some(Tile { pixels: *pixels })
         } else {
             None
-        }
-    }
-
-    /// The tile whose pixels all have the colour number `colour`, which is below 16.
-    pub fn solid(colour: u8) -> Tile
-        requires { colour < 16 }
-        ensures { result ≡ replicate tile_pixels colour }
-    {
-        Tile {
-            pixels: [colour; PIXELS],
         }
     }
 

@@ -1,8 +1,8 @@
 -- What the reading of a whole input took of it where it stopped, and what the writing of a whole piece put.
-use Rattle.std.specs.Prelude.{◌≡◌, ℕ, ◌≤◌, List, length}
-use Rattle.cdg_io.specs.Causes.{Count, RoseOnce}
+use Rattle.std.specs.Prelude.{◌≡◌, ℕ, ◌≤◌, IfOk, List, OnErr, Result, length}
+use Rattle.cdg_io.specs.Causes.{Count, FillsRoom, HasCause, RoseOnce, TellsEnd}
 use Rattle.std.specs.Io.KnownBytes.{Consumes, IsAtEnd, Keeps}
-use Rattle.cdg_io.specs.Moves.{AppendsLess}
+use Rattle.cdg_io.specs.Moves.{AppendsLess, ConsumesBelow}
 use Rattle.std.specs.declared.option.Option.{Option}
 
 -- known bytes begin with exactly n bytes, and lose them
@@ -39,3 +39,20 @@ pub record ReadsWithin {S : Type 0} (left : S → Option (List ℕ)) (ends : S �
   pub took : Consumes (left before) (left after) taken
   pub end : IsAtEnd (left after)
   pub told : RoseOnce (ends before) (ends after)
+
+-- what a source tells: the bytes left, and its counts of faults, of told ends and of full answers
+pub record Telling (S : Type 0) : Type 0 where
+  pub left : S → Option (List ℕ)
+  pub faults : S → ℕ
+  pub ends : S → Count
+  pub fills : S → Count
+
+-- A call reads up to so many bytes and answers how many there were: fewer are the last of the input, or a read failed.
+pub record ReadsUpTo {S E : Type 0} (tells : Telling S) (most : ℕ) (before after : S)
+    (result : Result ℕ E) : Type 0 where
+  pub within : IfOk result (λ n. n ≤ most)
+  pub part : OnErr result (ConsumesBelow (tells.left before) (tells.left after) most)
+  pub cut : OnErr result (StopsAtFault tells.left tells.faults most before after)
+  pub cause : HasCause (tells.faults before) (tells.faults after) result
+  pub told : TellsEnd most (tells.ends before) (tells.ends after) result
+  pub room : FillsRoom most (tells.fills before) (tells.fills after) result

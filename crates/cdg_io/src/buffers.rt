@@ -11,7 +11,7 @@ ghost use Rattle.cdg_io.specs.Moves.{TakesSome};
 ghost use Rattle.cdg_io.specs.Pump.{RoseBy, Works};
 ghost use Rattle.cdg_io.specs.Waiting.{Buffered, bytes_with_waiting};
 
-use crate::ends::{CountedWriter, Outcome, Tally};
+use crate::ends::{CountedWriter, Outcome, Tally, read_counted};
 use crate::piece::copy_front;
 use crate::{Failed, PassedUnits, Piece, Sink, Source, UnitStage};
 use std::alloc::{AllocError, Global};
@@ -58,7 +58,6 @@ impl<R: Read> Source for BufferedSource<R> {
 
     ghost fills = { λ s. Some s.fills };
 
-    #[tactic(auto, using(crate::proofs::Stops::rose_by_one))]
     fn take(&mut self, buf: &mut [u8]) -> Result<usize, Failed>
         requires { 0 < length buf.old }
         ensures bound { ReadsAtMost result buf.new }
@@ -69,16 +68,7 @@ impl<R: Read> Source for BufferedSource<R> {
         ensures room { FillsRoom (length buf.old) (Some self.old.fills) (Some self.new.fills) result }
         ensures counted { self.new.faults ≡ counted_after result self.old.faults }
     {
-        match self.reader.read(buf) {
-            Ok(count) => {
-                self.tally.add(count, buf.len());
-                Ok(count)
-            }
-            Err(_) => {
-                self.faults = self.faults.saturating_add(1);
-                Err(Failed)
-            }
-        }
+        read_counted(&mut self.reader, &mut self.faults, &mut self.tally, buf)
     }
 
     /// Feeds the unit from where it stands in the buffer. Nothing is read for it.
@@ -340,7 +330,6 @@ fn write_front<W: Write>(writer: &mut CountedWriter<W>, bytes: &[u8]) -> usize
     written
 }
 
-// Moves the bytes from one place to another to the front.
 fn move_to_front(bytes: &mut [u8], from: usize, end: usize)
     requires { (from ≤ end) × (end ≤ length bytes.old) }
     ensures { take (end - from) bytes.new ≡ drop from (take end bytes.old) }

@@ -191,6 +191,34 @@ impl Tally {
     }
 }
 
+/// Reads once, and counts what came of it. An error is a failure.
+#[tactic(auto, using(crate::proofs::Stops::rose_by_one))]
+pub(crate) fn read_counted<R: Read>(
+    reader: &mut R,
+    faults: &mut u64,
+    tally: &mut Tally,
+    buf: &mut [u8],
+) -> Result<usize, Failed>
+    requires { 0 < length buf.old }
+    ensures bound { ReadsAtMost result buf.new }
+    ensures bytes { ReadConsumes (R.remaining reader.old) (R.remaining reader.new) result buf.new }
+    ensures cause { HasCause faults.old faults.new result }
+    ensures counted { faults.new ≡ counted_after result faults.old }
+    ensures end { TellsEnd 1 (Some tally.old.ends) (Some tally.new.ends) result }
+    ensures room { FillsRoom (length buf.old) (Some tally.old.fills) (Some tally.new.fills) result }
+{
+    match reader.read(buf) {
+        Ok(count) => {
+            tally.add(count, buf.len());
+            Ok(count)
+        }
+        Err(_) => {
+            *faults = faults.saturating_add(1);
+            Err(Failed)
+        }
+    }
+}
+
 /// A reader as a source. It tells the bytes that the reader tells. An error of the reader is a failure.
 #[derive(Drop)]
 pub struct ReadSource<R: Read> {
@@ -231,7 +259,6 @@ impl<R: Read> Source for ReadSource<R> {
 
     ghost fills = { λ s. Some s.fills };
 
-    #[tactic(auto, using(crate::proofs::Stops::rose_by_one))]
     fn take(&mut self, buf: &mut [u8]) -> Result<usize, Failed>
         requires { 0 < length buf.old }
         ensures bound { ReadsAtMost result buf.new }
@@ -242,16 +269,7 @@ impl<R: Read> Source for ReadSource<R> {
         ensures room { FillsRoom (length buf.old) (Some self.old.fills) (Some self.new.fills) result }
         ensures counted { self.new.faults ≡ counted_after result self.old.faults }
     {
-        match self.reader.read(buf) {
-            Ok(count) => {
-                self.tally.add(count, buf.len());
-                Ok(count)
-            }
-            Err(_) => {
-                self.faults = self.faults.saturating_add(1);
-                Err(Failed)
-            }
-        }
+        read_counted(&mut self.reader, &mut self.faults, &mut self.tally, buf)
     }
 }
 

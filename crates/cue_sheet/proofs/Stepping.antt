@@ -7,8 +7,8 @@ use Rattle.cue_sheet.specs.CueLines.{command_named, said_by, CueLine, SaysNothin
 use Rattle.cue_sheet.specs.Grammar.{CueState, has_index_one, lacks_index, follows_number, follows_index, begun, with_index, once, taken, is_second_file, is_placed, spelled_line, obeyed, sheet_step, ended}
 use Rattle.cue_sheet.specs.Steps.{line_said, is_repeated, after, later_sheet_reason, unless, end_reason, sheet_said}
 use Rattle.cue_sheet.specs.declared.command.SheetCommand.{SheetCommand}
-use Rattle.cue_sheet.specs.declared.line.SheetLine.{SheetLine}
-use Rattle.cue_sheet.specs.declared.line.SheetLine.TheVariants.{Remark, Catalogue, File, Title, Performer, Songwriter, Track, Flags, Isrc, Pregap, Index, Postgap}
+use Rattle.cue_sheet.specs.declared.command.SheetLine.{SheetLine}
+use Rattle.cue_sheet.specs.declared.command.SheetLine.TheVariants.{Remark, Catalogue, File, Title, Performer, Songwriter, Track, Flags, Isrc, Pregap, Index, Postgap}
 use Rattle.cue_sheet.specs.declared.fault.CueWhy.{CueWhy}
 use Rattle.cue_sheet.specs.declared.fault.CueWhy.TheVariants.{SecondFile, Misplaced, Repeated, NoIndex, NotAudio, NumberOrder, IndexOrder, TimeOrder, NoFile, NoTrack}
 

@@ -6,8 +6,8 @@ use Rattle.cue_sheet.specs.Grammar.{CueState, has_index_one, lacks_index, follow
 use Rattle.cue_sheet.specs.declared.command.SheetCommand.{SheetCommand}
 use Rattle.cue_sheet.specs.declared.fault.CueWhy.{CueWhy}
 use Rattle.cue_sheet.specs.declared.fault.CueWhy.TheVariants.{Repeated, NoIndex, NotAudio, NumberOrder, IndexOrder, TimeOrder, NoFile, NoTrack}
-use Rattle.cue_sheet.specs.declared.line.SheetLine.{SheetLine}
-use Rattle.cue_sheet.specs.declared.line.SheetLine.TheVariants.{Remark, Catalogue, File, Title, Performer, Songwriter, Track, Flags, Isrc, Pregap, Index, Postgap}
+use Rattle.cue_sheet.specs.declared.command.SheetLine.{SheetLine}
+use Rattle.cue_sheet.specs.declared.command.SheetLine.TheVariants.{Remark, Catalogue, File, Title, Performer, Songwriter, Track, Flags, Isrc, Pregap, Index, Postgap}
 
 -- what a line says, without where its texts lie in memory
 abbrev pub line_said : SheetLine → CueLine

@@ -1,7 +1,6 @@
 // The arguments of commands.
-ghost use Rattle.std.specs.Prelude.{◌≡◌, ◌≤◌, ◌<◌, ◌||◌, IfSome, IsTrue, length, option_map, option_copied};
+ghost use Rattle.std.specs.Prelude.{◌≡◌, ◌≤◌, ◌<◌, IfSome, IsTrue, length, option_map, option_copied};
 ghost use Rattle.std.specs.List.{list_all, position};
-ghost use Rattle.std.specs.Char.{is_ascii_digit, is_ascii_uppercase};
 ghost use Rattle.disc_time.specs.Counts.{most_tracks, time_count};
 ghost use Rattle.disc_time.specs.Fields.{control_values};
 ghost use Rattle.text_lines.specs.Text.{most_text_bytes, words_in};
@@ -9,10 +8,9 @@ ghost use Rattle.cue_sheet.specs.CueSheet.{IsText, is_catalogue_number, is_capit
 ghost use Rattle.cue_sheet.specs.CueLines.{IsLineInRange, begins_quoted, catalogue_argument, code_argument, flags_argument, index_argument, is_file, is_flag, is_plain, is_quote, names_flag, plain, quoted, said_by, text_argument, track_argument, two_words};
 ghost use Rattle.cue_sheet.specs.Steps.{line_said};
 
-use crate::command::{SheetCommand, is_word};
-use crate::line::SheetLine;
+use crate::command::{SheetCommand, SheetLine, is_word};
 use disc_time::{CATALOGUE_DIGITS, ISRC_CHARACTERS};
-use text_lines::{next_word, time, two_digits};
+use text_lines::{are_capitals, are_capitals_or_digits, are_digits, next_word, time, two_digits};
 
 /// What a command says with its argument, if that is spelled as it must be.
 pub(crate) fn spelled(command: SheetCommand, argument: &[u8]) -> Option<SheetLine<'_>>
@@ -131,7 +129,6 @@ fn is_file(argument: &[u8]) -> bool
     word_count(argument) >= 2
 }
 
-// The number of words.
 fn word_count(line: &[u8]) -> usize
     ensures { result ≡ length (words_in line.now) }
 {
@@ -182,30 +179,6 @@ fn is_code(code: &[u8; ISRC_CHARACTERS]) -> bool
 {
     let (_, digits) = code.split_at(5);
     are_capitals(&code[..2]) && are_capitals_or_digits(&code[2..5]) && are_digits(digits)
-}
-
-fn are_digits(text: &[u8]) -> bool
-    ensures { result ≡ list_all is_ascii_digit text.now }
-{
-    text.iter().all(|byte| byte.is_ascii_digit())
-}
-
-fn are_capitals(text: &[u8]) -> bool
-    ensures { result ≡ list_all is_ascii_uppercase text.now }
-{
-    text.iter().all(|byte| byte.is_ascii_uppercase())
-}
-
-fn are_capitals_or_digits(text: &[u8]) -> bool
-    ensures { result ≡ list_all (λ c. is_ascii_digit c || is_ascii_uppercase c) text.now }
-{
-    text.iter().all(|byte| is_capital_or_digit(*byte))
-}
-
-fn is_capital_or_digit(byte: u8) -> bool
-    ensures { result ≡ is_ascii_digit byte || is_ascii_uppercase byte }
-{
-    byte.is_ascii_digit() || byte.is_ascii_uppercase()
 }
 
 // The two words of an argument, if it has just two.

@@ -1,6 +1,8 @@
-// The commands of a cue sheet.
+// The commands of a cue sheet, and the lines that they stand in.
 ghost use Rattle.std.specs.Prelude.{◌≡◌};
 ghost use Rattle.std.specs.Str.{str_eq_ignore_ascii_case};
+
+use disc_time::{CATALOGUE_DIGITS, ISRC_CHARACTERS};
 
 /// A command of a cue sheet.
 #[derive(Clone, Copy)]
@@ -55,6 +57,23 @@ impl SheetCommand {
             None
         }
     }
+}
+
+/// A line that is spelled as it must be. Its texts are parts of the sheet's text.
+#[derive(Drop)]
+pub(crate) enum SheetLine<'a> {
+    Remark,
+    Catalogue([u8; CATALOGUE_DIGITS]),
+    File,
+    Title(&'a [u8]),
+    Performer(&'a [u8]),
+    Songwriter(&'a [u8]),
+    Track { number: u8, audio: bool },
+    Flags(u8),
+    Isrc([u8; ISRC_CHARACTERS]),
+    Pregap(u32),
+    Index { number: u8, time: u32 },
+    Postgap(u32),
 }
 
 /// Whether a word is this one, its letters in either case.

@@ -3,7 +3,7 @@ ghost use Rattle.std.specs.Prelude.{◌≡◌, ◌++◌, true, false, IfOk, map}
 ghost use Rattle.cue_sheet.specs.Grammar.{CueState, track_with};
 ghost use Rattle.cue_sheet.specs.Views.{section_of, track_value};
 
-use crate::line::SheetLine;
+use crate::command::SheetLine;
 use crate::section::{Section, Track};
 use crate::sheet::Sheet;
 use std::alloc::{AllocError, Global};

@@ -3,9 +3,8 @@ ghost use Rattle.std.specs.Prelude.{◌≡◌, ◌≤◌, List, ℕ, None, lengt
 ghost use Rattle.text_lines.specs.Text.{most_text_bytes};
 
 use crate::argument::spelled;
-use crate::command::SheetCommand;
+use crate::command::{SheetCommand, SheetLine};
 use crate::fault::CueWhy;
-use crate::line::SheetLine;
 use text_lines::split_command;
 
 /// What the lines of a track so far say of the lines that may follow, or those before the first track: which lines that

@@ -7,12 +7,9 @@ mod command;
 mod draft;
 mod fault;
 mod judge;
-mod laws;
-mod line;
 mod reader;
 mod section;
 mod sheet;
 
 pub use fault::{CueStop, CueText, CueWhy};
-pub use laws::accepted_sheets_are_in_order;
-pub use sheet::Sheet;
+pub use sheet::{Sheet, accepted_sheets_are_in_order};

@@ -6,10 +6,10 @@ ghost use Rattle.cue_sheet.specs.Answers.{IsCueAnswer};
 ghost use Rattle.cue_sheet.specs.Grammar.{CueState, nothing_said, read_cue};
 ghost use Rattle.cue_sheet.specs.Steps.{after, line_said, sheet_said};
 
+use crate::command::SheetLine;
 use crate::draft::SheetDraft;
 use crate::fault::{CueStop, CueWhy};
 use crate::judge::SheetJudge;
-use crate::line::SheetLine;
 use crate::sheet::Sheet;
 use std::alloc::{AllocError, Global};
 use text_lines::{next_line, trim, without_mark};

@@ -2,12 +2,12 @@
 ghost use Rattle.std.specs.Prelude.{◌≡◌, ◌≢◌, ℕ, Bool, [], Some, unwrap_or, IfOk};
 ghost use Rattle.std.specs.Option.{option_map};
 
+use crate::command::SheetLine;
 use crate::fault::CueText;
-use crate::line::SheetLine;
 use disc_time::{CATALOGUE_DIGITS, ISRC_CHARACTERS};
 use std::alloc::{AllocError, Global};
 
-/// What the lines of one track say, or those before the first track. A line that may stand once is kept in an `Option`.
+/// A line that may stand once is kept in an `Option`.
 #[derive(Drop)]
 pub(crate) struct Section {
     pub(crate) catalogue: Option<[u8; CATALOGUE_DIGITS]>,

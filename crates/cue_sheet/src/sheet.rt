@@ -1,9 +1,11 @@
 // A cue sheet and its readers.
-ghost use Rattle.std.specs.Prelude.{◌≡◌, ◌≤◌, ◌<◌, IfSome, IsTrue, length, option_copied};
+ghost use Rattle.std.specs.Prelude.{◌≡◌, ◌≤◌, ◌<◌, All, IfSome, IsTrue, List, Ok, length, option_copied, ℕ};
 ghost use Rattle.disc_time.specs.Counts.{most_tracks, time_count};
 ghost use Rattle.disc_time.specs.Fields.{control_values};
 ghost use Rattle.text_lines.specs.Text.{most_text_bytes};
 ghost use Rattle.cue_sheet.specs.CueSheet.{CueSheet, IsSheet, IsText, IsTrack, is_capital_code, is_catalogue_number, track_of, text_at, index_line_of};
+ghost use Rattle.cue_sheet.specs.Grammar.{read_cue};
+ghost use Rattle.cue_sheet.specs.SheetBytes.{HasByteTexts};
 ghost use Rattle.cue_sheet.specs.Views.{sheet_value, track_value};
 
 use crate::fault::{CueStop, CueText};
@@ -28,7 +30,6 @@ impl Model for Sheet {
 }
 
 impl Sheet {
-    ghost use Rattle.cue_sheet.specs.Grammar.{read_cue};
     ghost use Rattle.cue_sheet.specs.Answers.{IsCueAnswer};
 
     /// What the text of a cue sheet says, or its first line that is refused. The text is read once, from front to
@@ -169,3 +170,12 @@ impl Sheet {
         self.track(k).section.indices[j]
     }
 }
+
+/// A law: every sheet that is accepted is in order, and the sheet of a text of bytes has texts of bytes.
+pub fn accepted_sheets_are_in_order()
+    ensures order { (text : List ℕ) (sheet : CueSheet) → length text ≤ most_text_bytes
+        → read_cue text ≡ Ok sheet → IsSheet sheet }
+    ensures texts { (text : List ℕ) (sheet : CueSheet) → All (λ byte. byte < 256) text
+        → length text ≤ most_text_bytes
+        → read_cue text ≡ Ok sheet → HasByteTexts sheet }
+{}

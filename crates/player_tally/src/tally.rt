@@ -1,10 +1,15 @@
-// Counts of what came.
-ghost use Rattle.std.specs.Prelude.{◌≡◌, ◌≤◌, [], ℕ, length};
+// Counts of what came to a player that is fed.
+ghost use Rattle.std.specs.Prelude.{◌≡◌, ◌≤◌, ◌∷◌, [], List, ℕ, length};
 ghost use Rattle.raw_subcode.specs.declared.form.Form.{Form};
 ghost use Rattle.block_survey.specs.Rows.{bad_words, reading_in, wrong_count};
+ghost use Rattle.live_player.specs.Lives.{Given, HasPlayed};
+ghost use Rattle.live_player.specs.Lives.Given.{Fed};
+ghost use Rattle.live_player.specs.Steps.{TakesBlock, words_come};
+ghost use Rattle.stream_stages.specs.Steps.{words_give};
 ghost use Rattle.player_tally.specs.Tallies.{tallied_count, frame_after, more_read, more_refused, place_after, tallied, IsTallyOf};
 
 use block_survey::WordMarks;
+use live_player::LivePlayer;
 use plain_frames::{PlainFrame, plain_of};
 use q_channel::decode;
 use raw_subcode::{BLOCK_BYTES, Block, Form};
@@ -14,7 +19,6 @@ use rw_code::Word;
 #[repr(C)]
 #[derive(Clone, Copy, PartialEq, Eq, Debug)]
 pub struct PlayerTally {
-    /// Blocks.
     pub blocks: u64,
     /// Words that are codewords.
     pub clean: u64,
@@ -73,7 +77,6 @@ impl PlayerTally {
         self.count_frame(form, block);
     }
 
-    // Counts words.
     fn count_words(&mut self, words: &[Word])
         requires { length words.now ≤ 4 }
         ensures { self.new ≡ record self.old {
@@ -123,4 +126,22 @@ impl PlayerTally {
             Err(_) => self.bad_frames = self.bad_frames.saturating_add(1),
         }
     }
+}
+
+/// Feeds a player the next block, and counts what comes with it.
+pub fn feed_and_count(live: &mut LivePlayer, block: &[u8; BLOCK_BYTES], tally: &mut PlayerTally)
+    ensures takes { TakesBlock block.now live.old live.new }
+    ensures counts { tally.new ≡ tallied live.old.words.form
+        (words_come (words_give live.old.words block.now)) block.now tally.old }
+    ensures fed { (form : Form) (lead_in : ℕ) (given : List Given)
+        → HasPlayed form lead_in given live.old
+        → HasPlayed form lead_in (Fed block.now ∷ given) live.new }
+    // Where the tally is that of the player's stream so far, it is that of the stream with this block.
+    ensures tallies { (form : Form) (lead_in : ℕ) (given : List Given)
+        → HasPlayed form lead_in given live.old → IsTallyOf form lead_in given tally.old
+        → IsTallyOf form lead_in (Fed block.now ∷ given) tally.new }
+{
+    let form = live.words.form;
+    let words = live.take(block);
+    tally.count(form, words.as_slice(), block);
 }

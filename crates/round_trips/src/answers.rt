@@ -1,4 +1,4 @@
-// What a player answers to an authored stream.
+// What is listed of the Q channel of an authored stream, and what a player answers to one.
 ghost use Rattle.std.specs.Prelude.{◌≡◌, ◌*◌, ◌<◌, ◌≤◌, ℕ, List, Bool, true, Some, Result, length};
 ghost use Rattle.cdg_io.specs.Change.{Bytes, Change, from_to};
 ghost use Rattle.cdg_io.specs.Streams.{Streams};
@@ -23,10 +23,20 @@ ghost use Rattle.round_trips.specs.Damage.{HasHurtSlots, count_whole, count_hurt
 ghost use Rattle.round_trips.specs.FrameLines.{frame_lines};
 ghost use Rattle.round_trips.specs.SheetLines.{HasText, HasTextPacks, sheet_lines};
 
-use crate::frames::authored_frames_are_listed;
 use crate::texts::{
     authored_texts_are_listed, damaged_lead_ins_give_the_texts, streams_without_texts_are_listed,
 };
+use q_channel::bits_have_one_reading;
+
+/// A law: of an authored stream the frame of each block is listed, and none is refused.
+pub fn authored_frames_are_listed()
+    ensures { (sheet : CueSheet) (script : List Drawing) (lead_in audio : ℕ) (bytes : List ℕ)
+        (packs : List (List ℕ)) (text : List ℕ) (bad : ℕ)
+        → IsAuthored (disc_of sheet script lead_in audio) bytes packs → IsQListed Raw bytes text bad
+        → (text ≡ frame_lines (layout_of sheet audio) lead_in) × (bad ≡ 0) }
+{
+    bits_have_one_reading();
+}
 
 /// A law: a list of the Q channel of an authored stream puts the line of each frame, unless a read or a write fails.
 pub fn frame_lists_are_answered()

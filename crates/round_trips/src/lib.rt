@@ -3,16 +3,14 @@
 #![tactic(auto)]
 
 mod answers;
-mod frames;
 mod pressed;
 mod scheduled_screens;
 mod texts;
 
 pub use answers::{
-    copied_text_lists_are_answered, damaged_text_lists_are_answered, frame_lists_are_answered,
-    text_lists_are_answered,
+    authored_frames_are_listed, copied_text_lists_are_answered, damaged_text_lists_are_answered,
+    frame_lists_are_answered, text_lists_are_answered,
 };
-pub use frames::authored_frames_are_listed;
 pub use pressed::{pressed_files_are_shown, pressed_packs_come_back};
 pub use scheduled_screens::{screens_show_pictures, shown_moments_give_pictures};
 pub use texts::{

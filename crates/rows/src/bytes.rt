@@ -29,7 +29,6 @@ fn part_of<'a>(outputs: &'a Outputs, piece: &str) -> Result<&'a [u8]> {
     }
 }
 
-// Adds bytes so many times.
 fn add_times(bytes: &mut Vec<u8>, times: u32, unit: &[u8]) -> Result<()> {
     if let [byte] = unit {
         let len = bytes.len().saturating_add(times as usize);

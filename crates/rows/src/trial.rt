@@ -21,7 +21,6 @@ fn shown(alloc: Global, bytes: &[u8], place: usize) -> Result<String, AllocError
     hex::encode(alloc, &rest[..rest.len().min(16)])
 }
 
-// Fails where two lists differ.
 fn compare(alloc: Global, what: &str, wanted: &[u8], got: &[u8]) -> Result<()>
     ensures { OnOk result (wanted.now ≡ got.now) }
 {
@@ -57,7 +56,6 @@ fn compare_beginning(alloc: Global, row: &Row, got: &[u8]) -> Result<()> {
     compare(alloc, "out", whole.get(..len).unwrap_or(&[]), got)
 }
 
-// Whether a text has a line.
 fn has_line(text: &[u8], line: &str) -> bool {
     let mut rest = text;
     for _ in 0..text.len() {
@@ -73,7 +71,6 @@ fn has_line(text: &[u8], line: &str) -> bool {
     false
 }
 
-// Fails where bytes do not have this digest.
 fn compare_digest(alloc: Global, digest: &str, got: &[u8]) -> Result<()> {
     let found = hex::encode(alloc, Sha256::digest(got))?;
     compare(alloc, "digest of out", digest.as_bytes(), found.as_bytes())

@@ -1,5 +1,7 @@
-// Words that are numbers or times.
-ghost use Rattle.std.specs.Prelude.{◌≡◌, ◌<◌, ◌≤◌, ◌^◌, ℕ, IfSome, Some};
+// Words that are numbers or times, and the characters of numbers and codes.
+ghost use Rattle.std.specs.Prelude.{◌≡◌, ◌<◌, ◌≤◌, ◌↔◌, ◌^◌, ◌||◌, ℕ, All, IfSome, IsTrue, Some, true};
+ghost use Rattle.std.specs.Char.{is_ascii_digit, is_ascii_uppercase};
+ghost use Rattle.std.specs.List.{list_all};
 ghost use Rattle.disc_time.specs.Counts.{time_count};
 ghost use Rattle.disc_time.specs.Time.{time_text};
 ghost use Rattle.text_lines.specs.Text.{number_in, two_digit_number, parsed_time};
@@ -44,4 +46,34 @@ pub fn time(word: &[u8]) -> Option<u32>
     ensures bound { IfSome result (λ block. block < time_count) }
 {
     parse_time(word)
+}
+
+/// Whether all bytes are decimal digits.
+pub fn are_digits(text: &[u8]) -> bool
+    ensures all { result ≡ list_all is_ascii_digit text.now }
+    ensures each { IsTrue result ↔ All (λ c. is_ascii_digit c ≡ true) text.now }
+{
+    text.iter().all(|byte| byte.is_ascii_digit())
+}
+
+/// Whether all bytes are capital letters of ASCII.
+pub fn are_capitals(text: &[u8]) -> bool
+    ensures all { result ≡ list_all is_ascii_uppercase text.now }
+    ensures each { IsTrue result ↔ All (λ c. is_ascii_uppercase c ≡ true) text.now }
+{
+    text.iter().all(|byte| byte.is_ascii_uppercase())
+}
+
+/// Whether all bytes are capital letters of ASCII or decimal digits.
+pub fn are_capitals_or_digits(text: &[u8]) -> bool
+    ensures all { result ≡ list_all (λ c. is_ascii_digit c || is_ascii_uppercase c) text.now }
+    ensures each { IsTrue result ↔ All (λ c. is_ascii_digit c || is_ascii_uppercase c ≡ true) text.now }
+{
+    text.iter().all(|byte| is_capital_or_digit(*byte))
+}
+
+fn is_capital_or_digit(byte: u8) -> bool
+    ensures { result ≡ is_ascii_digit byte || is_ascii_uppercase byte }
+{
+    byte.is_ascii_digit() || byte.is_ascii_uppercase()
 }

@@ -38,57 +38,60 @@ returns-clause-feeds g c =
       },
     )
 
-pub returns-in_err-filled-clause-within : goal.returns-in_err-filled-clause-within
-returns-in_err-filled-clause-within g c = if_no_value _ c.from_residual.result c.from_residual.ensures.0
-
 pub returns-in_err-filled-clause-feeds : goal.returns-in_err-filled-clause-feeds
 returns-in_err-filled-clause-feeds g c = if_no_value _ c.from_residual.result c.from_residual.ensures.0
 
 pub returns-in_err-filled-clause-stays : goal.returns-in_err-filled-clause-stays
 returns-in_err-filled-clause-stays g c = on_err c.from_residual.result refl
 
-pub returns-in_err-filled-clause-cause : goal.returns-in_err-filled-clause-cause
-returns-in_err-filled-clause-cause g c =
-    failed_cause _ _ _ c.from_residual.ensures.0 c.in_err-filled.ensures.cause.later
-    c.in_err-filled.ensures.cause.failed
-
-pub returns-in_err-filled-clause-told : goal.returns-in_err-filled-clause-told
-returns-in_err-filled-clause-told g c =
-    failed_end _ _ _ _ c.from_residual.ensures.0 c.in_err-filled.ensures.told.failed
-
-pub returns-in_err-filled-clause-room : goal.returns-in_err-filled-clause-room
-returns-in_err-filled-clause-room g c =
-    failed_room _ _ _ _ c.from_residual.ensures.0 c.in_err-filled.ensures.room.failed
-
-pub returns-then-filled-SIZE-clause-within : goal.returns-then-filled-SIZE-clause-within
-returns-then-filled-SIZE-clause-within g c = omega (arith, c.SIZE-2.ensures, c.if-filled-SIZE.true)
-
-pub returns-then-filled-SIZE-clause-part : goal.returns-then-filled-SIZE-clause-part
-returns-then-filled-SIZE-clause-part g c = tt
-
 pub returns-then-filled-SIZE-clause-stays : goal.returns-then-filled-SIZE-clause-stays
 returns-then-filled-SIZE-clause-stays g c = tt
-
-pub returns-clause-part : goal.returns-clause-part
-returns-clause-part g c = tt
 
 pub returns-clause-stays : goal.returns-clause-stays
 returns-clause-stays g c = tt
 
-pub returns-in_err-filled-clause-cut : goal.returns-in_err-filled-clause-cut
-returns-in_err-filled-clause-cut g c =
-    let cut = c.in_err-filled.ensures.cut in
-    on_err c.from_residual.result (record {
-      last = cut.last;
-      taken = cut.taken;
-      within = search (rules, arith, cut.within);
-      took = cut.took;
-      quiet = cut.quiet;
-      nothing = cut.nothing;
-    })
+pub returns-in_err-filled-clause-reads : goal.returns-in_err-filled-clause-reads
+returns-in_err-filled-clause-reads g c =
+    let read = c.in_err-filled.ensures in
+    let failed = c.from_residual.ensures.0 in
+    let room : length c.fill.new.buf ≡ g.G.UnitStage.SIZE = search (rules, c.SIZE.ensures) in
+    let (bytes, few, took) = read.part in
+    record {
+      within = if_no_value _ c.from_residual.result failed;
+      part = on_err c.from_residual.result (bytes, omega (arith, few, room), took);
+      cut = on_err c.from_residual.result (record {
+        last = read.cut.last;
+        taken = read.cut.taken;
+        within = search (rules, arith, read.cut.within);
+        took = read.cut.took;
+        quiet = read.cut.quiet;
+        nothing = read.cut.nothing;
+      });
+      cause = failed_cause _ _ _ failed read.cause.later read.cause.failed;
+      told = failed_end _ _ _ _ failed read.told.failed;
+      room = failed_room _ _ _ _ failed read.room.failed;
+    }
 
-pub returns-then-filled-SIZE-clause-cut : goal.returns-then-filled-SIZE-clause-cut
-returns-then-filled-SIZE-clause-cut g c = tt
+pub returns-then-filled-SIZE-clause-reads : goal.returns-then-filled-SIZE-clause-reads
+returns-then-filled-SIZE-clause-reads g c =
+    let read = c.in_ok-filled.ensures in
+    record {
+      within = omega (arith, c.SIZE-2.ensures, c.if-filled-SIZE.true);
+      part = tt;
+      cut = tt;
+      cause = read.cause;
+      told = search rules;
+      room = search rules;
+    }
 
-pub returns-clause-cut : goal.returns-clause-cut
-returns-clause-cut g c = tt
+pub returns-clause-reads : goal.returns-clause-reads
+returns-clause-reads g c =
+    let read = c.in_ok-filled.ensures in
+    record {
+      within = search rules;
+      part = tt;
+      cut = tt;
+      cause = search rules;
+      told = search rules;
+      room = search rules;
+    }

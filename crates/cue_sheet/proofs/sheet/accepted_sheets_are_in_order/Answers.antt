@@ -1,5 +1,5 @@
 use Rattle.cue_sheet.proofs.SheetTexts.{sheet_in_order, texts_of_bytes}
-use Rattle.cue_sheet.proofs.laws.accepted_sheets_are_in_order.Goals as goal
+use Rattle.cue_sheet.proofs.sheet.accepted_sheets_are_in_order.Goals as goal
 
 pub returns-clause-order : goal.returns-clause-order
 returns-clause-order c = sheet_in_order

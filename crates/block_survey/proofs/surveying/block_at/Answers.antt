@@ -1,6 +1,6 @@
 use Rattle.std.proofs.Common.{◌∙◌, ◌*◌, ◌+◌, ◌-◌, ap, sym, take, drop}
 use Rattle.block_survey.proofs.EndedWords.{block_there}
-use Rattle.block_survey.proofs.blocks.block_at.Goals as goal
+use Rattle.block_survey.proofs.surveying.block_at.Goals as goal
 
 pub returns : goal.returns
 returns c =

@@ -7,7 +7,7 @@ use Rattle.raw_subcode.specs.declared.form.Form.{Form}
 use Rattle.player_tally.specs.Tallies.{tallied, IsTallyOf}
 use Rattle.player_tally.specs.declared.tally.PlayerTally.{PlayerTally}
 use Rattle.player_tally.proofs.More.{block_more}
-use Rattle.player_tally.proofs.feeding.feed_and_count.Goals as goal
+use Rattle.player_tally.proofs.tally.feed_and_count.Goals as goal
 
 pub returns-clause-tallies : goal.returns-clause-tallies
 returns-clause-tallies c form lead_in given played so_far =
