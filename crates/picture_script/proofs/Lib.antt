@@ -11,3 +11,4 @@ pub mod Ranges
 pub mod ShowNumbers
 pub mod RowMarks
 pub mod Counted
+pub mod OneDigit

@@ -167,8 +167,26 @@ fn is_row(x: u16, y: u16, count: usize) -> bool
         && usize::from(y) < WINDOW_HEIGHT
 }
 
-// The number of a colour, which the words after `border` and `fill` are.
+// The number of a colour, which the words after `border` and `fill` are. Most lines have a space and a digit there, which
+// need not be taken apart.
+#[inline(always)]
 fn colour_number(words: &[u8]) -> Result<u8, ScriptWhy>
+    ensures ok { IfOk result
+        (λ colour. (numbers_in 1 (words_in words.now) ≡ Some (colour ∷ [])) × (colour < colour_count)) }
+    ensures border { IfErr result (λ why. (before : List Drawing)
+        → checked_line before (border_line (words_in words.now)) ≡ Err why) }
+    ensures fill { IfErr result (λ why. (before : List Drawing)
+        → checked_line before (fill_line (words_in words.now)) ≡ Err why) }
+{
+    match words {
+        [b' ', digit] if digit.is_ascii_digit() => Ok(*digit - b'0'),
+        _ => any_colour_number(words),
+    }
+}
+
+// The same, however the words are written.
+#[inline(never)]
+fn any_colour_number(words: &[u8]) -> Result<u8, ScriptWhy>
     ensures ok { IfOk result
         (λ colour. (numbers_in 1 (words_in words.now) ≡ Some (colour ∷ [])) × (colour < colour_count)) }
     ensures border { IfErr result (λ why. (before : List Drawing)

@@ -46,7 +46,8 @@ impl ScriptReader {
         self.pictures == 0 || self.held < ready
     }
 
-    /// Takes a line that draws.
+    /// Takes a line that draws. It becomes a part of its callers, so that a line is put where it is kept and not copied.
+    #[inline(always)]
     pub(crate) fn take_drawing(&mut self, line: ScriptLine)
         requires read { (before : List Drawing) × Followed before self.old }
         requires kept { (size : ℕ) → is_kept size line ≡ true }

@@ -78,7 +78,8 @@ impl Window {
         ])
     }
 
-    /// Reads six pixels of a row, one by one: so they are moved together, without a look at where they lie.
+    /// Reads six pixels of a row. All are read before one is put, so that several are moved at once.
+    #[inline]
     pub(crate) fn read_line(&self, x: usize, y: usize, out: &mut [u8])
         requires count { length out.old ≡ tile_width }
         requires width { x + tile_width ≤ window_width }
@@ -88,9 +89,11 @@ impl Window {
         ensures range { (i : ℕ) → slice_index out.new i < colour_count }
     {
         let start = WINDOW_WIDTH * y + x;
+        let mut line = [0; TILE_WIDTH];
         for i in 0..TILE_WIDTH {
-            out[i] = self.pixels[start + i];
+            line[i] = self.pixels[start + i];
         }
+        out.copy_from_slice(&line);
     }
 
     /// Sets all pixels to those of another window.

@@ -40,7 +40,8 @@ pub(crate) fn lead_in_block(
     built(false, &layout.toc_frame(l, n), &lead_in_symbols(packs, l))
 }
 
-/// Program block `b`, which carries these symbols.
+/// Program block `b`, which carries these symbols. It becomes a part of its caller, as `built` does.
+#[inline(always)]
 #[tactic(auto, unfolding(crate::specs::Blocks::carrying_block))]
 pub(crate) fn program_block(
     layout: &Layout,

@@ -16,7 +16,8 @@ use rw_interleave::{PACKS_KEPT_BACK, Spread};
 const ALL_QUIET: u8 = PACKS_KEPT_BACK as u8;
 
 /// Puts the symbols of the next block, over which four more packs are spread, in place of zeros. So many of the last
-/// packs were idle.
+/// packs were idle. It becomes a part of its caller, since most blocks are quiet.
+#[inline(always)]
 pub(crate) fn next_symbols<P: PackSource>(
     source: &mut P,
     spread: &mut Spread,
@@ -34,6 +35,24 @@ pub(crate) fn next_symbols<P: PackSource>(
     if *quiet == ALL_QUIET && source.pass_idle() {
         return;
     }
+    put_slots(source, spread, quiet, symbols);
+}
+
+// The same, slot by slot.
+fn put_slots<P: PackSource>(
+    source: &mut P,
+    spread: &mut Spread,
+    quiet: &mut u8,
+    symbols: &mut [u8; BLOCK_BYTES],
+)
+    requires quiet { AreQuiet spread.old quiet.old }
+    requires zeros { symbols.old ≡ replicate block_bytes 0 }
+    ensures symbols { (packs : List (List ℕ))
+        × TakesPacks (P.comes source.old) slots_a_block (from_to spread.old spread.new) symbols.new packs }
+    ensures bound { All (λ s. s < symbol_values) symbols.new }
+    ensures later { ComesLater (P.comes source.old) slots_a_block (P.comes source.new) }
+    ensures quiet { AreQuiet spread.new quiet.new }
+{
     for k in 0..SLOTS_A_BLOCK {
         let start = SYMBOLS_A_SLOT * k;
         let slot = &mut symbols[start..start + SYMBOLS_A_SLOT];

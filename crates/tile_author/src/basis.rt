@@ -133,7 +133,7 @@ impl Basis {
         }
     }
 
-    // The selections once a further number is a member. The first one makes itself alone, beside 0.
+    // The selections once a further number is a member.
     fn selections_with(&self, member: u8) -> [Option<u8>; NUMBERS]
         requires member { member < number_count }
         requires room { length self.now < most_steps }
@@ -142,26 +142,49 @@ impl Basis {
             → slice_index_or result number None ≡ entry (self.now ++ member ∷ []) number }
     {
         let mut selections = [None; NUMBERS];
-        if self.members.is_empty() {
-            selections[0] = Some(0);
-            selections[usize::from(member)] = Some(1);
-            return selections;
-        }
         for i in 0..NUMBERS {
             selections[i] = self.grown(member, i as u8);
         }
         selections
     }
 
+    // Takes the first member. It makes itself alone, beside 0, which is there.
+    #[inline]
+    fn take_first(&mut self, member: u8)
+        requires none { self.old ≡ [] }
+        requires member { member < number_count }
+        requires independent { is_combination self.old member ≡ false }
+        ensures { self.new ≡ self.old ++ member ∷ [] }
+    {
+        self.selections[usize::from(member)] = Some(1);
+        self.members.push(member);
+    }
+
+    // Takes a further member. It stays a call of its own, since few tiles have more than two colours.
+    #[inline(never)]
+    fn take_further(&mut self, member: u8)
+        requires member { member < number_count }
+        requires independent { is_combination self.old member ≡ false }
+        ensures { self.new ≡ self.old ++ member ∷ [] }
+    {
+        let selections = self.selections_with(member);
+        self.selections = selections;
+        self.members.push(member);
+    }
+
     // Takes a number as a member where it is no combination of those that it has.
+    #[inline]
     fn offer(&mut self, number: u8)
         requires { number < number_count }
         ensures { self.new ≡ (if is_combination self.old number then self.old else self.old ++ number ∷ []) }
     {
-        if !self.makes(number) {
-            let selections = self.selections_with(number);
-            self.selections = selections;
-            self.members.push(number);
+        if self.makes(number) {
+            return;
+        }
+        if self.members.is_empty() {
+            self.take_first(number);
+        } else {
+            self.take_further(number);
         }
     }
 

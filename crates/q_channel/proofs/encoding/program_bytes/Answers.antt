@@ -1,5 +1,5 @@
-use Rattle.std.proofs.Common.{ap, ◌∙◌}
-use Rattle.disc_time.specs.Time.{bcd}
+use Rattle.std.proofs.Common.{ap}
+use Rattle.std.specs.Prelude.{slice_index}
 use Rattle.q_channel.proofs.Spelled.{program_from}
 use Rattle.q_channel.proofs.encoding.program_bytes.Goals as goal
 
@@ -7,7 +7,7 @@ pub returns : goal.returns
 returns c =
     program_from c.args.control c.args.track c.args.index c.args.time.now c.args.absolute.now _ _ _ _ _ _ _ _
     c.to_bcd.ensures c.to_bcd-2.ensures
-    (c.to_bcd-3.ensures ∙ ap bcd c.min.ensures.part) (c.to_bcd-4.ensures ∙ ap bcd c.sec.ensures.part)
-    (c.to_bcd-5.ensures ∙ ap bcd c.frame.ensures.part)
-    (c.to_bcd-6.ensures ∙ ap bcd c.min-2.ensures.part) (c.to_bcd-7.ensures ∙ ap bcd c.sec-2.ensures.part)
-    (c.to_bcd-8.ensures ∙ ap bcd c.frame-2.ensures.part)
+    (ap (λ xs. slice_index xs 0) c.bcd.ensures) (ap (λ xs. slice_index xs 1) c.bcd.ensures)
+    (ap (λ xs. slice_index xs 2) c.bcd.ensures)
+    (ap (λ xs. slice_index xs 0) c.bcd-2.ensures) (ap (λ xs. slice_index xs 1) c.bcd-2.ensures)
+    (ap (λ xs. slice_index xs 2) c.bcd-2.ensures)

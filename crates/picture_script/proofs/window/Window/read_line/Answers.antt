@@ -7,4 +7,5 @@ pub returns-clause-pixels : goal.returns-clause-pixels
 unfolding pixel_of
 returns-clause-pixels c i lt =
     let place : 288 * c.args.y + c.args.x + i ≡ 288 * c.args.y + (c.args.x + i) = omega arith in
-    c.loop-i.invariant.1 i (omega (arith, lt)) ∙ ap (slice_index c.args.self.now) place
+    ap (λ xs. slice_index xs i) c.copy_from_slice.ensures.after
+    ∙ c.loop-i.invariant.1 i (omega (arith, lt)) ∙ ap (slice_index c.args.self.now) place

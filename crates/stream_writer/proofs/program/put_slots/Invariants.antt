@@ -1,6 +1,6 @@
 use Rattle.stream_writer.specs.Given.{AreQuiet, ComesLater}
 use Rattle.stream_writer.proofs.Slots.{AreWritten}
-use Rattle.stream_writer.proofs.program.next_symbols.Given as goal
+use Rattle.stream_writer.proofs.program.put_slots.Given as goal
 
 abbrev pub invariant-loop-k : goal.invariant-loop-k
 invariant-loop-k g l = record {
