@@ -51,8 +51,8 @@ fn word(outer: u8x16, middle: u8x16) -> Word
     ensures { result ≡ map (λ i. slice_index (take 8 outer ++ (take 8 middle ++ drop 8 outer)) (swapped i) % 64)
         (below word_symbols) }
 {
-    let outer =
-        outer.swizzle([0, 10, 5, 15, 4, 2, 6, 7, 8, 9, 1, 11, 12, 13, 14, 3]) % u8x16::splat(64);
+    let outer = outer.swizzle([0, 10, 5, 15, 4, 2, 6, 7, 8, 9, 1, 11, 12, 13, 14, 3])
+        % u8x16::splat(64);
     let middle = middle.extract::<0, 8>() % u8x8::splat(64);
     Word::of_eights(
         outer.extract::<0, 8>().to_array(),
@@ -97,9 +97,7 @@ fn by_ones(even: u8x16, odd: u8x16) -> u8x16
 {
     even.shuffle(
         odd,
-        [
-            0, 17, 2, 19, 4, 21, 6, 23, 8, 25, 10, 27, 12, 29, 14, 31,
-        ],
+        [0, 17, 2, 19, 4, 21, 6, 23, 8, 25, 10, 27, 12, 29, 14, 31],
     )
 }
 
@@ -113,9 +111,7 @@ fn by_twos(even: u8x16, odd: u8x16) -> u8x16
 {
     even.shuffle(
         odd,
-        [
-            0, 1, 18, 19, 4, 5, 22, 23, 8, 9, 26, 27, 12, 13, 30, 31,
-        ],
+        [0, 1, 18, 19, 4, 5, 22, 23, 8, 9, 26, 27, 12, 13, 30, 31],
     )
 }
 

@@ -1,4 +1,4 @@
-use Rattle.std.proofs.Common.{◌++◌, arith, length, length-append}
+use Rattle.std.proofs.Common.{◌++◌, arith, length-append}
 use Rattle.std.proofs.lemmas.Simd.{pick_l_whole}
 use Rattle.rw_interleave.proofs.four_words.eight.Goals as goal
 

@@ -25,4 +25,3 @@ first_words-words-requires-clause-symbols c =
     put_symbols (c.self.inside.early ++ c.self.inside.late)
     (c.self.inside.early ++ (c.self.inside.late ++ c.symbols_of-symbols.result)) c.args.block.now
     c.self.invariant.symbols put
-
