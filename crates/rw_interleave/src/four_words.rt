@@ -54,11 +54,13 @@ fn word(outer: u8x16, middle: u8x16) -> Word
     let outer = outer.swizzle([0, 10, 5, 15, 4, 2, 6, 7, 8, 9, 1, 11, 12, 13, 14, 3])
         % u8x16::splat(64);
     let middle = middle.extract::<0, 8>() % u8x8::splat(64);
-    Word::of_eights(
-        outer.extract::<0, 8>().to_array(),
-        middle.to_array(),
-        outer.extract::<8, 8>().to_array(),
-    )
+    let mut low = [0; 8];
+    let mut between = [0; 8];
+    let mut high = [0; 8];
+    outer.extract::<0, 8>().copy_to_slice(&mut low);
+    middle.copy_to_slice(&mut between);
+    outer.extract::<8, 8>().copy_to_slice(&mut high);
+    Word::of_eights(low, between, high)
 }
 
 // The bytes at the next place of each next slot, four from each of four places on.

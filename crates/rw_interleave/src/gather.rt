@@ -122,10 +122,10 @@ impl Gather {
         self.gather_block(block)
     }
 
-    // The same, where there may be something to gather. It is a function of its own so that idle blocks do not pay for
-    // its variables.
+    /// The same, for a block that is not seen to be idle. It is a function of its own so that idle blocks do not pay for
+    /// its variables.
     #[inline(never)]
-    fn gather_block(&mut self, block: &[u8; BLOCK_BYTES]) -> ArrayVec<Word, SLOTS_A_BLOCK>
+    pub fn gather_block(&mut self, block: &[u8; BLOCK_BYTES]) -> ArrayVec<Word, SLOTS_A_BLOCK>
         ensures next { self.new ≡ run_state gather_next self.old (slots_in block.now 0 slots_a_block) }
         ensures gives { result.items
             ≡ run_gives gather_next gather_gives self.old (slots_in block.now 0 slots_a_block) }
