@@ -188,6 +188,7 @@ impl Stage for Gather {
 }
 
 // Whether seven slots have come, with no symbol but 0.
+#[inline]
 fn are_quiet(early: &[u8; EARLY_BYTES], late: &[u8; BLOCK_BYTES], count: usize) -> bool
     ensures full { result ≡ true → packs_kept_back ≤ count }
     ensures zeros { result ≡ true → (n : ℕ) → n < before_bytes
