@@ -59,7 +59,7 @@ impl Word {
         ensures { result ≡ low ++ middle ++ high }
     {
         Word {
-            bytes: joined(together(low), together(middle), together(high)),
+            bytes: joined(low, middle, high),
         }
     }
 
@@ -131,15 +131,6 @@ pub fn words_have_24_symbols(word: &Word)
 {
     // A proof knows the invariant where a field is named.
     let _ = &word.bytes;
-}
-
-// Eight bytes, brought together in one number before they are written: bytes that are written one by one are slow to be
-// read together.
-#[inline]
-fn together(bytes: [u8; 8]) -> [u8; 8]
-    ensures { result ≡ bytes }
-{
-    u64::from_le_bytes(bytes).to_le_bytes()
 }
 
 // Three times eight bytes as one array.

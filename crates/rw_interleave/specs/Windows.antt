@@ -1,5 +1,5 @@
 -- The last seven slots of a stream of blocks, and the block behind them, as bytes in a row. Code calls the sizes by the
--- names of src/window.rt.
+-- names of src/gather.rt.
 use Rattle.std.specs.Prelude.{◌≡◌, ℕ, ◌+◌, ◌*◌, ◌%◌, ◌<◌, ◌≤◌, Bool, true, List, length, map, slice_index}
 use Rattle.std.specs.List.{range_with_len}
 use Rattle.bit_lists.specs.Counting.{below}
@@ -26,6 +26,14 @@ slot_in bytes k = map (λ i. slice_index bytes (symbols_a_slot * k + i) % 64) (b
 -- so many slots of some bytes, from one on
 unfoldable pub slots_in : List ℕ → ℕ → ℕ → List (List ℕ)
 slots_in bytes first count = map (slot_in bytes) (range_with_len first count)
+
+-- four bytes from a place on
+abbrev pub four_in : List ℕ → ℕ → List ℕ
+four_in bytes at = map (λ i. slice_index bytes (at + i)) (below 4)
+
+-- four bytes, each at the next place of the next slot
+abbrev pub sloping_in : List ℕ → ℕ → List ℕ
+sloping_in bytes at = map (λ i. slice_index bytes (at + (symbols_a_slot + 1) * i)) (below 4)
 
 -- The bytes of the last seven slots of a stream, of which so many have come, are symbols. Quiet is only a window of
 -- seven slots of zeros.

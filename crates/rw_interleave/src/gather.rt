@@ -12,6 +12,7 @@ ghost use Rattle.rw_interleave.specs.Interleave.{packs_kept_back, word_of, whole
 ghost use Rattle.rw_interleave.specs.Windows.{before_bytes, row_bytes, slot_in, slots_in, early_bytes};
 
 use crate::Slot;
+use crate::four_words::four_words;
 use crate::slot::{PACKS_KEPT_BACK, SPAN};
 use arrayvec::ArrayVec;
 use cdg_io::Stage;
@@ -121,21 +122,45 @@ impl Gather {
         self.gather_block(block)
     }
 
-    // The same, where there may be something to gather. It is a function of its own so that idle blocks do not pay for
-    // its variables.
+    /// The same, for a block that is not seen to be idle. It is a function of its own so that idle blocks do not pay for
+    /// its variables.
     #[inline(never)]
-    fn gather_block(&mut self, block: &[u8; BLOCK_BYTES]) -> ArrayVec<Word, SLOTS_A_BLOCK>
+    pub fn gather_block(&mut self, block: &[u8; BLOCK_BYTES]) -> ArrayVec<Word, SLOTS_A_BLOCK>
+        ensures next { self.new ≡ run_state gather_next self.old (slots_in block.now 0 slots_a_block) }
+        ensures gives { result.items
+            ≡ run_gives gather_next gather_gives self.old (slots_in block.now 0 slots_a_block) }
+    {
+        if self.count < PACKS_KEPT_BACK {
+            return self.gather_first(block);
+        }
+        let words = four_words(&self.early, &self.late, block);
+        self.move_up(block);
+        words
+    }
+
+    // The same at the start of a stream, where fewer words may come.
+    #[inline(never)]
+    fn gather_first(&mut self, block: &[u8; BLOCK_BYTES]) -> ArrayVec<Word, SLOTS_A_BLOCK>
         ensures next { self.new ≡ run_state gather_next self.old (slots_in block.now 0 slots_a_block) }
         ensures gives { result.items
             ≡ run_gives gather_next gather_gives self.old (slots_in block.now 0 slots_a_block) }
     {
         let symbols = symbols_of(block);
-        let words = words_of(&self.early, &self.late, &symbols, self.count);
+        let words = first_words(&self.early, &self.late, &symbols, self.count);
+        self.move_up(block);
+        words
+    }
+
+    // Moves the slots up by those of a block.
+    #[inline(always)]
+    fn move_up(&mut self, block: &[u8; BLOCK_BYTES])
+        ensures { self.new ≡ run_state gather_next self.old (slots_in block.now 0 slots_a_block) }
+    {
+        let symbols = symbols_of(block);
         self.early = last_three(&self.late);
         self.late = symbols;
         self.count = (self.count + SLOTS_A_BLOCK).min(PACKS_KEPT_BACK);
         self.quiet = are_quiet(&self.early, &self.late, self.count);
-        words
     }
 
     /// The symbols of the last seven slots, zeros before the first.
@@ -163,15 +188,17 @@ impl Stage for Gather {
 }
 
 // Whether seven slots have come, with no symbol but 0.
+#[inline]
 fn are_quiet(early: &[u8; EARLY_BYTES], late: &[u8; BLOCK_BYTES], count: usize) -> bool
     ensures full { result ≡ true → packs_kept_back ≤ count }
     ensures zeros { result ≡ true → (n : ℕ) → n < before_bytes
         → slice_index (early.now ++ late.now) n % 64 ≡ 0 }
 {
-    if count < PACKS_KEPT_BACK || !are_idle(early) {
+    // Most blocks that are gathered have a symbol that is not 0.
+    if count < PACKS_KEPT_BACK || !are_idle(late) {
         return false;
     }
-    are_idle(late)
+    are_idle(early)
 }
 
 // The seven slots of a row, with zeros before a byte.
@@ -225,10 +252,10 @@ pub fn gather_gives_words()
 {}
 
 // The bytes of the slots before a block of which a word may have symbols.
-const BEFORE_BYTES: usize = PACKS_KEPT_BACK * SYMBOLS_A_SLOT;
+pub(crate) const BEFORE_BYTES: usize = PACKS_KEPT_BACK * SYMBOLS_A_SLOT;
 
 // The bytes of the first three of them.
-const EARLY_BYTES: usize = BEFORE_BYTES - BLOCK_BYTES;
+pub(crate) const EARLY_BYTES: usize = BEFORE_BYTES - BLOCK_BYTES;
 
 // The bytes of a row.
 const ROW_BYTES: usize = BEFORE_BYTES + BLOCK_BYTES;
@@ -332,33 +359,7 @@ fn last_three(four: &[u8; BLOCK_BYTES]) -> [u8; EARLY_BYTES]
     slots
 }
 
-// The words that come with a block, where so many slots have come before it.
-#[inline]
-fn words_of(
-    early: &[u8; EARLY_BYTES],
-    late: &[u8; BLOCK_BYTES],
-    block: &[u8; BLOCK_BYTES],
-    count: usize,
-) -> ArrayVec<Word, SLOTS_A_BLOCK>
-    requires count { count ≤ packs_kept_back }
-    requires symbols { (n : ℕ) → n < row_bytes
-        → slice_index (early.now ++ (late.now ++ block.now)) n < symbol_values }
-    ensures { result.items ≡ run_gives gather_next gather_gives (slots_in (early.now ++ (late.now
-        ++ block.now)) (packs_kept_back - count) count)
-        (slots_in (early.now ++ (late.now ++ block.now)) packs_kept_back slots_a_block) }
-{
-    if count == SPAN - 1 {
-        return ArrayVec::from([
-            word_at(early, late, block, 0),
-            word_at(early, late, block, 1),
-            word_at(early, late, block, 2),
-            word_at(early, late, block, 3),
-        ]);
-    }
-    first_words(early, late, block, count)
-}
-
-// The same at the start of a stream, where fewer words come.
+// The words that come with a block at the start of a stream, where so many slots have come before it.
 #[inline(never)]
 fn first_words(
     early: &[u8; EARLY_BYTES],

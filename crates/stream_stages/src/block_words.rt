@@ -2,7 +2,10 @@
 ghost use Rattle.std.specs.Prelude.{◌≡◌, ◌<◌, true, List, ℕ, MatchOption, Some, replicate, length, map, drop};
 ghost use Rattle.arrayvec.specs.ArrayVec.{ArrayVec};
 ghost use Rattle.raw_subcode.specs.Sizes.{slots_a_block, audio_bytes};
+ghost use Rattle.cdg_io.specs.Run.{run_gives, run_state};
 ghost use Rattle.rw_code.specs.Packs.{idle_pack};
+ghost use Rattle.rw_interleave.specs.Gathering.{gather_gives, gather_next};
+ghost use Rattle.rw_interleave.specs.Windows.{slots_in};
 ghost use Rattle.stream_stages.specs.Steps.{IdlesOn, fresh_words, words_or_idle, slot_of, slots_of, words_next, words_give};
 ghost use Rattle.rw_code.specs.Codeword.{IsCodeword};
 ghost use Rattle.rw_code.specs.Finding.{finding};
@@ -128,7 +131,7 @@ impl Stage for BlockWords {
             return None;
         }
         match self.form {
-            Form::Raw | Form::Sector => Some(BlockOfWords::new(self.gather.push_block(block))),
+            Form::Raw | Form::Sector => Some(gathered(&mut self.gather, block)),
             Form::Cooked => Some(BlockOfWords::new(slots(block))),
         }
     }
@@ -143,6 +146,19 @@ impl Stage for BlockWords {
     fn idle_gives() -> Option<BlockOfWords> {
         Some(BlockOfWords::idle())
     }
+}
+
+// The words that come with a block.
+#[inline]
+fn gathered(gather: &mut Gather, block: &[u8; BLOCK_BYTES]) -> BlockOfWords
+    ensures next { gather.new ≡ run_state gather_next gather.old (slots_in block.now 0 slots_a_block) }
+    ensures gives { result.items
+        ≡ run_gives gather_next gather_gives gather.old (slots_in block.now 0 slots_a_block) }
+{
+    if gather.stays_idle(block) {
+        return BlockOfWords::idle();
+    }
+    BlockOfWords::new(gather.gather_block(block))
 }
 
 // The slots of a block, each as a word.

@@ -6,14 +6,13 @@ pub returns-in-Raw-clause-next : goal.returns-in-Raw-clause-next
 returns-in-Raw-clause-next c =
     let s = c.args.self.now in
     taken_next s c.args.block.now _ (omega arith)
-    (c.push_block.ensures.next ∙ raw_state s.form s.gather c.args.block.now c.in-Raw.is c.told-block)
+    (c.gathered.ensures.next ∙ raw_state s.form s.gather c.args.block.now c.in-Raw.is c.told-block)
 
 pub returns-in-Raw-clause-gives : goal.returns-in-Raw-clause-gives
 returns-in-Raw-clause-gives c =
     let s = c.args.self.now in
-    ap Some c.new.ensures
-    ∙ taken_gives s c.args.block.now _ (omega arith)
-    (c.push_block.ensures.gives ∙ raw_gives s.form s.gather c.args.block.now c.in-Raw.is c.told-block)
+    taken_gives s c.args.block.now _ (omega arith)
+    (c.gathered.ensures.gives ∙ raw_gives s.form s.gather c.args.block.now c.in-Raw.is c.told-block)
 
 pub returns-in-Cooked-clause-next : goal.returns-in-Cooked-clause-next
 returns-in-Cooked-clause-next c =
@@ -24,6 +23,6 @@ returns-in-Cooked-clause-next c =
 pub returns-in-Cooked-clause-gives : goal.returns-in-Cooked-clause-gives
 returns-in-Cooked-clause-gives c =
     let s = c.args.self.now in
-    ap Some c.new-in-Cooked.ensures
+    ap Some c.new.ensures
     ∙ taken_gives s c.args.block.now _ (omega arith)
     (c.slots.ensures ∙ cooked_gives s.form s.gather c.args.block.now c.in-Cooked.is)

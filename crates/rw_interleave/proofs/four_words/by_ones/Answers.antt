@@ -1,0 +1,5 @@
+use Rattle.rw_interleave.proofs.FourWords.{ones_shuffled}
+use Rattle.rw_interleave.proofs.four_words.by_ones.Goals as goal
+
+pub returns-clause-lanes : goal.returns-clause-lanes
+returns-clause-lanes c = ones_shuffled c.args.even c.args.odd c.requires.even c.requires.odd

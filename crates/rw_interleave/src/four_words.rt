@@ -1,0 +1,175 @@
+// The four words that come with a block behind seven slots, sixteen symbols at a time.
+ghost use Rattle.std.specs.Prelude.{◌≡◌, ◌<◌, ◌≤◌, ◌+◌, ◌%◌, ◌/◌, ◌*◌, ◌==◌, if◌then◌else◌, ◌++◌, ℕ, drop, length, map, slice_index, take};
+ghost use Rattle.bit_lists.specs.Counting.{below};
+ghost use Rattle.raw_subcode.specs.Sizes.{slots_a_block};
+ghost use Rattle.rw_code.specs.Sizes.{word_symbols};
+ghost use Rattle.rw_interleave.specs.Gathering.{gathered};
+ghost use Rattle.rw_interleave.specs.Interleave.{span, swapped};
+ghost use Rattle.rw_interleave.specs.Windows.{four_in, row_bytes, slots_in, sloping_in};
+
+use crate::gather::{BEFORE_BYTES, EARLY_BYTES};
+use arrayvec::ArrayVec;
+use raw_subcode::{BLOCK_BYTES, SLOTS_A_BLOCK};
+use rw_code::Word;
+use std::simd::prelude::*;
+
+/// The words that come with a block behind seven slots. Position p of the slots is that of the slot p % 8 after the
+/// first, so that four positions from a multiple of four on stand in four slots, one after the other, each at the next
+/// place. The places that are written here as numbers are those of positions 0, 4, 16 and 20 of a word, and of 8 and 12
+/// of two words.
+#[inline(always)]
+pub(crate) fn four_words(
+    early: &[u8; EARLY_BYTES],
+    late: &[u8; BLOCK_BYTES],
+    block: &[u8; BLOCK_BYTES],
+) -> ArrayVec<Word, SLOTS_A_BLOCK>
+    ensures { result.items ≡ map (λ first. gathered (slots_in (early.now ++ (late.now ++ block.now)) first span))
+        (below slots_a_block) }
+{
+    let even = turned(early, late, block, 8, 108, 56, 156);
+    let odd = turned(early, late, block, 32, 132, 80, 180);
+    ArrayVec::from([
+        word(turned(early, late, block, 0, 100, 16, 116), even),
+        word(turned(early, late, block, 24, 124, 40, 140), odd),
+        word(
+            turned(early, late, block, 48, 148, 64, 164),
+            even.rotate_elements_left::<8>(),
+        ),
+        word(
+            turned(early, late, block, 72, 172, 88, 188),
+            odd.rotate_elements_left::<8>(),
+        ),
+    ])
+}
+
+// The word of the symbols at positions 0 to 7 and 16 to 23 of its slots, and of those between, which are the first eight
+// of the others. 1 and 18, 2 and 5, 3 and 23 are exchanged (`swapped`).
+#[inline(always)]
+fn word(outer: u8x16, middle: u8x16) -> Word
+    requires outer { length outer ≡ 16 }
+    requires middle { length middle ≡ 16 }
+    ensures { result ≡ map (λ i. slice_index (take 8 outer ++ (take 8 middle ++ drop 8 outer)) (swapped i) % 64)
+        (below word_symbols) }
+{
+    let outer = outer.swizzle([0, 10, 5, 15, 4, 2, 6, 7, 8, 9, 1, 11, 12, 13, 14, 3])
+        % u8x16::splat(64);
+    let middle = middle.extract::<0, 8>() % u8x8::splat(64);
+    let mut low = [0; 8];
+    let mut between = [0; 8];
+    let mut high = [0; 8];
+    outer.extract::<0, 8>().copy_to_slice(&mut low);
+    middle.copy_to_slice(&mut between);
+    outer.extract::<8, 8>().copy_to_slice(&mut high);
+    Word::of_eights(low, between, high)
+}
+
+// The bytes at the next place of each next slot, four from each of four places on.
+#[inline(always)]
+fn turned(
+    early: &[u8; EARLY_BYTES],
+    late: &[u8; BLOCK_BYTES],
+    block: &[u8; BLOCK_BYTES],
+    a: usize,
+    b: usize,
+    c: usize,
+    d: usize,
+) -> u8x16
+    requires fours { (a % 4 ≡ 0) × (b % 4 ≡ 0) × (c % 4 ≡ 0) × (d % 4 ≡ 0) }
+    requires within { (a + 76 ≤ row_bytes) × (b + 76 ≤ row_bytes) × (c + 76 ≤ row_bytes) × (d + 76 ≤ row_bytes) }
+    ensures size { length result ≡ 16 }
+    ensures lanes { result ≡ sloping_in (early.now ++ (late.now ++ block.now)) a
+        ++ (sloping_in (early.now ++ (late.now ++ block.now)) b
+        ++ (sloping_in (early.now ++ (late.now ++ block.now)) c
+        ++ sloping_in (early.now ++ (late.now ++ block.now)) d)) }
+{
+    let zeroth = fours(early, late, block, a, b, c, d);
+    let first = fours(early, late, block, a + 24, b + 24, c + 24, d + 24);
+    let second = fours(early, late, block, a + 48, b + 48, c + 48, d + 48);
+    let third = fours(early, late, block, a + 72, b + 72, c + 72, d + 72);
+    by_twos(by_ones(zeroth, first), by_ones(second, third))
+}
+
+// Lanes of two vectors by turns.
+#[inline(always)]
+fn by_ones(even: u8x16, odd: u8x16) -> u8x16
+    requires even { length even ≡ 16 }
+    requires odd { length odd ≡ 16 }
+    ensures size { length result ≡ 16 }
+    ensures lanes { result ≡ map (λ i. slice_index (if i % 2 == 0 then even else odd) i) (below 16) }
+{
+    even.shuffle(
+        odd,
+        [0, 17, 2, 19, 4, 21, 6, 23, 8, 25, 10, 27, 12, 29, 14, 31],
+    )
+}
+
+// Lanes of two vectors, two by turns.
+#[inline(always)]
+fn by_twos(even: u8x16, odd: u8x16) -> u8x16
+    requires even { length even ≡ 16 }
+    requires odd { length odd ≡ 16 }
+    ensures size { length result ≡ 16 }
+    ensures lanes { result ≡ map (λ i. slice_index (if i / 2 % 2 == 0 then even else odd) i) (below 16) }
+{
+    even.shuffle(
+        odd,
+        [0, 1, 18, 19, 4, 5, 22, 23, 8, 9, 26, 27, 12, 13, 30, 31],
+    )
+}
+
+// Four bytes from each of four places on.
+#[inline(always)]
+fn fours(
+    early: &[u8; EARLY_BYTES],
+    late: &[u8; BLOCK_BYTES],
+    block: &[u8; BLOCK_BYTES],
+    a: usize,
+    b: usize,
+    c: usize,
+    d: usize,
+) -> u8x16
+    requires fours { (a % 4 ≡ 0) × (b % 4 ≡ 0) × (c % 4 ≡ 0) × (d % 4 ≡ 0) }
+    requires within { (a + 4 ≤ row_bytes) × (b + 4 ≤ row_bytes) × (c + 4 ≤ row_bytes) × (d + 4 ≤ row_bytes) }
+    ensures size { length result ≡ 16 }
+    ensures lanes { result ≡ four_in (early.now ++ (late.now ++ block.now)) a
+        ++ (four_in (early.now ++ (late.now ++ block.now)) b
+        ++ (four_in (early.now ++ (late.now ++ block.now)) c
+        ++ four_in (early.now ++ (late.now ++ block.now)) d)) }
+{
+    let low = eight(four(early, late, block, a), four(early, late, block, b));
+    let high = eight(four(early, late, block, c), four(early, late, block, d));
+    low.shuffle(high, [0, 1, 2, 3, 4, 5, 6, 7, 8, 9, 10, 11, 12, 13, 14, 15])
+}
+
+// Two vectors side by side.
+#[inline(always)]
+fn eight(low: u8x4, high: u8x4) -> u8x8
+    requires low { length low ≡ 4 }
+    requires high { length high ≡ 4 }
+    ensures size { length result ≡ 8 }
+    ensures lanes { result ≡ low ++ high }
+{
+    low.shuffle(high, [0, 1, 2, 3, 4, 5, 6, 7])
+}
+
+// Four bytes of the last seven slots and a block behind them, from one on. None of the three lists ends within four.
+#[inline(always)]
+fn four(
+    early: &[u8; EARLY_BYTES],
+    late: &[u8; BLOCK_BYTES],
+    block: &[u8; BLOCK_BYTES],
+    at: usize,
+) -> u8x4
+    requires four { at % 4 ≡ 0 }
+    requires within { at + 4 ≤ row_bytes }
+    ensures size { length result ≡ 4 }
+    ensures lanes { result ≡ four_in (early.now ++ (late.now ++ block.now)) at }
+{
+    if at < EARLY_BYTES {
+        return u8x4::from_slice(&early[at..]);
+    }
+    if at < BEFORE_BYTES {
+        return u8x4::from_slice(&late[at - EARLY_BYTES..]);
+    }
+    u8x4::from_slice(&block[at - BEFORE_BYTES..])
+}
