@@ -1,4 +1,5 @@
 pub mod Agreeing
+pub mod Alike
 pub mod Alone
 pub mod Clean
 pub mod Coming

@@ -155,6 +155,15 @@ second_fails : (a b : Bool) → b ≡ false → (a && b) ≡ false
 second_fails true b is = is
 second_fails false b is = refl
 
+-- nothing counts for nothing where no reading misses graphics within reach
+pub not_left : (n missed last : ℕ) (given : Voice) → missed ≤ last → last ≤ n - 7
+    → is_left missed n given ≡ false
+not_left n missed last given few far =
+    elim (leb_tells (suc (n - 7)) missed) [
+      | inl close ↦ absurd (omega (arith, close.1, few, far))
+      | inr less ↦ first_fails (nat_lt (n - 7) missed) (is_idle_voice given) less.0
+    ]
+
 -- whether what a reading gives counts for nothing
 pub left_is : (words : ℕ) (programs : List (List ℕ)) (r n heard missed : ℕ) (given : Voice)
     → IsLastMissed programs r heard missed → heard ≤ words → heard ≤ n + 8

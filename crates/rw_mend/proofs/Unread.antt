@@ -57,7 +57,7 @@ symbol_get (byte ∷ bytes) zero = refl
 symbol_get (byte ∷ bytes) (suc p) = symbol_get bytes p
 
 -- a symbol of a block stands in its program
-in_block : (program : List ℕ) (b j : ℕ) → j < 96
+pub in_block : (program : List ℕ) (b j : ℕ) → j < 96
     → get_or (symbols_of (block_at program b)) j 0 ≡ get_or (symbols_of program) (96 * b + j) 0
 in_block program b j lt =
     symbol_get (block_at program b) j

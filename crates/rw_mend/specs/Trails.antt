@@ -1,5 +1,5 @@
 -- What is known of the blocks under a word while a stream is mended.
-use Rattle.std.specs.Prelude.{◌≡◌, ◌≢◌, ℕ, ◌+◌, ◌/◌, ◌%◌, List}
+use Rattle.std.specs.Prelude.{◌≡◌, ◌≢◌, ℕ, ◌+◌, ◌/◌, ◌%◌, ◌<◌, ◌≤◌, List}
 use Rattle.rw_mend.specs.Words.{block_at, is_blank_block, is_empty_block}
 use Rattle.rw_mend.specs.declared.cover.Trail.{Trail}
 
@@ -11,3 +11,7 @@ pub record IsTrail (program : List ℕ) (n : ℕ) (trail : Trail) : Type 0 where
   pub first_blank : trail.first_blank ≡ is_blank_block (block_at program (n / 4))
   pub second_blank : trail.second_blank ≡ is_blank_block (block_at program (n / 4 + 1))
   pub third_blank : n % 4 ≢ 0 → trail.third_blank ≡ is_blank_block (block_at program (n / 4 + 2))
+
+-- from block `from` on, the first so many blocks of a program are those of another
+pub record AreSameFrom (first program : List ℕ) (blocks from : ℕ) : Type 0 where
+  pub each : (b : ℕ) → from ≤ b → b < blocks → block_at program b ≡ block_at first b

@@ -33,6 +33,7 @@ pub const MOST_READINGS: usize = 254;
 /// The codeword that the readings of a word give together: the one with the fewest symbols against it; of several with
 /// as few the one that most readings give; or, where none gives one, the one on which two readings agree. `None` exactly
 /// where there is none.
+#[inline]
 pub fn mend(voices: &[Voice]) -> Option<Mended>
     requires { length voices.now ≤ 254 }
     ensures { IsMending voices.now result }
@@ -64,7 +65,8 @@ fn of_reading(voices: &[Voice], r: usize) -> Option<Mended>
     }
 }
 
-// The codeword on which two readings agree.
+// The codeword on which two readings agree. It is a function of its own so that other words do not pay for its variables.
+#[inline(never)]
 fn of_two(voices: &[Voice]) -> Option<Mended>
     requires none { list_any is_near voices.now ≡ false }
     requires no_best { (r : ℕ) → ¬ IsFirstBest voices.now r }

@@ -4,6 +4,7 @@
 mod agreements;
 mod choice;
 mod cover;
+mod following;
 mod laws;
 mod many;
 mod mender;

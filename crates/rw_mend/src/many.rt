@@ -88,7 +88,7 @@ fn mend_all(readings: &Readings, packs: &mut [u8], sources: &mut [u8]) -> Tallie
     let mut tallies = Tallies::new();
     for n in 0..mender.words() {
         mender.come_to(readings, n);
-        let voices = mender.voices(readings.count);
+        let voices = mender.voices(n, readings.count);
         let found = mend(voices);
         put(packs, n, &found);
         put_source(sources, n, &found);

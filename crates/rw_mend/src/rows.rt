@@ -1,21 +1,23 @@
 // The words of some readings in turn.
-ghost use Rattle.std.specs.Prelude.{◌≡◌, ◌<◌, ◌≤◌, ◌+◌, ◌-◌, ◌*◌, ◌/◌, ◌%◌, ◌^◌, [], List, ℕ, length, slice_index_or, take, if◌then◌else◌};
+ghost use Rattle.std.specs.Prelude.{◌≡◌, ◌⊎◌, ◌<◌, ◌≤◌, ◌+◌, ◌-◌, ◌*◌, ◌/◌, ◌%◌, ◌^◌, [], nat_lt, List, ℕ, length, slice_index_or, take, if◌then◌else◌};
 ghost use Rattle.raw_subcode.specs.Channels.{symbols_of};
 ghost use Rattle.raw_subcode.specs.Sizes.{block_bytes, symbols_a_slot};
 ghost use Rattle.rw_interleave.specs.Interleave.{word_of};
 ghost use Rattle.std.specs.List.{list_any};
 ghost use Rattle.rw_mend.specs.Choice.{voice_of_reading};
 ghost use Rattle.rw_mend.specs.Voices.{is_clean_graphics, voice_of};
-ghost use Rattle.rw_mend.specs.Readings.{AreHeldReadings, programs_in, size_in};
-ghost use Rattle.rw_mend.specs.Trails.{IsTrail};
+ghost use Rattle.rw_mend.specs.Readings.{AreHeldReadings, program_in, programs_in, size_in};
+ghost use Rattle.rw_mend.specs.Trails.{AreSameFrom, IsTrail};
 ghost use Rattle.rw_mend.specs.Words.{given_at, reading_at};
-ghost use Rattle.rw_mend.specs.Rows.{AreTrails, IsRow, AreLastMissed, is_left, said_after};
+ghost use Rattle.rw_mend.specs.Rows.{AreFollowed, AreLastMissed, AreTrails, IsRow, is_left, no_trail, said_after};
 
 use crate::choice::MOST_READINGS;
 use crate::cover::Trail;
+use crate::following::follow;
 use crate::readings::Readings;
 use crate::voices::hear_blank;
 use crate::{Voice, WordReading, hear};
+use raw_subcode::SLOTS_A_BLOCK;
 use rw_code::{SYMBOLS, Word};
 use rw_interleave::place;
 
@@ -47,17 +49,117 @@ impl GivenRow {
 }
 
 /// Hears what each reading gives for word n, to which the trails come from the word before.
-pub(crate) fn hear_all(readings: &Readings, n: usize, trails: &mut [Trail], row: &mut GivenRow)
+pub(crate) fn hear_all(
+    readings: &Readings,
+    n: usize,
+    trails: &mut [Trail],
+    same_from: &mut [usize],
+    row: &mut GivenRow,
+)
     requires readings { AreHeldReadings readings.now }
     requires trails_size { readings.now.count ≤ length trails.old }
+    requires same_size { readings.now.count ≤ length same_from.old }
     requires within { block_bytes * ((n + 7) / 4) + block_bytes ≤ size_in readings.now }
     requires trails { 0 < n → AreTrails (programs_in readings.now) (n - 1) trails.old }
+    requires same { AreFollowed readings.now ((n + 6) / 4 + 1) same_from.old }
     ensures trails_size { length trails.new ≡ length trails.old }
+    ensures same_size { length same_from.new ≡ length same_from.old }
     ensures trails { AreTrails (programs_in readings.now) n trails.new }
+    ensures same { AreFollowed readings.now ((n + 7) / 4 + 1) same_from.new }
     ensures row { IsRow (programs_in readings.now) n row.new.voices }
 {
-    for r in 0..readings.count {
-        hear_one(readings.program(r), n, &mut trails[r], &mut row.voices[r]);
+    let program = readings.program(0);
+    let mut trail = trails[0];
+    let mut voice = Voice::Silent;
+    hear_one(program, n, &mut trail, &mut voice);
+    trails[0] = trail;
+    row.voices[0] = voice;
+    let first = FirstReading {
+        program,
+        trail,
+        voice,
+    };
+    hear_others(readings, n, &first, trails, same_from, row);
+}
+
+// What the first reading gives for a word.
+#[derive(Clone, Copy)]
+struct FirstReading<'a> {
+    pub(crate) program: &'a [u8],
+    pub(crate) trail: Trail,
+    pub(crate) voice: Voice,
+}
+
+// The same of all readings but the first.
+#[inline]
+fn hear_others(
+    readings: &Readings,
+    n: usize,
+    first: &FirstReading,
+    trails: &mut [Trail],
+    same_from: &mut [usize],
+    row: &mut GivenRow,
+)
+    requires readings { AreHeldReadings readings.now }
+    requires trails_size { readings.now.count ≤ length trails.old }
+    requires row_size { length row.old.voices ≡ 254 }
+    requires same_size { readings.now.count ≤ length same_from.old }
+    requires within { block_bytes * ((n + 7) / 4) + block_bytes ≤ size_in readings.now }
+    requires trails { (r : ℕ) → 0 < n → 0 < r → r < readings.now.count
+        → IsTrail (program_in readings.now r) (n - 1) (slice_index_or trails.old r no_trail) }
+    requires same { AreFollowed readings.now ((n + 6) / 4 + 1) same_from.old }
+    requires program { first.now.program.now ≡ program_in readings.now 0 }
+    requires trail { IsTrail first.now.program.now n first.now.trail }
+    requires voice { first.now.voice ≡ voice_of (reading_at first.now.program.now n) }
+    requires first_trail { slice_index_or trails.old 0 no_trail ≡ first.now.trail }
+    requires first_voice { voice_of_reading row.old.voices 0 ≡ first.now.voice }
+    ensures trails_size { length trails.new ≡ length trails.old }
+    ensures same_size { length same_from.new ≡ length same_from.old }
+    ensures trails { (r : ℕ) → r < readings.now.count
+        → IsTrail (program_in readings.now r) n (slice_index_or trails.new r no_trail) }
+    ensures same { AreFollowed readings.now ((n + 7) / 4 + 1) same_from.new }
+    ensures row { (r : ℕ) → r < readings.now.count
+        → voice_of_reading row.new.voices r ≡ voice_of (reading_at (program_in readings.now r) n) }
+{
+    for r in 1..readings.count {
+        hear_beside(
+            first,
+            readings.program(r),
+            n,
+            &mut trails[r],
+            &mut same_from[r],
+            &mut row.voices[r],
+        );
+    }
+}
+
+// Hears what one reading gives beside the first: the same, where the blocks under the word are the same.
+#[inline]
+#[tactic(auto, using(crate::proofs::Alike::same_voice, crate::proofs::Alike::same_trail))]
+fn hear_beside(
+    first: &FirstReading,
+    program: &[u8],
+    n: usize,
+    trail: &mut Trail,
+    same_from: &mut usize,
+    voice: &mut Voice,
+)
+    requires within { block_bytes * ((n + 7) / 4) + block_bytes ≤ length program.now }
+    requires size { length first.now.program.now ≡ length program.now }
+    requires trail { 0 < n → IsTrail program.now (n - 1) trail.old }
+    requires same { AreSameFrom first.now.program.now program.now ((n + 6) / 4 + 1) same_from.old }
+    requires first_trail { IsTrail first.now.program.now n first.now.trail }
+    requires first_voice { first.now.voice ≡ voice_of (reading_at first.now.program.now n) }
+    ensures trail { IsTrail program.now n trail.new }
+    ensures same { AreSameFrom first.now.program.now program.now ((n + 7) / 4 + 1) same_from.new }
+    ensures voice { voice.new ≡ voice_of (reading_at program.now n) }
+{
+    follow(first.program, program, n, same_from);
+    if *same_from <= n / SLOTS_A_BLOCK {
+        *trail = first.trail;
+        *voice = first.voice;
+    } else {
+        hear_one(program, n, trail, voice);
     }
 }
 
@@ -86,10 +188,12 @@ fn heard(program: &[u8], n: usize, trail: &Trail) -> Voice
 }
 
 /// Notes which readings miss graphics at word n.
-pub(crate) fn note_missed(row: &[Voice], n: usize, missed: &mut [usize])
+pub(crate) fn note_missed(row: &[Voice], n: usize, missed: &mut [usize], last_missed: &mut usize)
     requires size { length row.now ≤ length missed.old }
     requires word { n < 4000000 }
     ensures size { length missed.new ≡ length missed.old }
+    ensures last { (last_missed.new ≡ n + 1)
+        ⊎ (last_missed.new ≡ last_missed.old) × (missed.new ≡ missed.old) }
     ensures noted { (programs : List (List ℕ)) → length programs ≡ length row.now → IsRow programs n row.now
         → AreLastMissed programs n missed.old → AreLastMissed programs (n + 1) missed.new }
 {
@@ -99,8 +203,18 @@ pub(crate) fn note_missed(row: &[Voice], n: usize, missed: &mut [usize])
     for r in 0..row.len() {
         if row[r].is_idle() {
             missed[r] = n + 1;
+            *last_missed = n + 1;
         }
     }
+}
+
+/// Whether what some reading gives at word n may count for nothing, by 1 more than the last word at which any misses
+/// graphics.
+#[inline]
+pub(crate) fn may_be_left(last_missed: usize, n: usize) -> bool
+    ensures { result ≡ nat_lt (n - 7) last_missed }
+{
+    n.saturating_sub(REACH) < last_missed
 }
 
 /// What each reading says at word n, of those that were heard before this.

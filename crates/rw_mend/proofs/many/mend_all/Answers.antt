@@ -2,6 +2,7 @@ use Rattle.std.proofs.Common.{◌≡◌, ◌<◌, ◌+◌, ◌∙◌, subst, sym
 use Rattle.rw_mend.specs.Drops.{AreVoices}
 use Rattle.rw_mend.specs.Readings.{programs_in}
 use Rattle.rw_mend.specs.Steps.{AreTold, IsMendedTo}
+use Rattle.rw_mend.proofs.Coming.{voices_are}
 use Rattle.rw_mend.proofs.Running.{mended_next, none_done}
 use Rattle.rw_mend.proofs.Telling.{has_source, tally_few, told_more}
 use Rattle.rw_mend.proofs.many.mend_all.Goals as goal
@@ -40,9 +41,9 @@ loop-n-preserved c =
     let within : n < all =
     omega (arith, c.loop-n-test.true, c.words-n-end.ensures, c.loop-n.invariant.words) in
     let said : AreVoices all (programs_in readings) n c.voices-voices.result.now =
-    subst (AreVoices all (programs_in readings) n) (sym c.voices-voices.ensures.voices)
-    (subst (λ w. AreVoices w (programs_in readings) n (take readings.count c.come_to.new.self.said)) words
-    c.come_to.ensures.at.said) in
+    subst (λ w. AreVoices w (programs_in readings) n c.voices-voices.result.now) words
+    (voices_are readings n c.come_to.new.self c.voices-voices.result.now c.come_to.ensures.at
+    c.voices-voices.ensures.voices c.voices-voices.ensures.count) in
     let done =
     mended_next readings all n c.args.packs.now c.loop-n.packs c.put.new.packs
     (AreTold c.args.sources.now all c.loop-n.sources c.loop-n.tallies)

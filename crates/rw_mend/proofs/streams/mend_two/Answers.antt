@@ -3,6 +3,7 @@ use Rattle.rw_mend.specs.Drops.{AreVoices}
 use Rattle.rw_mend.specs.Readings.{programs_in}
 use Rattle.rw_mend.specs.Steps.{AreCounted, IsMendedTo}
 use Rattle.rw_mend.specs.Streams.{AreCounts}
+use Rattle.rw_mend.proofs.Coming.{voices_are}
 use Rattle.rw_mend.proofs.Running.{are_few, counted_more, mended_next, none_done}
 use Rattle.rw_mend.proofs.streams.mend_two.Goals as goal
 
@@ -36,9 +37,9 @@ loop-n-preserved c =
     let n = c.loop-n.n in
     let words : c.come_to.new.self.words ≡ c.loop-n.mender.words = c.come_to.ensures.words in
     let said : AreVoices c.loop-n.mender.words (programs_in readings) n c.voices-voices.result.now =
-    subst (AreVoices c.loop-n.mender.words (programs_in readings) n) (sym c.voices-voices.ensures.voices)
-    (subst (λ w. AreVoices w (programs_in readings) n (take readings.count c.come_to.new.self.said)) words
-    c.come_to.ensures.at.said) in
+    subst (λ w. AreVoices w (programs_in readings) n c.voices-voices.result.now) words
+    (voices_are readings n c.come_to.new.self c.voices-voices.result.now c.come_to.ensures.at
+    c.voices-voices.ensures.voices c.voices-voices.ensures.count) in
     let done =
     mended_next readings c.loop-n.mender.words n c.args.packs.now c.loop-n.packs c.put.new.packs
     (AreCounted c.loop-n.counts) (AreCounted c.add.new.self) c.voices-voices.result.now c.mend-found.result

@@ -1,8 +1,8 @@
-use Rattle.std.proofs.Common.{◌≡◌, ◌⊎◌, ◌≤◌, ◌+◌, ◌%◌, List, ℕ, take, get_or, min, refl, sym, subst, arith, inl, inr}
+use Rattle.std.proofs.Common.{◌≡◌, ◌⊎◌, ◌≤◌, ◌+◌, ◌/◌, ◌%◌, List, ℕ, take, get_or, min, refl, sym, subst, arith, inl, inr}
 use Rattle.std.proofs.lemmas.Bool.Decides.{leb_tells}
 use Rattle.rw_mend.specs.Mender.{IsHearing, no_given_row}
 use Rattle.rw_mend.specs.Readings.{programs_in}
-use Rattle.rw_mend.specs.Rows.{AreLastMissed}
+use Rattle.rw_mend.specs.Rows.{AreFollowed, AreLastMissed}
 use Rattle.rw_mend.specs.declared.rows.GivenRow.{GivenRow}
 use Rattle.rw_mend.proofs.Coming.{at_word, heard_more}
 use Rattle.rw_mend.proofs.Missing.{few_dropped}
@@ -15,6 +15,12 @@ hear_next-requires-clause-missed c =
     c.loop-m.invariant.heard
     c.loop-m.invariant.hearing.missed
 
+pub hear_next-requires-clause-same : goal.hear_next-requires-clause-same
+hear_next-requires-clause-same c =
+    subst (λ k. AreFollowed c.args.readings.now ((k + 6) / 4 + 1) c.loop-m.self.same_from)
+    c.loop-m.invariant.heard
+    c.loop-m.invariant.hearing.same
+
 pub loop-m-preserved : goal.loop-m-preserved
 loop-m-preserved c =
     let readings = c.args.readings.now in
@@ -24,12 +30,13 @@ loop-m-preserved c =
     let new = c.hear_next.new in
     let row = c.hear_next.ensures.rows.0 in
     let hearing =
-    heard_more readings c.args.n m mender new.trails row new.missed was
+    heard_more readings c.args.n m mender new.trails row new.missed new.last_missed new.same_from was
     c.loop-m.invariant.heard
     (omega (arith, c.loop-m-test.true, c.min-m-end.ensures, c.loop-m.invariant.words))
     (omega (arith, c.loop-m-test.true, c.min-m-end.ensures)) c.hear_next.ensures.trails_size
     c.hear_next.ensures.missed_size c.hear_next.ensures.trails c.hear_next.ensures.rows.1
-    c.hear_next.ensures.missed in
+    c.hear_next.ensures.missed c.hear_next.ensures.last c.hear_next.ensures.same_size
+    c.hear_next.ensures.same in
     record {
       hearing = subst
           (λ (rows : List GivenRow). IsHearing readings c.args.n (record {
@@ -37,6 +44,8 @@ loop-m-preserved c =
             heard = m + 1;
             trails = new.trails;
             missed = new.missed;
+            last_missed = new.last_missed;
+            same_from = new.same_from;
             rows = rows;
             said = mender.said;
             dropped = mender.dropped;
@@ -57,6 +66,9 @@ least a b end is =
       | inl less ↦ inr (omega (arith, is, less.1))
       | inr more ↦ inl (omega (arith, is, more.1))
     ]
+
+pub say_next-requires-clause-last : goal.say_next-requires-clause-last
+say_next-requires-clause-last c r lt = c.loop-m.invariant.hearing.last r lt
 
 pub say_next-requires-clause-few : goal.say_next-requires-clause-few
 say_next-requires-clause-few c r lt =
