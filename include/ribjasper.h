@@ -274,7 +274,7 @@ RIBJASPER_NODISCARD int32_t ribjasper_player_save(const ribjasper_player *player
 /* Brings an open player to where a file was saved, in a stream of the form RIBJASPER_RAW: blocks that come from now on
    go on from there, and show what they would show after the player that was saved. If the bytes are no checkpoint's
    it answers RIBJASPER_NO_CHECKPOINT, and writes the first byte of the first field that is out of its range. It asks for
-   memory as the call above. If it is not done the player stays as it is. */
+   memory as the call above, but of a checkpoint's bytes alone. If it is not done the player stays as it is. */
 RIBJASPER_NODISCARD
 int32_t ribjasper_player_load(ribjasper_player *player, const uint8_t file[RIBJASPER_CHECKPOINT], uint32_t *byte);
 

@@ -360,12 +360,14 @@ static void saved_players(void)
     CHECK(ribjasper_player_begin(&back, RIBJASPER_PACKS, 0) == RIBJASPER_DONE);
     CHECK(ribjasper_player_pixel(&player, 6, 12, other) == RIBJASPER_DONE && other[0] == 0);
     CHECK(ribjasper_player_take(&player, second, packs) == 1 && packs[0].wrong == -1);
-    /* What is no checkpoint is refused at its first byte, and no memory is told. */
+    /* What is no checkpoint is refused at its first byte, and a player of packs at once: no memory is asked before. */
+    number = refused = requests;
     CHECK(ribjasper_player_save(&back, again) == RIBJASPER_REFUSED);
     file[200] = 16;
     CHECK(ribjasper_player_load(&back, file, &byte) == RIBJASPER_NO_CHECKPOINT && byte == 200);
     file[8] = 1;
     CHECK(ribjasper_player_load(&back, file, &byte) == RIBJASPER_NO_CHECKPOINT && byte == 8);
+    CHECK(requests == number);
     CHECK(ribjasper_player_take(&back, second, packs) == 4);
     refused = requests;
     CHECK(ribjasper_player_load(&back, again, &byte) == RIBJASPER_NO_MEMORY && byte == 8);

@@ -14,7 +14,7 @@ ghost use Rattle.ribjasper_c.specs.Saving.{CannotBeSaved, IsSavedAs, AreAt};
 use crate::Playing;
 use crate::answers::{DONE, NO_MEMORY, NOT_DONE, REFUSED};
 use cdg_io::SteadySource;
-use checkpoint_files::{CheckpointFile, FILE_BYTES};
+use checkpoint_files::{CheckpointFile, FILE_BYTES, judge};
 use live_player::{LivePlayer, a_saved_player_goes_on};
 use raw_subcode::Form;
 use std::alloc::Global;
@@ -94,6 +94,8 @@ pub extern "C" fn ribjasper_player_load(
         → lead_in ≤ most_lead_in → length (blocks_in given) ≤ most_units
         → IsPlaying Form.Raw lead_in given player.new.handle.players }
     ensures bad { result ≡ pos 3 → IsBadAt file.now byte.new }
+    // Memory is asked for a checkpoint's file alone.
+    ensures memory { result ≡ pos 7 → IsCheckpointFile file.now }
     ensures closed { (result ≡ negsuc 0) ↔ (player.old.is_open ≡ false) }
     ensures answer { (result ≡ pos 0) ⊎ (result ≡ negsuc 0) ⊎ (result ≡ pos 3) ⊎ (result ≡ pos 7) }
     ensures stays { player.new.is_open ≡ player.old.is_open }
@@ -104,21 +106,17 @@ pub extern "C" fn ribjasper_player_load(
     if !player.is_open {
         return NOT_DONE;
     }
+    if let Err(bad) = judge(file) {
+        *byte = bad;
+        return REFUSED;
+    }
     let Some(saved) = read_file(alloc, file) else {
         return NO_MEMORY;
     };
-    match saved.check() {
-        Ok(()) => {
-            let mut live = player.take_out();
-            go_to(&mut live, &saved);
-            player.put_back(live);
-            DONE
-        }
-        Err(bad) => {
-            *byte = bad;
-            REFUSED
-        }
-    }
+    let mut live = player.take_out();
+    go_to(&mut live, &saved);
+    player.put_back(live);
+    DONE
 }
 
 // Goes to the checkpoint of a file.
