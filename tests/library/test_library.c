@@ -379,6 +379,33 @@ static void saved_players(void)
     CHECK(held == 0);
 }
 
+/* A raw stream of 1,000,000 blocks is saved, and a longer one is refused: no memory is asked before. */
+static void long_players(void)
+{
+    static const uint8_t block[96];
+    static uint8_t file[RIBJASPER_CHECKPOINT];
+    ribjasper_player player = RIBJASPER_CLOSED;
+    long fed;
+    CHECK(ribjasper_player_open(&player) == RIBJASPER_DONE);
+    CHECK(ribjasper_player_begin(&player, RIBJASPER_RAW, 450000) == RIBJASPER_DONE);
+    for (fed = 0; fed < 1000000; fed++)
+        if (ribjasper_player_feed(&player, block) != RIBJASPER_DONE)
+            break;
+    CHECK(fed == 1000000);
+    refused = requests;
+    CHECK(ribjasper_player_save(&player, file) == RIBJASPER_NO_MEMORY);
+    refused = -1;
+    CHECK(ribjasper_player_save(&player, file) == RIBJASPER_DONE && memcmp(file, "CDGSAVE1", 8) == 0);
+    CHECK(ribjasper_player_feed(&player, block) == RIBJASPER_DONE);
+    memset(file, 7, sizeof file);
+    fed = refused = requests;
+    CHECK(ribjasper_player_save(&player, file) == RIBJASPER_REFUSED && requests == fed);
+    CHECK(all_are(file, sizeof file, 7));
+    refused = -1;
+    ribjasper_player_close(&player);
+    CHECK(held == 0);
+}
+
 static void taken_blocks(void)
 {
     uint8_t first[96] = { 0 }, second[96] = { 0 };
@@ -457,6 +484,7 @@ int main(void)
     drawn_packs();
     taken_blocks();
     saved_players();
+    long_players();
     touched_parts();
     rectangles();
     long_streams();
