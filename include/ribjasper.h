@@ -277,15 +277,15 @@ int32_t ribjasper_player_offsets(const ribjasper_player *player, uint8_t *across
 
 /* Writes where an open player is: how many blocks came, how many words of them were bad, the last seven slots, and
    what stands. It has to be the only call of the player, though it is const. Refused if the form is RIBJASPER_PACKS, or
-   more than 1,000,000 blocks came since it began; packs that were drawn are not counted. It asks malloc for 65,056 bytes,
-   and answers RIBJASPER_NO_MEMORY if it is refused them; it frees them before it returns. If it is not done nothing
-   is written. */
+   more than 1,000,000 blocks came since it began, and then it asks for no memory; packs that were drawn are not counted.
+   Otherwise it asks malloc for 65,056 bytes, and answers RIBJASPER_NO_MEMORY if it is refused them; it frees them before
+   it returns. If it is not done nothing is written. */
 RIBJASPER_NODISCARD int32_t ribjasper_player_save(const ribjasper_player *player, uint8_t file[RIBJASPER_CHECKPOINT]);
 
 /* Brings an open player to where a file was saved, in a stream of the form RIBJASPER_RAW: blocks that come from now on
    go on from there, and show what they would show after the player that was saved. If the bytes are no checkpoint's
    it answers RIBJASPER_NO_CHECKPOINT, and writes the first byte of the first field that is out of its range. It asks for
-   memory as the call above. If it is not done the player stays as it is. */
+   memory as the call above, but of a checkpoint's bytes alone. If it is not done the player stays as it is. */
 RIBJASPER_NODISCARD
 int32_t ribjasper_player_load(ribjasper_player *player, const uint8_t file[RIBJASPER_CHECKPOINT], uint32_t *byte);
 

@@ -360,12 +360,14 @@ static void saved_players(void)
     CHECK(ribjasper_player_begin(&back, RIBJASPER_PACKS, 0) == RIBJASPER_DONE);
     CHECK(ribjasper_player_pixel(&player, 6, 12, other) == RIBJASPER_DONE && other[0] == 0);
     CHECK(ribjasper_player_take(&player, second, packs) == 1 && packs[0].wrong == -1);
-    /* What is no checkpoint is refused at its first byte, and no memory is told. */
+    /* What is no checkpoint is refused at its first byte, and a player of packs at once: no memory is asked before. */
+    number = refused = requests;
     CHECK(ribjasper_player_save(&back, again) == RIBJASPER_REFUSED);
     file[200] = 16;
     CHECK(ribjasper_player_load(&back, file, &byte) == RIBJASPER_NO_CHECKPOINT && byte == 200);
     file[8] = 1;
     CHECK(ribjasper_player_load(&back, file, &byte) == RIBJASPER_NO_CHECKPOINT && byte == 8);
+    CHECK(requests == number);
     CHECK(ribjasper_player_take(&back, second, packs) == 4);
     refused = requests;
     CHECK(ribjasper_player_load(&back, again, &byte) == RIBJASPER_NO_MEMORY && byte == 8);
@@ -374,6 +376,33 @@ static void saved_players(void)
     refused = -1;
     ribjasper_player_close(&player);
     ribjasper_player_close(&back);
+    CHECK(held == 0);
+}
+
+/* A raw stream of 1,000,000 blocks is saved, and a longer one is refused: no memory is asked before. */
+static void long_players(void)
+{
+    static const uint8_t block[96];
+    static uint8_t file[RIBJASPER_CHECKPOINT];
+    ribjasper_player player = RIBJASPER_CLOSED;
+    long fed;
+    CHECK(ribjasper_player_open(&player) == RIBJASPER_DONE);
+    CHECK(ribjasper_player_begin(&player, RIBJASPER_RAW, 450000) == RIBJASPER_DONE);
+    for (fed = 0; fed < 1000000; fed++)
+        if (ribjasper_player_feed(&player, block) != RIBJASPER_DONE)
+            break;
+    CHECK(fed == 1000000);
+    refused = requests;
+    CHECK(ribjasper_player_save(&player, file) == RIBJASPER_NO_MEMORY);
+    refused = -1;
+    CHECK(ribjasper_player_save(&player, file) == RIBJASPER_DONE && memcmp(file, "CDGSAVE1", 8) == 0);
+    CHECK(ribjasper_player_feed(&player, block) == RIBJASPER_DONE);
+    memset(file, 7, sizeof file);
+    fed = refused = requests;
+    CHECK(ribjasper_player_save(&player, file) == RIBJASPER_REFUSED && requests == fed);
+    CHECK(all_are(file, sizeof file, 7));
+    refused = -1;
+    ribjasper_player_close(&player);
     CHECK(held == 0);
 }
 
@@ -455,6 +484,7 @@ int main(void)
     drawn_packs();
     taken_blocks();
     saved_players();
+    long_players();
     touched_parts();
     rectangles();
     long_streams();

@@ -114,6 +114,8 @@ static void refused_sheets(void)
         { "", 1, 11 },
         { "FILE a WAVE\n", 2, 12 },
     };
+    uint8_t out[16];
+    uint32_t bytes;
     size_t i;
     memset(rows, 7, sizeof rows);
     memcpy(kept, rows, sizeof rows);
@@ -124,6 +126,14 @@ static void refused_sheets(void)
         CHECK(told.line == cases[i].line && told.why == cases[i].why);
         CHECK(told.rows == 0 && told.tracks == 0 && told.has_catalogue == 0 && told.catalogue[0] == 0);
         CHECK(memcmp(rows, kept, sizeof rows) == 0);
+        /* So it is where malloc refuses. */
+        memset(&told, 9, sizeof told);
+        refused = requests;
+        CHECK(ribjasper_sheet(bytes_of(cases[i].text), strlen(cases[i].text), rows, ROWS, &told) == RIBJASPER_TORN);
+        CHECK(told.line == cases[i].line && told.why == cases[i].why);
+        refused = requests;
+        CHECK(ribjasper_sheet_text(bytes_of(cases[i].text), strlen(cases[i].text), 0, 0, out, 16, &bytes) == RIBJASPER_TORN);
+        refused = -1;
     }
     {
         ribjasper_sheet_told told;

@@ -3,7 +3,6 @@ ghost use Rattle.std.specs.Prelude.{◌≡◌, ◌≤◌, ◌+◌, ◌<◌, leng
 ghost use Rattle.checkpoint_files.specs.Table.{Bad, LeadIn, Program, ToCome, file_size, number, number_at};
 
 use crate::StreamCounts;
-use crate::plain_file::PlainFile;
 
 // The byte at which each part of the file begins.
 
@@ -31,58 +30,53 @@ pub(crate) const LEVELS: usize = 65_027;
 
 pub(crate) const CHECK: usize = 65_043;
 
-impl PlainFile {
-    /// The counts in a file of its full length.
-    pub fn counts(&self) -> StreamCounts
-        requires { length self.now ≡ file_size }
-        ensures to_come { result.to_come ≡ number self.now ToCome 0 }
-        ensures lead_in { result.lead_in ≡ number self.now LeadIn 0 }
-        ensures program { result.program ≡ number self.now Program 0 }
-        ensures bad { result.bad ≡ number self.now Bad 0 }
-    {
-        StreamCounts {
-            to_come: self.number(TO_COME),
-            lead_in: self.number(LEAD_IN),
-            program: self.number(PROGRAM),
-            bad: self.number(BAD),
-        }
+/// The counts in the bytes of a file.
+pub(crate) fn counts_in(bytes: &[u8]) -> StreamCounts
+    requires { length bytes.now ≡ file_size }
+    ensures to_come { result.to_come ≡ number bytes.now ToCome 0 }
+    ensures lead_in { result.lead_in ≡ number bytes.now LeadIn 0 }
+    ensures program { result.program ≡ number bytes.now Program 0 }
+    ensures bad { result.bad ≡ number bytes.now Bad 0 }
+{
+    StreamCounts {
+        to_come: number(bytes, TO_COME),
+        lead_in: number(bytes, LEAD_IN),
+        program: number(bytes, PROGRAM),
+        bad: number(bytes, BAD),
     }
+}
 
-    // The number in the four bytes from a byte on.
-    fn number(&self, at: usize) -> u32
-        requires { at + 4 ≤ length self.now }
-        ensures { result ≡ number_at self.now 4 at }
-    {
-        let bytes = self.bytes();
-        u32::from_be_bytes([bytes[at], bytes[at + 1], bytes[at + 2], bytes[at + 3]])
-    }
+// The number in the four bytes from a byte on.
+fn number(bytes: &[u8], at: usize) -> u32
+    requires { at + 4 ≤ length bytes.now }
+    ensures { result ≡ number_at bytes.now 4 at }
+{
+    u32::from_be_bytes([bytes[at], bytes[at + 1], bytes[at + 2], bytes[at + 3]])
+}
 
-    /// The number in the two bytes from a byte on.
-    pub(crate) fn short_number(&self, at: usize) -> u16
-        requires { at + 2 ≤ length self.now }
-        ensures { result ≡ number_at self.now 2 at }
-    {
-        let bytes = self.bytes();
-        u16::from_be_bytes([bytes[at], bytes[at + 1]])
-    }
+/// The number in the two bytes from a byte on.
+pub(crate) fn short_number(bytes: &[u8], at: usize) -> u16
+    requires { at + 2 ≤ length bytes.now }
+    ensures { result ≡ number_at bytes.now 2 at }
+{
+    u16::from_be_bytes([bytes[at], bytes[at + 1]])
+}
 
-    /// The number in the eight bytes at the front.
-    pub(crate) fn front(&self) -> u64
-        requires { 8 ≤ length self.now }
-        ensures { result ≡ number_at self.now 8 0 }
-    {
-        let bytes = self.bytes();
-        u64::from_be_bytes([
-            bytes[0], bytes[1], bytes[2], bytes[3], bytes[4], bytes[5], bytes[6], bytes[7],
-        ])
-    }
+/// The number in the eight bytes at the front.
+pub(crate) fn front(bytes: &[u8]) -> u64
+    requires { 8 ≤ length bytes.now }
+    ensures { result ≡ number_at bytes.now 8 0 }
+{
+    u64::from_be_bytes([
+        bytes[0], bytes[1], bytes[2], bytes[3], bytes[4], bytes[5], bytes[6], bytes[7],
+    ])
+}
 
-    /// The byte at a place.
-    pub(crate) fn byte(&self, at: usize) -> u8
-        requires { at < length self.now }
-        ensures byte { result ≡ slice_index self.now at }
-        ensures number { result ≡ number_at self.now 1 at }
-    {
-        self.bytes()[at]
-    }
+/// The byte at a place.
+pub(crate) fn byte(bytes: &[u8], at: usize) -> u8
+    requires { at < length bytes.now }
+    ensures byte { result ≡ slice_index bytes.now at }
+    ensures number { result ≡ number_at bytes.now 1 at }
+{
+    bytes[at]
 }

@@ -69,7 +69,7 @@ impl CheckpointFile {
     /// Is this the file of a checkpoint?
     ///
     /// # Errors
-    /// The byte that shows that it is none, as `PlainFile::check` says.
+    /// The byte that shows that it is none, as `judge` says.
     pub fn check(&self) -> Result<(), u32>
         ensures { MatchResult result (λ _. IsCheckpointFile self.now) (IsBadAt self.now) }
     {

@@ -10,6 +10,7 @@ mod laws;
 mod plain_file;
 mod restoring;
 
+pub use checking::judge;
 pub use counts::StreamCounts;
 pub use file::CheckpointFile;
 pub use laws::{files_are_read_back, sound_checkpoints_are_accepted};

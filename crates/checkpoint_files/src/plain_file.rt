@@ -1,11 +1,20 @@
 // The bytes of a file.
-ghost use Rattle.std.specs.Prelude.{◌≡◌, ◌<◌, ◌≤◌, ◌+◌, [], ◌++◌, List, ℕ, length, OnOk, OnErr};
+ghost use Rattle.std.specs.Prelude.{◌≡◌, ◌<◌, ◌≤◌, ◌+◌, ◌*◌, [], ◌++◌, List, ℕ, length, MatchResult, OnOk, OnErr, drop, take};
 ghost use Rattle.std.specs.Io.KnownBytes.{Consumes, IsAtEnd};
 ghost use Rattle.cdg_io.specs.Causes.{HasCause, RoseOnce};
 ghost use Rattle.cdg_io.specs.Moves.{ConsumesBelow};
-ghost use Rattle.checkpoint_files.specs.Table.{file_size};
+ghost use Rattle.cdg_screen.specs.Memory.{seen};
+ghost use Rattle.raw_subcode.specs.Sizes.{symbols_a_slot};
+ghost use Rattle.rw_interleave.specs.Interleave.{packs_kept_back};
+ghost use Rattle.checkpoint_files.specs.Checkpoint.{checkpoint_in, standing_in};
+ghost use Rattle.checkpoint_files.specs.Table.{Bad, IsBadAt, IsCheckpointFile, LeadIn, Program, ToCome, file_size, number};
 
+use crate::StreamCounts;
+use crate::checking::judge;
+use crate::fields::counts_in;
+use crate::restoring::{restore, slot_in};
 use cdg_io::{Failed, Source};
+use cdg_screen::PlainScreen;
 use raw_subcode::SYMBOLS_A_SLOT;
 use rw_interleave::PACKS_KEPT_BACK;
 use std::marker::Model;
@@ -60,6 +69,44 @@ impl PlainFile {
         ensures most { length result.now ≤ file_size + 1 }
     {
         &self.bytes[..self.count]
+    }
+
+    /// Is this the file of a checkpoint?
+    ///
+    /// # Errors
+    /// The byte that shows that it is none, as `judge` says.
+    pub fn check(&self) -> Result<(), u32>
+        ensures { MatchResult result (λ _. IsCheckpointFile self.now) (IsBadAt self.now) }
+    {
+        judge(self.bytes())
+    }
+
+    /// The counts in a file of its full length.
+    pub fn counts(&self) -> StreamCounts
+        requires { length self.now ≡ file_size }
+        ensures to_come { result.to_come ≡ number self.now ToCome 0 }
+        ensures lead_in { result.lead_in ≡ number self.now LeadIn 0 }
+        ensures program { result.program ≡ number self.now Program 0 }
+        ensures bad { result.bad ≡ number self.now Bad 0 }
+    {
+        counts_in(self.bytes())
+    }
+
+    /// Slot k of the last seven of a checkpoint's file, the oldest first.
+    pub fn slot(&self, k: usize) -> [u8; SYMBOLS_A_SLOT]
+        requires file { length self.now ≡ file_size }
+        requires k { k < packs_kept_back }
+        ensures { result ≡ take symbols_a_slot (drop (symbols_a_slot * k) (checkpoint_in self.now).slots) }
+    {
+        slot_in(self.bytes(), k)
+    }
+
+    /// Brings back what stood, by the file of a checkpoint.
+    pub fn bring_back(&self, screen: &mut PlainScreen)
+        requires { IsCheckpointFile self.now }
+        ensures { seen screen.new ≡ standing_in self.now }
+    {
+        restore(screen, self.bytes());
     }
 
     /// Makes the file empty.

@@ -1,11 +1,13 @@
 -- Files of checkpoints, and what is none.
-use Rattle.std.proofs.Common.{◌≡◌, ◌≢◌, ℕ, ℤ, List, [], ◌∷◌, ◌++◌, ◌⊎◌, ap, get_or, subst, sym, ◌∙◌, inl, inr}
+use Rattle.std.proofs.Common.{◌≡◌, ◌≢◌, ◌<◌, ◌^◌, ℕ, ℤ, List, [], ◌∷◌, ◌++◌, ◌⊎◌, ap, get_or, subst, sym, ◌∙◌, inl, inr, arith}
 use mir.Val.{to_z, of_z}
 use mir.Syntax.{w32}
 use Rattle.std.specs.Prelude.{pos, negsuc}
 use Rattle.std.specs.List.{AllByRecursion}
-use Rattle.checkpoint_files.specs.Checkpoint.{checkpoint_in, file_of}
-use Rattle.checkpoint_files.specs.Table.{IsBadAt, IsCheckpointFile, IsPartInRange, Part}
+use Rattle.checkpoint_files.specs.Checkpoint.{Checkpoint, checkpoint_in, file_of}
+use Rattle.checkpoint_files.specs.Table.{IsBadAt, IsCheckpointFile, IsPartInRange, LeadIn, Part, Program, ToCome, number}
+use Rattle.disc_time.specs.Counts.{most_lead_in}
+use Rattle.raw_subcode.specs.Sizes.{most_units}
 use Rattle.raw_subcode.specs.declared.form.Form.TheVariants.{Raw}
 use Rattle.live_player.specs.Lives.{Given, HasPlayed}
 use Rattle.live_player.specs.Saving.{IsAt, checkpoint_of}
@@ -31,6 +33,36 @@ pub cannot : (file : List ℕ) (byte : ℕ) (live : LivePlayer) → file ≡ fil
     → IsBadAt file byte
     → CannotBeSaved live
 cannot file byte live same bad = inr (λ is. not_both file byte bad (subst IsCheckpointFile (sym same) is))
+
+-- the file of a player with too long a lead-in is no checkpoint's
+pub long_lead_in : (live : LivePlayer) → live.lead_in < 2 ^ 32
+    → ((c : Checkpoint) → c.to_come < 2 ^ 32 → number (file_of c) ToCome 0 ≡ c.to_come)
+    → ((c : Checkpoint) → c.lead_in < 2 ^ 32 → number (file_of c) LeadIn 0 ≡ c.lead_in)
+    → most_lead_in < live.lead_in → CannotBeSaved live
+long_lead_in live fits to_come lead_in long =
+    let c : Checkpoint = checkpoint_of live in
+    inr (λ is. omega (
+      arith,
+      long,
+      to_come c (omega (arith, fits)),
+      lead_in c (omega (arith, fits)),
+      is.ranges.1.1.0 0 (omega arith),
+    ))
+
+-- nor is that of one that has come too far
+pub many_blocks : (live : LivePlayer) → live.blocks < 2 ^ 32
+    → ((c : Checkpoint) → c.lead_in < 2 ^ 32 → number (file_of c) LeadIn 0 ≡ c.lead_in)
+    → ((c : Checkpoint) → c.program < 2 ^ 32 → number (file_of c) Program 0 ≡ c.program)
+    → most_units < live.blocks → CannotBeSaved live
+many_blocks live fits lead_in program far =
+    let c : Checkpoint = checkpoint_of live in
+    inr (λ is. omega (
+      arith,
+      far,
+      lead_in c (omega (arith, fits)),
+      program c (omega (arith, fits)),
+      (is.ranges.1.1.1.0 0 (omega arith)).0,
+    ))
 
 can_be_saved : (live : LivePlayer) → live.words.form ≡ Raw → IsCheckpointFile (file_of (checkpoint_of live))
     → CannotBeSaved live
@@ -65,6 +97,12 @@ pub of_packs : (players : List LivePlayer) (taken live : LivePlayer) → players
 of_packs players taken live held is other raw =
     let same : taken ≡ live = ap (λ (xs : List LivePlayer). get_or xs 0 live) (sym held ∙ is) in
     other (subst (λ (it : LivePlayer). it.words.form ≡ Raw) same raw)
+
+-- what holds of the player that was held holds of the one that was taken out
+pub of_held : (P : LivePlayer → Type 0) (players : List LivePlayer) (taken live : LivePlayer)
+    → players ≡ taken ∷ [] → players ≡ live ∷ [] → P live → P taken
+of_held P players taken live held is holds =
+    subst P (sym (ap (λ (xs : List LivePlayer). get_or xs 0 live) (sym held ∙ is))) holds
 
 -- an answer that is passed on stays
 pub passed_on : (answer : ℤ) → (answer ≡ pos 0) ⊎ (answer ≡ negsuc 0) ⊎ (answer ≡ pos 7)

@@ -1,7 +1,9 @@
 -- Players and the files of their checkpoints.
-use Rattle.std.specs.Prelude.{◌≡◌, ◌≢◌, ◌⊎◌, ℕ, List, [], ◌∷◌}
+use Rattle.std.specs.Prelude.{◌≡◌, ◌≢◌, ◌⊎◌, ◌<◌, ℕ, List, [], ◌∷◌}
 use Rattle.checkpoint_files.specs.Checkpoint.{checkpoint_in, file_of}
 use Rattle.checkpoint_files.specs.Table.{IsCheckpointFile}
+use Rattle.disc_time.specs.Counts.{most_lead_in}
+use Rattle.raw_subcode.specs.Sizes.{most_units}
 use Rattle.raw_subcode.specs.declared.form.Form.TheVariants.{Raw}
 use Rattle.live_player.specs.Saving.{IsAt, checkpoint_of}
 use Rattle.live_player.specs.declared.live.LivePlayer.{LivePlayer}
@@ -9,6 +11,10 @@ use Rattle.live_player.specs.declared.live.LivePlayer.{LivePlayer}
 -- this is the file of the checkpoint at which the player is
 abbrev pub IsSavedAs : List ℕ → LivePlayer → Type 0
 IsSavedAs file player = (file ≡ file_of (checkpoint_of player)) × IsCheckpointFile file
+
+-- a player has come further than a checkpoint can say
+abbrev pub IsTooLong : LivePlayer → Type 0
+IsTooLong player = (most_lead_in < player.lead_in) ⊎ (most_units < player.blocks)
 
 -- the player's stream is not raw, or is longer than a checkpoint can say
 abbrev pub CannotBeSaved : LivePlayer → Type 0

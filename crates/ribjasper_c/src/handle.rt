@@ -52,15 +52,8 @@ impl Handle {
         self.into_parts().into_box()
     }
 
-    /// Lets a handle of no player go.
-    pub fn release(self)
-        requires { length self.players ≡ 0 }
-    {
-        let _alloc = self.into_allocator();
-    }
-
-    // The allocator of a handle of no player.
-    fn into_allocator(self) -> Global
+    /// Lets a handle of no player go, and gives back its allocator, which is all that it holds.
+    pub fn release(self) -> Global
         requires { length self.players ≡ 0 }
         ensures { result ≡ self.alloc }
     {

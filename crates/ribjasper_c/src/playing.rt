@@ -36,7 +36,7 @@ impl Drop for Playing {
         if is_open {
             drop(handle.into_box());
         } else {
-            handle.release();
+            let _alloc = handle.release();
         }
     }
 }

@@ -1,5 +1,5 @@
 // A player that is saved to a file and brought back, and one that is copied to another.
-ghost use Rattle.std.specs.Prelude.{◌≡◌, ◌≢◌, ◌≤◌, ◌⊎◌, ◌↔◌, ◌&&◌, ◌∷◌, [], List, ℕ, false, if◌then◌else◌, pos, negsuc, length, IfSome};
+ghost use Rattle.std.specs.Prelude.{◌≡◌, ◌≢◌, ◌≤◌, ◌<◌, ◌^◌, ◌⊎◌, ◌↔◌, ◌&&◌, ◌∷◌, [], List, ℕ, IsTrue, true, false, if◌then◌else◌, pos, negsuc, length, IfSome};
 ghost use Rattle.disc_time.specs.Counts.{most_lead_in};
 ghost use Rattle.raw_subcode.specs.Sizes.{most_units};
 ghost use Rattle.raw_subcode.specs.declared.form.Form.{Form};
@@ -9,14 +9,15 @@ ghost use Rattle.live_player.specs.Saving.{IsAt};
 ghost use Rattle.live_player.specs.Lives.{Given, HasPlayed, blocks_in};
 ghost use Rattle.live_player.specs.declared.live.LivePlayer.{LivePlayer};
 ghost use Rattle.ribjasper_c.specs.Handles.{IsPlaying};
-ghost use Rattle.ribjasper_c.specs.Saving.{CannotBeSaved, IsSavedAs, AreAt};
+ghost use Rattle.ribjasper_c.specs.Saving.{CannotBeSaved, IsSavedAs, IsTooLong, AreAt};
 
 use crate::Playing;
 use crate::answers::{DONE, NO_MEMORY, NOT_DONE, REFUSED};
 use cdg_io::SteadySource;
-use checkpoint_files::{CheckpointFile, FILE_BYTES};
+use checkpoint_files::{CheckpointFile, FILE_BYTES, files_are_read_back, judge};
+use disc_time::MOST_LEAD_IN;
 use live_player::{LivePlayer, a_saved_player_goes_on};
-use raw_subcode::Form;
+use raw_subcode::{Form, MOST_UNITS};
 use std::alloc::Global;
 
 /// Writes the file of the checkpoint at which an open player is. 0, or -1 where the player is closed or cannot be
@@ -35,8 +36,10 @@ pub extern "C" fn ribjasper_player_save(
     ensures can { (lead_in : ℕ) (given : List Given)
         → IsPlaying Form.Raw lead_in given player.old.handle.players
         → lead_in ≤ most_lead_in → length (blocks_in given) ≤ most_units → result ≢ negsuc 0 }
-    // A player of packs is not saved.
+    // A player of packs is not saved, nor is one of a longer stream, whatever memory there is.
     ensures packs { (live : LivePlayer) → player.old.handle.players ≡ live ∷ [] → live.words.form ≢ Form.Raw
+        → result ≡ negsuc 0 }
+    ensures long { (live : LivePlayer) → player.old.handle.players ≡ live ∷ [] → IsTooLong live
         → result ≡ negsuc 0 }
     ensures closed { player.old.is_open ≡ false → result ≡ negsuc 0 }
     ensures answer { (result ≡ pos 0) ⊎ (result ≡ negsuc 0) ⊎ (result ≡ pos 7) }
@@ -59,10 +62,11 @@ fn save(alloc: Global, live: &LivePlayer, file: &mut [u8; FILE_BYTES]) -> i32
     ensures saved { result ≡ pos 0 → IsSavedAs file.new live.now }
     ensures refused { result ≡ negsuc 0 → CannotBeSaved live.now }
     ensures packs { live.now.words.form ≢ Form.Raw → result ≡ negsuc 0 }
+    ensures long { IsTooLong live.now → result ≡ negsuc 0 }
     ensures answer { (result ≡ pos 0) ⊎ (result ≡ negsuc 0) ⊎ (result ≡ pos 7) }
     ensures untouched { result ≢ pos 0 → file.new ≡ file.old }
 {
-    if !matches!(live.words.form, Form::Raw) {
+    if !matches!(live.words.form, Form::Raw) || is_too_long(live) {
         return NOT_DONE;
     }
     let Ok(mut saved) = CheckpointFile::start(alloc) else {
@@ -76,6 +80,22 @@ fn save(alloc: Global, live: &LivePlayer, file: &mut [u8; FILE_BYTES]) -> i32
         }
         Err(_) => NOT_DONE,
     }
+}
+
+// Whether a player has come further than a checkpoint can say.
+fn is_too_long(live: &LivePlayer) -> bool
+    ensures long { IsTrue result ↔ IsTooLong live.now }
+    ensures refused { result ≡ true → CannotBeSaved live.now }
+{
+    files_are_read_back();
+    is_above(live.lead_in, MOST_LEAD_IN) || is_above(live.blocks, MOST_UNITS)
+}
+
+fn is_above(count: u32, most: u32) -> bool
+    ensures above { IsTrue result ↔ (most < count) }
+    ensures fits { count < 2 ^ 32 }
+{
+    count > most
 }
 
 /// Brings an open player to the checkpoint of a file, in a raw stream. 0; or -1 where it is closed, 7 where no memory is
@@ -94,6 +114,8 @@ pub extern "C" fn ribjasper_player_load(
         → lead_in ≤ most_lead_in → length (blocks_in given) ≤ most_units
         → IsPlaying Form.Raw lead_in given player.new.handle.players }
     ensures bad { result ≡ pos 3 → IsBadAt file.now byte.new }
+    // Memory is asked for a checkpoint's file alone.
+    ensures memory { result ≡ pos 7 → IsCheckpointFile file.now }
     ensures closed { (result ≡ negsuc 0) ↔ (player.old.is_open ≡ false) }
     ensures answer { (result ≡ pos 0) ⊎ (result ≡ negsuc 0) ⊎ (result ≡ pos 3) ⊎ (result ≡ pos 7) }
     ensures stays { player.new.is_open ≡ player.old.is_open }
@@ -104,21 +126,17 @@ pub extern "C" fn ribjasper_player_load(
     if !player.is_open {
         return NOT_DONE;
     }
+    if let Err(bad) = judge(file) {
+        *byte = bad;
+        return REFUSED;
+    }
     let Some(saved) = read_file(alloc, file) else {
         return NO_MEMORY;
     };
-    match saved.check() {
-        Ok(()) => {
-            let mut live = player.take_out();
-            go_to(&mut live, &saved);
-            player.put_back(live);
-            DONE
-        }
-        Err(bad) => {
-            *byte = bad;
-            REFUSED
-        }
-    }
+    let mut live = player.take_out();
+    go_to(&mut live, &saved);
+    player.put_back(live);
+    DONE
 }
 
 // Goes to the checkpoint of a file.

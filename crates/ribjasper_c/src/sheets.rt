@@ -1,9 +1,10 @@
 // What a cue sheet says.
 ghost use Rattle.std.specs.Prelude.{◌≡◌, ◌≢◌, ◌<◌, ◌≤◌, ◌⊎◌, ◌↔◌, ℕ, Err, length, pos};
 ghost use Rattle.text_lines.specs.Text.{most_text_bytes};
+ghost use Rattle.cue_sheet.specs.CueSheet.{CueSheet};
 ghost use Rattle.cue_sheet.specs.Grammar.{read_cue};
 ghost use Rattle.cue_sheet.specs.declared.fault.CueWhy.{CueWhy};
-ghost use Rattle.sheet_rows.specs.Rows.{told_refusal, AreRowsOf, IsRowsStop, IsTextOf, IsTextStop};
+ghost use Rattle.sheet_rows.specs.Rows.{told_refusal, AreRowsOf, IsRowsStop, IsTextOf, IsTextOfSheet, IsTextStop};
 ghost use Rattle.sheet_rows.specs.declared.stops.SheetStop.{SheetStop};
 ghost use Rattle.sheet_rows.specs.declared.stops.TextStop.{TextStop};
 ghost use Rattle.ribjasper_c.specs.Sheets.{text_kind};
@@ -27,6 +28,8 @@ pub extern "C" fn ribjasper_sheet(
     ensures refused { result ≡ pos 3 → (line : ℕ) × (why : CueWhy)
         × (read_cue sheet.now ≡ Err (line, why)) × (told.new ≡ told_refusal line why) }
     ensures small { result ≡ pos 6 → IsRowsStop sheet.now (length rows.old) (SheetStop.NoRoom told.new) }
+    // Want of memory is told only of a sheet.
+    ensures memory { result ≡ pos 7 → (read : CueSheet) × IsTextOfSheet sheet.now read }
     ensures answer { (result ≡ pos 0) ⊎ (result ≡ pos 2) ⊎ (result ≡ pos 3) ⊎ (result ≡ pos 6)
         ⊎ (result ≡ pos 7) }
     ensures untouched { result ≢ pos 0 → rows.new ≡ rows.old }
@@ -68,6 +71,7 @@ pub extern "C" fn ribjasper_sheet_text(
     ensures refused { result ≡ pos 3 → (line : ℕ) × (why : CueWhy) × (read_cue sheet.now ≡ Err (line, why)) }
     ensures small { result ≡ pos 6
         → IsTextStop (text_kind kind) place sheet.now (length out.old) (TextStop.NoRoom bytes.new) }
+    ensures memory { result ≡ pos 7 → (kind ≤ 2) × ((read : CueSheet) × IsTextOfSheet sheet.now read) }
     ensures answer { (result ≡ pos 0) ⊎ (result ≡ pos 2) ⊎ (result ≡ pos 3) ⊎ (result ≡ pos 6)
         ⊎ (result ≡ pos 7) }
     ensures untouched { result ≢ pos 0 → out.new ≡ out.old }

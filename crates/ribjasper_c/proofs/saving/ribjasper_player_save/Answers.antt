@@ -1,8 +1,8 @@
 use Rattle.std.proofs.Common.{◌≢◌, subst, sym, ◌∙◌}
 use Rattle.raw_subcode.specs.declared.form.Form.TheVariants.{Raw}
 use Rattle.live_player.specs.declared.live.LivePlayer.{LivePlayer}
-use Rattle.ribjasper_c.specs.Saving.{CannotBeSaved}
-use Rattle.ribjasper_c.proofs.Saves.{can, of_packs, passed_on}
+use Rattle.ribjasper_c.specs.Saving.{CannotBeSaved, IsTooLong}
+use Rattle.ribjasper_c.proofs.Saves.{can, of_held, of_packs, passed_on}
 use Rattle.ribjasper_c.proofs.saving.ribjasper_player_save.Goals as goal
 
 pub returns-clause-can : goal.returns-clause-can
@@ -19,3 +19,9 @@ returns-clause-packs c live held other =
     ∙ c.save-answer.ensures.packs
     (subst (λ (it : LivePlayer). it.words.form ≢ Raw) (sym c.deref.ensures)
     (of_packs _ _ live c.take_out-live.ensures held other))
+
+pub returns-clause-long : goal.returns-clause-long
+returns-clause-long c live held long =
+    passed_on c.save-answer.result c.save-answer.ensures.answer
+    ∙ c.save-answer.ensures.long
+    (subst IsTooLong (sym c.deref.ensures) (of_held IsTooLong _ _ live c.take_out-live.ensures held long))

@@ -1,5 +1,5 @@
 use Rattle.std.proofs.Common.{◌∙◌, arith}
-use Rattle.checkpoint_files.proofs.plain_file.PlainFile.bring_back.Goals as goal
+use Rattle.checkpoint_files.proofs.restoring.restore.Goals as goal
 
 pub returns : goal.returns
 returns c =

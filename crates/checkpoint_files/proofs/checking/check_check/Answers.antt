@@ -1,5 +1,5 @@
 use Rattle.std.proofs.Common.{refl, ◌∙◌, sym, arith}
-use Rattle.checkpoint_files.proofs.plain_file.PlainFile.check_check.Goals as goal
+use Rattle.checkpoint_files.proofs.checking.check_check.Goals as goal
 
 pub returns-then-short_number-check_of_body : goal.returns-then-short_number-check_of_body
 returns-then-short_number-check_of_body c = record {

@@ -4,12 +4,12 @@ use Rattle.bit_lists.proofs.Groups.{all_below_bound}
 use Rattle.cdg_screen.proofs.Lists.{sixteen_are}
 use Rattle.checkpoint_files.specs.Table.{Colours, number}
 use Rattle.checkpoint_files.proofs.Restored.{set_below, set_range}
-use Rattle.checkpoint_files.proofs.plain_file.PlainFile.colours.Goals as goal
+use Rattle.checkpoint_files.proofs.restoring.colours.Goals as goal
 
 pub loop-k-preserved : goal.loop-k-preserved
 loop-k-preserved c = record {
   size = length-set c.loop-k.colours c.loop-k.k c.short_number.result ∙ c.loop-k.invariant.size;
-  set = set_below c.loop-k.colours c.loop-k.k c.short_number.result (number c.args.self.now Colours)
+  set = set_below c.loop-k.colours c.loop-k.k c.short_number.result (number c.args.bytes.now Colours)
       (omega (arith, c.loop-k.invariant.size, c.loop-k-test.true)) c.loop-k.invariant.set
       c.short_number.ensures;
   range =
@@ -21,7 +21,7 @@ loop-k-preserved c = record {
 
 pub returns-clause-colours : goal.returns-clause-colours
 returns-clause-colours c =
-    sixteen_are c.loop-k.colours (number c.args.self.now Colours) c.loop-k.invariant.size
+    sixteen_are c.loop-k.colours (number c.args.bytes.now Colours) c.loop-k.invariant.size
     (λ k lt. c.loop-k.invariant.set k (omega (arith, lt)))
 
 pub returns-clause-range : goal.returns-clause-range

@@ -1,4 +1,4 @@
--- `into_allocator` moves one field out of a handle that owns nothing.
+-- `release` moves one field out of a handle that owns nothing.
 use mathlib.Core.Path.{refl, sym, subst}
 use mathlib.Core.Bool.{Bool, true, false, ◌&&◌}
 use mathlib.Core.List.{List, [], ◌∷◌, ◌++◌}
@@ -31,10 +31,10 @@ use Rattle.std_alloc.proofs.BoxSteps.Form.{P}
 use Rattle.std_alloc.proofs.ResultValues.{and_tt}
 use Rattle.ribjasper_c.proofs.AsBox.{E, FromHandle as From}
 use Rattle.ribjasper_c.specs.contracts.handle.Handle as Handle
-use Rattle.ribjasper_c.specs.contracts.handle.Handle.into_allocator as F
-use Rattle.ribjasper_c.specs.contracts.handle.Handle.into_allocator.Key.{name as #self}
-use Rattle.ribjasper_c.proofs.handle.Handle.into_allocator.Statement as stated
-use Rattle.ribjasper_c.proofs.handle.Handle.into_allocator.Code as code
+use Rattle.ribjasper_c.specs.contracts.handle.Handle.release as F
+use Rattle.ribjasper_c.specs.contracts.handle.Handle.release.Key.{name as #self}
+use Rattle.ribjasper_c.proofs.handle.Handle.release.Statement as stated
+use Rattle.ribjasper_c.proofs.handle.Handle.release.Code as code
 
 abbrev stayed : Stays (F.ended).signature.params (F.ended).kept
 stayed = (stay_dropped From yes, tt)
@@ -81,9 +81,9 @@ module _ {M : Type 1} {𝓤 : Ura M} (𝓛 : Logic 𝓤) (at_mem : Memory → SP
       says ! refl $
       nothing ! $ nothing ! $ fjoin ! $ join ! $ nothing ! $ join ! $ done !))))))))
 
-pub into_allocator_spec : {M : Type 1} → stated.statement M
+pub release_spec : {M : Type 1} → stated.statement M
 unfolding tables_of
-into_allocator_spec 𝓤 𝓛 𝓜 𝓡 wired =
+release_spec 𝓤 𝓛 𝓜 𝓡 wired =
     let 𝓣 : Tables 𝓤 𝓛.H = tables_of 𝓤 𝓛.H 𝓜 (tables 𝓤 𝓛.H 𝓜 𝓡 𝓡.env) in
     entered 𝓤 𝓛.H (triple_of 𝓛 F.signature (F.spec 𝓛 𝓜.mem 𝓡.returns)) 𝓣.C 𝓣.Λ #self code.function
     (code.unfolded 𝓤 𝓛.H 𝓜 𝓡 wired)

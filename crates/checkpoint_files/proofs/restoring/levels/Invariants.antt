@@ -1,10 +1,10 @@
 use Rattle.std.proofs.Common.{◌≡◌, ◌<◌, ℕ, get_or, length}
 use Rattle.checkpoint_files.specs.Table.{Levels, number}
-use Rattle.checkpoint_files.proofs.plain_file.PlainFile.levels.Given as goal
+use Rattle.checkpoint_files.proofs.restoring.levels.Given as goal
 
 abbrev pub invariant-loop-k : goal.invariant-loop-k
 invariant-loop-k l = record {
   size : length l.levels ≡ 16;
-  set : (j : ℕ) → j < l.k → get_or l.levels j 0 ≡ number l.self Levels j;
+  set : (j : ℕ) → j < l.k → get_or l.levels j 0 ≡ number l.bytes Levels j;
   range : (j : ℕ) → get_or l.levels j 0 < 64;
 }

@@ -1,10 +1,10 @@
 use Rattle.std.proofs.Common.{[], ◌∷◌, refl}
 use Rattle.checkpoint_files.specs.Table.{Mark, ToCome, LeadIn, Program, Bad, Slots, Memory, Border, Across, Down, Colours, Levels, Check}
 use Rattle.checkpoint_files.proofs.SlotRanges.{all_checked, exits}
-use Rattle.checkpoint_files.proofs.plain_file.PlainFile.check_fields.Goals as goal
+use Rattle.checkpoint_files.proofs.checking.check_fields.Goals as goal
 
 pub returns-in_err-check_mark : goal.returns-in_err-check_mark
-returns-in_err-check_mark c = exits c.args.self.now c.from_residual.result _ c.from_residual.ensures.1
+returns-in_err-check_mark c = exits c.args.bytes.now c.from_residual.result _ c.from_residual.ensures.1
     (record {
       early = [];
       part = Mark;
@@ -18,7 +18,7 @@ returns-in_err-check_mark c = exits c.args.self.now c.from_residual.result _ c.f
 
 pub returns-in_err-check_to_come : goal.returns-in_err-check_to_come
 returns-in_err-check_to_come c =
-    exits c.args.self.now c.from_residual-in_err-check_to_come.result _
+    exits c.args.bytes.now c.from_residual-in_err-check_to_come.result _
     c.from_residual-in_err-check_to_come.ensures.1
     (record {
       early = Mark ∷ [];
@@ -31,7 +31,7 @@ returns-in_err-check_to_come c =
 
 pub returns-in_err-check_lead_in : goal.returns-in_err-check_lead_in
 returns-in_err-check_lead_in c =
-    exits c.args.self.now c.from_residual-in_err-check_lead_in.result _
+    exits c.args.bytes.now c.from_residual-in_err-check_lead_in.result _
     c.from_residual-in_err-check_lead_in.ensures.1
     (record {
       early = Mark ∷ ToCome ∷ [];
@@ -44,7 +44,7 @@ returns-in_err-check_lead_in c =
 
 pub returns-in_err-check_program : goal.returns-in_err-check_program
 returns-in_err-check_program c =
-    exits c.args.self.now c.from_residual-in_err-check_program.result _
+    exits c.args.bytes.now c.from_residual-in_err-check_program.result _
     c.from_residual-in_err-check_program.ensures.1
     (record {
       early = Mark ∷ ToCome ∷ LeadIn ∷ [];
@@ -58,7 +58,7 @@ returns-in_err-check_program c =
 
 pub returns-in_err-check_bad : goal.returns-in_err-check_bad
 returns-in_err-check_bad c =
-    exits c.args.self.now c.from_residual-in_err-check_bad.result _ c.from_residual-in_err-check_bad.ensures.1
+    exits c.args.bytes.now c.from_residual-in_err-check_bad.result _ c.from_residual-in_err-check_bad.ensures.1
     (record {
       early = Mark ∷ ToCome ∷ LeadIn ∷ Program ∷ [];
       part = Bad;
@@ -73,7 +73,7 @@ returns-in_err-check_bad c =
 
 pub returns-in_err-check_slots : goal.returns-in_err-check_slots
 returns-in_err-check_slots c =
-    exits c.args.self.now c.from_residual-in_err-check_slots.result _
+    exits c.args.bytes.now c.from_residual-in_err-check_slots.result _
     c.from_residual-in_err-check_slots.ensures.1
     (record {
       early = Mark ∷ ToCome ∷ LeadIn ∷ Program ∷ Bad ∷ [];
@@ -92,7 +92,7 @@ returns-in_err-check_slots c =
 
 pub returns-in_err-check_memory : goal.returns-in_err-check_memory
 returns-in_err-check_memory c =
-    exits c.args.self.now c.from_residual-in_err-check_memory.result _
+    exits c.args.bytes.now c.from_residual-in_err-check_memory.result _
     c.from_residual-in_err-check_memory.ensures.1
     (record {
       early = Mark ∷ ToCome ∷ LeadIn ∷ Program ∷ Bad ∷ Slots ∷ [];
@@ -114,7 +114,7 @@ returns-in_err-check_memory c =
 
 pub returns-in_err-check_border : goal.returns-in_err-check_border
 returns-in_err-check_border c =
-    exits c.args.self.now c.from_residual-in_err-check_border.result _
+    exits c.args.bytes.now c.from_residual-in_err-check_border.result _
     c.from_residual-in_err-check_border.ensures.1
     (record {
       early = Mark ∷ ToCome ∷ LeadIn ∷ Program ∷ Bad ∷ Slots ∷ Memory ∷ [];
@@ -139,7 +139,7 @@ returns-in_err-check_border c =
 
 pub returns-in_err-check_across : goal.returns-in_err-check_across
 returns-in_err-check_across c =
-    exits c.args.self.now c.from_residual-in_err-check_across.result _
+    exits c.args.bytes.now c.from_residual-in_err-check_across.result _
     c.from_residual-in_err-check_across.ensures.1
     (record {
       early = Mark ∷ ToCome ∷ LeadIn ∷ Program ∷ Bad ∷ Slots ∷ Memory ∷ Border ∷ [];
@@ -170,7 +170,7 @@ returns-in_err-check_across c =
 
 pub returns-in_err-check_down : goal.returns-in_err-check_down
 returns-in_err-check_down c =
-    exits c.args.self.now c.from_residual-in_err-check_down.result _
+    exits c.args.bytes.now c.from_residual-in_err-check_down.result _
     c.from_residual-in_err-check_down.ensures.1
     (record {
       early = Mark ∷ ToCome ∷ LeadIn ∷ Program ∷ Bad ∷ Slots ∷ Memory ∷ Border ∷ Across ∷ [];
@@ -204,7 +204,7 @@ returns-in_err-check_down c =
 
 pub returns-in_err-check_colours : goal.returns-in_err-check_colours
 returns-in_err-check_colours c =
-    exits c.args.self.now c.from_residual-in_err-check_colours.result _
+    exits c.args.bytes.now c.from_residual-in_err-check_colours.result _
     c.from_residual-in_err-check_colours.ensures.1
     (record {
       early = Mark ∷ ToCome ∷ LeadIn ∷ Program ∷ Bad ∷ Slots ∷ Memory ∷ Border ∷ Across ∷ Down ∷ [];
@@ -241,7 +241,7 @@ returns-in_err-check_colours c =
 
 pub returns-in_err-check_levels : goal.returns-in_err-check_levels
 returns-in_err-check_levels c =
-    exits c.args.self.now c.from_residual-in_err-check_levels.result _
+    exits c.args.bytes.now c.from_residual-in_err-check_levels.result _
     c.from_residual-in_err-check_levels.ensures.1
     (record {
       early = Mark ∷ ToCome ∷ LeadIn ∷ Program ∷ Bad ∷ Slots ∷ Memory ∷ Border ∷ Across ∷ Down ∷ Colours ∷ [];
@@ -280,7 +280,7 @@ returns-in_err-check_levels c =
     })
 
 pub returns : goal.returns
-returns c = all_checked c.args.self.now c.check_check.result (
+returns c = all_checked c.args.bytes.now c.check_check.result (
   c.in_ok-check_mark.ensures,
   (
     c.in_ok-check_to_come.ensures,
