@@ -2,8 +2,8 @@
 use Rattle.std.proofs.Common.{◌≡◌, ℕ, List, Result, Ok, Err, Some, None, IfSome, sym, subst}
 use Rattle.picture_script.specs.Script.{Drawing}
 use Rattle.picture_script.specs.ScriptGrammar.{read_script}
-use Rattle.picture_changes.specs.Schedule.{IsLate}
-use Rattle.picture_changes.specs.Brings.{CannotBeReady}
+use Rattle.pack_schedule.specs.Schedule.{IsLate}
+use Rattle.pack_schedule.specs.Brings.{CannotBeReady}
 use Rattle.cue_sheet.specs.CueSheet.{CueSheet}
 use Rattle.subcode_author.specs.Authored.{disc_of}
 use Rattle.subcode_author.specs.declared.stops.AuthorStop.{AuthorStop}

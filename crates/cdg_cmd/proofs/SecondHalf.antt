@@ -8,7 +8,7 @@ use Rattle.raw_subcode.specs.declared.form.Form.TheVariants.{Raw, Sector, Cooked
 use Rattle.rw_interleave.specs.Interleave.{whole_packs}
 use Rattle.cue_sheet.specs.CueSheet.{CueSheet}
 use Rattle.picture_script.specs.Script.{Drawing}
-use Rattle.picture_changes.specs.Shown.{AreColoursInRange, AreTimesInOrder}
+use Rattle.pack_schedule.specs.Shown.{AreColoursInRange, AreTimesInOrder}
 use Rattle.rw_interleave.specs.Stream.{all_packs, bad_count}
 use Rattle.rw_interleave.specs.Texts.{cdg_bytes}
 use Rattle.toc_model.specs.Places.{program_blocks}

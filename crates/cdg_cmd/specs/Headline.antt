@@ -5,7 +5,7 @@ use Rattle.raw_subcode.specs.Channels.{unit_size, program_symbols}
 use Rattle.raw_subcode.specs.declared.form.Form.{Form}
 use Rattle.raw_subcode.specs.declared.form.Form.TheVariants.{Raw, Cooked}
 use Rattle.picture_script.specs.Script.{Drawing}
-use Rattle.picture_changes.specs.Schedule.{IsLate}
+use Rattle.pack_schedule.specs.Schedule.{IsLate}
 use Rattle.rw_interleave.specs.Interleave.{packs_kept_back}
 use Rattle.rw_interleave.specs.Stream.{IsDamaged}
 use Rattle.subcode_author.specs.Authored.{Disc}

@@ -6,7 +6,7 @@ ghost use Rattle.cdg_io.specs.Change.{Bytes};
 ghost use Rattle.disc_time.specs.Counts.{most_lead_in, most_program};
 ghost use Rattle.raw_subcode.specs.declared.form.Form.{Form};
 ghost use Rattle.picture_script.specs.Script.{Drawing};
-ghost use Rattle.picture_changes.specs.Brings.{CannotBeReady};
+ghost use Rattle.pack_schedule.specs.Brings.{CannotBeReady};
 ghost use Rattle.toc_model.specs.Places.{layout_of, program_blocks};
 ghost use Rattle.subcode_author.specs.Authored.{Disc, IsAuthored};
 ghost use Rattle.rw_merge.specs.Readings.{IsReadTwice};
@@ -25,7 +25,7 @@ ghost use Rattle.cdg_cmd.specs.Unpresses.{Unpresses};
 
 use crate::{Command, Status};
 use cdg_checkpoint::a_saved_stream_goes_on_as_the_whole;
-use picture_changes::needs_are_fewest;
+use pack_schedule::needs_are_fewest;
 use raw_subcode::Form;
 use round_trips::{
     copied_text_lists_are_answered, damaged_text_lists_are_answered, frame_lists_are_answered,

@@ -4,7 +4,7 @@ ghost use Rattle.disc_time.specs.Counts.{most_program};
 ghost use Rattle.std.specs.List.{concat};
 ghost use Rattle.raw_subcode.specs.declared.form.Form.{Form};
 ghost use Rattle.picture_script.specs.Script.{Drawing};
-ghost use Rattle.picture_changes.specs.Brings.{CannotBeReady};
+ghost use Rattle.pack_schedule.specs.Brings.{CannotBeReady};
 ghost use Rattle.toc_model.specs.Places.{layout_of, program_blocks};
 ghost use Rattle.subcode_author.specs.Authored.{Disc, IsAuthored};
 ghost use Rattle.rw_merge.specs.Readings.{IsReadTwice};

@@ -157,18 +157,6 @@ impl PlainScreen {
         }
     }
 
-    /// Carries out instructions in turn.
-    pub fn obey_all(&mut self, instrs: &[Instr])
-        requires { All InRange instrs.now }
-        ensures { seen self.new ≡ standing_after (seen self.old) instrs.now }
-    {
-        // A law: instructions are carried out on what stands.
-        self.what_stands_is_whole();
-        for instr in instrs {
-            self.obey(instr);
-        }
-    }
-
     /// The pixel of the memory at a place: `x` below 300 from the left, `y` below 216 from the top.
     pub fn memory(&self, x: u32, y: u32) -> u8
         requires width { x < screen_width }

@@ -4,8 +4,8 @@ use Rattle.std.specs.Prelude.{Option, Some, None, if◌then◌else◌, nat_lt}
 use Rattle.std.proofs.lemmas.List.FromFn.{map-range_with_len_more}
 use Rattle.bit_lists.specs.Counting.{below}
 use Rattle.picture_script.specs.Script.{Drawing}
-use Rattle.picture_changes.specs.Change.{settings}
-use Rattle.picture_changes.specs.PlannedChange.{planned_length, tile_steps, preferred, first_least, chosen_start}
+use Rattle.pack_schedule.specs.Change.{settings}
+use Rattle.pack_schedule.specs.PlannedChange.{planned_length, tile_steps, preferred, first_least, chosen_start}
 
 -- one more at the end
 least-snoc : {X : Type 0} (number : X → ℕ) (best : X) (xs : List X) (x : X)

@@ -13,12 +13,12 @@ use Rattle.cdg_instructions.specs.Instruction.{IsTilePixels}
 use Rattle.cdg_instructions.specs.Drawing.{IsLeast}
 use Rattle.tile_author.specs.Plan.{steps}
 use Rattle.picture_script.specs.Script.{Drawing, picture_tile}
-use Rattle.picture_changes.specs.Change.{tiles_before}
-use Rattle.picture_changes.specs.PlannedChange.{tile_steps}
-use Rattle.picture_changes.proofs.Places.{place_of, places_in_order, colour_is_tile}
+use Rattle.pack_schedule.specs.Change.{tiles_before}
+use Rattle.pack_schedule.specs.PlannedChange.{tile_steps}
+use Rattle.pack_schedule.proofs.Places.{place_of, places_in_order, colour_is_tile}
 use Rattle.pack_schedule.specs.Weights.{IsWeighed, IsWeighedAt, AreWeights, not_weighed}
 use Rattle.pack_schedule.specs.declared.change.weights.Weighed.{Weighed}
-use Rattle.picture_changes.proofs.PlannedLaws.{PlansAreShortest, least-unique}
+use Rattle.pack_schedule.proofs.PlannedLaws.{PlansAreShortest, least-unique}
 
 -- tiles counted one after another
 one_sum : (n : ℕ) → 0 + n ≡ n

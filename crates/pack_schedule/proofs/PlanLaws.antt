@@ -3,7 +3,7 @@ use Rattle.std.proofs.Common.{◌≡◌, ℕ, ◌+◌, ◌-◌, ◌<◌, false, 
 use Rattle.picture_script.specs.Script.{Drawing, pictures}
 use Rattle.picture_script.specs.Board.{Board, IsPicture}
 use Rattle.std.specs.Prelude.{Some}
-use Rattle.picture_changes.specs.Schedule.{CanBeReady, IsLate}
+use Rattle.pack_schedule.specs.Schedule.{CanBeReady, IsLate}
 use Rattle.pack_schedule.specs.Plans.{ArePlanRows, IsFirstLate, IsPlanRow, no_row}
 use Rattle.pack_schedule.specs.PlannerParts.{IsBeforePicture}
 use Rattle.pack_schedule.specs.Weights.{AreWeights}

@@ -9,9 +9,9 @@ use Rattle.cdg_instructions.specs.declared.instr.Instr.TheVariants.{BorderPreset
 use Rattle.tile_author.specs.Plan.{plan, are_equal}
 use Rattle.picture_script.specs.Script.{Drawing, picture_border, picture_colour, picture_tile, low_colours, high_colours}
 use Rattle.picture_script.specs.Board.{Board, IsPicture}
-use Rattle.picture_changes.specs.Change.{settings, preset_of, tiles_before, IsStart}
-use Rattle.picture_changes.specs.PlannedChange.{planned_tiles, planned_from}
-use Rattle.picture_changes.proofs.Places.{place_of, places_in_order, colour_is_tile, start_small}
+use Rattle.pack_schedule.specs.Change.{settings, preset_of, tiles_before, IsStart}
+use Rattle.pack_schedule.specs.PlannedChange.{planned_tiles, planned_from}
+use Rattle.pack_schedule.proofs.Places.{place_of, places_in_order, colour_is_tile, start_small}
 use Rattle.pack_schedule.proofs.SettingLaws.{same_eight}
 
 -- Tiles in turn.

@@ -14,8 +14,8 @@ use Rattle.picture_script.specs.Script.{Drawing, picture_pixel, picture_tile}
 use Rattle.picture_script.specs.Board.{Board, IsPicture, tile_of}
 use Rattle.picture_script.proofs.Drawn.{picture_tile_is}
 use Rattle.picture_script.proofs.Parts.{tile_pixel, tile_size}
-use Rattle.picture_changes.specs.Change.{settings, IsStart, tiles_before}
-use Rattle.picture_changes.specs.PlannedChange.{planned_length, tile_steps, first_least, chosen_start}
+use Rattle.pack_schedule.specs.Change.{settings, IsStart, tiles_before}
+use Rattle.pack_schedule.specs.PlannedChange.{planned_length, tile_steps, first_least, chosen_start}
 use Rattle.pack_schedule.specs.SameTiles.{SameRow, SameTiles}
 use Rattle.pack_schedule.specs.Weights.{IsWeighed, AreWeights, not_weighed}
 use Rattle.pack_schedule.specs.declared.change.weights.Weighed.{Weighed}

@@ -7,8 +7,8 @@ use Rattle.cdg_instructions.specs.Instruction.{IsWritten}
 use Rattle.cdg_instructions.specs.declared.instr.Instr.{Instr}
 use Rattle.cdg_instructions.specs.declared.instr.Instr.TheVariants.{Idle}
 use Rattle.picture_script.specs.Script.{Drawing, pictures, ready_time, hold_time}
-use Rattle.picture_changes.specs.Schedule.{start_of, IsInTime, IsScheduleOf}
-use Rattle.picture_changes.specs.PlannedChange.{planned_change}
+use Rattle.pack_schedule.specs.Schedule.{start_of, IsInTime, IsScheduleOf}
+use Rattle.pack_schedule.specs.PlannedChange.{planned_change}
 use Rattle.pack_schedule.specs.Survey.{IsSurvey, IsWithin}
 use Rattle.pack_schedule.specs.Woven.{ArePacks}
 use Rattle.pack_schedule.specs.declared.surveys.told.PlannedChange.{PlannedChange}

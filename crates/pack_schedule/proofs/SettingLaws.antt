@@ -14,7 +14,7 @@ use Rattle.bit_lists.specs.Counting.{below}
 use Rattle.cdg_instructions.specs.declared.instr.Instr.{Instr}
 use Rattle.cdg_instructions.specs.declared.instr.Instr.TheVariants.{BorderPreset, ColoursLow, ColoursHigh}
 use Rattle.std.proofs.lemmas.Grind.{same_number_lists}
-use Rattle.picture_changes.specs.Change.{settings}
+use Rattle.pack_schedule.specs.Change.{settings}
 
 zero_plus : (n : ℕ) → 0 + n ≡ n
 zero_plus n = omega arith

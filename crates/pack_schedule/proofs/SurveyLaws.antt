@@ -6,16 +6,16 @@ use Rattle.std.proofs.lemmas.Bool.Decides.{leb_tells}
 use Rattle.std.proofs.lemmas.List.{get_or_append_left, get_or-append-add}
 use Rattle.picture_script.specs.Script.{Drawing, pictures, ready_time, hold_time, picture_pixel}
 use Rattle.picture_script.specs.Board.{Board, IsBlank, IsPicture, StandsBefore}
-use Rattle.picture_changes.specs.Schedule.{start_of, IsInTime, IsLate, free_packs}
-use Rattle.picture_changes.specs.PlannedChange.{planned_change}
-use Rattle.picture_changes.specs.Shown.{AreTimesInOrder, AreColoursInRange}
-use Rattle.picture_changes.specs.Brings.{CannotBeReady, IsChange, IsNeed}
+use Rattle.pack_schedule.specs.Schedule.{start_of, IsInTime, IsLate, free_packs}
+use Rattle.pack_schedule.specs.PlannedChange.{planned_change}
+use Rattle.pack_schedule.specs.Shown.{AreTimesInOrder, AreColoursInRange}
+use Rattle.pack_schedule.specs.Brings.{CannotBeReady, IsChange, IsNeed}
 use Rattle.pack_schedule.specs.Survey.{nothing_planned, IsPlanned, ArePlanned, IsPastEnd, IsStop, IsSurvey, IsWithin}
 use Rattle.pack_schedule.specs.Weaving.{Stands}
 use Rattle.pack_schedule.specs.declared.surveys.told.PlannedChange.{PlannedChange}
 use Rattle.pack_schedule.specs.declared.stops.Stop.{Stop}
 use Rattle.pack_schedule.specs.declared.stops.Stop.TheVariants.{Late}
-use Rattle.picture_changes.proofs.Times.{hold_order}
+use Rattle.pack_schedule.proofs.TimeOrder.{hold_order}
 
 -- picture k stands before the next one is drawn
 pub stands_next : (script : List Drawing) (k : ℕ) (board : Board) → board.at ≡ Some k

@@ -7,17 +7,17 @@ use Rattle.cdg_instructions.specs.Instruction.{InRange, IsKnown, IsWritten, mess
 use Rattle.cdg_instructions.specs.declared.instr.Instr.{Instr}
 use Rattle.cdg_instructions.specs.declared.instr.Instr.TheVariants.{Idle, Foreign, Unknown, MemoryPreset, BorderPreset, SetTile, XorTile, ScrollPreset, ScrollCopy, Transparency, ColoursLow, ColoursHigh}
 use Rattle.picture_script.specs.Script.{Drawing, pictures, ready_time, hold_time}
-use Rattle.picture_changes.specs.Change.{IsStart}
+use Rattle.pack_schedule.specs.Change.{IsStart}
 use Rattle.rw_code.specs.Packs.{idle_pack}
-use Rattle.picture_changes.specs.Schedule.{start_of}
-use Rattle.picture_changes.specs.PlannedChange.{chosen_start, planned_from, planned_change}
+use Rattle.pack_schedule.specs.Schedule.{start_of}
+use Rattle.pack_schedule.specs.PlannedChange.{chosen_start, planned_from, planned_change}
 use Rattle.pack_schedule.specs.Survey.{nothing_planned, IsSurvey}
 use Rattle.pack_schedule.specs.Woven.{IsPackAt}
 use Rattle.picture_script.specs.Board.{StandsBefore}
 use Rattle.pack_schedule.specs.Weaving.{IsWeaving}
 use Rattle.pack_schedule.specs.declared.weaver.at_hand.ChangeAtHand.{ChangeAtHand}
 use Rattle.pack_schedule.specs.declared.surveys.told.PlannedChange.{PlannedChange}
-use Rattle.picture_changes.proofs.Times.{hold_order}
+use Rattle.pack_schedule.proofs.TimeOrder.{hold_order}
 
 -- what a survey says of a picture
 abbrev pub ChosenIsStart : Type 0

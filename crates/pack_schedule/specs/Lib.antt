@@ -1,3 +1,9 @@
+pub mod Change
+pub mod PlannedChange
+pub mod Schedule
+pub mod Shown
+pub mod Brings
+pub mod Meanings
 pub mod Survey
 pub mod Woven
 pub mod Weaving

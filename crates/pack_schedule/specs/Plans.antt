@@ -1,8 +1,8 @@
 -- A row for each picture of a script, in time or not. Each speaks of its picture alone, so a late one changes no other.
 use Rattle.std.specs.Prelude.{◌≡◌, ℕ, ◌<◌, true, false, List, length, slice_index_or}
 use Rattle.picture_script.specs.Script.{Drawing, pictures, ready_time, hold_time}
-use Rattle.picture_changes.specs.Brings.{IsNeed}
-use Rattle.picture_changes.specs.Schedule.{start_of, free_packs, IsInTime}
+use Rattle.pack_schedule.specs.Brings.{IsNeed}
+use Rattle.pack_schedule.specs.Schedule.{start_of, free_packs, IsInTime}
 use Rattle.pack_schedule.specs.declared.planner.PlanRow.{PlanRow}
 
 abbrev pub no_row : PlanRow

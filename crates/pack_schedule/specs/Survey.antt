@@ -1,8 +1,8 @@
 -- When the change of each picture is sent, what it begins with, and how long it is.
 use Rattle.std.specs.Prelude.{◌≡◌, ℕ, ◌-◌, ◌<◌, ◌≤◌, ⊤, List, length, slice_index_or, None}
 use Rattle.picture_script.specs.Script.{Drawing, pictures, hold_time}
-use Rattle.picture_changes.specs.Schedule.{start_of, IsInTime, IsLate}
-use Rattle.picture_changes.specs.PlannedChange.{chosen_start, planned_change}
+use Rattle.pack_schedule.specs.Schedule.{start_of, IsInTime, IsLate}
+use Rattle.pack_schedule.specs.PlannedChange.{chosen_start, planned_change}
 use Rattle.pack_schedule.specs.declared.surveys.told.PlannedChange.{PlannedChange}
 use Rattle.pack_schedule.specs.declared.stops.Stop.{Stop}
 use Rattle.pack_schedule.specs.declared.stops.Stop.TheVariants.{PastEnd, Late, NoMemory}

@@ -2,8 +2,8 @@
 use Rattle.std.specs.Prelude.{◌≡◌, ℕ, ◌+◌, ◌-◌, ◌<◌, ◌≤◌, length, Some, None, List}
 use Rattle.picture_script.specs.Script.{Drawing, pictures}
 use Rattle.picture_script.specs.Board.{Board, IsBlank, IsPicture, StandsBefore}
-use Rattle.picture_changes.specs.Schedule.{start_of}
-use Rattle.picture_changes.specs.PlannedChange.{planned_change}
+use Rattle.pack_schedule.specs.Schedule.{start_of}
+use Rattle.pack_schedule.specs.PlannedChange.{planned_change}
 use Rattle.pack_schedule.specs.Survey.{IsSurvey}
 use Rattle.pack_schedule.specs.declared.weaver.at_hand.ChangeAtHand.{ChangeAtHand}
 

@@ -4,8 +4,8 @@ use Rattle.cdg_instructions.specs.Instruction.{IsWritten}
 use Rattle.cdg_instructions.specs.declared.instr.Instr.TheVariants.{Idle}
 use Rattle.picture_script.specs.Script.{Drawing, pictures}
 use Rattle.rw_code.specs.Packs.{idle_pack}
-use Rattle.picture_changes.specs.Schedule.{start_of}
-use Rattle.picture_changes.specs.PlannedChange.{planned_change}
+use Rattle.pack_schedule.specs.Schedule.{start_of}
+use Rattle.pack_schedule.specs.PlannedChange.{planned_change}
 
 -- a script, and how many of its packs were given
 pub record Woven : Type 0 where

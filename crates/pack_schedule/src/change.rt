@@ -2,8 +2,8 @@
 // tiles. It is counted before it is written.
 ghost use Rattle.std.specs.Prelude.{◌≡◌, ◌<◌, ◌≤◌, ◌-◌, [], length};
 ghost use Rattle.picture_script.specs.Board.{IsPicture};
-ghost use Rattle.picture_changes.specs.Change.{preset_of, IsStart};
-ghost use Rattle.picture_changes.specs.PlannedChange.{planned_from};
+ghost use Rattle.pack_schedule.specs.Change.{preset_of, IsStart};
+ghost use Rattle.pack_schedule.specs.PlannedChange.{planned_from};
 
 mod list;
 mod same_tiles;

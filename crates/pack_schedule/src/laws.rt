@@ -3,15 +3,15 @@ ghost use Rattle.std.specs.Prelude.{◌≡◌, ◌<◌, ◌≤◌, ℕ, false, L
 ghost use Rattle.rw_interleave.specs.Interleave.{whole_packs};
 ghost use Rattle.cdg_instructions.specs.Sizes.{colour_count};
 ghost use Rattle.picture_script.specs.Script.{Drawing, pictures, ready_time, hold_time, picture_pixel};
-ghost use Rattle.picture_changes.specs.Schedule.{CanBeReady, IsLate, IsOrderedSchedule, IsSchedule};
-ghost use Rattle.picture_changes.specs.Shown.{AreColoursInRange};
+ghost use Rattle.pack_schedule.specs.Schedule.{CanBeReady, IsLate, IsOrderedSchedule, IsSchedule};
+ghost use Rattle.pack_schedule.specs.Shown.{AreColoursInRange};
 ghost use Rattle.pack_schedule.specs.Survey.{IsSurvey, IsWithin};
 ghost use Rattle.pack_schedule.specs.Woven.{ArePacks};
 ghost use Rattle.pack_schedule.specs.Plans.{ArePlanRows, IsFirstLate, no_row};
 ghost use Rattle.pack_schedule.specs.declared.surveys.told.PlannedChange.{PlannedChange};
 ghost use Rattle.pack_schedule.specs.declared.planner.PlanRow.{PlanRow};
 
-use picture_changes::{needs_are_fewest, planned_changes_are_changes};
+use crate::{needs_are_fewest, planned_changes_are_changes};
 
 /// A law: the packs that a weaver gives, as many as are whole in a program of so many blocks, are a schedule, and one
 /// of changes in their fixed order.

@@ -2,15 +2,25 @@
 #![tactic(auto)]
 
 mod change;
+mod change_laws;
 mod laws;
+mod length_laws;
 mod planner;
+mod screen_laws;
 mod stops;
 mod surveys;
 mod times;
 mod weaver;
 
+pub use change_laws::{
+    changes_can_be_written, changes_have_planned_lengths, planned_changes_are_changes,
+};
 pub use laws::{packs_are_a_schedule, plans_tell_what_a_survey_tells};
+pub use length_laws::{
+    needs_are_fewest, ordered_changes_are_shortest, schedules_of_ordered_changes_are_schedules,
+};
 pub use planner::{PlanRow, Planner};
+pub use screen_laws::scheduled_pictures_are_shown;
 pub use stops::Stop;
 pub use surveys::{PlannedChange, Survey, is_past_end, survey};
 pub use weaver::Weaver;

@@ -2,7 +2,7 @@
 ghost use Rattle.std.specs.Prelude.{◌≡◌, ◌<◌, ◌≤◌, ◌-◌};
 ghost use Rattle.picture_script.specs.Script.{pictures};
 ghost use Rattle.picture_script.specs.Board.{IsPicture};
-ghost use Rattle.picture_changes.specs.Change.{most_change};
+ghost use Rattle.pack_schedule.specs.Change.{most_change};
 ghost use Rattle.pack_schedule.specs.Plans.{IsPlanRow};
 ghost use Rattle.pack_schedule.specs.Weights.{AreWeights};
 
@@ -10,7 +10,7 @@ use crate::change::{NOT_WEIGHED, Weighed};
 use crate::surveys::plan_picture;
 use crate::times::{free_packs, is_in_time};
 use cdg_instructions::WINDOW_TILES;
-use picture_changes::needs_are_fewest;
+use crate::needs_are_fewest;
 use picture_script::{Canvas, Script};
 use std::alloc::{AllocError, Global};
 use std::marker::Model;

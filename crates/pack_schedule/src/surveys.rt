@@ -4,10 +4,10 @@ ghost use Rattle.disc_time.specs.Counts.{time_count};
 ghost use Rattle.raw_subcode.specs.Sizes.{slots_a_block};
 ghost use Rattle.picture_script.specs.Script.{pictures};
 ghost use Rattle.picture_script.specs.Board.{IsPicture};
-ghost use Rattle.picture_changes.specs.Schedule.{start_of, free_packs, IsInTime};
-ghost use Rattle.picture_changes.specs.Change.{most_change};
-ghost use Rattle.picture_changes.specs.PlannedChange.{chosen_start, planned_change};
-ghost use Rattle.picture_changes.specs.Brings.{CannotBeReady, IsNeed};
+ghost use Rattle.pack_schedule.specs.Schedule.{start_of, free_packs, IsInTime};
+ghost use Rattle.pack_schedule.specs.Change.{most_change};
+ghost use Rattle.pack_schedule.specs.PlannedChange.{chosen_start, planned_change};
+ghost use Rattle.pack_schedule.specs.Brings.{CannotBeReady, IsNeed};
 ghost use Rattle.pack_schedule.specs.Survey.{nothing_planned, IsPlanned, IsSurvey, IsWithin, IsPastEnd, IsStop};
 ghost use Rattle.pack_schedule.specs.Weaving.{Stands};
 ghost use Rattle.pack_schedule.specs.Weights.{AreWeights};
@@ -17,10 +17,8 @@ mod told;
 use crate::change::{NOT_WEIGHED, Weighed, choose_start};
 use crate::stops::Stop;
 use crate::times::{free_packs, is_in_time, start_of};
+use crate::{changes_have_planned_lengths, needs_are_fewest, planned_changes_are_changes};
 use cdg_instructions::WINDOW_TILES;
-use picture_changes::{
-    changes_have_planned_lengths, needs_are_fewest, planned_changes_are_changes,
-};
 use picture_script::{Canvas, Script};
 use std::alloc::Global;
 pub use told::{PlannedChange, Survey};

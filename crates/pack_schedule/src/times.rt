@@ -5,8 +5,8 @@ ghost use Rattle.disc_time.specs.Counts.{time_count};
 ghost use Rattle.raw_subcode.specs.Sizes.{slots_a_block};
 ghost use Rattle.rw_interleave.specs.Interleave.{packs_kept_back};
 ghost use Rattle.picture_script.specs.Script.{pictures, ready_time};
-ghost use Rattle.picture_changes.specs.Change.{most_change};
-ghost use Rattle.picture_changes.specs.Schedule.{start_of, free_packs};
+ghost use Rattle.pack_schedule.specs.Change.{most_change};
+ghost use Rattle.pack_schedule.specs.Schedule.{start_of, free_packs};
 
 use picture_script::Script;
 use raw_subcode::SLOTS_A_BLOCK;

@@ -13,9 +13,9 @@ use Rattle.cdg_instructions.specs.declared.instr.Instr.{Instr}
 use Rattle.cdg_screen.specs.Standing.{blank, standing_after}
 use Rattle.cdg_screen.specs.Texts.{pixmap}
 use Rattle.picture_script.specs.Script.{Drawing, pictures, ready_time, hold_time}
-use Rattle.picture_changes.specs.Schedule.{IsSchedule}
-use Rattle.picture_changes.specs.Shown.{ShowsPicture, AreTimesInOrder}
-use Rattle.picture_changes.specs.Meanings.{AreMeantBy}
+use Rattle.pack_schedule.specs.Schedule.{IsSchedule}
+use Rattle.pack_schedule.specs.Shown.{ShowsPicture, AreTimesInOrder}
+use Rattle.pack_schedule.specs.Meanings.{AreMeantBy}
 use Rattle.stream_stages.specs.Screen.{AreMeant, IsScreenAt, IsShownBy, Shows, moment}
 use Rattle.round_trips.specs.Pictured.{IsScheduledStream, IsHeldAt, IsPictureText, GivesPicture}
 use Rattle.raw_subcode.specs.declared.form.Form.{Form}

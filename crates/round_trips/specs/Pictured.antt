@@ -4,8 +4,8 @@ use Rattle.std.specs.Io.KnownBytes.{Appends}
 use Rattle.cdg_screen.specs.Standing.{Standing}
 use Rattle.cdg_screen.specs.Texts.{pixmap}
 use Rattle.picture_script.specs.Script.{Drawing, pictures, ready_time, hold_time}
-use Rattle.picture_changes.specs.Schedule.{IsSchedule}
-use Rattle.picture_changes.specs.Shown.{ShowsPicture, AreTimesInOrder}
+use Rattle.pack_schedule.specs.Schedule.{IsSchedule}
+use Rattle.pack_schedule.specs.Shown.{ShowsPicture, AreTimesInOrder}
 use Rattle.stream_stages.specs.Convert.{IsDamagedStream}
 use Rattle.raw_subcode.specs.declared.form.Form.{Form}
 use Rattle.stream_stages.specs.declared.played.Played.{Played}

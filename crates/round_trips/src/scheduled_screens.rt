@@ -10,7 +10,7 @@ ghost use Rattle.stream_stages.specs.declared.played.Played.{Played};
 ghost use Rattle.stream_stages.specs.declared.played.PlayStop.{PlayStop};
 ghost use Rattle.round_trips.specs.Pictured.{GivesPicture, IsHeldAt, IsPictureText, IsScheduledStream};
 
-use picture_changes::scheduled_pictures_are_shown;
+use pack_schedule::scheduled_pictures_are_shown;
 use rw_interleave::{found_packs_are_the_text, packs_are_recovered};
 
 /// A law: the screen of a stream that damage keeps within two symbols a word is, from the ready time of a picture to

@@ -21,7 +21,7 @@ ghost use Rattle.cdg_cmd.specs.declared.command.Command.TheVariants.{Convert, Sc
 ghost use Rattle.cdg_cmd.specs.declared.status.Status.{Status};
 ghost use Rattle.run_laws.specs.Ran.{IsRun};
 ghost use Rattle.run_laws.specs.Undamaged.{IsCleanStream, form_words};
-ghost use Rattle.picture_changes.specs.Shown.{AreTimesInOrder};
+ghost use Rattle.pack_schedule.specs.Shown.{AreTimesInOrder};
 ghost use Rattle.rw_merge.specs.Readings.{IsDamagedTwice};
 ghost use Rattle.checkpoint_files.specs.Checkpoint.{checkpoint_in, file_of};
 ghost use Rattle.cdg_checkpoint.specs.Cut.{IsFirstPart};

@@ -10,7 +10,7 @@ use Rattle.rw_interleave.specs.Gathering.{gather_next, gather_gives}
 use Rattle.rw_interleave.specs.Interleave.{whole_packs}
 use Rattle.rw_interleave.specs.Windows.{slots_in}
 use Rattle.picture_script.specs.Script.{Drawing, pictures, ready_time}
-use Rattle.picture_changes.specs.Shown.{ShowsPicture, AreTimesInOrder, AreColoursInRange}
+use Rattle.pack_schedule.specs.Shown.{ShowsPicture, AreTimesInOrder, AreColoursInRange}
 use Rattle.cdg_workload.specs.Generated.{generated_drawings}
 use Rattle.cdg_workload.specs.Scratches.{scratched}
 use Rattle.cdg_workload.specs.Steps.{block_next, block_gives, scratches_after}

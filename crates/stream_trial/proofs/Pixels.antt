@@ -6,7 +6,7 @@ use Rattle.std.proofs.lemmas.List.FromFn.{get_or-range_with_len}
 use Rattle.bit_lists.specs.Counting.{below}
 use Rattle.picture_script.specs.Script.{Drawing, Colour, Border, Fill, Rect, Row, Show, Picture, lines_before, blank_picture, drawn, drawn_by, picture_border, picture_colour, picture_pixel}
 use Rattle.picture_script.proofs.Scripts.{before_prefix}
-use Rattle.picture_changes.specs.Shown.{AreColoursInRange}
+use Rattle.pack_schedule.specs.Shown.{AreColoursInRange}
 use Rattle.cdg_workload.specs.Generator.{generator_word}
 use Rattle.cdg_workload.specs.Generated.{grey, rect, picture, generated_drawings}
 

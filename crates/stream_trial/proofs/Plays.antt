@@ -17,9 +17,9 @@ use Rattle.cdg_instructions.specs.declared.instr.Instr.{Instr}
 use Rattle.cdg_screen.proofs.Turns.{blank_is_whole}
 use Rattle.cdg_screen.specs.Standing.{Standing, blank, standing_after}
 use Rattle.picture_script.specs.Script.{Drawing, pictures, ready_time, hold_time}
-use Rattle.picture_changes.specs.Schedule.{IsSchedule}
-use Rattle.picture_changes.specs.Shown.{ShowsPicture, AreTimesInOrder, AreColoursInRange}
-use Rattle.picture_changes.specs.Meanings.{AreMeantBy}
+use Rattle.pack_schedule.specs.Schedule.{IsSchedule}
+use Rattle.pack_schedule.specs.Shown.{ShowsPicture, AreTimesInOrder, AreColoursInRange}
+use Rattle.pack_schedule.specs.Meanings.{AreMeantBy}
 use Rattle.stream_trial.specs.Differing.{differing}
 use Rattle.stream_trial.specs.Course.{AreTaken, AreCompared, AreTakenAndCompared, HasTaken, HasShown, words_with_stream_block}
 use Rattle.stream_trial.specs.Replay.{one_where, TakesWord, IsBelow, IsDamagedSchedule, IsPlayedOut}

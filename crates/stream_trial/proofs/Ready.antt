@@ -3,9 +3,9 @@ use Rattle.std.proofs.Common.{◌≡◌, ℕ, zero, suc, ◌+◌, ◌-◌, ◌*�
 use Rattle.cue_sheet.specs.CueSheet.{CueSheet}
 use Rattle.toc_model.specs.Places.{program_blocks}
 use Rattle.picture_script.specs.Script.{Drawing, pictures, ready_time, hold_time, picture_pixel}
-use Rattle.picture_changes.specs.Schedule.{IsInTime, free_packs, IsLate}
-use Rattle.picture_changes.specs.Shown.{AreColoursInRange}
-use Rattle.picture_changes.specs.PlannedChange.{planned_change}
+use Rattle.pack_schedule.specs.Schedule.{IsInTime, free_packs, IsLate}
+use Rattle.pack_schedule.specs.Shown.{AreColoursInRange}
+use Rattle.pack_schedule.specs.PlannedChange.{planned_change}
 use Rattle.pack_schedule.specs.Survey.{IsPastEnd, IsStop}
 use Rattle.pack_schedule.specs.declared.stops.Stop.{Stop}
 use Rattle.pack_schedule.specs.declared.stops.Stop.TheVariants.{PastEnd as past_end, Late as late, NoMemory as no_memory}

@@ -12,7 +12,7 @@ use Rattle.cue_sheet.specs.Grammar.{read_cue}
 use Rattle.toc_model.specs.Places.{program_blocks}
 use Rattle.picture_script.specs.Script.{Drawing, pictures}
 use Rattle.picture_script.specs.ScriptGrammar.{read_script}
-use Rattle.picture_changes.specs.Schedule.{IsSchedule}
+use Rattle.pack_schedule.specs.Schedule.{IsSchedule}
 use Rattle.cdg_workload.specs.Script.{generated_script}
 use Rattle.cdg_workload.specs.Scratches.{scratched}
 use Rattle.cdg_workload.specs.Generated.{generated_drawings}

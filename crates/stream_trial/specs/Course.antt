@@ -11,7 +11,7 @@ use Rattle.cdg_instructions.specs.declared.instr.Instr.{Instr}
 use Rattle.cdg_screen.specs.Standing.{blank, standing_after}
 use Rattle.picture_script.specs.Script.{Drawing, pictures, ready_time}
 use Rattle.picture_script.specs.Board.{StandsBefore}
-use Rattle.picture_changes.specs.Meanings.{AreMeantBy}
+use Rattle.pack_schedule.specs.Meanings.{AreMeantBy}
 use Rattle.cdg_workload.specs.Generated.{generated_drawings}
 use Rattle.cdg_workload.specs.Scratches.{scratched}
 use Rattle.cdg_workload.specs.Steps.{scratches_after}

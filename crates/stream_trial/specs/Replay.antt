@@ -10,7 +10,7 @@ use Rattle.cdg_instructions.specs.declared.instr.Instr.{Instr}
 use Rattle.cdg_screen.specs.Standing.{Standing, standing_after, screen_pixel}
 use Rattle.picture_script.specs.Script.{Drawing, pictures}
 use Rattle.picture_script.specs.Board.{Board, pixel_of}
-use Rattle.picture_changes.specs.Schedule.{IsSchedule}
+use Rattle.pack_schedule.specs.Schedule.{IsSchedule}
 use Rattle.stream_trial.specs.Differing.{differing}
 use Rattle.stream_trial.specs.declared.replay.Replay.{Replay}
 use Rattle.stream_trial.specs.declared.found.Found.{Found}

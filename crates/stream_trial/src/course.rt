@@ -7,7 +7,7 @@ ghost use Rattle.stream_trial.specs.Course.{stream_block, HasGoneOver, IsSteady}
 use crate::gallery::Gallery;
 use crate::replay::Replay;
 use cdg_workload::{Scratches, scratches_are_bursts, scratches_go_block_by_block};
-use picture_changes::scheduled_pictures_are_shown;
+use pack_schedule::scheduled_pictures_are_shown;
 use picture_script::Script;
 use raw_subcode::{BLOCK_BYTES, SLOTS_A_BLOCK};
 use rw_interleave::{Gather, gather_gives_words};

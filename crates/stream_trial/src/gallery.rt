@@ -2,7 +2,7 @@
 ghost use Rattle.std.specs.Prelude.{◌≡◌, ◌≢◌, ◌<◌, ◌≤◌, ◌+◌, ◌*◌, List, IfOk};
 ghost use Rattle.picture_script.specs.Script.{Drawing, pictures, ready_time};
 ghost use Rattle.picture_script.specs.Board.{StandsBefore};
-ghost use Rattle.picture_changes.specs.Shown.{ShowsPicture};
+ghost use Rattle.pack_schedule.specs.Shown.{ShowsPicture};
 
 use crate::comparing::agrees;
 use cdg_screen::Screen;

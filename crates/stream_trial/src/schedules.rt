@@ -3,7 +3,7 @@ ghost use Rattle.std.specs.Prelude.{◌≡◌, ◌<◌, ◌≤◌, ◌+◌, ◌*
 ghost use Rattle.cue_sheet.specs.CueSheet.{CueSheet};
 ghost use Rattle.toc_model.specs.Places.{program_blocks};
 ghost use Rattle.picture_script.specs.Script.{picture_pixel};
-ghost use Rattle.picture_changes.specs.Schedule.{free_packs};
+ghost use Rattle.pack_schedule.specs.Schedule.{free_packs};
 ghost use Rattle.pack_schedule.specs.Survey.{IsPastEnd, IsStop};
 ghost use Rattle.pack_schedule.specs.declared.stops.Stop.{Stop};
 ghost use Rattle.subcode_author.specs.AuthorAnswer.{AreReady, HasLayout, HasRoom, IsAccepted, IsAuthorStop};
@@ -11,8 +11,7 @@ ghost use Rattle.subcode_author.specs.declared.stops.AuthorStop.{AuthorStop};
 ghost use Rattle.cdg_workload.specs.Generated.{generated_drawings};
 
 use cdg_workload::generated_scripts_have_times;
-use pack_schedule::Stop;
-use picture_changes::{needs_are_fewest, planned_changes_are_changes};
+use pack_schedule::{Stop, needs_are_fewest, planned_changes_are_changes};
 use subcode_author::AuthorStop;
 
 /// A law: each picture of a generated script is ready in time, since at least 3,120 packs are free for it, so a

@@ -14,7 +14,7 @@ use Rattle.picture_script.proofs.Refusals.{reading_ends}
 use Rattle.text_lines.proofs.ReadOn.{read_on-taken, read_on-refused}
 use Rattle.picture_script.specs.declared.reasons.ScriptWhy.{ScriptWhy}
 use Rattle.picture_script.specs.declared.reasons.ScriptWhy.TheVariants.{UnknownCommand, OutOfRange, TimeOrder, TooMany}
-use Rattle.picture_changes.specs.Shown.{AreTimesInOrder, AreColoursInRange}
+use Rattle.pack_schedule.specs.Shown.{AreTimesInOrder, AreColoursInRange}
 use Rattle.subcode_author.proofs.Ranges.{InColours, AllInColours, in_colours-append, pixels_in_range, colours_in_range}
 use Rattle.subcode_author.proofs.Times.{InOrder, none_in_order, one_more, shows_more, times_in_order}
 

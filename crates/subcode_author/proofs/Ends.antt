@@ -3,12 +3,12 @@ use Rattle.std.proofs.Common.{◌≡◌, ℕ, ◌+◌, ◌-◌, ◌*◌, ◌<◌
 use Rattle.std.proofs.lemmas.Bool.{cases_lt}
 use Rattle.rw_interleave.specs.Interleave.{whole_packs}
 use Rattle.picture_script.specs.Script.{Drawing, pictures, ready_time, hold_time}
-use Rattle.picture_changes.specs.Schedule.{start_of}
-use Rattle.picture_changes.specs.PlannedChange.{planned_change}
+use Rattle.pack_schedule.specs.Schedule.{start_of}
+use Rattle.pack_schedule.specs.PlannedChange.{planned_change}
 use Rattle.pack_schedule.specs.Survey.{IsPastEnd, IsWithin}
 use Rattle.pack_schedule.specs.Woven.{IsPackAt}
-use Rattle.picture_changes.proofs.Times.{hold_order}
-use Rattle.picture_changes.specs.Shown.{AreTimesInOrder}
+use Rattle.pack_schedule.proofs.TimeOrder.{hold_order}
+use Rattle.pack_schedule.specs.Shown.{AreTimesInOrder}
 use Rattle.subcode_author.proofs.Prompt.{ArePrompt}
 
 module _ (script : List Drawing) (blocks : ℕ) (order : AreTimesInOrder script) (ready : ArePrompt script)

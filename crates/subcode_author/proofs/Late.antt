@@ -2,12 +2,12 @@
 use Rattle.std.proofs.Common.{◌≡◌, ℕ, zero, suc, ◌+◌, ◌*◌, ◌<◌, ◌⊎◌, List, length, refl, inl, inr, subst, arith}
 use Rattle.std.proofs.lemmas.Bool.{cases_lt}
 use Rattle.picture_script.specs.Script.{Drawing, pictures, ready_time, picture_pixel}
-use Rattle.picture_changes.specs.Brings.{IsChange, IsNeed}
-use Rattle.picture_changes.specs.Shown.{AreColoursInRange}
+use Rattle.pack_schedule.specs.Brings.{IsChange, IsNeed}
+use Rattle.pack_schedule.specs.Shown.{AreColoursInRange}
 use Rattle.subcode_author.specs.AuthorAnswer.{AreReady}
-use Rattle.picture_changes.specs.Schedule.{start_of, IsInTime, CanBeReady, free_packs, IsLate}
-use Rattle.picture_changes.specs.PlannedChange.{planned_change}
-use Rattle.picture_changes.proofs.Shortest.{one_need}
+use Rattle.pack_schedule.specs.Schedule.{start_of, IsInTime, CanBeReady, free_packs, IsLate}
+use Rattle.pack_schedule.specs.PlannedChange.{planned_change}
+use Rattle.pack_schedule.proofs.Shortest.{one_need}
 
 -- picture k is in time with its planned change
 abbrev pub IsPrompt : List Drawing → ℕ → Type 0

@@ -8,8 +8,8 @@ use Rattle.cdg_instructions.specs.Instruction.{IsWritten, written_symbols}
 use Rattle.cdg_instructions.specs.declared.instr.Instr.{Instr}
 use Rattle.cdg_instructions.proofs.Symbols.{message_of-has}
 use Rattle.picture_script.specs.Script.{Drawing, pictures}
-use Rattle.picture_changes.specs.Schedule.{start_of}
-use Rattle.picture_changes.specs.PlannedChange.{planned_change}
+use Rattle.pack_schedule.specs.Schedule.{start_of}
+use Rattle.pack_schedule.specs.PlannedChange.{planned_change}
 use Rattle.pack_schedule.specs.Woven.{IsPackAt, ArePacks}
 
 has_symbols : (instr : Instr) (word : List ℕ) → IsWritten instr word

@@ -2,9 +2,9 @@
 use Rattle.cue_sheet.specs.CueSheet.{CueSheet}
 use Rattle.std.proofs.Common.{◌≡◌, ℕ, ◌<◌, List, subst}
 use Rattle.picture_script.specs.Script.{Drawing, picture_pixel}
-use Rattle.picture_changes.specs.Schedule.{IsLate}
-use Rattle.picture_changes.specs.Shown.{AreColoursInRange, AreTimesInOrder}
-use Rattle.picture_changes.specs.Brings.{CannotBeReady}
+use Rattle.pack_schedule.specs.Schedule.{IsLate}
+use Rattle.pack_schedule.specs.Shown.{AreColoursInRange, AreTimesInOrder}
+use Rattle.pack_schedule.specs.Brings.{CannotBeReady}
 use Rattle.subcode_author.specs.AuthorAnswer.{HoldsPictures, HasRoom, IsPictureStop, IsAuthorStop}
 use Rattle.subcode_author.specs.declared.stops.AuthorStop.{AuthorStop}
 use Rattle.subcode_author.specs.declared.stops.AuthorStop.TheVariants.{Late, NoMemory}

@@ -1,11 +1,11 @@
 -- Where each picture is ready, its planned change is in time.
 use Rattle.std.proofs.Common.{ℕ, ◌<◌, List, length, refl, subst}
 use Rattle.picture_script.specs.Script.{Drawing, pictures, picture_pixel}
-use Rattle.picture_changes.specs.Brings.{IsChange, IsNeed}
-use Rattle.picture_changes.specs.PlannedChange.{planned_change}
-use Rattle.picture_changes.specs.Schedule.{IsInTime}
-use Rattle.picture_changes.specs.Shown.{AreColoursInRange}
-use Rattle.picture_changes.proofs.Shortest.{one_need}
+use Rattle.pack_schedule.specs.Brings.{IsChange, IsNeed}
+use Rattle.pack_schedule.specs.PlannedChange.{planned_change}
+use Rattle.pack_schedule.specs.Schedule.{IsInTime}
+use Rattle.pack_schedule.specs.Shown.{AreColoursInRange}
+use Rattle.pack_schedule.proofs.Shortest.{one_need}
 use Rattle.subcode_author.specs.AuthorAnswer.{AreReady}
 
 -- the planned change of each picture is in time

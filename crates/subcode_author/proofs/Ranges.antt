@@ -3,7 +3,7 @@ use Rattle.std.proofs.Common.{ℕ, zero, suc, ◌-◌, ◌<◌, Bool, true, fals
 use Rattle.std.specs.Prelude.{fold, ◌==◌, if◌then◌else◌}
 use Rattle.std.specs.List.{AllByRecursion}
 use Rattle.picture_script.specs.Script.{Drawing, Colour, Border, Fill, Rect, Row, Show, Picture, lines_before, blank_picture, drawn, drawn_by, picture_pixel, picture_border, picture_colour}
-use Rattle.picture_changes.specs.Shown.{AreColoursInRange}
+use Rattle.pack_schedule.specs.Shown.{AreColoursInRange}
 
 -- the colours of a line are in their ranges
 abbrev pub InColours : Drawing → Type 0

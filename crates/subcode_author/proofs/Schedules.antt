@@ -6,9 +6,9 @@ use Rattle.rw_interleave.specs.Interleave.{whole_packs}
 use Rattle.cue_sheet.specs.CueSheet.{CueSheet}
 use Rattle.toc_model.specs.Places.{DiscLayout, layout_of, program_blocks}
 use Rattle.picture_script.specs.Script.{Drawing, pictures, ready_time, hold_time, picture_pixel}
-use Rattle.picture_changes.specs.Schedule.{start_of, IsInTime, IsSchedule}
-use Rattle.picture_changes.specs.PlannedChange.{planned_change}
-use Rattle.picture_changes.specs.Shown.{AreColoursInRange}
+use Rattle.pack_schedule.specs.Schedule.{start_of, IsInTime, IsSchedule}
+use Rattle.pack_schedule.specs.PlannedChange.{planned_change}
+use Rattle.pack_schedule.specs.Shown.{AreColoursInRange}
 use Rattle.pack_schedule.specs.Survey.{IsSurvey, IsWithin}
 use Rattle.pack_schedule.specs.Woven.{Woven, IsPackAt, ArePacks}
 use Rattle.pack_schedule.specs.declared.surveys.told.PlannedChange.{PlannedChange}

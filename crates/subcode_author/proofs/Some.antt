@@ -4,9 +4,9 @@ use Rattle.std.proofs.lemmas.Bool.{cases_lt}
 use Rattle.cue_sheet.specs.CueSheet.{CueSheet}
 use Rattle.toc_model.specs.Places.{audio_need, program_blocks}
 use Rattle.picture_script.specs.Script.{Drawing, pictures, hold_time, picture_pixel}
-use Rattle.picture_changes.specs.Schedule.{free_packs}
-use Rattle.picture_changes.specs.PlannedChange.{planned_change}
-use Rattle.picture_changes.specs.Shown.{AreColoursInRange}
+use Rattle.pack_schedule.specs.Schedule.{free_packs}
+use Rattle.pack_schedule.specs.PlannedChange.{planned_change}
+use Rattle.pack_schedule.specs.Shown.{AreColoursInRange}
 use Rattle.subcode_author.specs.Authored.{text_packs, lead_in_need}
 use Rattle.subcode_author.specs.AuthorAnswer.{HasLayout, HoldsPictures, HasRoom, IsAccepted, IsAuthorStop}
 use Rattle.subcode_author.specs.declared.stops.AuthorStop.{AuthorStop}

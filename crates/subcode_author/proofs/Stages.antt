@@ -5,8 +5,8 @@ use Rattle.cue_sheet.specs.CueSheet.{CueSheet}
 use Rattle.toc_model.specs.Places.{audio_need, program_blocks}
 use Rattle.picture_script.specs.Script.{Drawing}
 use Rattle.pack_schedule.specs.Survey.{IsPastEnd}
-use Rattle.picture_changes.specs.Schedule.{IsLate, free_packs}
-use Rattle.picture_changes.specs.Brings.{IsNeed}
+use Rattle.pack_schedule.specs.Schedule.{IsLate, free_packs}
+use Rattle.pack_schedule.specs.Brings.{IsNeed}
 use Rattle.subcode_author.specs.Authored.{text_packs, lead_in_need}
 use Rattle.subcode_author.specs.AuthorAnswer.{HoldsPictures, HasRoom, AreReady, IsAccepted, IsAuthorStop}
 use Rattle.subcode_author.specs.declared.stops.AuthorStop.{AuthorStop}

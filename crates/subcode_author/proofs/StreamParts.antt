@@ -6,7 +6,7 @@ use Rattle.cue_sheet.specs.CueSheet.{CueSheet}
 use Rattle.toc_model.specs.Places.{layout_of, program_blocks}
 use Rattle.picture_script.specs.Script.{Drawing}
 use Rattle.pack_schedule.specs.Woven.{IsPackAt}
-use Rattle.picture_changes.specs.Shown.{AreTimesInOrder}
+use Rattle.pack_schedule.specs.Shown.{AreTimesInOrder}
 use Rattle.subcode_author.specs.Given.{PutsScriptPart}
 use Rattle.subcode_author.specs.Authored.{text_packs, IsWrittenStream, disc_of}
 use Rattle.subcode_author.specs.AuthorAnswer.{HoldsPictures}

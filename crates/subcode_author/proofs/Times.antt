@@ -5,7 +5,7 @@ use Rattle.std.proofs.lemmas.Bool.{cases_lt}
 use Rattle.std.proofs.lemmas.List.{length-append, get_or_append_left, get_or-append-add}
 use Rattle.std.proofs.lemmas.List.Elements.{filter_map-append}
 use Rattle.picture_script.specs.Script.{Drawing, shows, shown_times}
-use Rattle.picture_changes.specs.Shown.{AreTimesInOrder}
+use Rattle.pack_schedule.specs.Shown.{AreTimesInOrder}
 
 abbrev time_at : List (ℕ × ℕ) → ℕ → ℕ × ℕ
 time_at times k = get_or {A = ℕ × ℕ} times k (0, 0)

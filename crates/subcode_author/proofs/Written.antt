@@ -11,14 +11,14 @@ use Rattle.cdg_instructions.specs.Instruction.{InRange, IsKnown, IsWritten}
 use Rattle.cdg_instructions.specs.declared.instr.Instr.{Instr}
 use Rattle.cdg_instructions.specs.declared.instr.Instr.TheVariants.{Idle}
 use Rattle.picture_script.specs.Script.{Drawing, pictures, ready_time, hold_time, picture_pixel}
-use Rattle.picture_changes.specs.Schedule.{start_of}
-use Rattle.picture_changes.specs.Change.{IsChangeFrom}
-use Rattle.picture_changes.specs.PlannedChange.{chosen_start, planned_change}
+use Rattle.pack_schedule.specs.Schedule.{start_of}
+use Rattle.pack_schedule.specs.Change.{IsChangeFrom}
+use Rattle.pack_schedule.specs.PlannedChange.{chosen_start, planned_change}
 use Rattle.pack_schedule.specs.Survey.{nothing_planned, IsPlanned, IsSurvey}
 use Rattle.pack_schedule.specs.Woven.{IsPackAt, ArePacks}
 use Rattle.pack_schedule.specs.declared.surveys.told.PlannedChange.{PlannedChange}
-use Rattle.picture_changes.proofs.Times.{hold_order}
-use Rattle.picture_changes.specs.Shown.{AreTimesInOrder, AreColoursInRange}
+use Rattle.pack_schedule.proofs.TimeOrder.{hold_order}
+use Rattle.pack_schedule.specs.Shown.{AreTimesInOrder, AreColoursInRange}
 use Rattle.subcode_author.proofs.Prompt.{ArePrompt}
 use Rattle.subcode_author.proofs.Packs.{in_change}
 use Rattle.subcode_author.proofs.Messages.{has_word}

@@ -4,7 +4,7 @@ use Rattle.disc_time.specs.Counts.{most_program}
 use Rattle.cue_sheet.specs.CueSheet.{CueSheet}
 use Rattle.toc_model.specs.Places.{audio_need, program_blocks}
 use Rattle.picture_script.specs.Script.{Drawing, pictures}
-use Rattle.picture_changes.specs.Schedule.{CanBeReady, IsLate}
+use Rattle.pack_schedule.specs.Schedule.{CanBeReady, IsLate}
 use Rattle.pack_schedule.specs.Survey.{IsPastEnd}
 pub use Rattle.stream_writer.specs.Needs.{HasLayout, HasRoom, IsLeadInShort, IsTextTooLong}
 use Rattle.subcode_author.specs.declared.stops.AuthorStop.{AuthorStop}

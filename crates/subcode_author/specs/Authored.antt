@@ -6,7 +6,7 @@ use Rattle.rw_interleave.specs.Interleave.{Carries}
 use Rattle.cue_sheet.specs.CueSheet.{CueSheet}
 use Rattle.toc_model.specs.Places.{layout_of, program_blocks}
 use Rattle.picture_script.specs.Script.{Drawing}
-use Rattle.picture_changes.specs.Schedule.{IsSchedule}
+use Rattle.pack_schedule.specs.Schedule.{IsSchedule}
 use Rattle.pack_schedule.specs.Woven.{ArePacks}
 use Rattle.stream_writer.specs.Framing.{HasFraming}
 pub use Rattle.stream_writer.specs.Needs.{text_packs, lead_in_need}

@@ -2,12 +2,12 @@
 ghost use Rattle.std.specs.Prelude.{◌≡◌, ◌≢◌, ◌<◌, ◌⊎◌, List, ℕ};
 ghost use Rattle.cue_sheet.specs.CueSheet.{CueSheet};
 ghost use Rattle.picture_script.specs.Script.{Drawing, picture_pixel};
-ghost use Rattle.picture_changes.specs.Shown.{AreColoursInRange};
+ghost use Rattle.pack_schedule.specs.Shown.{AreColoursInRange};
 ghost use Rattle.subcode_author.specs.AuthorAnswer.{IsAccepted, IsAuthorStop};
 ghost use Rattle.subcode_author.specs.declared.stops.AuthorStop.{AuthorStop};
 
 use crate::AuthorStop;
-use picture_changes::needs_are_fewest;
+use pack_schedule::needs_are_fewest;
 
 /// A law: each sheet and script, with their lead-in and audio, are accepted or refused, and not both, and they are
 /// refused for one reason alone, with one set of numbers. So `author_stream` answers a refusal exactly where its

@@ -7,15 +7,16 @@ ghost use Rattle.cdg_io.specs.Moves.{AppendsPrefix};
 ghost use Rattle.cue_sheet.specs.CueSheet.{CueSheet, IsSheet};
 ghost use Rattle.picture_script.specs.Script.{Drawing, picture_pixel, pictures};
 ghost use Rattle.picture_script.specs.ScriptGrammar.{read_script};
-ghost use Rattle.picture_changes.specs.PlannedChange.{planned_change};
-ghost use Rattle.picture_changes.specs.Schedule.{IsInTime};
-ghost use Rattle.picture_changes.specs.Shown.{AreColoursInRange, AreTimesInOrder};
+ghost use Rattle.pack_schedule.specs.PlannedChange.{planned_change};
+ghost use Rattle.pack_schedule.specs.Schedule.{IsInTime};
+ghost use Rattle.pack_schedule.specs.Shown.{AreColoursInRange, AreTimesInOrder};
 ghost use Rattle.subcode_author.specs.Authored.{IsWrittenStream, disc_of};
 ghost use Rattle.subcode_author.specs.AuthorAnswer.{HoldsPictures, IsAccepted};
 ghost use Rattle.subcode_author.specs.Given.{PutsScriptPart};
 
-use pack_schedule::packs_are_a_schedule;
-use picture_changes::{changes_can_be_written, needs_are_fewest, planned_changes_are_changes};
+use pack_schedule::{
+    changes_can_be_written, needs_are_fewest, packs_are_a_schedule, planned_changes_are_changes,
+};
 use rw_interleave::spread_carries;
 
 /// A law: the pictures of every script that is accepted are shown in order, and all their colours are in range.

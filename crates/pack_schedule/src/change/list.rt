@@ -16,7 +16,7 @@ pub(crate) struct ChangeList {
 
 impl Model for ChangeList {
     ghost use Rattle.std.specs.Prelude.{◌≡◌, ◌≤◌, List, length, take};
-    ghost use Rattle.picture_changes.specs.Change.{most_change};
+    ghost use Rattle.pack_schedule.specs.Change.{most_change};
     ghost use Rattle.cdg_instructions.specs.declared.instr.Instr.{Instr};
 
     ghost Value = { List Instr };
@@ -29,7 +29,7 @@ impl Model for ChangeList {
 impl ChangeList {
     ghost use Rattle.std.specs.Prelude.{◌≡◌, ◌<◌, ◌≤◌, ◌++◌, [], ◌∷◌, length, IfOk, slice_index_or};
     ghost use Rattle.cdg_instructions.specs.declared.instr.Instr.TheVariants.{Idle};
-    ghost use Rattle.picture_changes.specs.Change.{most_change};
+    ghost use Rattle.pack_schedule.specs.Change.{most_change};
 
     /// An empty list.
     pub(crate) fn start(alloc: Global) -> Result<ChangeList, AllocError>

@@ -3,7 +3,7 @@ ghost use Rattle.std.specs.Prelude.{◌≡◌, ◌<◌, ◌≤◌, ◌+◌, ◌-
 ghost use Rattle.bit_lists.specs.Counting.{below};
 ghost use Rattle.tile_author.specs.Plan.{are_equal};
 ghost use Rattle.picture_script.specs.Board.{IsPicture};
-ghost use Rattle.picture_changes.specs.Change.{most_change, settings};
+ghost use Rattle.pack_schedule.specs.Change.{most_change, settings};
 
 use crate::change::list::ChangeList;
 use cdg_instructions::Instr;

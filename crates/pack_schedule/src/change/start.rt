@@ -3,8 +3,8 @@ ghost use Rattle.std.specs.Prelude.{◌≡◌, ◌<◌, ◌≤◌, ◌+◌, ◌-
 ghost use Rattle.cdg_instructions.specs.Sizes.{colour_count};
 ghost use Rattle.picture_script.specs.Board.{IsPicture};
 ghost use Rattle.pack_schedule.specs.Weights.{AreWeights};
-ghost use Rattle.picture_changes.specs.Change.{most_change, most_tile_steps, settings};
-ghost use Rattle.picture_changes.specs.PlannedChange.{tile_steps, planned_length, preferred, chosen_start};
+ghost use Rattle.pack_schedule.specs.Change.{most_change, most_tile_steps, settings};
+ghost use Rattle.pack_schedule.specs.PlannedChange.{tile_steps, planned_length, preferred, chosen_start};
 
 use crate::change::same_tiles::{is_same_picture, same_rows};
 use crate::change::settings::count_settings;

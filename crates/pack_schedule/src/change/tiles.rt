@@ -5,8 +5,8 @@ ghost use Rattle.tile_author.specs.Sizes.{most_steps};
 ghost use Rattle.tile_author.specs.Plan.{plan, steps};
 ghost use Rattle.picture_script.specs.Board.{IsPicture, tile_of};
 ghost use Rattle.picture_script.specs.Script.{picture_tile};
-ghost use Rattle.picture_changes.specs.Change.{most_tile_steps, tiles_before, IsStart};
-ghost use Rattle.picture_changes.specs.PlannedChange.{planned_tiles, tile_steps};
+ghost use Rattle.pack_schedule.specs.Change.{most_tile_steps, tiles_before, IsStart};
+ghost use Rattle.pack_schedule.specs.PlannedChange.{planned_tiles, tile_steps};
 ghost use Rattle.pack_schedule.specs.SameTiles.{AreSameRows};
 ghost use Rattle.pack_schedule.specs.Weights.{AreWeights, IsWeighed};
 

@@ -1,5 +1,5 @@
-use Rattle.picture_changes.specs.Brings.{IsChange}
-use Rattle.picture_changes.specs.Change.{IsOrderedChange}
+use Rattle.pack_schedule.specs.Brings.{IsChange}
+use Rattle.pack_schedule.specs.Change.{IsOrderedChange}
 use Rattle.pack_schedule.proofs.Schedules.{is_schedule}
 use Rattle.pack_schedule.proofs.laws.packs_are_a_schedule.Goals as goal
 

@@ -1,5 +1,5 @@
 use Rattle.std.proofs.Common.{sym, ap, ◌∙◌}
-use Rattle.picture_changes.specs.PlannedChange.{chosen_start, planned_change, planned_length}
+use Rattle.pack_schedule.specs.PlannedChange.{chosen_start, planned_change, planned_length}
 use Rattle.pack_schedule.proofs.surveys.plan_picture.Goals as goal
 
 pub returns-clause-need : goal.returns-clause-need

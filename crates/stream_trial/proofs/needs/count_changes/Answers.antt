@@ -3,7 +3,7 @@ use Rattle.std.specs.Prelude.{sum_by, slice_index_or}
 use Rattle.std.proofs.lemmas.List.Sums.{sum_by_push}
 use Rattle.bit_lists.specs.Counting.{below}
 use Rattle.picture_script.specs.Script.{Drawing, pictures}
-use Rattle.picture_changes.specs.PlannedChange.{planned_change}
+use Rattle.pack_schedule.specs.PlannedChange.{planned_change}
 use Rattle.pack_schedule.specs.Survey.{IsSurvey, nothing_planned}
 use Rattle.pack_schedule.specs.declared.surveys.told.PlannedChange.{PlannedChange}
 use Rattle.stream_trial.specs.Trial.{all_changes}

@@ -1,7 +1,7 @@
 use Rattle.std.proofs.Common.{◌≡◌, ◌≤◌, ◌*◌, length}
 use Rattle.std.specs.Prelude.{sum_by}
 use Rattle.bit_lists.specs.Counting.{below}
-use Rattle.picture_changes.specs.PlannedChange.{planned_change}
+use Rattle.pack_schedule.specs.PlannedChange.{planned_change}
 use Rattle.stream_trial.proofs.needs.count_changes.Given as goal
 
 abbrev pub invariant-loop-k : goal.invariant-loop-k

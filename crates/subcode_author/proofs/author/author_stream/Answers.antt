@@ -3,7 +3,7 @@ use Rattle.std.proofs.lemmas.Result.{err_from_is_err_and}
 use Rattle.cue_sheet.specs.CueSheet.{CueSheet}
 use Rattle.toc_model.specs.Places.{DiscLayout, layout_of, program_blocks}
 use Rattle.picture_script.specs.Script.{Drawing, pictures, ready_time, hold_time, picture_pixel}
-use Rattle.picture_changes.specs.Shown.{AreColoursInRange}
+use Rattle.pack_schedule.specs.Shown.{AreColoursInRange}
 use Rattle.pack_schedule.specs.Survey.{IsPastEnd, IsSurvey, IsWithin}
 use Rattle.pack_schedule.specs.declared.surveys.told.PlannedChange.{PlannedChange}
 use Rattle.subcode_author.proofs.Schedules.{authored, cut_idle, is_accepted, part_of, IsPlannedScript}

@@ -1,5 +1,5 @@
 use Rattle.std.proofs.Common.{arith}
-use Rattle.picture_changes.specs.PlannedChange.{planned_length, preferred}
+use Rattle.pack_schedule.specs.PlannedChange.{planned_length, preferred}
 use Rattle.pack_schedule.proofs.Choices.{better_choice, is_chosen, none_better, shorter}
 use Rattle.pack_schedule.proofs.change.start.choose.Goals as goal
 

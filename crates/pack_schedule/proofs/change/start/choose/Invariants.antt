@@ -1,7 +1,7 @@
 use Rattle.std.proofs.Common.{◌≡◌, ◌≤◌, map}
 use Rattle.std.specs.Prelude.{Some}
 use Rattle.bit_lists.specs.Counting.{below}
-use Rattle.picture_changes.specs.PlannedChange.{planned_length, preferred, first_least}
+use Rattle.pack_schedule.specs.PlannedChange.{planned_length, preferred, first_least}
 use Rattle.pack_schedule.proofs.change.start.choose.Given as goal
 
 abbrev pub invariant-loop-colour : goal.invariant-loop-colour

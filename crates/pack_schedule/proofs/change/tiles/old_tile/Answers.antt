@@ -1,5 +1,5 @@
 use Rattle.std.proofs.Common.{ℕ, zero, suc, ◌<◌, ◌-◌, None, subst, arith}
-use Rattle.picture_changes.specs.Change.{IsStart}
+use Rattle.pack_schedule.specs.Change.{IsStart}
 use Rattle.pack_schedule.proofs.PlanLists.{all_colour}
 use Rattle.pack_schedule.proofs.change.tiles.old_tile.Goals as goal
 

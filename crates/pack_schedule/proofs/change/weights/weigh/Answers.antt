@@ -1,4 +1,4 @@
-use Rattle.picture_changes.proofs.PlannedLaws.{PlansAreShortest}
+use Rattle.pack_schedule.proofs.PlannedLaws.{PlansAreShortest}
 use Rattle.pack_schedule.proofs.Counting.{weighed}
 use Rattle.pack_schedule.proofs.change.weights.weigh.Goals as goal
 

@@ -1,6 +1,6 @@
 use Rattle.std.proofs.Common.{◌≡◌, ◌∙◌, ℕ, ◌+◌, ◌-◌, ◌/◌, ◌%◌, [], ◌++◌, ap, sym, arith, append-nil}
 use Rattle.picture_script.specs.Script.{picture_tile}
-use Rattle.picture_changes.specs.Change.{tiles_before}
+use Rattle.pack_schedule.specs.Change.{tiles_before}
 use Rattle.pack_schedule.proofs.SameTileLaws.{before_none, later_start, plan_self, same_picture_tile, start_none}
 use Rattle.tile_author.specs.Plan.{plan}
 use Rattle.pack_schedule.proofs.PlanLists.{plans_none, plans_more, plans_all}

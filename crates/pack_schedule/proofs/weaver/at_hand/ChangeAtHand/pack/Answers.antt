@@ -3,8 +3,8 @@ use Rattle.cdg_instructions.specs.declared.instr.Instr.TheVariants.{Idle}
 use Rattle.cdg_instructions.specs.Instruction.{IsWritten, InRange, IsKnown}
 use Rattle.picture_script.specs.Script.{pictures}
 use Rattle.rw_code.specs.Packs.{idle_pack}
-use Rattle.picture_changes.specs.Schedule.{start_of}
-use Rattle.picture_changes.specs.PlannedChange.{planned_change}
+use Rattle.pack_schedule.specs.Schedule.{start_of}
+use Rattle.pack_schedule.specs.PlannedChange.{planned_change}
 use Rattle.pack_schedule.proofs.Weaves.{IsFine, busy_at, change_pack, fine_at, no_pack, not_idle, place_at_hand}
 use Rattle.pack_schedule.proofs.weaver.at_hand.ChangeAtHand.pack.Goals as goal
 use Rattle.pack_schedule.proofs.weaver.at_hand.ChangeAtHand.pack.Goals.{then-given-self-via-then-given-self, then-given-self-via-else-given-self+then-self-pictures}

@@ -1,0 +1,72 @@
+-- Lists of instructions that bring a picture of a script, of whatever form, but without scrolls, and the fewest that
+-- do.
+use Rattle.std.specs.Prelude.{◌≡◌, ℕ, zero, suc, ◌<◌, ◌≤◌, Bool, true, false, List, length, count_by, All}
+use Rattle.cdg_instructions.specs.Instruction.{InRange}
+use Rattle.cdg_instructions.specs.declared.instr.Instr.{Instr}
+use Rattle.cdg_instructions.specs.declared.instr.Instr.TheVariants.{MemoryPreset, BorderPreset, ScrollPreset, ScrollCopy, ColoursLow, ColoursHigh}
+use Rattle.cdg_screen.specs.Standing.{Standing, standing_after}
+use Rattle.picture_script.specs.Script.{Drawing}
+use Rattle.pack_schedule.specs.Shown.{ShowsPicture}
+
+-- the screen is not moved
+abbrev pub IsUnmoved : Standing → Type 0
+IsUnmoved now = (now.h ≡ 0) × (now.v ≡ 0)
+
+-- what may stand before picture k: anything before the first one, and before a later one the picture before it
+abbrev pub IsBefore : List Drawing → ℕ → Standing → Type 0
+IsBefore script zero now = IsUnmoved now
+IsBefore script (suc k) now = ShowsPicture script k now × IsUnmoved now
+
+-- an instruction that does not scroll, with its fields in their ranges
+abbrev pub IsStill : Instr → Type 0
+IsStill (ScrollPreset colour across h down v) = ⊥
+IsStill (ScrollCopy colour across h down v) = ⊥
+IsStill instr = InRange instr
+
+-- the instructions that set all memory
+abbrev pub sets_memory : Instr → Bool
+sets_memory (MemoryPreset colour repeat) = true
+sets_memory _ = false
+
+-- those that set the border
+abbrev pub sets_border : Instr → Bool
+sets_border (BorderPreset colour) = true
+sets_border _ = false
+
+-- those that set colours 0 to 7
+abbrev pub sets_low : Instr → Bool
+sets_low (ColoursLow colours) = true
+sets_low _ = false
+
+-- those that set colours 8 to 15
+abbrev pub sets_high : Instr → Bool
+sets_high (ColoursHigh colours) = true
+sets_high _ = false
+
+-- all of them are set, each at least once
+pub record SetsAll (instrs : List Instr) : Type 0 where
+  pub memory : 0 < count_by sets_memory instrs
+  pub border : 0 < count_by sets_border instrs
+  pub low : 0 < count_by sets_low instrs
+  pub high : 0 < count_by sets_high instrs
+
+-- the instructions bring picture k where this stands before: after them it is shown, and those for the first picture set all there is
+pub record Brings (script : List Drawing) (k : ℕ) (now : Standing) (instrs : List Instr) : Type 0 where
+  pub still : All IsStill instrs
+  pub shows : ShowsPicture script k (standing_after now instrs)
+  pub sets : k ≡ 0 → SetsAll instrs
+
+-- a change for picture k: it brings the picture from whatever may stand before it, and no list brings it from any of that with fewer instructions
+pub record IsChange (script : List Drawing) (k : ℕ) (instrs : List Instr) : Type 0 where
+  pub brings : (now : Standing) → IsBefore script k now → Brings script k now instrs
+  pub shortest : (now : Standing) (others : List Instr) → IsBefore script k now → Brings script k now others
+      → length instrs ≤ length others
+
+-- the number of instructions that picture k needs: the fewest that bring it
+abbrev pub IsNeed : List Drawing → ℕ → ℕ → Type 0
+IsNeed script k need = (instrs : List Instr) × IsChange script k instrs × (length instrs ≡ need)
+
+-- picture k cannot be ready: the packs that are free for it are fewer than the fewest instructions that bring it
+pub record CannotBeReady (script : List Drawing) (k need free : ℕ) : Type 0 where
+  pub fewest : IsNeed script k need
+  pub more : free < need

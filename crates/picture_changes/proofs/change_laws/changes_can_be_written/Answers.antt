@@ -1,5 +1,0 @@
-use Rattle.picture_changes.proofs.Known.{change_sound}
-use Rattle.picture_changes.proofs.change_laws.changes_can_be_written.Goals as goal
-
-pub returns : goal.returns
-returns c script k start instrs ranges change = change_sound script ranges k start instrs change
