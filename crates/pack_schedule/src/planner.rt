@@ -7,10 +7,10 @@ ghost use Rattle.pack_schedule.specs.Plans.{IsPlanRow};
 ghost use Rattle.pack_schedule.specs.Weights.{AreWeights};
 
 use crate::change::{NOT_WEIGHED, Weighed};
+use crate::needs_are_fewest;
 use crate::surveys::plan_picture;
 use crate::times::{free_packs, is_in_time};
 use cdg_instructions::WINDOW_TILES;
-use crate::needs_are_fewest;
 use picture_script::{Canvas, Script};
 use std::alloc::{AllocError, Global};
 use std::marker::Model;

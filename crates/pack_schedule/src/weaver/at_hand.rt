@@ -5,8 +5,8 @@ ghost use Rattle.picture_script.specs.Script.{pictures};
 
 use crate::change::ChangeList;
 use crate::surveys::Survey;
-use cdg_instructions::write;
 use crate::{changes_can_be_written, planned_changes_are_changes};
+use cdg_instructions::write;
 use picture_script::{Canvas, Script};
 use rw_code::Pack;
 use std::alloc::{AllocError, Global};
