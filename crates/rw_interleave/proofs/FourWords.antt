@@ -31,14 +31,18 @@ abbrev pub by_twos : List ℕ → List ℕ → List ℕ
 by_twos even odd = map (λ i. slice_index (if i / 2 % 2 == 0 then even else odd) i) (below 16)
 
 pub ones_shuffled : (even odd : List ℕ) → length even ≡ 16 → length odd ≡ 16
-    → map (λ k. get_or (even ++ odd) k 0) (0 ∷ 17 ∷ 2 ∷ 19 ∷ 4 ∷ 21 ∷ 6 ∷ 23 ∷ 8 ∷ 25 ∷ 10 ∷ 27 ∷ 12 ∷ 29 ∷ 14 ∷ 31 ∷ []) ≡ by_ones even odd
+    → map (λ k. get_or (even ++ odd) k 0)
+    (0 ∷ 17 ∷ 2 ∷ 19 ∷ 4 ∷ 21 ∷ 6 ∷ 23 ∷ 8 ∷ 25 ∷ 10 ∷ 27 ∷ 12 ∷ 29 ∷ 14 ∷ 31 ∷ []) ≡ by_ones even odd
 ones_shuffled even odd size size' =
-    both_by_lanes 16 even odd (λ v w. map (λ k. get_or (v ++ w) k 0) (0 ∷ 17 ∷ 2 ∷ 19 ∷ 4 ∷ 21 ∷ 6 ∷ 23 ∷ 8 ∷ 25 ∷ 10 ∷ 27 ∷ 12 ∷ 29 ∷ 14 ∷ 31 ∷ [])) size size'
+    both_by_lanes 16 even odd (λ v w. map (λ k. get_or (v ++ w) k 0)
+    (0 ∷ 17 ∷ 2 ∷ 19 ∷ 4 ∷ 21 ∷ 6 ∷ 23 ∷ 8 ∷ 25 ∷ 10 ∷ 27 ∷ 12 ∷ 29 ∷ 14 ∷ 31 ∷ [])) size size'
 
 pub twos_shuffled : (even odd : List ℕ) → length even ≡ 16 → length odd ≡ 16
-    → map (λ k. get_or (even ++ odd) k 0) (0 ∷ 1 ∷ 18 ∷ 19 ∷ 4 ∷ 5 ∷ 22 ∷ 23 ∷ 8 ∷ 9 ∷ 26 ∷ 27 ∷ 12 ∷ 13 ∷ 30 ∷ 31 ∷ []) ≡ by_twos even odd
+    → map (λ k. get_or (even ++ odd) k 0)
+    (0 ∷ 1 ∷ 18 ∷ 19 ∷ 4 ∷ 5 ∷ 22 ∷ 23 ∷ 8 ∷ 9 ∷ 26 ∷ 27 ∷ 12 ∷ 13 ∷ 30 ∷ 31 ∷ []) ≡ by_twos even odd
 twos_shuffled even odd size size' =
-    both_by_lanes 16 even odd (λ v w. map (λ k. get_or (v ++ w) k 0) (0 ∷ 1 ∷ 18 ∷ 19 ∷ 4 ∷ 5 ∷ 22 ∷ 23 ∷ 8 ∷ 9 ∷ 26 ∷ 27 ∷ 12 ∷ 13 ∷ 30 ∷ 31 ∷ [])) size size'
+    both_by_lanes 16 even odd (λ v w. map (λ k. get_or (v ++ w) k 0)
+    (0 ∷ 1 ∷ 18 ∷ 19 ∷ 4 ∷ 5 ∷ 22 ∷ 23 ∷ 8 ∷ 9 ∷ 26 ∷ 27 ∷ 12 ∷ 13 ∷ 30 ∷ 31 ∷ [])) size size'
 
 -- four bytes of what follows a place of a list
 pub four_of : (part row : List ℕ) (at from n : ℕ) → at + n ≤ length part → 4 ≤ n
@@ -66,7 +70,8 @@ sloping_by b at =
     let first : at + 24 + 1 ≡ at + 25 = omega arith in
     let second : at + 48 + 2 ≡ at + 50 = omega arith in
     let third : at + 72 + 3 ≡ at + 75 = omega arith in
-    λ i. slice_index b (at + 0) ∷ slice_index b (first i) ∷ slice_index b (second i) ∷ slice_index b (third i) ∷ []
+    λ i. slice_index b (at + 0) ∷ slice_index b (first i) ∷ slice_index b (second i)
+    ∷ slice_index b (third i) ∷ []
 
 -- the word of the symbols at positions 0 to 7 and 16 to 23 of its slots, and those between
 abbrev pub word_of_lanes : List ℕ → List ℕ → List ℕ
@@ -116,7 +121,8 @@ lanes_exchanged outer middle size size' =
 
 -- the symbols of a word that stand at positions 0 to 7 and 16 to 23 of its slots
 abbrev pub outer_in : List ℕ → ℕ → List ℕ
-outer_in b at = sloping_in b at ++ (sloping_in b (at + 100) ++ (sloping_in b (at + 16) ++ sloping_in b (at + 116)))
+outer_in b at = sloping_in b at ++ (sloping_in b (at + 100)
+    ++ (sloping_in b (at + 16) ++ sloping_in b (at + 116)))
 
 pub word_is : (b : List ℕ) (j : ℕ)
     → word_of_lanes (outer_in b (24 * j)) (sloping_in b (24 * j + 8) ++ sloping_in b (24 * j + 108))

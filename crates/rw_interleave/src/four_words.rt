@@ -23,7 +23,8 @@ pub(crate) fn four_words(
     late: &[u8; BLOCK_BYTES],
     block: &[u8; BLOCK_BYTES],
 ) -> ArrayVec<Word, SLOTS_A_BLOCK>
-    ensures { result.items ≡ map (λ first. gathered (slots_in (early.now ++ (late.now ++ block.now)) first span))
+    ensures { result.items ≡ map
+        (λ first. gathered (slots_in (early.now ++ (late.now ++ block.now)) first span))
         (below slots_a_block) }
 {
     let even = turned(early, late, block, 8, 108, 56, 156);
@@ -48,7 +49,8 @@ pub(crate) fn four_words(
 fn word(outer: u8x16, middle: u8x16) -> Word
     requires outer { length outer ≡ 16 }
     requires middle { length middle ≡ 16 }
-    ensures { result ≡ map (λ i. slice_index (take 8 outer ++ (take 8 middle ++ drop 8 outer)) (swapped i) % 64)
+    ensures { result ≡ map
+        (λ i. slice_index (take 8 outer ++ (take 8 middle ++ drop 8 outer)) (swapped i) % 64)
         (below word_symbols) }
 {
     let outer = outer.swizzle([0, 10, 5, 15, 4, 2, 6, 7, 8, 9, 1, 11, 12, 13, 14, 3])
@@ -75,7 +77,8 @@ fn turned(
     d: usize,
 ) -> u8x16
     requires fours { (a % 4 ≡ 0) × (b % 4 ≡ 0) × (c % 4 ≡ 0) × (d % 4 ≡ 0) }
-    requires within { (a + 76 ≤ row_bytes) × (b + 76 ≤ row_bytes) × (c + 76 ≤ row_bytes) × (d + 76 ≤ row_bytes) }
+    requires within { (a + 76 ≤ row_bytes) × (b + 76 ≤ row_bytes) × (c + 76 ≤ row_bytes)
+        × (d + 76 ≤ row_bytes) }
     ensures size { length result ≡ 16 }
     ensures lanes { result ≡ sloping_in (early.now ++ (late.now ++ block.now)) a
         ++ (sloping_in (early.now ++ (late.now ++ block.now)) b

@@ -55,7 +55,8 @@ same_word : (first program : List ℕ) (n : ℕ) → AreSameUnder first program 
     → word_of (symbols_of program) n ≡ word_of (symbols_of first) n
 unfolding word_of
 same_word first program n same =
-    same_values (λ i. get_or (symbols_of program) (place n i) 0) (λ i. get_or (symbols_of first) (place n i) 0) 0
+    same_values (λ i. get_or (symbols_of program) (place n i) 0)
+    (λ i. get_or (symbols_of first) (place n i) 0) 0
     0 24 (λ i from lt. same_symbol first program n i same (omega (arith, lt)))
 
 same_blocks : (first program : List ℕ) (n : ℕ) → AreSameUnder first program n
@@ -83,7 +84,8 @@ pub same_trail : (first program : List ℕ) (n from : ℕ) (trail : Trail)
     → IsTrail program n trail
 same_trail first program n from trail is low was =
     let same = same_under first program n from is low in
-    let one : block_at first (n / 4) ≡ block_at program (n / 4) = sym (same (n / 4) (omega arith) (omega arith)) in
+    let one : block_at first (n / 4) ≡ block_at program (n / 4) =
+    sym (same (n / 4) (omega arith) (omega arith)) in
     let two : block_at first (n / 4 + 1) ≡ block_at program (n / 4 + 1) =
     sym (same (n / 4 + 1) (omega arith) (omega arith)) in
     let three : n % 4 ≢ 0 → block_at first (n / 4 + 2) ≡ block_at program (n / 4 + 2) =

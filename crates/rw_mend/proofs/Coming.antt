@@ -222,7 +222,8 @@ at_word readings n mender row said dropped is within all row_is size each droppe
           (voice_of_reading row r) voice (is.missed.each r among) is.heard is.near all (given r among) same in
           elim (leb_tells (suc (n - 7)) mender.last_missed) [
             | inl close ↦ says (voice_of_reading (if nat_lt (n - 7) mender.last_missed then said else kept) r)
-                (ap (λ b. voice_of_reading (if b then said else kept) r) close.0 ∙ each (omega (arith, close.1)) r lt)
+                (ap (λ b. voice_of_reading (if b then said else kept) r) close.0
+                ∙ each (omega (arith, close.1)) r lt)
             | inr far ↦ says (voice_of_reading (if nat_lt (n - 7) mender.last_missed then said else kept) r)
                 (ap (λ b. voice_of_reading (if b then said else kept) r) far.0
                 ∙ sym (get_or-take readings.count kept r Silent lt)

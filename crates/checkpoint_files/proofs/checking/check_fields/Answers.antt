@@ -58,7 +58,8 @@ returns-in_err-check_program c =
 
 pub returns-in_err-check_bad : goal.returns-in_err-check_bad
 returns-in_err-check_bad c =
-    exits c.args.bytes.now c.from_residual-in_err-check_bad.result _ c.from_residual-in_err-check_bad.ensures.1
+    exits c.args.bytes.now c.from_residual-in_err-check_bad.result _
+    c.from_residual-in_err-check_bad.ensures.1
     (record {
       early = Mark ∷ ToCome ∷ LeadIn ∷ Program ∷ [];
       part = Bad;

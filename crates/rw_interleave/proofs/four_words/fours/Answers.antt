@@ -10,4 +10,5 @@ returns-clause-lanes c =
     (omega (arith, c.eight-low.ensures.size, c.eight-high.ensures.size, length-append low high))
     ∙ ap₂ (λ (x y : List ℕ). x ++ y)
     (c.eight-low.ensures.lanes ∙ ap₂ (λ (x y : List ℕ). x ++ y) c.four.ensures.lanes c.four-2.ensures.lanes)
-    (c.eight-high.ensures.lanes ∙ ap₂ (λ (x y : List ℕ). x ++ y) c.four-3.ensures.lanes c.four-4.ensures.lanes)
+    (c.eight-high.ensures.lanes ∙ ap₂ (λ (x y : List ℕ). x ++ y) c.four-3.ensures.lanes
+    c.four-4.ensures.lanes)

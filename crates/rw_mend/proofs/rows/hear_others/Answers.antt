@@ -113,7 +113,8 @@ loop-r-preserved c =
           ≡ voice_of (reading_at (program_in readings k) n)) r
           (λ k before. get_or-set_other voices r k new.voice Silent (λ e. omega (arith, e, before))
           ∙ was.heard k before)
-          (get_or-set_same voices r new.voice Silent (omega (arith, c.loop-r.invariant.row_size, lt, c.requires.readings.few))
+          (get_or-set_same voices r new.voice Silent
+          (omega (arith, c.loop-r.invariant.row_size, lt, c.requires.readings.few))
           ∙ c.hear_beside.ensures.voice ∙ ap (λ p. voice_of (reading_at p n)) program);
     }
 
