@@ -46,6 +46,12 @@ def line(bits: int) -> int:
     return sum((bits >> 5 - k & 1) << 8 * k for k in range(6))
 
 
+def digits(byte: int) -> int:
+    """The number that a byte of two decimal digits is, or 255."""
+    high, low = divmod(byte, 16)
+    return 10 * high + low if max(high, low) < 10 else 255
+
+
 def tables() -> dict[str, tuple[str, list[int]]]:
     """Each table with the source in which it stands, and its numbers."""
     differences, logs = pairs()
@@ -56,6 +62,8 @@ def tables() -> dict[str, tuple[str, list[int]]]:
         "REMAINDERS": ("subcode_crc/src/check.rt", REMAINDERS),
         "HIGH_REMAINDERS": ("subcode_crc/src/check.rt", [remainder(byte << 24) for byte in range(256)]),
         "LINES": ("cdg_screen/src/line_table.rt", [line(bits) for bits in range(64)]),
+        "BYTES": ("disc_time/src/bcd_table.rt", [int(str(number), 16) for number in range(100)]),
+        "NUMBERS": ("q_channel/src/bcd_table.rt", [digits(byte) for byte in range(256)]),
         "LANES": ("raw_subcode/src/lane_table.rt", [lanes(byte) for byte in range(256)]),
     }
 
