@@ -1,5 +1,6 @@
 // What may stand in a field.
-ghost use Rattle.std.specs.Prelude.{◌≡◌, ◌≤◌, ◌<◌, ◌↔◌, IsTrue, MatchOption};
+ghost use Rattle.std.specs.Prelude.{◌≡◌, ◌≤◌, ◌<◌, ◌↔◌, ◌||◌, All, IsTrue, MatchOption, true};
+ghost use Rattle.std.specs.Char.{is_ascii_digit, is_ascii_uppercase};
 ghost use Rattle.disc_time.specs.Counts.{most_tracks, time_count};
 ghost use Rattle.q_channel.specs.QFrame.{is_bcd_within, is_other, is_point};
 
@@ -19,6 +20,30 @@ pub(crate) fn is_track(number: u8) -> bool
     ensures { IsTrue result ↔ ((1 ≤ number) × (number ≤ most_tracks)) }
 {
     (1..=MOST_TRACKS).contains(&number)
+}
+
+pub(crate) fn are_digits(text: &[u8]) -> bool
+    ensures { IsTrue result ↔ All (λ c. is_ascii_digit c ≡ true) text.now }
+{
+    text.iter().all(|byte| byte.is_ascii_digit())
+}
+
+pub(crate) fn are_capitals(text: &[u8]) -> bool
+    ensures { IsTrue result ↔ All (λ c. is_ascii_uppercase c ≡ true) text.now }
+{
+    text.iter().all(|byte| byte.is_ascii_uppercase())
+}
+
+pub(crate) fn are_capitals_or_digits(text: &[u8]) -> bool
+    ensures { IsTrue result ↔ All (λ c. is_ascii_digit c || is_ascii_uppercase c ≡ true) text.now }
+{
+    text.iter().all(|byte| is_capital_or_digit(*byte))
+}
+
+fn is_capital_or_digit(byte: u8) -> bool
+    ensures { result ≡ is_ascii_digit byte || is_ascii_uppercase byte }
+{
+    byte.is_ascii_digit() || byte.is_ascii_uppercase()
 }
 
 /// Whether bits with this mode and these next two bytes have no fields of their own.

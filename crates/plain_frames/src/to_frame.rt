@@ -7,11 +7,10 @@ ghost use Rattle.q_channel.specs.Sizes.{rest_bytes};
 ghost use Rattle.q_channel.specs.declared.frame.QFrame.TheVariants.{Program, Toc, Catalogue, Isrc, Other};
 ghost use Rattle.q_channel.specs.declared.frame.TocPoint.TheVariants.{Track, First, Last, LeadOut};
 
-use crate::checks::{is_other, is_track, time};
+use crate::checks::{are_capitals, are_capitals_or_digits, are_digits, is_other, is_track, time};
 use crate::{PlainFrame, kinds};
 use disc_time::{CATALOGUE_DIGITS, CONTROL_VALUES, ISRC_CHARACTERS};
 use q_channel::{MODE_VALUES, QFrame, REST_BYTES, TocPoint};
-use text_lines::{are_capitals, are_capitals_or_digits, are_digits};
 
 /// The frame that a plain one stands for, where its kind is one and its fields have values that they may
 /// have.
