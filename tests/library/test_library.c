@@ -382,7 +382,7 @@ static void saved_players(void)
 /* A raw stream of 1,000,000 blocks is saved, and a longer one is refused: no memory is asked before. */
 static void long_players(void)
 {
-    static const uint8_t block[96];
+    static const uint8_t block[96] = { 0 };
     static uint8_t file[RIBJASPER_CHECKPOINT];
     ribjasper_player player = RIBJASPER_CLOSED;
     long fed;
