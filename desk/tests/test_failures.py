@@ -82,6 +82,7 @@ class MainTest(FolderTest):
         self.assertEqual(ran.told.count("\n"), 1)
         return ran.status, ran.told.removeprefix(f"ribjasper-desk: {path}: ").rstrip("\n")
 
+    @needs_library
     def test_each_end(self) -> None:
         self.assertEqual(self.ended(MemoryError()), (7, "there is not enough memory for it"))
         self.assertEqual(self.ended(RecursionError()), (3, "is nested too deeply"))

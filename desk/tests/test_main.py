@@ -50,6 +50,7 @@ class MainTest(FolderTest):
             self.assertIn(f"apt-get install {package}", ran.told)
             self.assertNotIn("Traceback", ran.told)
 
+    @needs_library
     def test_a_reader_that_has_seen_enough(self) -> None:
         path = self.write("dump", bytes(960))
         words = [sys.executable, str(DESK), "identify", *[str(path)] * 50]
