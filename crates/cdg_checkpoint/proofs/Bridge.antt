@@ -20,10 +20,9 @@ use Rattle.cdg_io.specs.declared.pumping.Pumped.{Pumped}
 use Rattle.cdg_instructions.specs.declared.instr.Instr.{Instr}
 use Rattle.cdg_screen.specs.Standing.{Standing, blank, standing_after}
 use Rattle.cdg_screen.specs.Texts.{pixmap}
-use Rattle.checkpoint_files.specs.Checkpoint.{Checkpoint, checkpoint_in}
-use Rattle.checkpoint_files.specs.Table.{IsCheckpointFile, empty_symbols}
-use Rattle.checkpoint_files.specs.Sound.{IsSoundStanding, IsSoundCheckpoint}
-use Rattle.checkpoint_files.proofs.Accepted.{accepted, same}
+use Rattle.cdg_checkpoint.specs.Checkpoint.{Checkpoint, checkpoint_in, IsSoundStanding, IsSoundCheckpoint}
+use Rattle.cdg_checkpoint.specs.Table.{IsCheckpointFile, empty_symbols}
+use Rattle.cdg_checkpoint.proofs.Accepted.{accepted, same}
 use Rattle.stream_stages.specs.Calls.{IsEarly}
 use Rattle.stream_stages.specs.Screen.{AreMeant, IsScreenAt, IsShownBy, Shows, moment}
 use Rattle.stream_stages.specs.Watch.{IsViewed}
@@ -34,8 +33,7 @@ use Rattle.stream_stages.specs.declared.played.Played.{Played}
 use Rattle.stream_stages.specs.declared.played.PlayStop.{PlayStop}
 use Rattle.stream_stages.specs.declared.played.PlayStop.TheVariants as play
 use Rattle.cdg_checkpoint.specs.Saved.{IsCheckpointOf, IsSaved}
-use Rattle.cdg_checkpoint.specs.Resumed.{IsGoneOn, IsGoneOnBy, IsResumed, IsResumedBy, Resumes, blocks_left}
-use Rattle.cdg_checkpoint.specs.Cut.{IsFirstPart, as_played}
+use Rattle.cdg_checkpoint.specs.Resumed.{IsGoneOn, IsGoneOnBy, IsResumed, IsResumedBy, Resumes, blocks_left, IsFirstPart, as_played}
 use Rattle.cdg_checkpoint.specs.declared.stops.Resumed.{Resumed}
 use Rattle.cdg_checkpoint.specs.declared.stops.ResumeStop.{ResumeStop}
 use Rattle.cdg_checkpoint.specs.declared.stops.ResumeStop.TheVariants.{FirstFault, SecondFault, WriteFault, BadSave, BeforeSave, Torn, TooLong, PastEnd}

@@ -22,8 +22,8 @@ use Rattle.rw_interleave.proofs.Gathers.{gathers}
 use Rattle.raw_subcode.specs.Channels.{symbols_of, program_symbols}
 use Rattle.raw_subcode.specs.declared.form.Form.TheVariants.{Raw}
 use Rattle.cdg_screen.specs.Standing.{IsWholeStanding, Standing, standing_after}
-use Rattle.checkpoint_files.specs.Checkpoint.{Checkpoint}
-use Rattle.checkpoint_files.specs.Table.{empty_symbols}
+use Rattle.cdg_checkpoint.specs.Checkpoint.{Checkpoint}
+use Rattle.cdg_checkpoint.specs.Table.{empty_symbols}
 use Rattle.stream_stages.specs.Steps.{slots_of, window_next, window_gives, words_next, words_give}
 use Rattle.stream_stages.specs.Drawn.{draw_after, painting_next}
 use Rattle.stream_stages.specs.declared.block_words.BlockWords.{BlockWords}

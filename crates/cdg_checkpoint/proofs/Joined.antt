@@ -18,8 +18,8 @@ use Rattle.rw_interleave.specs.Stream.{IsRecovered, bad_count}
 use Rattle.cdg_instructions.specs.declared.instr.Instr.{Instr}
 use Rattle.cdg_screen.specs.Standing.{Standing, blank, standing_after}
 use Rattle.cdg_screen.proofs.Turns.{in_turn}
-use Rattle.checkpoint_files.specs.Checkpoint.{Checkpoint}
-use Rattle.checkpoint_files.specs.Table.{empty_symbols}
+use Rattle.cdg_checkpoint.specs.Checkpoint.{Checkpoint}
+use Rattle.cdg_checkpoint.specs.Table.{empty_symbols}
 use Rattle.stream_stages.specs.Screen.{AreMeant, moment}
 use Rattle.stream_stages.specs.Watch.{IsViewed}
 use Rattle.stream_stages.proofs.Views.{whole_taken}

@@ -1,3 +1,9 @@
+pub mod Writing
+pub mod MemoryRows
+pub mod SlotRanges
+pub mod Restored
+pub mod ReadBack
+pub mod Accepted
 pub mod Tails
 pub mod SavedStreams
 pub mod GoneOn

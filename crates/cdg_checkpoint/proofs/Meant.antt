@@ -18,7 +18,7 @@ use Rattle.cdg_instructions.specs.declared.instr.Instr.TheVariants.{Idle, Foreig
 use Rattle.cdg_screen.specs.Standing.{blank, pixel_at, memory_from, border_from, colour_from, level_from, offsets_from, standing_after, covers, source_x, source_y, is_inside}
 use Rattle.cdg_screen.proofs.Lists.{number_of_sixteen, pixel_of_rows}
 use Rattle.cdg_screen.proofs.Turns.{colour_after, level_after, pixel_after, same_colour, same_level, same_memory, whole_after}
-use Rattle.checkpoint_files.specs.Sound.{IsSoundStanding}
+use Rattle.cdg_checkpoint.specs.Checkpoint.{IsSoundStanding}
 use Rattle.stream_stages.specs.Screen.{AreMeant}
 
 -- ---- the numbers of a codeword

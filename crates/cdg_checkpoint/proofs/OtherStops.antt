@@ -7,7 +7,7 @@ use Rattle.cdg_io.specs.Pump.{IsUnlessFault, TellsEndOf, answer_of}
 use Rattle.cdg_io.specs.declared.pumping.Pumped.{Pumped}
 use Rattle.cdg_io.specs.declared.pumping.PumpStop.{PumpStop}
 use Rattle.cdg_io.specs.declared.pumping.PumpStop.TheVariants as pump_stop
-use Rattle.checkpoint_files.specs.Checkpoint.{Checkpoint, checkpoint_in}
+use Rattle.cdg_checkpoint.specs.Checkpoint.{Checkpoint, checkpoint_in}
 use Rattle.stream_stages.proofs.Views.{is_over, long_tests}
 use Rattle.cdg_checkpoint.specs.Resumed.{IsAcceptedBy, IsGoneOnBy, IsResumedBy, ReadsSaved, Resumes, acceptance, blocks_left}
 use Rattle.cdg_checkpoint.specs.declared.stops.Resumed.{Resumed}

@@ -14,8 +14,8 @@ use Rattle.cdg_io.specs.declared.stage.Then.{Then}
 use Rattle.raw_subcode.specs.declared.form.Form.TheVariants.{Raw}
 use Rattle.cdg_io.specs.Run.{run_state}
 use Rattle.rw_interleave.specs.Gathering.{gather_next}
-use Rattle.checkpoint_files.specs.Checkpoint.{Checkpoint, checkpoint_in}
-use Rattle.checkpoint_files.specs.Table.{IsCheckpointFile}
+use Rattle.cdg_checkpoint.specs.Checkpoint.{Checkpoint, checkpoint_in}
+use Rattle.cdg_checkpoint.specs.Table.{IsCheckpointFile}
 use Rattle.stream_stages.specs.declared.block_words.BlockWords.{BlockWords}
 use Rattle.stream_stages.specs.declared.painting.Painting.{Painting}
 use Rattle.stream_stages.proofs.Playing.{units_in}
@@ -25,7 +25,7 @@ use Rattle.cdg_checkpoint.specs.Resumed.{GoesOn, IsGoneOnBy, blocks_after, block
 use Rattle.cdg_checkpoint.specs.declared.stops.Resumed.{Resumed}
 use Rattle.cdg_checkpoint.specs.declared.stops.ResumeStop.{ResumeStop}
 use Rattle.cdg_checkpoint.specs.declared.stops.ResumeStop.TheVariants.{PastEnd, Torn}
-use Rattle.checkpoint_files.proofs.Restored.{standing_is_whole}
+use Rattle.cdg_checkpoint.proofs.Restored.{standing_is_whole}
 use Rattle.cdg_checkpoint.proofs.GoneOn.{IsBroughtBack, IsSound, gone_on}
 
 take_few : (n : ℕ) (xs : List ℕ) → length (take n xs) ≤ n

@@ -7,7 +7,7 @@ use Rattle.cdg_io.specs.Change.{from_to}
 use Rattle.cdg_io.proofs.Frames.{feeding}
 use Rattle.cdg_io.specs.declared.pumping.PumpStop.{PumpStop}
 use Rattle.cdg_io.specs.declared.stage.Then.{Then}
-use Rattle.checkpoint_files.specs.Checkpoint.{Checkpoint}
+use Rattle.cdg_checkpoint.specs.Checkpoint.{Checkpoint}
 use Rattle.stream_stages.specs.declared.block_words.BlockWords.{BlockWords}
 use Rattle.stream_stages.specs.declared.painting.Painting.{Painting}
 use Rattle.cdg_checkpoint.specs.Tracked.{TracksBlocks, words_drawn}

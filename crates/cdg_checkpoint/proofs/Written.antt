@@ -8,7 +8,7 @@ use Rattle.cdg_io.specs.Moves.{AppendsPrefix}
 use Rattle.cdg_io.proofs.Frames.{passing}
 use Rattle.cdg_screen.specs.Standing.{Standing}
 use Rattle.cdg_screen.specs.Texts.{pixmap}
-use Rattle.checkpoint_files.specs.Checkpoint.{checkpoint_in}
+use Rattle.cdg_checkpoint.specs.Checkpoint.{checkpoint_in}
 use Rattle.cdg_checkpoint.specs.Resumed.{GoesOn, IsResumed, Resumes, time_after}
 use Rattle.cdg_checkpoint.specs.declared.stops.Resumed.{Resumed}
 use Rattle.cdg_checkpoint.specs.declared.stops.ResumeStop.{ResumeStop}

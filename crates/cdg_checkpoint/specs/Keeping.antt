@@ -1,11 +1,24 @@
--- What the state after a stream is saved as.
-use Rattle.std.specs.Prelude.{◌≡◌, ℕ, ◌-◌, List, min}
-use Rattle.checkpoint_files.specs.Checkpoint.{Checkpoint, file_of}
+-- The state before any stream, and what the state after one is saved as.
+use Rattle.std.specs.Prelude.{◌≡◌, ℕ, ◌-◌, List, min, []}
+use Rattle.cdg_checkpoint.specs.Checkpoint.{Checkpoint, file_of}
 use Rattle.cdg_io.specs.declared.stage.Then.{Then}
 use Rattle.rw_interleave.specs.Gathering.{kept_symbols}
 use Rattle.stream_stages.specs.Stages.{painting_of, words_of}
 use Rattle.stream_stages.specs.declared.block_words.BlockWords.{BlockWords}
 use Rattle.stream_stages.specs.declared.painting.Painting.{Painting}
+use Rattle.cdg_screen.specs.Standing.{blank}
+use Rattle.raw_subcode.specs.declared.form.Form.TheVariants.{Raw}
+use Rattle.stream_stages.specs.Steps.{fresh_words}
+use Rattle.cdg_checkpoint.specs.declared.checkpointer.Checkpointer.{Checkpointer}
+
+-- nothing was read: no slot is kept, no pack is left to draw, no word is bad, all that stands is zero, and
+-- there is no file
+pub record HasReadNothing (c : Checkpointer) : Type 0 where
+  pub words : words_of c.words ≡ fresh_words Raw 0
+  pub left : (painting_of c.words).left ≡ 0
+  pub bad : (painting_of c.words).bad ≡ 0
+  pub stands : (painting_of c.words).screen ≡ blank
+  pub file : c.file ≡ []
 
 -- the file of the checkpoint of this state, after so many blocks of which the first are the lead-in
 pub record IsKept (blocks lead_in : ℕ) (s : Then BlockWords Painting) (file : List ℕ) : Type 0 where

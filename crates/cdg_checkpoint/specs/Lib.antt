@@ -1,6 +1,6 @@
+pub mod Table
+pub mod Checkpoint
 pub mod Tracked
 pub mod Saved
 pub mod Keeping
 pub mod Resumed
-pub mod Cut
-pub mod Fresh

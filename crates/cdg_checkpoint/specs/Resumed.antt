@@ -1,4 +1,4 @@
--- Playing that goes on from a checkpoint.
+-- Playing that goes on from a checkpoint, and a stream that is cut in two there.
 use Rattle.std.specs.Prelude.{◌≡◌, ◌≢◌, ℕ, ◌+◌, ◌-◌, ◌*◌, ◌/◌, ◌%◌, ◌<◌, ◌≤◌, ⊤, List, [], ◌++◌, length, map, nat_lt, if◌then◌else◌, take, drop, min, slice_index_or, Option, None, Result, Ok, Err, IfOk}
 use Rattle.std.specs.List.{range_with_len}
 use Rattle.std.specs.Io.KnownBytes.{Appends, Consumes, IsAtEnd}
@@ -13,13 +13,17 @@ use Rattle.rw_interleave.specs.Stream.{bad_count}
 use Rattle.cdg_instructions.specs.declared.instr.Instr.{Instr}
 use Rattle.cdg_screen.specs.Standing.{Standing, standing_after}
 use Rattle.cdg_screen.specs.Texts.{pixmap}
-use Rattle.checkpoint_files.specs.Table.{IsBadAt, IsCheckpointFile, empty_symbols, file_size}
-use Rattle.checkpoint_files.specs.Checkpoint.{Checkpoint, checkpoint_in}
+use Rattle.cdg_checkpoint.specs.Table.{IsBadAt, IsCheckpointFile, empty_symbols, file_size}
+use Rattle.cdg_checkpoint.specs.Checkpoint.{Checkpoint, checkpoint_in}
 use Rattle.stream_stages.specs.Screen.{AreMeant}
 use Rattle.raw_subcode.specs.Sizes.{block_bytes, most_units, symbols_a_slot}
 use Rattle.cdg_checkpoint.specs.declared.stops.Resumed.{Resumed}
 use Rattle.cdg_checkpoint.specs.declared.stops.ResumeStop.{ResumeStop}
 use Rattle.cdg_checkpoint.specs.declared.stops.ResumeStop.TheVariants.{FirstFault, SecondFault, WriteFault, BadSave, BeforeSave, Torn, TooLong, PastEnd}
+use Rattle.stream_stages.specs.declared.played.Played.{Played}
+use Rattle.stream_stages.specs.declared.played.PlayStop.{PlayStop}
+use Rattle.stream_stages.specs.declared.played.PlayStop.TheVariants as play
+use Rattle.disc_time.specs.Counts.{most_lead_in}
 
 -- the symbols of the saved slots, and then those of the program in the rest of the stream
 abbrev pub resumed_symbols : Checkpoint → List ℕ → List ℕ
@@ -167,3 +171,18 @@ pub record Resumes (file : List ℕ) (time : ℕ) (passed : Passed) (result : Re
       → IsAtEnd passed.left.after × ((text : List ℕ) × (resumed : Resumed)
       × IsResumed file time taken resumed text
       × AppendsPrefix passed.held.before passed.held.after text)
+
+-- the first part of a stream is whole blocks, no more than are read
+pub record IsFirstPart (lead_in : ℕ) (bytes : List ℕ) : Type 0 where
+  pub lead_in_most : lead_in ≤ most_lead_in
+  pub most : length bytes ≤ most_units * block_bytes
+  pub whole : length bytes % block_bytes ≡ 0
+
+-- the answer as that of a player of the whole stream, who reads one input
+abbrev pub as_played : Result Resumed ResumeStop → Result Played PlayStop
+as_played (Ok resumed) = Ok (record { blocks = resumed.blocks; bad = resumed.bad })
+as_played (Err WriteFault) = Err play.WriteFault
+as_played (Err (Torn block)) = Err (play.Torn block)
+as_played (Err TooLong) = Err play.TooLong
+as_played (Err (PastEnd blocks)) = Err (play.PastEnd blocks)
+as_played (Err stop) = Err play.ReadFault

@@ -14,8 +14,8 @@ use Rattle.raw_subcode.specs.declared.form.Form.TheVariants.{Raw}
 use Rattle.rw_interleave.specs.Stream.{IsRecovered, bad_count}
 use Rattle.cdg_instructions.specs.declared.instr.Instr.{Instr}
 use Rattle.cdg_screen.specs.Standing.{blank, standing_after}
-use Rattle.checkpoint_files.specs.Checkpoint.{Checkpoint, file_of}
-use Rattle.checkpoint_files.specs.Table.{slots_bytes}
+use Rattle.cdg_checkpoint.specs.Checkpoint.{Checkpoint, file_of}
+use Rattle.cdg_checkpoint.specs.Table.{slots_bytes}
 use Rattle.stream_stages.specs.Screen.{AreMeant}
 
 -- the last of so many symbols, with zeros before the first

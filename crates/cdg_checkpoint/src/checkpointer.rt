@@ -1,10 +1,10 @@
 // What saves and resumes.
 ghost use Rattle.std.specs.Prelude.{IfOk};
-ghost use Rattle.cdg_checkpoint.specs.Fresh.{HasReadNothing};
+ghost use Rattle.cdg_checkpoint.specs.Keeping.{HasReadNothing};
 
+use crate::CheckpointFile;
 use cdg_io::Then;
 use cdg_screen::Screen;
-use checkpoint_files::CheckpointFile;
 use std::alloc::{AllocError, Global};
 use stream_stages::{BlockWords, Painting};
 

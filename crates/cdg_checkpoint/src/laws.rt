@@ -1,20 +1,41 @@
-// Laws on a stream that is cut at a checkpoint: what goes on from there shows what the whole stream does.
-ghost use Rattle.std.specs.Prelude.{◌≡◌, ◌≢◌, ◌≤◌, ◌-◌, ◌/◌, ◌%◌, ◌++◌, List, ℕ, length, Some, Result, Err};
+// Laws: files are read back, and what goes on from a checkpoint shows what the whole stream does.
+ghost use Rattle.std.specs.Prelude.{◌≡◌, ◌≢◌, ◌≤◌, ◌-◌, ◌/◌, ◌%◌, ◌++◌, List, ℕ, length, Some, Result, Err, ◌<◌, ◌^◌};
 ghost use Rattle.cdg_io.specs.Change.{Bytes, Change, from_to};
 ghost use Rattle.cdg_screen.specs.Standing.{Standing};
 ghost use Rattle.cdg_screen.specs.Texts.{pixmap};
-ghost use Rattle.checkpoint_files.specs.Checkpoint.{Checkpoint, checkpoint_in};
-ghost use Rattle.checkpoint_files.specs.Table.{IsCheckpointFile};
+ghost use Rattle.cdg_checkpoint.specs.Checkpoint.{Checkpoint, checkpoint_in, file_of, written_value, IsSoundCheckpoint};
+ghost use Rattle.cdg_checkpoint.specs.Table.{IsCheckpointFile, Bad, LeadIn, Memory, Program, Slots, ToCome, file_size, number, slots_bytes};
 ghost use Rattle.cdg_io.specs.declared.pumping.Pumped.{Pumped};
-ghost use Rattle.cdg_checkpoint.specs.Cut.{IsFirstPart, as_played};
+ghost use Rattle.cdg_checkpoint.specs.Resumed.{IsFirstPart, as_played, IsGoneOn, IsResumed, IsResumedBy, Resumes};
 ghost use Rattle.cdg_checkpoint.specs.declared.stops.Resumed.{Resumed};
 ghost use Rattle.cdg_checkpoint.specs.declared.stops.ResumeStop.{ResumeStop};
 ghost use Rattle.raw_subcode.specs.Sizes.{block_bytes};
 ghost use Rattle.raw_subcode.specs.declared.form.Form.{Form};
 ghost use Rattle.stream_stages.specs.Watch.{IsViewed};
 ghost use Rattle.stream_stages.specs.Screen.{IsScreenAt, IsShownBy, Shows, moment};
-ghost use Rattle.cdg_checkpoint.specs.Resumed.{IsGoneOn, IsResumed, IsResumedBy, Resumes};
 ghost use Rattle.cdg_checkpoint.specs.Saved.{IsCheckpointOf, IsSaved};
+ghost use Rattle.cdg_instructions.specs.Sizes.{screen_pixels};
+
+/// A law: what is written is read. The file of each checkpoint has 65,045 bytes, and holds its counts, its
+/// slots and its memory.
+pub fn files_are_read_back()
+    ensures size { (c : Checkpoint) → length (file_of c) ≡ file_size }
+    ensures to_come { (c : Checkpoint) → c.to_come < 2 ^ 32 → number (file_of c) ToCome 0 ≡ c.to_come }
+    ensures lead_in { (c : Checkpoint) → c.lead_in < 2 ^ 32 → number (file_of c) LeadIn 0 ≡ c.lead_in }
+    ensures program { (c : Checkpoint) → c.program < 2 ^ 32 → number (file_of c) Program 0 ≡ c.program }
+    ensures bad { (c : Checkpoint) → c.bad < 2 ^ 32 → number (file_of c) Bad 0 ≡ c.bad }
+    ensures slots { (c : Checkpoint) (k : ℕ) → k < slots_bytes
+        → number (file_of c) Slots k ≡ written_value c Slots k % 256 }
+    ensures memory { (c : Checkpoint) (k : ℕ) → k < screen_pixels
+        → number (file_of c) Memory k ≡ written_value c Memory k % 256 }
+{}
+
+/// A law: the file of a checkpoint whose numbers are in their ranges is accepted, and the checkpoint in it
+/// is that one.
+pub fn sound_checkpoints_are_accepted()
+    ensures accepted { (c : Checkpoint) → IsSoundCheckpoint c → IsCheckpointFile (file_of c) }
+    ensures same { (c : Checkpoint) → IsSoundCheckpoint c → checkpoint_in (file_of c) ≡ c }
+{}
 
 /// A law: what stands at a time after the checkpoint of some whole blocks, with the rest of the stream,
 /// stands then in the whole stream too, and as many words are bad.

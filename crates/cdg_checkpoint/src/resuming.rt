@@ -5,18 +5,16 @@ ghost use Rattle.cdg_io.specs.Causes.{TellsFault};
 ghost use Rattle.cdg_io.specs.Change.{change, input, passed};
 ghost use Rattle.cdg_io.specs.Run.{run_state};
 ghost use Rattle.rw_interleave.specs.Gathering.{gather_next};
-ghost use Rattle.checkpoint_files.specs.Table.{IsCheckpointFile};
-ghost use Rattle.checkpoint_files.specs.Checkpoint.{checkpoint_in, standing_in};
+ghost use Rattle.cdg_checkpoint.specs.Table.{IsCheckpointFile};
+ghost use Rattle.cdg_checkpoint.specs.Checkpoint.{checkpoint_in, standing_in};
 ghost use Rattle.stream_stages.specs.Stages.{painting_of, words_of};
 ghost use Rattle.cdg_checkpoint.specs.Resumed.{GoesOn, IsAcceptedBy, IsGoneOnBy, IsResumedBy, ReadsSaved, Resumes, acceptance, EndsAsResumed, packs_until, reached, saved_slots, time_after};
 
-use crate::gathering::gathered_slots;
 use crate::watch::watch_some;
-use crate::{Checkpointer, ResumeStop, Resumed};
+use crate::{Checkpointer, PlainFile, ResumeStop, Resumed, StreamCounts};
 use cdg_io::{Failed, PumpStop, Pumped, Sink, Source};
-use checkpoint_files::StreamCounts;
-use raw_subcode::{Form, MOST_UNITS};
-use rw_interleave::whole_packs;
+use raw_subcode::{Form, MOST_UNITS, SLOTS_A_BLOCK};
+use rw_interleave::{Gather, PACKS_KEPT_BACK, Slot, whole_packs};
 
 impl Checkpointer {
     /// Writes the picture at a moment of a stream of raw blocks, from a checkpoint and the rest of the
@@ -214,4 +212,19 @@ impl Checkpointer {
         painting.bad = counts.bad;
         self.file.bring_back(&mut painting.screen);
     }
+}
+
+/// A gatherer of the slots that a checkpoint keeps, the oldest first: it goes on as the one that was saved.
+pub fn gathered_slots(file: &PlainFile) -> Gather
+    requires { IsCheckpointFile file.now }
+    ensures { result ≡ run_state gather_next [] (saved_slots (checkpoint_in file.now)) }
+{
+    let mut gather = Gather::new();
+    let program = file.counts().program as usize;
+    let kept = PACKS_KEPT_BACK.min(SLOTS_A_BLOCK * program);
+    for k in 0..kept {
+        let slot = file.slot(PACKS_KEPT_BACK - kept + k);
+        gather.push(&Slot::new(&slot));
+    }
+    gather
 }

@@ -13,10 +13,9 @@ ghost use Rattle.stream_stages.specs.Stages.{painting_of, words_of};
 ghost use Rattle.cdg_checkpoint.specs.Saved.{EndsAsSaved, KeepsFile, Saves};
 ghost use Rattle.cdg_checkpoint.specs.Keeping.{IsKept};
 
-use crate::Checkpointer;
 use crate::watch::watch;
+use crate::{Checkpointer, SLOTS_BYTES, StreamCounts};
 use cdg_io::{Failed, PumpStop, Pumped, Sink, Source, put_all};
-use checkpoint_files::{SLOTS_BYTES, StreamCounts};
 use raw_subcode::{Form, MOST_UNITS};
 use rw_interleave::whole_packs;
 

@@ -6,7 +6,7 @@ use Rattle.std.proofs.Math.Nat.{eq-or-lt_of_le}
 use Rattle.std.proofs.lemmas.Bool.{cases_lt}
 use Rattle.cdg_io.specs.Causes.{Rose, RoseOnce, TellsFault}
 use Rattle.rw_merge.specs.Merging.{EndIsTold, EndIsUntold}
-use Rattle.checkpoint_files.specs.Table.{Across, Bad, Border, Check, Colours, Down, IsBadAt, IsCheckpointFile, LeadIn, Levels, Mark, Memory, Part, Program, Slots, ToCome, byte_of, file_size, row}
+use Rattle.cdg_checkpoint.specs.Table.{Across, Bad, Border, Check, Colours, Down, IsBadAt, IsCheckpointFile, LeadIn, Levels, Mark, Memory, Part, Program, Slots, ToCome, byte_of, file_size, row}
 use Rattle.cdg_checkpoint.specs.Resumed.{IsAcceptedBy, acceptance, EndsAsResumed as TellsRest}
 use Rattle.cdg_checkpoint.specs.declared.stops.Resumed.{Resumed}
 use Rattle.cdg_checkpoint.specs.declared.stops.ResumeStop.{ResumeStop}

@@ -8,8 +8,8 @@ use Rattle.cdg_io.specs.declared.pumping.Pumped.{Pumped}
 use Rattle.cdg_io.specs.declared.pumping.PumpStop.{PumpStop}
 use Rattle.cdg_io.specs.declared.pumping.PumpStop.TheVariants as pump
 use Rattle.raw_subcode.specs.declared.form.Form.TheVariants.{Raw}
-use Rattle.checkpoint_files.specs.Checkpoint.{checkpoint_in}
-use Rattle.checkpoint_files.specs.Table.{IsBadAt, IsCheckpointFile, IsPartInRange, Part, file_size}
+use Rattle.cdg_checkpoint.specs.Checkpoint.{checkpoint_in}
+use Rattle.cdg_checkpoint.specs.Table.{IsBadAt, IsCheckpointFile, IsPartInRange, Part, file_size}
 use Rattle.stream_stages.specs.Calls.{IsMomentStop}
 use Rattle.stream_stages.specs.Screen.{IsScreenAt, IsShownBy, Shows, moment}
 use Rattle.stream_stages.specs.declared.played.Played.{Played}
@@ -17,9 +17,8 @@ use Rattle.stream_stages.specs.declared.played.PlayStop.{PlayStop}
 use Rattle.stream_stages.specs.declared.played.PlayStop.TheVariants as play
 use Rattle.stream_stages.proofs.Restoring.{taken_all}
 use Rattle.stream_stages.proofs.Views.{done_tests, not_over, zero_rest}
-use Rattle.cdg_checkpoint.specs.Cut.{IsFirstPart, as_played}
+use Rattle.cdg_checkpoint.specs.Resumed.{IsFirstPart, as_played, IsAcceptedBy, IsResumed, IsResumedBy, Resumes, acceptance}
 use Rattle.cdg_checkpoint.specs.Saved.{IsSaved, Saves}
-use Rattle.cdg_checkpoint.specs.Resumed.{IsAcceptedBy, IsResumed, IsResumedBy, Resumes, acceptance}
 use Rattle.cdg_checkpoint.specs.declared.stops.Resumed.{Resumed}
 use Rattle.cdg_checkpoint.specs.declared.stops.ResumeStop.{ResumeStop}
 use Rattle.cdg_checkpoint.specs.declared.stops.ResumeStop.TheVariants as resume

@@ -4,8 +4,8 @@ use Rattle.raw_subcode.specs.Sizes.{block_bytes, most_units}
 use Rattle.std.specs.Io.KnownBytes.{Consumes, IsAtEnd}
 use Rattle.cdg_io.specs.Moves.{ConsumesBelow}
 use Rattle.cdg_io.specs.Pump.{IsUnlessFault, answer_of}
-use Rattle.checkpoint_files.specs.Checkpoint.{checkpoint_in}
-use Rattle.checkpoint_files.specs.Table.{IsCheckpointFile, file_size}
+use Rattle.cdg_checkpoint.specs.Checkpoint.{checkpoint_in}
+use Rattle.cdg_checkpoint.specs.Table.{IsCheckpointFile, file_size}
 use Rattle.cdg_checkpoint.specs.Saved.{Saves}
 use Rattle.cdg_checkpoint.specs.Resumed.{IsAcceptedBy, IsResumedBy, Resumes, acceptance}
 use Rattle.cdg_checkpoint.specs.declared.stops.Resumed.{Resumed}

@@ -3,7 +3,7 @@
 use Rattle.std.specs.Prelude.{◌≡◌, ◌⊎◌, ◌<◌, ◌≤◌, length, IfSome}
 use Rattle.std.specs.Io.KnownBytes.{IsAtEnd}
 use Rattle.cdg_io.specs.Change.{Input}
-use Rattle.checkpoint_files.specs.Table.{file_size}
+use Rattle.cdg_checkpoint.specs.Table.{file_size}
 use Rattle.rw_merge.specs.Merging.{EndIsTold, EndIsUntold, EndsAtStop}
 use Rattle.rw_merge.specs.declared.merge.MergeStop.TheVariants as merge
 use Rattle.text_lines.specs.Text.{most_text_bytes}

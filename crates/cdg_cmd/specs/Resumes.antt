@@ -2,8 +2,8 @@
 use Rattle.std.specs.Prelude.{◌≡◌, ℕ, ◌≤◌, ◌-◌, ◌/◌, List, [], ◌++◌, length, Some, Result, Ok, Err}
 use Rattle.std.specs.Io.KnownBytes.{Appends}
 use Rattle.raw_subcode.specs.declared.form.Form.TheVariants.{Raw}
-use Rattle.checkpoint_files.specs.Checkpoint.{checkpoint_in}
-use Rattle.checkpoint_files.specs.Table.{IsCheckpointFile}
+use Rattle.cdg_checkpoint.specs.Checkpoint.{checkpoint_in}
+use Rattle.cdg_checkpoint.specs.Table.{IsCheckpointFile}
 use Rattle.cdg_checkpoint.specs.Resumed.{IsResumed, IsResumedBy}
 use Rattle.cdg_checkpoint.specs.declared.stops.Resumed.{Resumed}
 use Rattle.cdg_checkpoint.specs.declared.stops.ResumeStop.{ResumeStop}

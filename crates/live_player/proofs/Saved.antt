@@ -12,10 +12,9 @@ use Rattle.rw_code.specs.Finding.{finding}
 use Rattle.rw_interleave.specs.Gathering.{gather_next, kept_symbols}
 use Rattle.rw_interleave.specs.Interleave.{whole_packs}
 use Rattle.rw_interleave.specs.Stream.{form_word}
-use Rattle.checkpoint_files.specs.Checkpoint.{Checkpoint, checkpoint_in, file_of}
-use Rattle.checkpoint_files.specs.Sound.{IsSoundCheckpoint, IsSoundStanding}
-use Rattle.checkpoint_files.specs.Table.{IsCheckpointFile, empty_symbols}
-use Rattle.checkpoint_files.proofs.Accepted.{accepted, same}
+use Rattle.cdg_checkpoint.specs.Checkpoint.{Checkpoint, checkpoint_in, file_of, IsSoundCheckpoint, IsSoundStanding}
+use Rattle.cdg_checkpoint.specs.Table.{IsCheckpointFile, empty_symbols}
+use Rattle.cdg_checkpoint.proofs.Accepted.{accepted, same}
 use Rattle.stream_stages.specs.Steps.{fresh_words, slots_of, words_next}
 use Rattle.stream_stages.proofs.Slots.{length-all_slots, length-all_symbols, sized_drop, symbols_small}
 use Rattle.stream_stages.proofs.StageRuns.{window_run}

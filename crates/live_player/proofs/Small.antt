@@ -19,7 +19,7 @@ use Rattle.cdg_instructions.specs.declared.instr.Instr.{Instr}
 use Rattle.cdg_instructions.specs.declared.instr.Instr.TheVariants.{Idle, Foreign, Unknown, MemoryPreset, BorderPreset, SetTile, XorTile, ScrollPreset, ScrollCopy, Transparency, ColoursLow, ColoursHigh}
 use Rattle.cdg_instructions.proofs.Meaning.{meaning_means}
 use Rattle.cdg_screen.specs.Standing.{blank, standing_after}
-use Rattle.checkpoint_files.specs.Sound.{IsSoundStanding}
+use Rattle.cdg_checkpoint.specs.Checkpoint.{IsSoundStanding}
 use Rattle.stream_stages.proofs.Slots.{symbols_small}
 use Rattle.cdg_checkpoint.proofs.GoneOn.{gathered_word}
 use Rattle.cdg_checkpoint.proofs.Meant.{IsSmall, sound_after}

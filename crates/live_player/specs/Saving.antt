@@ -2,7 +2,7 @@
 use Rattle.std.specs.Prelude.{◌≡◌, ◌+◌, ◌-◌, [], min}
 use Rattle.cdg_checkpoint.specs.Resumed.{saved_slots}
 use Rattle.cdg_io.specs.Run.{run_state}
-use Rattle.checkpoint_files.specs.Checkpoint.{Checkpoint}
+use Rattle.cdg_checkpoint.specs.Checkpoint.{Checkpoint}
 use Rattle.raw_subcode.specs.declared.form.Form.TheVariants.{Raw}
 use Rattle.rw_interleave.specs.Gathering.{gather_next, kept_symbols}
 use Rattle.live_player.specs.Lives.{standing_on}

@@ -5,13 +5,13 @@ ghost use Rattle.raw_subcode.specs.Sizes.{most_units};
 ghost use Rattle.raw_subcode.specs.declared.form.Form.{Form};
 ghost use Rattle.live_player.specs.Lives.{Given, HasPlayed, blocks_in};
 ghost use Rattle.live_player.specs.declared.live.LivePlayer.{LivePlayer};
-ghost use Rattle.checkpoint_files.specs.Checkpoint.{checkpoint_in, file_of};
-ghost use Rattle.checkpoint_files.specs.Table.{IsCheckpointFile};
+ghost use Rattle.cdg_checkpoint.specs.Checkpoint.{checkpoint_in, file_of};
+ghost use Rattle.cdg_checkpoint.specs.Table.{IsCheckpointFile};
 ghost use Rattle.live_player.specs.Saving.{checkpoint_of, IsAt};
 
 use crate::LivePlayer;
 use cdg_checkpoint::gathered_slots;
-use checkpoint_files::{PlainFile, StreamCounts};
+use cdg_checkpoint::{PlainFile, StreamCounts};
 use raw_subcode::Form;
 
 impl LivePlayer {

@@ -4,8 +4,8 @@ use mir.Val.{to_z, of_z}
 use mir.Syntax.{w32}
 use Rattle.std.specs.Prelude.{pos, negsuc}
 use Rattle.std.specs.List.{AllByRecursion}
-use Rattle.checkpoint_files.specs.Checkpoint.{Checkpoint, checkpoint_in, file_of}
-use Rattle.checkpoint_files.specs.Table.{IsBadAt, IsCheckpointFile, IsPartInRange, LeadIn, Part, Program, ToCome, number}
+use Rattle.cdg_checkpoint.specs.Checkpoint.{Checkpoint, checkpoint_in, file_of}
+use Rattle.cdg_checkpoint.specs.Table.{IsBadAt, IsCheckpointFile, IsPartInRange, LeadIn, Part, Program, ToCome, number}
 use Rattle.disc_time.specs.Counts.{most_lead_in}
 use Rattle.raw_subcode.specs.Sizes.{most_units}
 use Rattle.raw_subcode.specs.declared.form.Form.TheVariants.{Raw}

@@ -1,7 +1,7 @@
 -- Players and the files of their checkpoints.
 use Rattle.std.specs.Prelude.{◌≡◌, ◌≢◌, ◌⊎◌, ◌<◌, ℕ, List, [], ◌∷◌}
-use Rattle.checkpoint_files.specs.Checkpoint.{checkpoint_in, file_of}
-use Rattle.checkpoint_files.specs.Table.{IsCheckpointFile}
+use Rattle.cdg_checkpoint.specs.Checkpoint.{checkpoint_in, file_of}
+use Rattle.cdg_checkpoint.specs.Table.{IsCheckpointFile}
 use Rattle.disc_time.specs.Counts.{most_lead_in}
 use Rattle.raw_subcode.specs.Sizes.{most_units}
 use Rattle.raw_subcode.specs.declared.form.Form.TheVariants.{Raw}

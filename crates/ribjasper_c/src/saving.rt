@@ -3,8 +3,8 @@ ghost use Rattle.std.specs.Prelude.{◌≡◌, ◌≢◌, ◌≤◌, ◌<◌, �
 ghost use Rattle.disc_time.specs.Counts.{most_lead_in};
 ghost use Rattle.raw_subcode.specs.Sizes.{most_units};
 ghost use Rattle.raw_subcode.specs.declared.form.Form.{Form};
-ghost use Rattle.checkpoint_files.specs.Checkpoint.{checkpoint_in};
-ghost use Rattle.checkpoint_files.specs.Table.{IsBadAt, IsCheckpointFile};
+ghost use Rattle.cdg_checkpoint.specs.Checkpoint.{checkpoint_in};
+ghost use Rattle.cdg_checkpoint.specs.Table.{IsBadAt, IsCheckpointFile};
 ghost use Rattle.live_player.specs.Saving.{IsAt};
 ghost use Rattle.live_player.specs.Lives.{Given, HasPlayed, blocks_in};
 ghost use Rattle.live_player.specs.declared.live.LivePlayer.{LivePlayer};
@@ -13,8 +13,8 @@ ghost use Rattle.ribjasper_c.specs.Saving.{CannotBeSaved, IsSavedAs, IsTooLong, 
 
 use crate::Playing;
 use crate::answers::{DONE, NO_MEMORY, NOT_DONE, REFUSED};
+use cdg_checkpoint::{CheckpointFile, FILE_BYTES, files_are_read_back, judge};
 use cdg_io::SteadySource;
-use checkpoint_files::{CheckpointFile, FILE_BYTES, files_are_read_back, judge};
 use disc_time::MOST_LEAD_IN;
 use live_player::{LivePlayer, a_saved_player_goes_on};
 use raw_subcode::{Form, MOST_UNITS};

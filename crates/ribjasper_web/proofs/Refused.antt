@@ -1,8 +1,8 @@
 -- Files of checkpoints, and what is none.
 use Rattle.std.proofs.Common.{◌≡◌, ℕ, List, [], ◌∷◌, ◌++◌, subst, sym}
 use Rattle.std.specs.List.{AllByRecursion}
-use Rattle.checkpoint_files.specs.Checkpoint.{file_of}
-use Rattle.checkpoint_files.specs.Table.{IsBadAt, IsCheckpointFile, IsPartInRange, Part}
+use Rattle.cdg_checkpoint.specs.Checkpoint.{file_of}
+use Rattle.cdg_checkpoint.specs.Table.{IsBadAt, IsCheckpointFile, IsPartInRange, Part}
 use Rattle.live_player.specs.Saving.{checkpoint_of}
 use Rattle.live_player.specs.declared.live.LivePlayer.{LivePlayer}
 

@@ -1,14 +1,14 @@
 // A player that is saved, and one that goes to where another was saved.
 ghost use Rattle.std.specs.Prelude.{◌≡◌, ◌≢◌, ◌⊎◌, ◌↔◌, pos, negsuc};
-ghost use Rattle.checkpoint_files.specs.Checkpoint.{checkpoint_in, file_of};
-ghost use Rattle.checkpoint_files.specs.Table.{IsBadAt, IsCheckpointFile};
+ghost use Rattle.cdg_checkpoint.specs.Checkpoint.{checkpoint_in, file_of};
+ghost use Rattle.cdg_checkpoint.specs.Table.{IsBadAt, IsCheckpointFile};
 ghost use Rattle.live_player.specs.Saving.{checkpoint_of, IsAt};
 ghost use Rattle.ribjasper_web.specs.Players.{player_of};
 
 use crate::state::{PlainWords, WebPlayer};
 use cdg_checkpoint::gathered_slots;
 use cdg_io::SteadySource;
-use checkpoint_files::{FILE_BYTES, PlainFile, StreamCounts};
+use cdg_checkpoint::{FILE_BYTES, PlainFile, StreamCounts};
 use raw_subcode::Form;
 use stream_stages::BlockWords;
 

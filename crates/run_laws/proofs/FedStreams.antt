@@ -20,14 +20,14 @@ use Rattle.cdg_instructions.specs.declared.instr.Instr.{Instr}
 use Rattle.cdg_instructions.proofs.Meaning.{only_meaning}
 use Rattle.cdg_screen.specs.Standing.{blank, standing_after}
 use Rattle.cdg_screen.proofs.Turns.{whole_after}
-use Rattle.checkpoint_files.specs.Checkpoint.{Checkpoint, checkpoint_in, file_of}
+use Rattle.cdg_checkpoint.specs.Checkpoint.{Checkpoint, checkpoint_in, file_of}
 use Rattle.stream_stages.specs.Screen.{AreMeant}
 use Rattle.stream_stages.specs.Steps.{fresh_words, words_next}
 use Rattle.stream_stages.proofs.Conversion.{length-units_of, units_sized}
 use Rattle.stream_stages.proofs.FormWords.{found_in, recovered}
 use Rattle.stream_stages.proofs.Slots.{Sized, length-all_symbols, sized_drop, symbols_small}
 use Rattle.stream_stages.proofs.Views.{whole_taken}
-use Rattle.cdg_checkpoint.specs.Cut.{IsFirstPart}
+use Rattle.cdg_checkpoint.specs.Resumed.{IsFirstPart}
 use Rattle.cdg_checkpoint.specs.Saved.{IsCheckpointOf, IsSaved, last_symbols}
 use Rattle.cdg_checkpoint.proofs.GoneOn.{gathered_word}
 use Rattle.cdg_checkpoint.proofs.SavedStreams.{blocks_are}

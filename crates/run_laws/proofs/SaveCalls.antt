@@ -10,7 +10,7 @@ use Rattle.cdg_io.specs.declared.pumping.PumpStop.TheVariants as pump
 use Rattle.cdg_io.proofs.Frames.{passing}
 use Rattle.stream_stages.proofs.Restoring.{taken_all}
 use Rattle.stream_stages.proofs.Views.{done_tests, not_over, zero_rest}
-use Rattle.cdg_checkpoint.specs.Cut.{IsFirstPart}
+use Rattle.cdg_checkpoint.specs.Resumed.{IsFirstPart}
 use Rattle.cdg_checkpoint.specs.Saved.{IsSaved, Saves}
 use Rattle.cdg_cmd.specs.Resumes.{IsSaveOf}
 use Rattle.cdg_cmd.specs.Stops.{pump_status}

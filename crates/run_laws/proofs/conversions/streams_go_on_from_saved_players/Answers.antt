@@ -1,4 +1,4 @@
-use Rattle.checkpoint_files.specs.Checkpoint.{file_of}
+use Rattle.cdg_checkpoint.specs.Checkpoint.{file_of}
 use Rattle.live_player.specs.Saving.{checkpoint_of}
 use Rattle.run_laws.proofs.FedStreams.{player_is_saved}
 use Rattle.run_laws.proofs.SaveCalls.{save_of}

@@ -1,7 +1,7 @@
 use Rattle.std.proofs.Common.{◌-◌, ◌+◌, ◌≤◌, ap, ap₂, arith, refl, sym, subst, Result, Err}
 use Rattle.cdg_io.specs.declared.pumping.Pumped.{Pumped}
 use Rattle.cdg_io.specs.declared.pumping.PumpStop.{PumpStop}
-use Rattle.checkpoint_files.specs.Checkpoint.{checkpoint_in}
+use Rattle.cdg_checkpoint.specs.Checkpoint.{checkpoint_in}
 use Rattle.cdg_checkpoint.proofs.Reached.{brought_back, goes_on, reached_by, sound_file, torn_by}
 use Rattle.cdg_checkpoint.proofs.Stopping.{ends_as_reached, first_is_not_past, gone_on_to_stop, reached_is_not, write_is_not_past}
 use Rattle.cdg_checkpoint.proofs.OtherStops.{done_no_read, fault_by, is_read, long_by, long_no_first, long_no_read, long_no_second, long_no_write, long_told, read_told, second_is_not_past, second_no_first, second_no_write, torn_no_first, torn_no_read, torn_no_second, torn_no_write, torn_told}

@@ -1,5 +1,5 @@
 use Rattle.std.proofs.Common.{refl, arith}
-use Rattle.checkpoint_files.specs.Checkpoint.{kept}
+use Rattle.cdg_checkpoint.specs.Checkpoint.{kept}
 use Rattle.cdg_checkpoint.proofs.checkpointer.Checkpointer.keep.Goals as goal
 
 pub returns : goal.returns

@@ -1,5 +1,5 @@
 use Rattle.std.proofs.Common.{refl}
-use Rattle.checkpoint_files.specs.Checkpoint.{checkpoint_in}
+use Rattle.cdg_checkpoint.specs.Checkpoint.{checkpoint_in}
 use Rattle.cdg_checkpoint.proofs.Written.{shows_done, shows_cut, shows_stop}
 use Rattle.cdg_checkpoint.proofs.Stopping.{all_resumed_by}
 use Rattle.cdg_checkpoint.proofs.OtherStops.{done_no_stop, no_less, unwritten_by, write_no_first, write_no_second}

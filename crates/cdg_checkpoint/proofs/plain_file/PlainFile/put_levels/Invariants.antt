@@ -1,0 +1,14 @@
+use Rattle.cdg_screen.specs.Memory.{seen}
+use Rattle.std.proofs.Common.{◌≡◌, ◌+◌, ◌++◌, List, ℕ, length}
+use Rattle.cdg_checkpoint.specs.Table.{Levels}
+use Rattle.cdg_checkpoint.specs.Checkpoint.{kept}
+use Rattle.cdg_checkpoint.specs.declared.fields.StreamCounts.{StreamCounts}
+use Rattle.cdg_checkpoint.proofs.Writing.{first_fields}
+use Rattle.cdg_checkpoint.proofs.plain_file.PlainFile.put_levels.Given as goal
+
+abbrev pub invariant-loop-k : goal.invariant-loop-k
+invariant-loop-k l = record {
+  size : length l.self ≡ length l.fn.self + l.k;
+  part : (counts : StreamCounts) (slots : List ℕ)
+      → l.self ≡ l.fn.self ++ first_fields (kept counts slots (seen l.screen)) Levels l.k;
+}

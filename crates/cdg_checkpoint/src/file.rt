@@ -1,0 +1,105 @@
+// A file on the heap.
+ghost use Rattle.std.specs.Prelude.{◌≡◌, ◌≤◌, ◌+◌, ◌<◌, [], ℕ, length, MatchResult, IfOk, OnOk, OnErr, take, drop};
+ghost use Rattle.std.specs.Io.KnownBytes.{Consumes, IsAtEnd};
+ghost use Rattle.cdg_io.specs.Causes.{HasCause, RoseOnce};
+ghost use Rattle.cdg_io.specs.Moves.{ConsumesBelow};
+ghost use Rattle.cdg_checkpoint.specs.Checkpoint.{file_of, kept, standing_in};
+ghost use Rattle.cdg_checkpoint.specs.Table.{Bad, IsBadAt, IsCheckpointFile, LeadIn, Program, ToCome, file_size, number};
+
+use crate::StreamCounts;
+use crate::plain_file::{PlainFile, SLOTS_BYTES};
+use cdg_io::{Failed, Source};
+use cdg_screen::Screen;
+use std::alloc::{AllocError, Global};
+use std::marker::Model;
+
+/// A `PlainFile` on the heap, seen as the list of its bytes. All memory is taken at the start, and what it holds cannot
+/// grow.
+#[derive(Drop)]
+pub struct CheckpointFile {
+    pub plain: Box<PlainFile>,
+}
+
+impl Model for CheckpointFile {
+    ghost use Rattle.std.specs.Prelude.{List, ℕ};
+
+    ghost Value = { List ℕ };
+
+    ghost view = { λ f. f.plain.value };
+}
+
+impl CheckpointFile {
+    /// An empty file, with memory for all of it.
+    pub fn start(alloc: Global) -> Result<CheckpointFile, AllocError>
+        ensures { IfOk result (λ f. f ≡ []) }
+    {
+        let plain = Box::new(alloc, PlainFile::empty())?;
+        Ok(CheckpointFile { plain })
+    }
+
+    /// The bytes.
+    pub fn bytes(&self) -> &[u8]
+        ensures same { result.now ≡ self.now }
+        ensures most { length result.now ≤ file_size + 1 }
+    {
+        self.plain.bytes()
+    }
+
+    /// Reads an input to its end, but at most 65,046 bytes of it.
+    ///
+    /// # Errors
+    /// `Failed` where a read failed.
+    pub fn read<S: Source>(&mut self, source: &mut S) -> Result<(), Failed>
+        // After a read that failed the file is what was taken until then.
+        ensures taken { Consumes (S.left source.old) (S.left source.new) self.new }
+        ensures most { length self.new ≤ file_size + 1 }
+        ensures fewer { OnErr result (length self.new ≤ file_size) }
+        ensures end { OnOk result (length self.new ≤ file_size → IsAtEnd (S.left source.new)) }
+        ensures part { OnErr result (ConsumesBelow (S.left source.old) (S.left source.new) (file_size + 1)) }
+        ensures cause { HasCause (S.faults source.old) (S.faults source.new) result }
+        // The end is told once, and only where the input has no more bytes than a file.
+        ensures told { OnOk result (length self.new ≤ file_size
+            → RoseOnce (S.ends source.old) (S.ends source.new)) }
+        ensures goes_on { OnOk result (file_size < length self.new → S.ends source.new ≡ S.ends source.old) }
+        ensures not_told { OnErr result (S.ends source.new ≡ S.ends source.old) }
+    {
+        self.plain.read(source)
+    }
+
+    /// Is this the file of a checkpoint?
+    ///
+    /// # Errors
+    /// The byte that shows that it is none, as `judge` says.
+    pub fn check(&self) -> Result<(), u32>
+        ensures { MatchResult result (λ _. IsCheckpointFile self.now) (IsBadAt self.now) }
+    {
+        self.plain.check()
+    }
+
+    /// The counts in a file of its full length.
+    pub fn counts(&self) -> StreamCounts
+        requires { length self.now ≡ file_size }
+        ensures to_come { result.to_come ≡ number self.now ToCome 0 }
+        ensures lead_in { result.lead_in ≡ number self.now LeadIn 0 }
+        ensures program { result.program ≡ number self.now Program 0 }
+        ensures bad { result.bad ≡ number self.now Bad 0 }
+    {
+        self.plain.counts()
+    }
+
+    /// Becomes the file of these counts, of the symbols of the last seven slots, zeros before the first, and
+    /// of what stands on the screen.
+    pub fn compose(&mut self, counts: &StreamCounts, slots: &[u8; SLOTS_BYTES], screen: &Screen)
+        ensures { self.new ≡ file_of (kept counts.now slots.now screen.now) }
+    {
+        self.plain.compose(counts, slots, &screen.plain);
+    }
+
+    /// Brings back what stood, by the file of a checkpoint.
+    pub fn bring_back(&self, screen: &mut Screen)
+        requires { IsCheckpointFile self.now }
+        ensures { screen.new ≡ standing_in self.now }
+    {
+        self.plain.bring_back(&mut screen.plain);
+    }
+}

@@ -1,0 +1,158 @@
+// The bytes of a file.
+ghost use Rattle.std.specs.Prelude.{◌≡◌, ◌<◌, ◌≤◌, ◌+◌, ◌*◌, [], ◌++◌, List, ℕ, length, MatchResult, OnOk, OnErr, drop, take};
+ghost use Rattle.std.specs.Io.KnownBytes.{Consumes, IsAtEnd};
+ghost use Rattle.cdg_io.specs.Causes.{HasCause, RoseOnce};
+ghost use Rattle.cdg_io.specs.Moves.{ConsumesBelow};
+ghost use Rattle.cdg_screen.specs.Memory.{seen};
+ghost use Rattle.raw_subcode.specs.Sizes.{symbols_a_slot};
+ghost use Rattle.rw_interleave.specs.Interleave.{packs_kept_back};
+ghost use Rattle.cdg_checkpoint.specs.Checkpoint.{checkpoint_in, standing_in};
+ghost use Rattle.cdg_checkpoint.specs.Table.{Bad, IsBadAt, IsCheckpointFile, LeadIn, Program, ToCome, file_size, number};
+
+use crate::StreamCounts;
+use crate::checking::judge;
+use crate::fields::counts_in;
+use crate::restoring::{restore, slot_in};
+use cdg_io::{Failed, Source};
+use cdg_screen::PlainScreen;
+use raw_subcode::SYMBOLS_A_SLOT;
+use rw_interleave::PACKS_KEPT_BACK;
+use std::marker::Model;
+
+/// The bytes of a checkpoint's file.
+pub const FILE_BYTES: usize = 65_045;
+
+/// The bytes of the last seven slots in it.
+pub const SLOTS_BYTES: usize = PACKS_KEPT_BACK * SYMBOLS_A_SLOT;
+
+/// The file, and the byte that shows that an input has more.
+pub(crate) const ROOM: usize = FILE_BYTES + 1;
+
+const CHUNK: usize = 4096;
+
+// Zeros. An element of a table is copied in one go.
+static EMPTY: [[u8; ROOM]; 1] = [[0; ROOM]];
+
+/// A file of at most 65,046 bytes, seen as the list of them. It is plain numbers, and stands wherever its holder does.
+#[derive(Drop)]
+pub struct PlainFile {
+    pub(crate) bytes: [u8; ROOM],
+    pub(crate) count: usize,
+}
+
+impl Model for PlainFile {
+    ghost use Rattle.std.specs.Prelude.{◌≤◌, ◌+◌, List, ℕ, take};
+    ghost use Rattle.cdg_checkpoint.specs.Table.{file_size};
+
+    ghost Value = { List ℕ };
+
+    ghost view = { λ f. take f.count f.bytes };
+
+    ghost invariant = { λ f. f.count ≤ file_size + 1 };
+}
+
+impl PlainFile {
+    /// An empty file. It is inlined, so that it is made where it will stand, and takes no stack.
+    #[inline(always)]
+    pub fn empty() -> PlainFile
+        ensures { result ≡ [] }
+    {
+        PlainFile {
+            bytes: EMPTY[0],
+            count: 0,
+        }
+    }
+
+    /// The bytes.
+    pub fn bytes(&self) -> &[u8]
+        ensures same { result.now ≡ self.now }
+        ensures most { length result.now ≤ file_size + 1 }
+    {
+        &self.bytes[..self.count]
+    }
+
+    /// Is this the file of a checkpoint?
+    ///
+    /// # Errors
+    /// The byte that shows that it is none, as `judge` says.
+    pub fn check(&self) -> Result<(), u32>
+        ensures { MatchResult result (λ _. IsCheckpointFile self.now) (IsBadAt self.now) }
+    {
+        judge(self.bytes())
+    }
+
+    /// The counts in a file of its full length.
+    pub fn counts(&self) -> StreamCounts
+        requires { length self.now ≡ file_size }
+        ensures to_come { result.to_come ≡ number self.now ToCome 0 }
+        ensures lead_in { result.lead_in ≡ number self.now LeadIn 0 }
+        ensures program { result.program ≡ number self.now Program 0 }
+        ensures bad { result.bad ≡ number self.now Bad 0 }
+    {
+        counts_in(self.bytes())
+    }
+
+    /// Slot k of the last seven of a checkpoint's file, the oldest first.
+    pub fn slot(&self, k: usize) -> [u8; SYMBOLS_A_SLOT]
+        requires file { length self.now ≡ file_size }
+        requires k { k < packs_kept_back }
+        ensures { result ≡ take symbols_a_slot (drop (symbols_a_slot * k) (checkpoint_in self.now).slots) }
+    {
+        slot_in(self.bytes(), k)
+    }
+
+    /// Brings back what stood, by the file of a checkpoint.
+    pub fn bring_back(&self, screen: &mut PlainScreen)
+        requires { IsCheckpointFile self.now }
+        ensures { seen screen.new ≡ standing_in self.now }
+    {
+        restore(screen, self.bytes());
+    }
+
+    /// Makes the file empty.
+    pub(crate) fn clear(&mut self)
+        ensures { self.new ≡ [] }
+    {
+        self.count = 0;
+    }
+
+    /// Appends bytes.
+    pub(crate) fn put(&mut self, bytes: &[u8])
+        requires { length self.old + length bytes.now ≤ file_size + 1 }
+        ensures { self.new ≡ self.old ++ bytes.now }
+    {
+        self.bytes[self.count..self.count + bytes.len()].copy_from_slice(bytes);
+        self.count += bytes.len();
+    }
+
+    /// Reads an input to its end, but at most 65,046 bytes of it.
+    ///
+    /// # Errors
+    /// `Failed` where a read failed.
+    pub fn read<S: Source>(&mut self, source: &mut S) -> Result<(), Failed>
+        // After a read that failed the file is what was taken until then.
+        ensures taken { Consumes (S.left source.old) (S.left source.new) self.new }
+        ensures most { length self.new ≤ file_size + 1 }
+        ensures fewer { OnErr result (length self.new ≤ file_size) }
+        ensures end { OnOk result (length self.new ≤ file_size → IsAtEnd (S.left source.new)) }
+        ensures part { OnErr result (ConsumesBelow (S.left source.old) (S.left source.new) (file_size + 1)) }
+        ensures cause { HasCause (S.faults source.old) (S.faults source.new) result }
+        // The end is told once, and only where the input has no more bytes than a file.
+        ensures told { OnOk result (length self.new ≤ file_size
+            → RoseOnce (S.ends source.old) (S.ends source.new)) }
+        ensures goes_on { OnOk result (file_size < length self.new → S.ends source.new ≡ S.ends source.old) }
+        ensures not_told { OnErr result (S.ends source.new ≡ S.ends source.old) }
+    {
+        let mut chunk = [0; CHUNK];
+        self.clear();
+        while self.count < ROOM {
+            let room = (ROOM - self.count).min(CHUNK);
+            let count = source.take(&mut chunk[..room])?;
+            if count == 0 {
+                return Ok(());
+            }
+            self.put(&chunk[..count]);
+        }
+        Ok(())
+    }
+}

@@ -1,5 +1,0 @@
-use Rattle.std.proofs.Common.{◌+◌, ◌<◌, ℕ, get_or}
-use Rattle.checkpoint_files.proofs.checking.check_bytes.Given as goal
-
-abbrev pub invariant-loop-k : goal.invariant-loop-k
-invariant-loop-k l = (j : ℕ) → j < l.k → get_or l.bytes (l.first + j) 0 < l.bound

@@ -1,9 +1,0 @@
-use Rattle.std.proofs.Common.{arith}
-use Rattle.checkpoint_files.proofs.SlotRanges.{file_checked}
-use Rattle.checkpoint_files.proofs.checking.judge.Goals as goal
-
-pub returns : goal.returns
-returns c =
-    file_checked c.args.bytes.now c.check_fields.result
-    (omega (arith, c.if-bytes-ne-FILE_BYTES.false))
-    c.check_fields.ensures

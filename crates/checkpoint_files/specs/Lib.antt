@@ -1,4 +1,0 @@
-pub mod Checkpoint
-pub mod Table
-pub mod Scan
-pub mod Sound
