@@ -7,8 +7,7 @@ use Rattle.rw_code.specs.Codeword.{IsCodeword, differences}
 use Rattle.rw_code.specs.Finding.{finding}
 use Rattle.stream_stages.specs.Check.{has_wrong}
 use Rattle.stream_stages.proofs.Recovers.{found_itself}
-use Rattle.block_survey.specs.Rows.{wrong_count, bad_words}
-use Rattle.block_survey.specs.Steps.{marks_of, marked_found}
+use Rattle.block_survey.specs.Rows.{wrong_count, bad_words, marks_of, marked_found}
 use Rattle.block_survey.specs.declared.counting.WordMarks.{WordMarks}
 
 -- a word more that passes a test, or does not

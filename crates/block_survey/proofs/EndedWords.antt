@@ -18,8 +18,7 @@ use Rattle.stream_stages.proofs.Slots.{Sized, sized_drop, all_slots_sized, all_s
 use Rattle.stream_stages.proofs.FormWords.{words_are}
 use Rattle.stream_stages.proofs.StageRuns.{all_items, words_run}
 use Rattle.stream_stages.proofs.Conversion.{length-units_of, units_sized, blocks_sized}
-use Rattle.block_survey.specs.Rows.{ended_words}
-use Rattle.block_survey.specs.Steps.{words_with_block}
+use Rattle.block_survey.specs.Rows.{ended_words, words_with_block}
 
 -- ---- where the blocks stand
 

@@ -1,4 +1,5 @@
+pub mod Codes
 pub mod Counts
 pub mod EndedWords
-pub mod Rows
 pub mod Sums
+pub mod Tallies

@@ -1,11 +1,11 @@
 -- The rows of a stream add up to what is counted of all of it.
-use Rattle.std.proofs.Common.{◌≡◌, ℕ, zero, suc, ◌+◌, ◌-◌, ◌/◌, ◌<◌, ◌≤◌, Bool, false, List, [], ◌∷◌, ◌++◌, length, get_or, map, drop, Some, None, refl, sym, ap, ap₂, ◌∙◌, arith, length-drop, Result, Ok, Err}
+use Rattle.std.proofs.Common.{◌≡◌, ℕ, zero, suc, ◌+◌, ◌-◌, ◌/◌, ◌<◌, ◌≤◌, Bool, false, List, [], ◌∷◌, ◌++◌, length, get_or, map, drop, Some, None, refl, sym, ap, ap₂, ◌∙◌, arith, length-drop, Result, Ok, Err, set, take}
 use Rattle.std.specs.Prelude.{if◌then◌else◌, nat_le, count_by, sum_by, is_none, is_ok, is_err, min}
 use Rattle.std.specs.declared.option.Option.{Option}
 use Rattle.std.specs.List.{range_with_len, zip}
-use Rattle.std.proofs.lemmas.List.{ext_get_or, length-map, get_or-map}
+use Rattle.std.proofs.lemmas.List.{ext_get_or, length-map, get_or-map, take_more_set, drop-set-lt, drop-drop}
 use Rattle.std.proofs.lemmas.List.Sums.{sum_by-cons}
-use Rattle.std.proofs.lemmas.List.FromFn.{length-map-range_with_len, get_or-map-range_with_len, fill_by_all, sum_by-map-range_with_len_more}
+use Rattle.std.proofs.lemmas.List.FromFn.{length-map-range_with_len, get_or-map-range_with_len, fill_by_all, sum_by-map-range_with_len_more, map-range_with_len_more}
 use Rattle.bit_lists.specs.Counting.{below, whole_parts}
 use Rattle.rw_code.specs.Finding.{finding}
 use Rattle.rw_code.proofs.Finding.{only_finding}
@@ -25,8 +25,7 @@ use Rattle.q_channel.specs.declared.frame.QFault.TheVariants.{BadCrc, BadField}
 use Rattle.stream_stages.specs.Check.{has_wrong, stream_lines, wrong_lines, pack_count_lines, frame_count_lines, found_passes, is_idle, is_graphics, is_unknown, is_foreign, check_text, IsCheckListed}
 use Rattle.stream_stages.proofs.Slots.{Sized, sized_drop, symbols_small, length-all_symbols}
 use Rattle.stream_stages.proofs.Conversion.{units_sized, blocks_sized}
-use Rattle.block_survey.specs.Rows.{kind_told, row_of_block, ended_words, survey_rows}
-use Rattle.block_survey.specs.Sums.{tells_frame, tells_refusal, AddUpTo}
+use Rattle.block_survey.specs.Rows.{kind_told, row_of_block, ended_words, survey_rows, tells_frame, tells_refusal, AddUpTo}
 use Rattle.block_survey.specs.declared.surveying.BlockRow.{BlockRow}
 use Rattle.block_survey.proofs.EndedWords.{length-blocks}
 
@@ -306,3 +305,20 @@ add_up form lead_in bytes text bad listed =
       text_is = listed.text_is ∙ same_lines _ _ _ _ _ _ _ _ _ _ _ _ _ _ clean one two none good refused;
       bad_is = listed.bad_is ∙ none;
     }
+
+pub one_more : {X : Type 0} (f : ℕ → X) (rows : List X) (b : ℕ) (row : X) → b < length rows
+    → take b rows ≡ map f (below b) → row ≡ f b
+    → take (b + 1) (set rows b row) ≡ map f (below (b + 1))
+one_more {X = X} f rows b row lt done is =
+    take_more_set rows b row lt
+    ∙ ap (λ (l : List X). l ++ row ∷ []) done
+    ∙ ap (λ (r : X). map f (below b) ++ r ∷ []) is
+    ∙ sym (map-range_with_len_more f 0 b b (omega arith))
+
+pub one_less : {X : Type 0} (old rows : List X) (b : ℕ) (row : X) → drop b rows ≡ drop b old
+    → drop (b + 1) (set rows b row) ≡ drop (b + 1) old
+one_less {X = X} old rows b row rest =
+    drop-set-lt (b + 1) rows b row (omega arith)
+    ∙ sym (drop-drop 1 b rows)
+    ∙ ap (λ (l : List X). drop 1 l) rest
+    ∙ drop-drop 1 b old

@@ -1,5 +1,5 @@
--- One row for each block of a stream: what is found where.
-use Rattle.std.specs.Prelude.{ℕ, suc, ◌-◌, ◌/◌, ◌==◌, if◌then◌else◌, List, [], length, map, count_by, slice_index_or, Option, Some, None, is_none, Result, Ok, Err}
+-- One row for each block of a stream: what is found where, how the words of a block are counted, and what rows add up to.
+use Rattle.std.specs.Prelude.{ℕ, suc, ◌-◌, ◌/◌, ◌==◌, if◌then◌else◌, List, [], length, map, count_by, slice_index_or, Option, Some, None, is_none, Result, Ok, Err, ◌+◌, ◌≡◌, Bool, nat_le, ◌++◌, sum_by}
 use Rattle.std.specs.List.{list_all, range_with_len}
 use Rattle.bit_lists.specs.Counting.{below}
 use Rattle.rw_code.specs.Finding.{finding}
@@ -12,10 +12,12 @@ use Rattle.q_channel.specs.declared.frame.QFrame.{QFrame}
 use Rattle.q_channel.specs.declared.frame.QFrame.TheVariants.{Program}
 use Rattle.q_channel.specs.declared.frame.QFault.{QFault}
 use Rattle.q_channel.specs.declared.frame.QFault.TheVariants.{BadCrc, BadField}
-use Rattle.plain_frames.specs.Plain.{plain_of, plain_kind}
-use Rattle.plain_frames.specs.declared.plain.PlainFrame.{PlainFrame}
-use Rattle.stream_stages.specs.Check.{has_wrong}
+use Rattle.block_survey.specs.Plain.{plain_of, plain_kind}
+use Rattle.block_survey.specs.declared.plain.PlainFrame.{PlainFrame}
+use Rattle.stream_stages.specs.Check.{has_wrong, wrong_lines, frame_count_lines}
 use Rattle.block_survey.specs.declared.surveying.BlockRow.{BlockRow}
+use Rattle.arrayvec.specs.ArrayVec.{ArrayVec}
+use Rattle.block_survey.specs.declared.counting.WordMarks.{WordMarks}
 
 -- what stands in place of an absolute time
 abbrev pub no_time : ℕ
@@ -82,3 +84,45 @@ row_of_block form lead_in bytes b =
 -- a row for each whole block of a stream
 abbrev pub survey_rows : Form → ℕ → List ℕ → List BlockRow
 survey_rows form lead_in bytes = map (row_of_block form lead_in bytes) (below (length bytes / unit_size form))
+
+-- the words that were given, if any were
+abbrev pub words_with_block : Option (ArrayVec (List ℕ)) → List (List ℕ)
+words_with_block (Some words) = words.items
+words_with_block None = []
+
+-- the counts of some words
+abbrev pub marks_of : List (List ℕ) → WordMarks
+marks_of words = record {
+  clean = wrong_count 0 words;
+  one = wrong_count 1 words;
+  two = wrong_count 2 words;
+  bad = bad_words words;
+}
+
+-- the counts after a word for which this is found
+abbrev pub marked_found : WordMarks → List ℕ → Option (List ℕ) → WordMarks
+marked_found s word found = record {
+  clean = s.clean + (if has_wrong 0 (word, found) then 1 else 0);
+  one = s.one + (if has_wrong 1 (word, found) then 1 else 0);
+  two = s.two + (if has_wrong 2 (word, found) then 1 else 0);
+  bad = s.bad + (if is_none found then 1 else 0);
+}
+
+-- whether a row tells a frame
+abbrev pub tells_frame : BlockRow → Bool
+tells_frame row = nat_le row.q 7
+
+-- whether a row tells that a frame is refused
+abbrev pub tells_refusal : BlockRow → Bool
+tells_refusal row = nat_le 254 row.q
+
+-- Lines of `check` whose counts of wrong symbols and of frames are the sums of rows. The lines before them tell how many
+-- blocks and words there are, and those between what the packs hold.
+pub record AddUpTo (rows : List BlockRow) (text : List ℕ) (bad : ℕ) : Type 0 where
+  pub before : List ℕ
+  pub between : List ℕ
+  pub text_is : text ≡ before
+      ++ (wrong_lines (sum_by (λ row. row.clean) rows) (sum_by (λ row. row.one) rows)
+      (sum_by (λ row. row.two) rows) (sum_by (λ row. row.bad) rows)
+      ++ (between ++ frame_count_lines (count_by tells_frame rows) (count_by tells_refusal rows)))
+  pub bad_is : bad ≡ sum_by (λ row. row.bad) rows

@@ -3,7 +3,7 @@ ghost use Rattle.std.specs.Prelude.{◌≡◌, ◌<◌, ◌≤◌, [], Some, len
 ghost use Rattle.rw_code.specs.Codeword.{IsNear, differences};
 ghost use Rattle.rw_code.specs.Finding.{finding};
 ghost use Rattle.rw_code.specs.Packs.{idle_pack};
-ghost use Rattle.block_survey.specs.Steps.{marked_found, marks_of};
+ghost use Rattle.block_survey.specs.Rows.{marked_found, marks_of};
 
 use rw_code::{Fixed, Pack, Word, correct};
 use stream_stages::BlockOfWords;
@@ -29,7 +29,6 @@ impl WordMarks {
         }
     }
 
-    // Four idle packs, with nothing wrong.
     fn four_idle() -> WordMarks
         ensures { result ≡ marks_of (replicate 4 idle_pack) }
     {
@@ -77,7 +76,6 @@ impl WordMarks {
         }
     }
 
-    // Counts a word that is near a codeword.
     #[inline]
     fn add_fixed(&mut self, fixed: &Fixed, word: &Word)
         requires clean { self.old.clean < 255 }

@@ -2,19 +2,18 @@
 ghost use Rattle.std.specs.Prelude.{◌≡◌, Some, Ok};
 ghost use Rattle.q_channel.specs.declared.frame.QFrame.TheVariants.{Toc};
 ghost use Rattle.block_survey.specs.Rows.{fields_told, kind_told, reading_in, time_told};
-ghost use Rattle.plain_frames.specs.Plain.{plain_of};
+ghost use Rattle.block_survey.specs.Plain.{plain_of};
 
-use crate::NO_TIME;
+use crate::plain::kinds;
+use crate::surveying::NO_TIME;
 use q_channel::{QFault, QFrame, TocPoint, decode};
 use raw_subcode::{BLOCK_BYTES, Block, Form};
 
 // Nothing is read: the packs of a stream have no frames.
 const NOT_READ: u8 = 253;
 
-// A field is out of its range.
 const BAD_FIELD: u8 = 254;
 
-// The check is wrong.
 const BAD_CHECK: u8 = 255;
 
 /// What is told of the Q channel of a block.
@@ -71,15 +70,15 @@ impl FrameMark {
                 absolute,
                 ..
             } => FrameMark {
-                kind: 0,
+                kind: kinds::PROGRAM as u8,
                 track: *track,
                 index: *index,
                 absolute: absolute.block(),
             },
             QFrame::Toc { point, .. } => FrameMark::of_point(point),
-            QFrame::Catalogue { .. } => FrameMark::none(5),
-            QFrame::Isrc { .. } => FrameMark::none(6),
-            QFrame::Other { .. } => FrameMark::none(7),
+            QFrame::Catalogue { .. } => FrameMark::none(kinds::CATALOGUE as u8),
+            QFrame::Isrc { .. } => FrameMark::none(kinds::CODE as u8),
+            QFrame::Other { .. } => FrameMark::none(kinds::OTHER as u8),
         }
     }
 
@@ -90,10 +89,10 @@ impl FrameMark {
         ensures absolute { result.absolute ≡ 4294967295 }
     {
         match point {
-            TocPoint::Track { number, .. } => FrameMark::of_entry(1, *number),
-            TocPoint::First { track, .. } => FrameMark::of_entry(2, *track),
-            TocPoint::Last { track } => FrameMark::of_entry(3, *track),
-            TocPoint::LeadOut { .. } => FrameMark::none(4),
+            TocPoint::Track { number, .. } => FrameMark::of_entry(kinds::TRACK as u8, *number),
+            TocPoint::First { track, .. } => FrameMark::of_entry(kinds::FIRST as u8, *track),
+            TocPoint::Last { track } => FrameMark::of_entry(kinds::LAST as u8, *track),
+            TocPoint::LeadOut { .. } => FrameMark::none(kinds::LEAD_OUT as u8),
         }
     }
 
@@ -110,7 +109,6 @@ impl FrameMark {
         }
     }
 
-    // What is told of the Q bits of a block.
     #[inline]
     fn read(block: &[u8; BLOCK_BYTES]) -> FrameMark
         ensures kind { result.kind ≡ kind_told (reading_in Form.Raw block.now) }

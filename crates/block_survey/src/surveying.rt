@@ -6,9 +6,7 @@ ghost use Rattle.raw_subcode.specs.Sizes.{block_bytes};
 ghost use Rattle.raw_subcode.specs.declared.form.Form.{Form};
 ghost use Rattle.stream_stages.specs.Check.{IsCheckListed};
 ghost use Rattle.stream_stages.specs.Steps.{words_give, words_next};
-ghost use Rattle.block_survey.specs.Rows.{row_with, survey_rows};
-ghost use Rattle.block_survey.specs.Steps.{marks_of, words_with_block};
-ghost use Rattle.block_survey.specs.Sums.{AddUpTo};
+ghost use Rattle.block_survey.specs.Rows.{row_with, survey_rows, marks_of, words_with_block, AddUpTo};
 
 use crate::counting::WordMarks;
 use crate::reading::FrameMark;
@@ -78,7 +76,6 @@ fn next_row(form: Form, words: &mut BlockWords, block: &[u8; BLOCK_BYTES]) -> Bl
     }
 }
 
-// What is counted of the words that end with the next block.
 #[inline]
 fn marks_with(words: &mut BlockWords, block: &[u8; BLOCK_BYTES]) -> WordMarks
     ensures next { words.new ≡ words_next words.old block.now }
@@ -90,7 +87,6 @@ fn marks_with(words: &mut BlockWords, block: &[u8; BLOCK_BYTES]) -> WordMarks
     }
 }
 
-// Whether all bytes of a block are zero.
 #[inline]
 fn is_empty(block: &[u8; BLOCK_BYTES]) -> bool
     ensures { result ≡ list_all (λ byte. byte == 0) block.now }
@@ -119,7 +115,6 @@ pub fn block_at(form: Form, stream: &[u8], b: usize) -> [u8; BLOCK_BYTES]
     bytes_at(stream, size * b + size - BLOCK_BYTES)
 }
 
-// As many bytes as a block has, from one on.
 #[inline]
 fn bytes_at(stream: &[u8], at: usize) -> [u8; BLOCK_BYTES]
     requires { at + block_bytes ≤ length stream.now }

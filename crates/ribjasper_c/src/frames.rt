@@ -2,13 +2,13 @@
 ghost use Rattle.std.specs.Prelude.{◌≡◌, ◌≢◌, ◌↔◌, ◌⊎◌, IfSome, Some, Err, pos, negsuc, take, drop};
 ghost use Rattle.bit_lists.specs.Bits.{bits_of_bytes};
 ghost use Rattle.bit_lists.specs.Check.{check_bits};
-ghost use Rattle.plain_frames.specs.Plain.{frame_of_plain, plain_of};
+ghost use Rattle.block_survey.specs.Plain.{frame_of_plain, plain_of};
 ghost use Rattle.q_channel.specs.QReading.{IsReading};
 ghost use Rattle.q_channel.specs.QFrame.{IsFrame, IsValid};
 ghost use Rattle.q_channel.specs.declared.frame.QFault.TheVariants.{BadField};
 ghost use Rattle.q_channel.specs.declared.frame.QFrame.{QFrame};
 
-use plain_frames::{PlainFrame, frame_of, plain_of};
+use block_survey::{PlainFrame, frame_of, plain_of};
 use q_channel::{QFault, decode, encode};
 
 /// Reads the twelve bytes of a frame. 0, or 1 where the check is wrong, or 2 where a field is out of its

@@ -4,14 +4,14 @@ ghost use Rattle.live_player.specs.Lives.{Given};
 ghost use Rattle.live_player.specs.Lives.Given.{Fed};
 ghost use Rattle.live_player.specs.Steps.{TakesBlock, words_come};
 ghost use Rattle.live_player.specs.declared.live.LivePlayer.{LivePlayer};
-ghost use Rattle.player_tally.specs.Tallies.{tallied, IsTallyOf};
+ghost use Rattle.block_survey.specs.Tallies.{tallied, IsTallyOf};
 ghost use Rattle.raw_subcode.specs.declared.form.Form.{Form};
 ghost use Rattle.ribjasper_c.specs.Handles.{IsPlaying, PlayersGo};
 ghost use Rattle.stream_stages.specs.Steps.{words_give};
 
 use crate::Playing;
 use crate::answers::{DONE, NOT_DONE};
-use player_tally::{PlayerTally, feed_and_count};
+use block_survey::{PlayerTally, feed_and_count};
 use raw_subcode::BLOCK_BYTES;
 
 /// Feeds an open player the next block, and counts what came with it. 0, or -1 where it is closed.

@@ -2,10 +2,9 @@ use Rattle.std.proofs.Common.{◌≡◌, ℕ, ◌/◌, ◌<◌, List, [], length
 use Rattle.raw_subcode.specs.Channels.{unit_size, blocks_of}
 use Rattle.stream_stages.specs.Steps.{words_next, words_give}
 use Rattle.stream_stages.specs.declared.block_words.BlockWords.{BlockWords}
-use Rattle.block_survey.specs.Rows.{row_with, row_of_block, ended_words}
-use Rattle.block_survey.specs.Steps.{words_with_block}
+use Rattle.block_survey.specs.Rows.{row_with, row_of_block, ended_words, words_with_block}
 use Rattle.block_survey.proofs.EndedWords.{words_there, after_more}
-use Rattle.block_survey.proofs.Rows.{one_more, one_less}
+use Rattle.block_survey.proofs.Sums.{one_more, one_less}
 use Rattle.block_survey.proofs.surveying.survey.Goals as goal
 
 pub loop-b-preserved : goal.loop-b-preserved

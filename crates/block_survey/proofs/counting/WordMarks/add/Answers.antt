@@ -1,5 +1,5 @@
 use Rattle.std.proofs.Common.{◌∙◌, ap}
-use Rattle.block_survey.specs.Steps.{marked_found}
+use Rattle.block_survey.specs.Rows.{marked_found}
 use Rattle.stream_stages.proofs.Recovers.{found_some, found_none}
 use Rattle.block_survey.proofs.Counts.{bad_more}
 use Rattle.block_survey.proofs.counting.WordMarks.add.Goals as goal

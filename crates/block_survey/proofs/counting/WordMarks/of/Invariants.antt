@@ -1,5 +1,5 @@
 use Rattle.std.proofs.Common.{◌≡◌, ◌≤◌, length, take}
-use Rattle.block_survey.specs.Steps.{marks_of}
+use Rattle.block_survey.specs.Rows.{marks_of}
 use Rattle.block_survey.proofs.counting.WordMarks.of.Given as goal
 
 abbrev pub invariant-loop-word : goal.invariant-loop-word

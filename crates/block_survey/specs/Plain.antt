@@ -6,7 +6,7 @@ use Rattle.q_channel.specs.Sizes.{rest_bytes}
 use Rattle.q_channel.specs.declared.frame.QFrame.{QFrame}
 use Rattle.q_channel.specs.declared.frame.QFrame.TheVariants.{Program, Toc, Catalogue, Isrc, Other}
 use Rattle.q_channel.specs.declared.frame.TocPoint.TheVariants.{Track, First, Last, LeadOut}
-use Rattle.plain_frames.specs.declared.plain.PlainFrame.{PlainFrame}
+use Rattle.block_survey.specs.declared.plain.PlainFrame.{PlainFrame}
 
 -- the frame that a plain one stands for, by the number of its kind; the fields that its kind does not name are passed
 -- over

@@ -4,10 +4,10 @@ use Rattle.live_player.specs.Lives.Given.{Fed}
 use Rattle.live_player.proofs.Slots.{form_stays}
 use Rattle.stream_stages.specs.Steps.{fresh_words}
 use Rattle.raw_subcode.specs.declared.form.Form.{Form}
-use Rattle.player_tally.specs.Tallies.{tallied, IsTallyOf}
-use Rattle.player_tally.specs.declared.tally.PlayerTally.{PlayerTally}
-use Rattle.player_tally.proofs.More.{block_more}
-use Rattle.player_tally.proofs.tally.feed_and_count.Goals as goal
+use Rattle.block_survey.specs.Tallies.{tallied, IsTallyOf}
+use Rattle.block_survey.specs.declared.tally.PlayerTally.{PlayerTally}
+use Rattle.block_survey.proofs.Tallies.{block_more}
+use Rattle.block_survey.proofs.tally.feed_and_count.Goals as goal
 
 pub returns-clause-tallies : goal.returns-clause-tallies
 returns-clause-tallies c form lead_in given played so_far =

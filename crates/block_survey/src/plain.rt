@@ -29,3 +29,28 @@ pub struct PlainFrame {
     /// (7).
     pub text: [u8; CATALOGUE_DIGITS],
 }
+
+/// The numbers of the kinds.
+pub(crate) mod kinds {
+    /// A place in the program area.
+    pub(crate) const PROGRAM: u32 = 0;
+
+    /// The start of a track, in the table of contents.
+    pub(crate) const TRACK: u32 = 1;
+
+    /// The first track, and the disc's type.
+    pub(crate) const FIRST: u32 = 2;
+
+    pub(crate) const LAST: u32 = 3;
+
+    /// The start of the lead-out.
+    pub(crate) const LEAD_OUT: u32 = 4;
+
+    pub(crate) const CATALOGUE: u32 = 5;
+
+    /// The recording code of a track.
+    pub(crate) const CODE: u32 = 6;
+
+    /// Bits with no fields of their own.
+    pub(crate) const OTHER: u32 = 7;
+}

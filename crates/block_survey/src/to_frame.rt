@@ -1,16 +1,17 @@
 // The frame of a plain frame.
 ghost use Rattle.std.specs.Prelude.{◌≡◌, take};
-ghost use Rattle.plain_frames.specs.Plain.{IsValidOf, IsWhereValid};
+ghost use Rattle.block_survey.specs.Plain.{IsValidOf, IsWhereValid};
 ghost use Rattle.disc_time.specs.Fields.{isrc_characters};
 ghost use Rattle.q_channel.specs.QFrame.{IsValidPoint};
 ghost use Rattle.q_channel.specs.Sizes.{rest_bytes};
 ghost use Rattle.q_channel.specs.declared.frame.QFrame.TheVariants.{Program, Toc, Catalogue, Isrc, Other};
 ghost use Rattle.q_channel.specs.declared.frame.TocPoint.TheVariants.{Track, First, Last, LeadOut};
 
-use crate::checks::{are_capitals, are_capitals_or_digits, are_digits, is_other, is_track, time};
-use crate::{PlainFrame, kinds};
+use crate::checks::{is_code, is_other, is_track, time};
+use crate::plain::{PlainFrame, kinds};
 use disc_time::{CATALOGUE_DIGITS, CONTROL_VALUES, ISRC_CHARACTERS};
 use q_channel::{MODE_VALUES, QFrame, REST_BYTES, TocPoint};
+use text_lines::are_digits;
 
 /// The frame that a plain one stands for, where its kind is one and its fields have values that they may
 /// have.
@@ -30,7 +31,6 @@ pub fn frame_of(plain: &PlainFrame) -> Option<QFrame>
     }
 }
 
-// A frame of the program.
 fn program(plain: &PlainFrame) -> Option<QFrame>
     ensures { IsWhereValid result
         (Program plain.now.control plain.now.track plain.now.index plain.now.time plain.now.absolute) }
@@ -49,7 +49,6 @@ fn program(plain: &PlainFrame) -> Option<QFrame>
     })
 }
 
-// The entry of where a track begins.
 fn track(plain: &PlainFrame) -> Option<QFrame>
     ensures { IsWhereValid result
         (Toc plain.now.control (Track plain.now.track plain.now.absolute) plain.now.time) }
@@ -85,7 +84,6 @@ fn first_entry(plain: &PlainFrame, track: u8, kind: u8) -> Option<QFrame>
     entry(plain, TocPoint::First { track, kind })
 }
 
-// The entry of the last track.
 fn last(plain: &PlainFrame) -> Option<QFrame>
     ensures { IsWhereValid result (Toc plain.now.control (Last plain.now.track) plain.now.time) }
 {
@@ -95,7 +93,6 @@ fn last(plain: &PlainFrame) -> Option<QFrame>
     entry(plain, TocPoint::Last { track: plain.track })
 }
 
-// The entry of where the lead-out begins.
 fn lead_out(plain: &PlainFrame) -> Option<QFrame>
     ensures { IsWhereValid result (Toc plain.now.control (LeadOut plain.now.absolute) plain.now.time) }
 {
@@ -103,7 +100,6 @@ fn lead_out(plain: &PlainFrame) -> Option<QFrame>
     entry(plain, TocPoint::LeadOut { start })
 }
 
-// An entry of the table of contents.
 fn entry(plain: &PlainFrame, point: TocPoint) -> Option<QFrame>
     requires { IsValidPoint point }
     ensures { IsWhereValid result (Toc plain.now.control point plain.now.time) }
@@ -145,17 +141,7 @@ fn code(plain: &PlainFrame) -> Option<QFrame>
 fn recorded(plain: &PlainFrame, code: [u8; ISRC_CHARACTERS]) -> Option<QFrame>
     ensures { IsWhereValid result (Isrc plain.now.control code plain.now.frame) }
 {
-    if plain.control >= CONTROL_VALUES || plain.frame > 74 {
-        return None;
-    }
-    let (_, number) = code.split_at(5);
-    if !are_capitals(&code[..2]) {
-        return None;
-    }
-    if !are_capitals_or_digits(&code[2..5]) {
-        return None;
-    }
-    if !are_digits(number) {
+    if plain.control >= CONTROL_VALUES || plain.frame > 74 || !is_code(&code) {
         return None;
     }
     Some(QFrame::Isrc {

@@ -1,9 +1,9 @@
-use Rattle.std.proofs.Common.{◌≡◌, ◌-◌, ◌^◌, [], List, ℕ, refl, ap, sym}
+use Rattle.std.proofs.Common.{◌≡◌, ◌-◌, ◌^◌, [], List, ℕ, refl, ap, sym, rules}
 use Rattle.std.specs.Prelude.{min}
 use Rattle.block_survey.specs.Rows.{bad_words, wrong_count}
 use Rattle.live_player.specs.Lives.{stream_words}
 use Rattle.live_player.proofs.Words.{no_words_yet}
-use Rattle.player_tally.proofs.tally.PlayerTally.nothing.Goals as goal
+use Rattle.block_survey.proofs.tally.PlayerTally.nothing.Goals as goal
 
 pub returns : goal.returns
 returns c form lead_in =
@@ -19,5 +19,5 @@ returns c form lead_in =
       frames = refl;
       bad_frames = refl;
       frame_block = refl;
-      frame = refl;
+      frame = search rules;
     }

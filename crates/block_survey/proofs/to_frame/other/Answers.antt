@@ -1,7 +1,7 @@
 use Rattle.std.proofs.Common.{List, ℕ, subst}
 use Rattle.q_channel.specs.declared.frame.QFrame.TheVariants.{Other}
-use Rattle.plain_frames.specs.Plain.{IsWhereValid}
-use Rattle.plain_frames.proofs.to_frame.other.Goals as goal
+use Rattle.block_survey.specs.Plain.{IsWhereValid}
+use Rattle.block_survey.proofs.to_frame.other.Goals as goal
 
 pub returns : goal.returns
 returns c =

@@ -1,10 +1,11 @@
 // What may stand in a field.
-ghost use Rattle.std.specs.Prelude.{◌≡◌, ◌≤◌, ◌<◌, ◌↔◌, ◌||◌, All, IsTrue, MatchOption, true};
+ghost use Rattle.std.specs.Prelude.{◌≡◌, ◌≤◌, ◌<◌, ◌↔◌, ◌||◌, All, IsTrue, MatchOption, true, take, drop};
 ghost use Rattle.std.specs.Char.{is_ascii_digit, is_ascii_uppercase};
 ghost use Rattle.disc_time.specs.Counts.{most_tracks, time_count};
 ghost use Rattle.q_channel.specs.QFrame.{is_bcd_within, is_other, is_point};
 
-use disc_time::{MOST_TRACKS, Msf, TIME_COUNT};
+use disc_time::{ISRC_CHARACTERS, MOST_TRACKS, Msf, TIME_COUNT, from_bcd};
+use text_lines::{are_capitals, are_capitals_or_digits, are_digits};
 
 /// The time at which a block begins, where it is one of a disc.
 pub(crate) fn time(block: u32) -> Option<Msf>
@@ -22,28 +23,17 @@ pub(crate) fn is_track(number: u8) -> bool
     (1..=MOST_TRACKS).contains(&number)
 }
 
-pub(crate) fn are_digits(text: &[u8]) -> bool
-    ensures { IsTrue result ↔ All (λ c. is_ascii_digit c ≡ true) text.now }
+/// Whether it is two capital letters, three capital letters or digits, and seven digits.
+pub(crate) fn is_code(code: &[u8; ISRC_CHARACTERS]) -> bool
+    ensures { IsTrue result ↔ All (λ c. is_ascii_uppercase c ≡ true) (take 2 code.now)
+        × All (λ c. is_ascii_digit c || is_ascii_uppercase c ≡ true) (take 3 (drop 2 code.now))
+        × All (λ c. is_ascii_digit c ≡ true) (drop 5 code.now) }
 {
-    text.iter().all(|byte| byte.is_ascii_digit())
-}
-
-pub(crate) fn are_capitals(text: &[u8]) -> bool
-    ensures { IsTrue result ↔ All (λ c. is_ascii_uppercase c ≡ true) text.now }
-{
-    text.iter().all(|byte| byte.is_ascii_uppercase())
-}
-
-pub(crate) fn are_capitals_or_digits(text: &[u8]) -> bool
-    ensures { IsTrue result ↔ All (λ c. is_ascii_digit c || is_ascii_uppercase c ≡ true) text.now }
-{
-    text.iter().all(|byte| is_capital_or_digit(*byte))
-}
-
-fn is_capital_or_digit(byte: u8) -> bool
-    ensures { result ≡ is_ascii_digit byte || is_ascii_uppercase byte }
-{
-    byte.is_ascii_digit() || byte.is_ascii_uppercase()
+    if !are_capitals(&code[..2]) || !are_capitals_or_digits(&code[2..5]) {
+        return false;
+    }
+    let (_, number) = code.split_at(5);
+    are_digits(number)
 }
 
 /// Whether bits with this mode and these next two bytes have no fields of their own.
@@ -65,12 +55,9 @@ fn is_point(byte: u8) -> bool
     is_bcd_track(byte) || byte == 0xa0 || byte == 0xa1 || byte == 0xa2
 }
 
-// Whether a byte of two decimal digits is the number of a track.
 #[tactic(auto, unfolding(q_channel::specs::QFrame::is_bcd_within))]
 fn is_bcd_track(byte: u8) -> bool
     ensures { result ≡ is_bcd_within 1 99 byte }
 {
-    let (tens, ones) = (u32::from(byte / 16), u32::from(byte % 16));
-    let value = 10 * tens + ones;
-    tens <= 9 && ones <= 9 && 1 <= value && value <= 99
+    matches!(from_bcd(byte), Some(1..=MOST_TRACKS))
 }

@@ -1,10 +1,10 @@
 // The plain frame of a frame.
 ghost use Rattle.std.specs.Prelude.{◌≡◌, ◌≤◌, ◌-◌, ◌++◌, Some, length, replicate, take};
 ghost use Rattle.disc_time.specs.Fields.{catalogue_digits};
-ghost use Rattle.plain_frames.specs.Plain.{frame_of_plain, plain_kind, plain_of};
+ghost use Rattle.block_survey.specs.Plain.{frame_of_plain, plain_kind, plain_of};
 ghost use Rattle.q_channel.specs.declared.frame.QFrame.TheVariants.{Toc};
 
-use crate::{PlainFrame, kinds};
+use crate::plain::{PlainFrame, kinds};
 use disc_time::CATALOGUE_DIGITS;
 use q_channel::{QFrame, TocPoint};
 
@@ -61,7 +61,6 @@ pub fn plain_of(frame: &QFrame) -> PlainFrame
     }
 }
 
-// An entry of the table of contents, with no time.
 fn entry(control: u8, point: &TocPoint) -> PlainFrame
     ensures { result ≡ plain_of (Toc control point.now 0) }
 {
@@ -87,8 +86,8 @@ fn entry(control: u8, point: &TocPoint) -> PlainFrame
     }
 }
 
-// A frame of a kind, all else zero.
-fn of_kind(kind: u32, control: u8) -> PlainFrame
+/// A frame of a kind, all else zero.
+pub(crate) fn of_kind(kind: u32, control: u8) -> PlainFrame
     ensures { result ≡ plain_kind kind control }
 {
     PlainFrame {

@@ -11,8 +11,8 @@ use Rattle.q_channel.specs.declared.frame.QFrame.{QFrame}
 use Rattle.block_survey.specs.Rows.{reading_in}
 use Rattle.live_player.specs.Lives.{Given, blocks_in, stream_words}
 use Rattle.live_player.specs.Lives.Given.{Fed}
-use Rattle.player_tally.specs.Tallies.{tallied_count, frame_after, more_read, more_refused, place_after, read_count, refused_count, tallied, IsTallyOf}
-use Rattle.player_tally.specs.declared.tally.PlayerTally.{PlayerTally}
+use Rattle.block_survey.specs.Tallies.{tallied_count, frame_after, more_read, more_refused, place_after, read_count, refused_count, tallied, IsTallyOf}
+use Rattle.block_survey.specs.declared.tally.PlayerTally.{PlayerTally}
 
 -- a count that stays at its last value
 stays : (count a k most : ℕ) → count ≡ min a most → min (count + k) most ≡ min (a + k) most

@@ -3,12 +3,12 @@ use Rattle.std.specs.Prelude.{◌≡◌, ◌+◌, ◌-◌, ◌^◌, ℕ, List, [
 use Rattle.raw_subcode.specs.declared.form.Form.{Form}
 use Rattle.q_channel.specs.declared.frame.QFault.{QFault}
 use Rattle.q_channel.specs.declared.frame.QFrame.{QFrame}
-use Rattle.plain_frames.specs.Plain.{plain_of, plain_kind}
-use Rattle.plain_frames.specs.declared.plain.PlainFrame.{PlainFrame}
+use Rattle.block_survey.specs.Plain.{plain_of, plain_kind}
+use Rattle.block_survey.specs.declared.plain.PlainFrame.{PlainFrame}
 use Rattle.block_survey.specs.Rows.{bad_words, reading_in, wrong_count}
 use Rattle.live_player.specs.Lives.{Given, blocks_in, stream_words}
 use Rattle.live_player.specs.Lives.Given.{Drawn, Fed}
-use Rattle.player_tally.specs.declared.tally.PlayerTally.{PlayerTally}
+use Rattle.block_survey.specs.declared.tally.PlayerTally.{PlayerTally}
 
 -- a count after so many more: it stays at its last value
 abbrev pub tallied_count : ℕ → ℕ → ℕ

@@ -6,11 +6,12 @@ ghost use Rattle.live_player.specs.Lives.{Given, HasPlayed};
 ghost use Rattle.live_player.specs.Lives.Given.{Fed};
 ghost use Rattle.live_player.specs.Steps.{TakesBlock, words_come};
 ghost use Rattle.stream_stages.specs.Steps.{words_give};
-ghost use Rattle.player_tally.specs.Tallies.{tallied_count, frame_after, more_read, more_refused, place_after, tallied, IsTallyOf};
+ghost use Rattle.block_survey.specs.Tallies.{tallied_count, frame_after, more_read, more_refused, place_after, tallied, IsTallyOf};
 
-use block_survey::WordMarks;
+use crate::counting::WordMarks;
+use crate::from_frame::{of_kind, plain_of};
+use crate::plain::{PlainFrame, kinds};
 use live_player::LivePlayer;
-use plain_frames::{PlainFrame, plain_of};
 use q_channel::decode;
 use raw_subcode::{BLOCK_BYTES, Block, Form};
 use rw_code::Word;
@@ -20,7 +21,6 @@ use rw_code::Word;
 #[derive(Clone, Copy, PartialEq, Eq, Debug)]
 pub struct PlayerTally {
     pub blocks: u64,
-    /// Words that are codewords.
     pub clean: u64,
     /// Words one symbol from a codeword.
     pub one: u64,
@@ -30,7 +30,6 @@ pub struct PlayerTally {
     pub bad: u64,
     /// Frames of the Q channel that were read.
     pub frames: u64,
-    /// Frames that were refused.
     pub bad_frames: u64,
     /// The number of the block with the last frame that was read, from 1; or 0.
     pub frame_block: u64,
@@ -39,7 +38,6 @@ pub struct PlayerTally {
 }
 
 impl PlayerTally {
-    /// Nothing came.
     pub fn nothing() -> PlayerTally
         ensures { (form : Form) (lead_in : ℕ) → IsTallyOf form lead_in [] result }
     {
@@ -52,18 +50,7 @@ impl PlayerTally {
             frames: 0,
             bad_frames: 0,
             frame_block: 0,
-            frame: PlainFrame {
-                kind: 0,
-                time: 0,
-                absolute: 0,
-                control: 0,
-                mode: 0,
-                track: 0,
-                index: 0,
-                disc: 0,
-                frame: 0,
-                text: [0; 13],
-            },
+            frame: of_kind(kinds::PROGRAM, 0),
         }
     }
 
@@ -108,7 +95,6 @@ impl PlayerTally {
         }
     }
 
-    // Counts the frame of a block with a Q channel.
     fn count_bits(&mut self, block: &[u8; BLOCK_BYTES])
         ensures { self.new ≡ record self.old {
           frames = more_read self.old.frames (reading_in Form.Raw block.now);
