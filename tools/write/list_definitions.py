@@ -42,7 +42,7 @@ ACTS = [
 ON_DEMAND = ("Words, answers, and what each command takes and writes", "What the calls of the library say")
 
 # The crates whose definitions the clauses of the library for programs in C rest on, beside those of the program.
-LIBRARY = ("plain_frames", "block_survey", "rw_mend", "mended_stream", "disc_plan", "live_player", "ribjasper_c")
+LIBRARY = ("block_survey", "rw_mend", "mended_stream", "disc_plan", "live_player", "ribjasper_c")
 
 # What an act says first, where its claims name something that it does not show.
 SAID = {

@@ -9,8 +9,8 @@ use Rattle.std.proofs.lemmas.List.Sums.{count_by_more_no, count_by_more_yes}
 use Rattle.picture_script.specs.Script.{Drawing, pictures}
 use Rattle.pack_schedule.specs.Plans.{IsPlanRow}
 use Rattle.pack_schedule.specs.declared.planner.PlanRow.{PlanRow}
-use Rattle.disc_plan.specs.Rows.{is_late, no_disc_row, told_row, AreToldRows, IsToldRow}
-use Rattle.disc_plan.specs.declared.rows.PlannedRow.{PlannedRow}
+use Rattle.disc_plan.specs.PictureRows.{is_late, no_disc_row, told_row, AreToldRows, IsToldRow}
+use Rattle.disc_plan.specs.declared.picture_rows.PlannedRow.{PlannedRow}
 
 -- The rows of the first k pictures are written, of which so many are late; the lines still to come are these.
 -- The rows behind the last picture stay.

@@ -8,9 +8,9 @@ use Rattle.picture_script.specs.Script.{Drawing, pictures}
 use Rattle.picture_script.specs.ScriptGrammar.{read_script}
 use Rattle.picture_script.specs.ShowLines.{show_lines}
 use Rattle.subcode_author.specs.AuthorAnswer.{HasRoom, HoldsPictures, IsDiscRefusal}
-use Rattle.disc_plan.specs.Rows.{is_late, AreToldRows}
-use Rattle.disc_plan.specs.declared.disc.PlannedDisc.{PlannedDisc}
-use Rattle.disc_plan.specs.declared.rows.PlannedRow.{PlannedRow}
+use Rattle.disc_plan.specs.PictureRows.{is_late, AreToldRows}
+use Rattle.disc_plan.specs.declared.plan.PlannedDisc.{PlannedDisc}
+use Rattle.disc_plan.specs.declared.picture_rows.PlannedRow.{PlannedRow}
 use Rattle.disc_plan.specs.declared.stops.PlanStop.{PlanStop}
 use Rattle.disc_plan.specs.declared.stops.PlanStop.TheVariants.{SheetTooLong, Sheet, ScriptTooLong, Script, Disc, NoRoom, NoMemory}
 

@@ -1,3 +1,4 @@
-pub mod Rows
-pub mod Discs
 pub mod Told
+pub mod SheetRows
+pub mod PictureRows
+pub mod Discs

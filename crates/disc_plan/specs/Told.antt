@@ -1,14 +1,30 @@
 -- What is told of a plan, and where there is none why.
 use Rattle.std.specs.Prelude.{ℕ}
-use Rattle.sheet_rows.specs.Reasons.{cue_number}
 use Rattle.picture_script.specs.declared.reasons.ScriptWhy.{ScriptWhy}
-use Rattle.picture_script.specs.declared.reasons.ScriptWhy.TheVariants.{UnknownCommand, BadArgument, OutOfRange, TimeOrder, TooMany}
+use Rattle.picture_script.specs.declared.reasons.ScriptWhy.TheVariants as script
 use Rattle.subcode_author.specs.declared.stops.AuthorStop.{AuthorStop}
 use Rattle.subcode_author.specs.declared.stops.AuthorStop.TheVariants.{LengthShort, DiscTooLong, PastEnd, TextTooLong, LeadInShort}
-use Rattle.disc_plan.specs.declared.disc.PlannedDisc.{PlannedDisc}
+use Rattle.disc_plan.specs.declared.plan.PlannedDisc.{PlannedDisc}
 use Rattle.disc_plan.specs.declared.stops.PlanStop.{PlanStop}
 use Rattle.disc_plan.specs.declared.stops.PlanStop.TheVariants.{SheetTooLong, Sheet, ScriptTooLong, Script, Disc, NoRoom, NoMemory}
 use Rattle.disc_plan.specs.declared.told.ToldPlan.{ToldPlan}
+use Rattle.cue_sheet.specs.declared.fault.CueWhy.{CueWhy}
+use Rattle.cue_sheet.specs.declared.fault.CueWhy.TheVariants.{UnknownCommand, SecondFile, Misplaced, BadArgument, Repeated, NoIndex, NotAudio, NumberOrder, IndexOrder, TimeOrder, NoFile, NoTrack}
+
+-- the number of the reason for which a line of a sheet is refused
+abbrev pub cue_number : CueWhy → ℕ
+cue_number UnknownCommand = 1
+cue_number SecondFile = 2
+cue_number Misplaced = 3
+cue_number BadArgument = 4
+cue_number Repeated = 5
+cue_number NoIndex = 6
+cue_number NotAudio = 7
+cue_number NumberOrder = 8
+cue_number IndexOrder = 9
+cue_number TimeOrder = 10
+cue_number NoFile = 11
+cue_number NoTrack = 12
 
 -- of a disc that has a plan
 abbrev pub told_plan : PlannedDisc → ToldPlan
@@ -28,11 +44,11 @@ refusal why line number =
 
 -- the number of the reason for which a line of a script is refused
 abbrev pub script_number : ScriptWhy → ℕ
-script_number UnknownCommand = 1
-script_number BadArgument = 2
-script_number OutOfRange = 3
-script_number TimeOrder = 4
-script_number TooMany = 5
+script_number script.UnknownCommand = 1
+script_number script.BadArgument = 2
+script_number script.OutOfRange = 3
+script_number script.TimeOrder = 4
+script_number script.TooMany = 5
 
 -- of a sheet and a script that have no place on their disc
 abbrev pub disc_refusal : AuthorStop → ToldPlan

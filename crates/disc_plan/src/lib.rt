@@ -1,15 +1,17 @@
-//! The plan of a disc, from the texts of its cue sheet and its picture script.
+//! What a cue sheet says and how a disc is planned, in rows of plain numbers for programs in C.
 #![tactic(auto)]
 
-mod disc;
+mod index_rows;
+mod picture_rows;
 mod plan;
 mod reading;
-mod rows;
 mod stops;
+mod text;
 mod told;
 
-pub use disc::PlannedDisc;
-pub use plan::plan_disc;
-pub use rows::PlannedRow;
-pub use stops::PlanStop;
-pub use told::{ToldPlan, told_plan, told_stop};
+pub use index_rows::{SheetRow, sheet_rows};
+pub use picture_rows::PlannedRow;
+pub use plan::{PlannedDisc, plan_disc};
+pub use stops::{PlanStop, SheetStop, TextStop};
+pub use text::sheet_text;
+pub use told::{ToldPlan, ToldSheet, told_plan, told_refusal, told_stop};

@@ -3,12 +3,20 @@ ghost use Rattle.std.specs.Prelude.{◌≡◌, ◌≤◌, OnErr, IfErr, IfOk, dr
 ghost use Rattle.disc_time.specs.Counts.{most_program};
 ghost use Rattle.disc_plan.specs.Discs.{planned_disc, IsPlan, IsPlanScriptStop, IsPlanStop};
 
-use crate::disc::PlannedDisc;
+use crate::picture_rows::{PlannedRow, write_rows};
 use crate::reading::{read_script, read_sheet};
-use crate::rows::{PlannedRow, write_rows};
 use crate::stops::PlanStop;
 use std::alloc::Global;
 use subcode_author::accept_disc;
+
+#[derive(Clone, Copy, PartialEq, Eq, Debug)]
+pub struct PlannedDisc {
+    /// How many pictures its script shows.
+    pub pictures: u32,
+    /// How many blocks its program has.
+    pub blocks: u32,
+    pub late: u32,
+}
 
 /// Plans the pictures of a disc with a lead-in and an audio of so many blocks: writes a row for each picture, in time or
 /// not, to the front of some rows, from the texts of its cue sheet and its picture script.

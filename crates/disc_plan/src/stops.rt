@@ -1,7 +1,33 @@
-// Why a disc has no plan.
+// Why a sheet gives no rows or no text, and why a disc has no plan.
+use crate::told::ToldSheet;
 use cue_sheet::CueWhy;
 use picture_script::ScriptWhy;
 use subcode_author::AuthorStop;
+
+/// Why a sheet gives no rows.
+#[derive(Clone, Copy, PartialEq, Eq, Debug)]
+pub enum SheetStop {
+    /// It has more than 64 MiB.
+    TooLong,
+    /// Its first line that is refused, counted from 1, and the first reason.
+    Fault { line: u32, why: CueWhy },
+    /// It has more index lines than there are rows.
+    NoRoom { told: ToldSheet },
+    NoMemory,
+}
+
+/// Why a sheet gives no text.
+#[derive(Clone, Copy, PartialEq, Eq, Debug)]
+pub enum TextStop {
+    /// It has more than 64 MiB.
+    TooLong,
+    /// Its first line that is refused, counted from 1, and the first reason.
+    Fault { line: u32, why: CueWhy },
+    NoTrack,
+    /// The text has so many bytes, and there is room for fewer.
+    NoRoom { bytes: u32 },
+    NoMemory,
+}
 
 /// Why a disc has no plan. Of several reasons the first in this order is given.
 #[derive(Clone, Copy, PartialEq, Eq, Debug)]

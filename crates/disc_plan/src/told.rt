@@ -1,14 +1,64 @@
-// What is told of a plan, as programs in C hold it.
-ghost use Rattle.std.specs.Prelude.{◌≡◌};
-ghost use Rattle.disc_plan.specs.Told.{told_plan, told_stop, refusal, script_number, disc_refusal};
+// What is told of a sheet beside its rows, and of a plan.
+ghost use Rattle.std.specs.Prelude.{◌≡◌, ◌≤◌, length};
+ghost use Rattle.disc_plan.specs.Told.{told_plan, told_stop, refusal, script_number, disc_refusal, cue_number};
+ghost use Rattle.disc_plan.specs.SheetRows.{sheet_rows, told_refusal, told_sheet};
 
-use crate::disc::PlannedDisc;
+use crate::index_rows::{catalogue_or_zeros, count_rows, flag_of};
+use crate::plan::PlannedDisc;
 use crate::stops::PlanStop;
+use cue_sheet::{CueWhy, Sheet};
+use disc_time::CATALOGUE_DIGITS;
 use picture_script::ScriptWhy;
-use sheet_rows::cue_number;
 use subcode_author::AuthorStop;
 
-/// What is told of a plan.
+#[repr(C)]
+#[derive(Clone, Copy, PartialEq, Eq, Debug)]
+pub struct ToldSheet {
+    /// How many index lines it has, at most 9,900.
+    pub rows: u32,
+    /// How many tracks it has, 1 to 99.
+    pub tracks: u32,
+    /// The line that is refused, or 0.
+    pub line: u32,
+    /// The number of the reason, or 0.
+    pub why: u32,
+    /// 1 where it has a catalogue number, or else 0.
+    pub has_catalogue: u8,
+    /// The digits of the catalogue number, or zeros.
+    pub catalogue: [u8; CATALOGUE_DIGITS],
+}
+
+/// What is told of a sheet that is read.
+pub(crate) fn told_sheet(sheet: &Sheet) -> ToldSheet
+    ensures told { result ≡ told_sheet sheet.now }
+    ensures few { result.rows ≤ 9900 }
+{
+    sheet.tracks_are_in_order();
+    let code = sheet.catalogue();
+    ToldSheet {
+        rows: count_rows(sheet) as u32,
+        tracks: sheet.tracks() as u32,
+        line: 0,
+        why: 0,
+        has_catalogue: flag_of(code),
+        catalogue: catalogue_or_zeros(code),
+    }
+}
+
+/// What is told of a sheet of which a line is refused.
+pub fn told_refusal(line: u32, why: CueWhy) -> ToldSheet
+    ensures { result ≡ told_refusal line why }
+{
+    ToldSheet {
+        rows: 0,
+        tracks: 0,
+        line,
+        why: cue_number(why),
+        has_catalogue: 0,
+        catalogue: [0; CATALOGUE_DIGITS],
+    }
+}
+
 #[repr(C)]
 #[derive(Clone, Copy, PartialEq, Eq, Debug)]
 pub struct ToldPlan {
@@ -16,7 +66,6 @@ pub struct ToldPlan {
     pub pictures: u32,
     /// How many blocks the program has, where there is a plan or no room for it.
     pub blocks: u32,
-    /// How many pictures are late.
     pub late: u32,
     /// Why there is no plan: 1 a text is too long, 2 a line of the sheet is refused, 3 one of the script, 4 the audio is
     /// short, 5 the disc is too long, 6 a picture is held past the end, 7 the CD-TEXT is too long, 8 the lead-in is
@@ -98,5 +147,25 @@ fn script_number(why: ScriptWhy) -> u32
         ScriptWhy::OutOfRange => 3,
         ScriptWhy::TimeOrder => 4,
         ScriptWhy::TooMany => 5,
+    }
+}
+
+// The number of a reason why a line of a sheet is refused, 1 to 12.
+fn cue_number(why: CueWhy) -> u32
+    ensures { result ≡ cue_number why }
+{
+    match why {
+        CueWhy::UnknownCommand => 1,
+        CueWhy::SecondFile => 2,
+        CueWhy::Misplaced => 3,
+        CueWhy::BadArgument => 4,
+        CueWhy::Repeated => 5,
+        CueWhy::NoIndex => 6,
+        CueWhy::NotAudio => 7,
+        CueWhy::NumberOrder => 8,
+        CueWhy::IndexOrder => 9,
+        CueWhy::TimeOrder => 10,
+        CueWhy::NoFile => 11,
+        CueWhy::NoTrack => 12,
     }
 }

@@ -3,7 +3,7 @@ ghost use Rattle.std.specs.Prelude.{◌≡◌, ◌≢◌, ◌<◌, ◌⊎◌, �
 ghost use Rattle.disc_time.specs.Counts.{most_lead_in, most_program};
 ghost use Rattle.disc_plan.specs.Discs.{planned_disc, IsPlan, IsPlanStop};
 ghost use Rattle.disc_plan.specs.Told.{told_plan};
-ghost use Rattle.disc_plan.specs.declared.disc.PlannedDisc.{PlannedDisc};
+ghost use Rattle.disc_plan.specs.declared.plan.PlannedDisc.{PlannedDisc};
 ghost use Rattle.disc_plan.specs.declared.stops.PlanStop.{PlanStop};
 ghost use Rattle.ribjasper_c.specs.Planning.{stop_answer, told_at_stop};
 

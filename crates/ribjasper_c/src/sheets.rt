@@ -4,14 +4,14 @@ ghost use Rattle.text_lines.specs.Text.{most_text_bytes};
 ghost use Rattle.cue_sheet.specs.CueSheet.{CueSheet};
 ghost use Rattle.cue_sheet.specs.Grammar.{read_cue};
 ghost use Rattle.cue_sheet.specs.declared.fault.CueWhy.{CueWhy};
-ghost use Rattle.sheet_rows.specs.Rows.{told_refusal, AreRowsOf, IsRowsStop, IsTextOf, IsTextOfSheet, IsTextStop};
-ghost use Rattle.sheet_rows.specs.declared.stops.SheetStop.{SheetStop};
-ghost use Rattle.sheet_rows.specs.declared.stops.TextStop.{TextStop};
+ghost use Rattle.disc_plan.specs.SheetRows.{told_refusal, AreRowsOf, IsRowsStop, IsTextOf, IsTextOfSheet, IsTextStop};
+ghost use Rattle.disc_plan.specs.declared.stops.SheetStop.{SheetStop};
+ghost use Rattle.disc_plan.specs.declared.stops.TextStop.{TextStop};
 ghost use Rattle.ribjasper_c.specs.Sheets.{text_kind};
 
 use crate::answers::{DONE, NO_MEMORY, REFUSED, USAGE, WRITE_FAULT};
 use cue_sheet::CueText;
-use sheet_rows::{SheetRow, SheetStop, TextStop, ToldSheet, sheet_rows, sheet_text, told_refusal};
+use disc_plan::{SheetRow, SheetStop, TextStop, ToldSheet, sheet_rows, sheet_text, told_refusal};
 use std::alloc::Global;
 
 /// Writes a row for each index line of a cue sheet to the front of some rows, and answers by an exit number of the

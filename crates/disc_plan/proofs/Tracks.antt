@@ -6,8 +6,8 @@ use Rattle.std.proofs.lemmas.List.{append-nil, drop-drop, length-map, take_all}
 use Rattle.std.proofs.lemmas.List.Folds.{length-flat_map-take}
 use Rattle.std.proofs.Math.Seq.{drop-append-add, take-append_seam, take-suc}
 use Rattle.cue_sheet.specs.CueSheet.{AreIndices, CueSheet, CueTrack, no_track, track_of}
-use Rattle.sheet_rows.specs.Rows.{sheet_rows, track_rows}
-use Rattle.sheet_rows.specs.declared.rows.SheetRow.{SheetRow}
+use Rattle.disc_plan.specs.SheetRows.{sheet_rows, track_rows}
+use Rattle.disc_plan.specs.declared.index_rows.SheetRow.{SheetRow}
 
 -- the rows of the first n tracks
 abbrev pub rows_before : CueSheet → ℕ → List SheetRow

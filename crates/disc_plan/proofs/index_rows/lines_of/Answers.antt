@@ -1,7 +1,7 @@
 use Rattle.cue_sheet.specs.CueSheet.{track_of}
-use Rattle.sheet_rows.proofs.Tracks.{few_lines}
+use Rattle.disc_plan.proofs.Tracks.{few_lines}
 use Rattle.std.proofs.Common.{◌≤◌, ◌≡◌, length, arith}
-use Rattle.sheet_rows.proofs.rows.lines_of.Goals as goal
+use Rattle.disc_plan.proofs.index_rows.lines_of.Goals as goal
 
 pub returns-clause-few : goal.returns-clause-few
 returns-clause-few c =

@@ -4,7 +4,7 @@ ghost use Rattle.text_lines.specs.Text.{most_text_bytes};
 ghost use Rattle.picture_script.specs.Script.{pictures};
 ghost use Rattle.picture_script.specs.ScriptGrammar.{read_script};
 ghost use Rattle.picture_script.specs.ShowLines.{show_lines};
-ghost use Rattle.disc_plan.specs.Rows.{is_late, told_row, AreToldRows};
+ghost use Rattle.disc_plan.specs.PictureRows.{is_late, told_row, AreToldRows};
 
 use pack_schedule::{PlanRow, Planner};
 use picture_script::{Script, ShowLines, each_picture_has_a_line};

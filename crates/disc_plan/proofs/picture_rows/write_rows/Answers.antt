@@ -3,10 +3,10 @@ use Rattle.std.specs.Prelude.{slice_set}
 use Rattle.picture_script.specs.Script.{Drawing, pictures}
 use Rattle.picture_script.specs.ShowLines.{show_lines}
 use Rattle.pack_schedule.specs.Plans.{IsPlanRow}
-use Rattle.disc_plan.specs.declared.rows.PlannedRow.{PlannedRow}
+use Rattle.disc_plan.specs.declared.picture_rows.PlannedRow.{PlannedRow}
 use Rattle.disc_plan.proofs.RowLaws.{IsWriting, given_next, no_line_left, one_written}
-use Rattle.disc_plan.proofs.rows.write_rows.Goals as goal
-use Rattle.disc_plan.proofs.rows.write_rows.Goals.{then-plan, else-plan}
+use Rattle.disc_plan.proofs.picture_rows.write_rows.Goals as goal
+use Rattle.disc_plan.proofs.picture_rows.write_rows.Goals.{then-plan, else-plan}
 
 pub unreachable-requires-in_default-next_number : goal.unreachable-requires-in_default-next_number
 unreachable-requires-in_default-next_number c =

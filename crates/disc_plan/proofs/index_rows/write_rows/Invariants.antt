@@ -1,6 +1,6 @@
 use Rattle.std.proofs.Common.{◌≡◌, ◌++◌, drop, length}
-use Rattle.sheet_rows.proofs.Tracks.{rows_before}
-use Rattle.sheet_rows.proofs.rows.write_rows.Given as goal
+use Rattle.disc_plan.proofs.Tracks.{rows_before}
+use Rattle.disc_plan.proofs.index_rows.write_rows.Given as goal
 
 abbrev pub invariant-loop-k : goal.invariant-loop-k
 invariant-loop-k l = record {

@@ -6,13 +6,13 @@ use Rattle.cue_sheet.specs.CueSheet.{CueSheet, CueTrack, text_at}
 use Rattle.cue_sheet.specs.Grammar.{read_cue}
 use Rattle.cue_sheet.specs.declared.fault.CueText.{CueText}
 use Rattle.cue_sheet.specs.declared.fault.CueWhy.{CueWhy}
-use Rattle.sheet_rows.specs.Reasons.{cue_number}
-use Rattle.sheet_rows.specs.declared.rows.SheetRow.{SheetRow}
-use Rattle.sheet_rows.specs.declared.told.ToldSheet.{ToldSheet}
-use Rattle.sheet_rows.specs.declared.stops.SheetStop.{SheetStop}
-use Rattle.sheet_rows.specs.declared.stops.SheetStop.TheVariants.{TooLong, Fault, NoRoom, NoMemory}
-use Rattle.sheet_rows.specs.declared.stops.TextStop.{TextStop}
-use Rattle.sheet_rows.specs.declared.stops.TextStop.TheVariants.{TooLong as text_too_long, Fault as text_fault, NoTrack, NoRoom as no_room_for, NoMemory as no_memory_for}
+use Rattle.disc_plan.specs.Told.{cue_number}
+use Rattle.disc_plan.specs.declared.index_rows.SheetRow.{SheetRow}
+use Rattle.disc_plan.specs.declared.told.ToldSheet.{ToldSheet}
+use Rattle.disc_plan.specs.declared.stops.SheetStop.{SheetStop}
+use Rattle.disc_plan.specs.declared.stops.SheetStop.TheVariants.{TooLong, Fault, NoRoom, NoMemory}
+use Rattle.disc_plan.specs.declared.stops.TextStop.{TextStop}
+use Rattle.disc_plan.specs.declared.stops.TextStop.TheVariants.{TooLong as text_too_long, Fault as text_fault, NoTrack, NoRoom as no_room_for, NoMemory as no_memory_for}
 
 -- a code, or so many zeros where there is none
 abbrev pub or_zeros : ℕ → Option (List ℕ) → List ℕ

@@ -3,7 +3,7 @@ use Rattle.std.specs.Prelude.{◌≡◌, ◌==◌, ℕ, ◌<◌, Bool, List, sli
 use Rattle.picture_script.specs.Script.{Drawing}
 use Rattle.pack_schedule.specs.Plans.{IsPlanRow}
 use Rattle.pack_schedule.specs.declared.planner.PlanRow.{PlanRow}
-use Rattle.disc_plan.specs.declared.rows.PlannedRow.{PlannedRow}
+use Rattle.disc_plan.specs.declared.picture_rows.PlannedRow.{PlannedRow}
 
 abbrev pub no_disc_row : PlannedRow
 no_disc_row = record { line = 0; ready = 0; hold = 0; need = 0; free = 0; first = 0; late = 0 }

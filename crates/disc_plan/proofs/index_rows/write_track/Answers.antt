@@ -3,9 +3,9 @@ use Rattle.std.proofs.Math.ListN.{set}
 use Rattle.std.proofs.lemmas.List.{get_or-map, length-map}
 use Rattle.std.proofs.lemmas.List.Edits.{paste_more}
 use Rattle.cue_sheet.specs.CueSheet.{track_of}
-use Rattle.sheet_rows.specs.Rows.{sheet_row, track_rows}
-use Rattle.sheet_rows.specs.declared.rows.SheetRow.{SheetRow}
-use Rattle.sheet_rows.proofs.rows.write_track.Goals as goal
+use Rattle.disc_plan.specs.SheetRows.{sheet_row, track_rows}
+use Rattle.disc_plan.specs.declared.index_rows.SheetRow.{SheetRow}
+use Rattle.disc_plan.proofs.index_rows.write_track.Goals as goal
 
 pub loop-j-preserved : goal.loop-j-preserved
 loop-j-preserved c =

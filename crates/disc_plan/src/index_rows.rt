@@ -1,11 +1,14 @@
-// The rows of a sheet.
-ghost use Rattle.std.specs.Prelude.{◌≡◌, ◌<◌, ◌≤◌, ◌+◌, ◌++◌, drop, length, take};
-ghost use Rattle.cue_sheet.specs.CueSheet.{index_line_of, track_of};
-ghost use Rattle.sheet_rows.specs.Rows.{sheet_row, sheet_rows, track_rows};
+// A row for each index line of a sheet.
+ghost use Rattle.std.specs.Prelude.{◌≡◌, ◌<◌, ◌≤◌, ◌+◌, ◌++◌, drop, length, take, IfSome, IsTrue, option_copied, IfErr, IfOk, OnErr};
+ghost use Rattle.cue_sheet.specs.CueSheet.{index_line_of, track_of, is_capital_code, is_catalogue_number};
+ghost use Rattle.disc_plan.specs.SheetRows.{sheet_row, sheet_rows, track_rows, flag_of, or_zeros, AreRowsOf, IsRowsStop};
 
-use crate::codes::{flag_of, isrc_or_zeros};
-use cue_sheet::Sheet;
-use disc_time::ISRC_CHARACTERS;
+use crate::stops::SheetStop;
+use crate::told::{ToldSheet, told_sheet};
+use cue_sheet::{CueStop, Sheet};
+use disc_time::{CATALOGUE_DIGITS, ISRC_CHARACTERS};
+use std::alloc::Global;
+use text_lines::MOST_TEXT_BYTES;
 
 /// An index line of a sheet, with what the sheet says of its track. Times are blocks, 75 a second.
 #[repr(C)]
@@ -29,6 +32,28 @@ pub struct SheetRow {
     pub isrc: [u8; ISRC_CHARACTERS],
 }
 
+/// Writes a row for each index line of the text of a cue sheet to the front of some rows.
+pub fn sheet_rows(alloc: Global, text: &[u8], rows: &mut [SheetRow]) -> Result<ToldSheet, SheetStop>
+    ensures rows { IfOk result (AreRowsOf text.now rows.old rows.new) }
+    ensures stop { IfErr result (IsRowsStop text.now (length rows.old)) }
+    ensures untouched { OnErr result (rows.new ≡ rows.old) }
+{
+    if text.len() > MOST_TEXT_BYTES {
+        return Err(SheetStop::TooLong);
+    }
+    let sheet = match Sheet::parse(alloc, text) {
+        Ok(sheet) => sheet,
+        Err(CueStop::Fault { line, why }) => return Err(SheetStop::Fault { line, why }),
+        Err(CueStop::NoMemory) => return Err(SheetStop::NoMemory),
+    };
+    let told = told_sheet(&sheet);
+    if told.rows as usize > rows.len() {
+        return Err(SheetStop::NoRoom { told });
+    }
+    write_rows(&sheet, rows);
+    Ok(told)
+}
+
 /// How many index lines a sheet has, at most 9,900.
 pub(crate) fn count_rows(sheet: &Sheet) -> usize
     ensures count { result ≡ length (sheet_rows sheet.now) }
@@ -41,7 +66,6 @@ pub(crate) fn count_rows(sheet: &Sheet) -> usize
     count
 }
 
-// How many index lines a track has.
 fn lines_of(sheet: &Sheet, k: usize) -> usize
     requires { k < length sheet.now.tracks }
     ensures count { result ≡ length (track_rows (track_of sheet.now k)) }
@@ -51,8 +75,8 @@ fn lines_of(sheet: &Sheet, k: usize) -> usize
     sheet.indices(k)
 }
 
-/// Writes a row for each index line to the front of some rows.
-pub(crate) fn write_rows(sheet: &Sheet, rows: &mut [SheetRow])
+// Writes a row for each index line to the front of some rows.
+fn write_rows(sheet: &Sheet, rows: &mut [SheetRow])
     requires { length (sheet_rows sheet.now) ≤ length rows.old }
     ensures { rows.new ≡ sheet_rows sheet.now ++ drop (length (sheet_rows sheet.now)) rows.old }
 {
@@ -75,7 +99,6 @@ fn write_track(sheet: &Sheet, k: usize, rows: &mut [SheetRow], at: usize)
     }
 }
 
-// The row of an index line.
 fn row(sheet: &Sheet, k: usize, j: usize) -> SheetRow
     requires track { k < length sheet.now.tracks }
     requires line { j < length (track_of sheet.now k).indices }
@@ -95,11 +118,42 @@ fn row(sheet: &Sheet, k: usize, j: usize) -> SheetRow
     }
 }
 
-// The number of a track.
 fn number_of(sheet: &Sheet, k: usize) -> u8
     requires { k < length sheet.now.tracks }
     ensures { result ≡ (track_of sheet.now k).number }
 {
     sheet.tracks_are_in_order();
     (usize::from(sheet.first()) + k) as u8
+}
+
+pub(crate) fn catalogue_or_zeros(code: Option<&[u8]>) -> [u8; CATALOGUE_DIGITS]
+    requires { IfSome code (λ digits. IsTrue (is_catalogue_number digits.now)) }
+    ensures { result ≡ or_zeros 13 (option_copied code.entry) }
+{
+    let mut bytes = [0; CATALOGUE_DIGITS];
+    if let Some(digits) = code {
+        bytes.copy_from_slice(digits);
+    }
+    bytes
+}
+
+fn isrc_or_zeros(code: Option<&[u8]>) -> [u8; ISRC_CHARACTERS]
+    requires { IfSome code (λ characters. IsTrue (is_capital_code characters.now)) }
+    ensures { result ≡ or_zeros 12 (option_copied code.entry) }
+{
+    let mut bytes = [0; ISRC_CHARACTERS];
+    if let Some(characters) = code {
+        bytes.copy_from_slice(characters);
+    }
+    bytes
+}
+
+/// 1 where there is a code, or else 0.
+pub(crate) fn flag_of(code: Option<&[u8]>) -> u8
+    ensures { result ≡ flag_of (option_copied code.entry) }
+{
+    match code {
+        Some(_) => 1,
+        None => 0,
+    }
 }

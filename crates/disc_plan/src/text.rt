@@ -1,7 +1,7 @@
 // A text of a sheet.
 ghost use Rattle.std.specs.Prelude.{◌≡◌, ◌≤◌, ◌++◌, IfErr, IfOk, OnErr, drop, length};
 ghost use Rattle.cue_sheet.specs.CueSheet.{text_at};
-ghost use Rattle.sheet_rows.specs.Rows.{IsTextOf, IsTextStop};
+ghost use Rattle.disc_plan.specs.SheetRows.{IsTextOf, IsTextStop};
 
 use crate::stops::TextStop;
 use cue_sheet::{CueStop, CueText, Sheet};
@@ -41,7 +41,6 @@ pub fn sheet_text(
     Ok(bytes)
 }
 
-// Writes some bytes to the front.
 fn put(out: &mut [u8], bytes: &[u8])
     requires { length bytes.now ≤ length out.old }
     ensures { out.new ≡ bytes.now ++ drop (length bytes.now) out.old }

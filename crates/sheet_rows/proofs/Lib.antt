@@ -1,2 +1,0 @@
-mod CodeSizes
-mod Tracks
