@@ -54,7 +54,6 @@ impl PlainFile {
         self.put_number(counts.bad);
     }
 
-    // Appends a number of four bytes.
     fn put_number(&mut self, number: u32)
         requires { length self.old ≤ 65000 }
         ensures bytes { self.new ≡ self.old ++ bytes_of 4 number }
@@ -63,7 +62,6 @@ impl PlainFile {
         self.put(&number.to_be_bytes());
     }
 
-    // Appends the memory of the screen, row by row.
     fn put_memory(&mut self, screen: &PlainScreen)
         requires { length self.old ≡ (row Memory).first }
         ensures part { (counts : StreamCounts) (slots : List ℕ)
@@ -88,7 +86,6 @@ impl PlainFile {
         self.put(&[screen.offset_v()]);
     }
 
-    // Appends the sixteen colours.
     fn put_colours(&mut self, screen: &PlainScreen)
         requires { length self.old ≡ (row Colours).first }
         ensures part { (counts : StreamCounts) (slots : List ℕ)
@@ -100,7 +97,6 @@ impl PlainFile {
         }
     }
 
-    // Appends the sixteen levels.
     fn put_levels(&mut self, screen: &PlainScreen)
         requires { length self.old ≡ (row Levels).first }
         ensures part { (counts : StreamCounts) (slots : List ℕ)

@@ -42,7 +42,6 @@ pub(crate) const LEVELS: usize = 65_027;
 
 pub(crate) const CHECK: usize = 65_043;
 
-/// The counts in the bytes of a file.
 pub(crate) fn counts_in(bytes: &[u8]) -> StreamCounts
     requires { length bytes.now ≡ file_size }
     ensures to_come { result.to_come ≡ number bytes.now ToCome 0 }
@@ -84,7 +83,6 @@ pub(crate) fn front(bytes: &[u8]) -> u64
     ])
 }
 
-/// The byte at a place.
 pub(crate) fn byte(bytes: &[u8], at: usize) -> u8
     requires { at < length bytes.now }
     ensures byte { result ≡ slice_index bytes.now at }

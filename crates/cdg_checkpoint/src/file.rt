@@ -37,7 +37,6 @@ impl CheckpointFile {
         Ok(CheckpointFile { plain })
     }
 
-    /// The bytes.
     pub fn bytes(&self) -> &[u8]
         ensures same { result.now ≡ self.now }
         ensures most { length result.now ≤ file_size + 1 }

@@ -19,7 +19,6 @@ use raw_subcode::SYMBOLS_A_SLOT;
 use rw_interleave::PACKS_KEPT_BACK;
 use std::marker::Model;
 
-/// The bytes of a checkpoint's file.
 pub const FILE_BYTES: usize = 65_045;
 
 /// The bytes of the last seven slots in it.
@@ -63,7 +62,6 @@ impl PlainFile {
         }
     }
 
-    /// The bytes.
     pub fn bytes(&self) -> &[u8]
         ensures same { result.now ≡ self.now }
         ensures most { length result.now ≤ file_size + 1 }
@@ -109,14 +107,12 @@ impl PlainFile {
         restore(screen, self.bytes());
     }
 
-    /// Makes the file empty.
     pub(crate) fn clear(&mut self)
         ensures { self.new ≡ [] }
     {
         self.count = 0;
     }
 
-    /// Appends bytes.
     pub(crate) fn put(&mut self, bytes: &[u8])
         requires { length self.old + length bytes.now ≤ file_size + 1 }
         ensures { self.new ≡ self.old ++ bytes.now }

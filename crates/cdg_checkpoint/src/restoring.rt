@@ -48,7 +48,6 @@ fn pixels(bytes: &[u8]) -> &[u8]
     &bytes[MEMORY..BORDER]
 }
 
-// The sixteen colours.
 fn colours(bytes: &[u8]) -> [u16; 16]
     requires { IsCheckpointFile bytes.now }
     ensures colours { result ≡ (standing_in bytes.now).colours }
@@ -61,7 +60,6 @@ fn colours(bytes: &[u8]) -> [u16; 16]
     colours
 }
 
-// The sixteen levels.
 fn levels(bytes: &[u8]) -> [u8; 16]
     requires { IsCheckpointFile bytes.now }
     ensures levels { result ≡ (standing_in bytes.now).levels }

@@ -124,7 +124,6 @@ impl Checkpointer {
         }
     }
 
-    // Is the checkpoint not later than a moment?
     fn not_later(&self, at: u32) -> Result<(), ResumeStop>
         requires { IsCheckpointFile self.now.file }
         ensures accepted { IsAcceptedBy result at self.now.file }
