@@ -3,6 +3,8 @@ use Rattle.std.specs.Prelude.{◌≡◌, ◌==◌, ◌<◌, ◌-◌, ◌/◌, �
 use base.Fml.{Fml, ftrue}
 use base.Stored.{Coded}
 use denote.RawPtr.{Ptr}
+use denote.Param.Members.{Once}
+use denote.Ref.{Bor, MutBor}
 use Rattle.std.specs.Box.Ownership.{box_owns}
 use Rattle.std.specs.Coded.{coded_list}
 use Rattle.std.specs.Global.{Global}
@@ -54,6 +56,20 @@ pub record IsShownByPlayer (player : LivePlayer) (now : Standing) : Type 0 where
 abbrev pub PlayersShow : List LivePlayer → (Standing → Type 0) → Type 0
 PlayersShow players tells = (player : LivePlayer) → players ≡ player ∷ []
     → (now : Standing) × IsShownByPlayer player now × tells now
+
+-- a call of f at a `&` to the player on whose picture this stands, and a `&mut` to the first value, may leave the other there
+pub record IsWrittenBy {F T : Type 0}
+    (g : Once F (Bor LivePlayer × (MutBor T × Unit {0})) (Unit {0} × (MutBor T × Unit {0}))) (f : F)
+    (old new : T) (now : Standing) : Type 0 where
+  pub player : LivePlayer
+  pub stands : now ≡ standing_on player
+  pub seen : Bor LivePlayer
+  pub seen_is : seen.now ≡ player
+  pub room : MutBor T
+  pub room_is : room.now ≡ old
+  pub left : MutBor T
+  pub called : g.post f (seen, (room, tt)) (tt, (left, tt))
+  pub leaves : left.now ≡ new
 
 -- the numbers of the colours of the screen's pixels, row by row
 abbrev pub IsScreen : List ℕ → Standing → Type 0
