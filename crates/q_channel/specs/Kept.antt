@@ -1,5 +1,5 @@
 -- What is kept between frames.
-use Rattle.std.specs.Prelude.{◌≡◌, ℕ, ◌+◌, ◌*◌, ◌/◌, ◌%◌, ◌<◌, ◌≤◌, [], ◌∷◌}
+use Rattle.std.specs.Prelude.{◌≡◌, ℕ, ◌+◌, ◌*◌, ◌%◌, ◌<◌, ◌≤◌, [], ◌∷◌}
 use Rattle.disc_time.specs.Counts.{blocks_a_second, most_tracks, time_count}
 use Rattle.disc_time.specs.Fields.{control_values}
 use Rattle.disc_time.specs.Time.{minute_of, second_of, bcd}

@@ -67,7 +67,11 @@ impl Second {
         ensures begun { result.begin ≤ time }
         ensures within { time < result.begin + blocks_a_second }
     {
-        if self.has(time) { self } else { Second::of(time) }
+        if self.has(time) {
+            self
+        } else {
+            Second::of(time)
+        }
     }
 }
 

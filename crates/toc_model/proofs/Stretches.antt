@@ -24,22 +24,23 @@ pub later_point : {X : Type 0} (key : X → ℕ) (xs : List X) (block b n until 
     → ((d : X) → n < length xs → until ≤ key (get_or xs n d))
     → Follows block until b
     → IsPartitionPoint (λ x. nat_le (key x) b ≡ true) (λ x. nat_le (key x) b ≡ false) xs n
-later_point key xs block b n until rises point next follows =
-    (λ k d low high.
-    let begun = point.0 k d low high in
-    let le : key (get_or xs k d) ≤ block = grind (arith, begun) in
-    grind (arith, follows.0, le),
-    λ k d low high.
-    let waits = point.1 k d low high in
-    let lt : block < key (get_or xs k d) = grind (arith, waits) in
-    let order = rises n k d low high in
-    let bound = next d (omega arith) in
-    elim (cases_lt block b) [
-      | inl after ↦ let before = follows.1 after in
-          let far : b < key (get_or xs k d) = omega arith in
-          grind (arith, far)
-      | inr same ↦ let far : b < key (get_or xs k d) = omega (arith, follows.0) in grind (arith, far)
-    ])
+later_point key xs block b n until rises point next follows = (
+  λ k d low high.
+      let begun = point.0 k d low high in
+      let le : key (get_or xs k d) ≤ block = grind (arith, begun) in
+      grind (arith, follows.0, le),
+  λ k d low high.
+      let waits = point.1 k d low high in
+      let lt : block < key (get_or xs k d) = grind (arith, waits) in
+      let order = rises n k d low high in
+      let bound = next d (omega arith) in
+      elim (cases_lt block b) [
+        | inl after ↦ let before = follows.1 after in
+            let far : b < key (get_or xs k d) = omega arith in
+            grind (arith, far)
+        | inr same ↦ let far : b < key (get_or xs k d) = omega (arith, follows.0) in grind (arith, far)
+      ],
+)
 
 pub same_track : (layout : DiscLayout) (tracks : List TrackPlace) (block b n until : ℕ)
     → layout.tracks ≡ tracks
@@ -120,8 +121,8 @@ frame_of_stretch layout stretch block like no_catalogue no_code =
     rw (no_catalogue, no_code) same
 
 -- a stretch, from what stays up to some blocks
-pub stretch_of : (layout : DiscLayout) (place : TrackPlace) (first of_track of_index until : ℕ) (paused : Bool)
-    (control track index music : ℕ)
+pub stretch_of : (layout : DiscLayout) (place : TrackPlace) (first of_track of_index until : ℕ)
+    (paused : Bool) (control track index music : ℕ)
     → place ≡ track_at layout first
     → ((b : ℕ) → first ≤ b → (first < b → b < of_track) → track_at layout b ≡ track_at layout first)
     → ((b : ℕ) → first ≤ b → (first < b → b < of_index) → index_at place b ≡ index_at place first)
@@ -140,8 +141,9 @@ pub stretch_of : (layout : DiscLayout) (place : TrackPlace) (first of_track of_i
       index = index;
       music = music;
     } in stretch)
-stretch_of layout place first of_track of_index until paused control track index music at same_place same_index
-    few same_p fewer is_paused is_control is_track is_index is_music control_lt track_in index_le music_lt =
+stretch_of layout place first of_track of_index until paused control track index music at same_place
+    same_index few same_p fewer is_paused is_control is_track is_index is_music
+    control_lt track_in index_le music_lt =
     record {
       control = control_lt;
       track = track_in;

@@ -20,11 +20,12 @@ returns-clause-frame c =
     subst (λ (head : FrameHead).
     IsFrame (Program head.control head.track head.index c.args.time c.args.absolute) bytes)
     c.self.view_is
-    (encoded c.self.inside.control c.self.inside.track c.self.inside.index c.args.time c.args.absolute _ _ _ _ _
-    _ _ _ _ c.check_behind-check.result
+    (encoded c.self.inside.control c.self.inside.track c.self.inside.index c.args.time c.args.absolute
+    _ _ _ _ _ _ _ _ _ c.check_behind-check.result
     (kept.control_small, kept.track_one, kept.track_most, kept.index_most, search rules, search rules)
     kept.mode_is kept.track_is kept.index_is
-    (second_bytes _ _ _ c.args.time opening.ensures.opening.second opening.ensures.begun opening.ensures.within)
+    (second_bytes _ _ _ c.args.time opening.ensures.opening.second opening.ensures.begun
+    opening.ensures.within)
     c.frame-frame.ensures
     (second_bytes _ _ _ c.args.absolute second.ensures.second second.ensures.begun second.ensures.within)
     c.frame-absolute_frame.ensures

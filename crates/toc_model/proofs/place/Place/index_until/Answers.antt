@@ -21,6 +21,6 @@ returns-clause-stays c b low before =
     same_index c.args.self.now c.self.inside.lines.items c.args.block b begun c.next_line.result lines
     c.self.invariant.lines (rw same at point)
     (omega (arith, c.partition_point-begun.ensures.bound, c.deref.ensures.len))
-    (subst (λ (ls : List (ℕ × ℕ)). (d : ℕ × ℕ) → begun < length ls → c.next_line.result ≤ (get_or ls begun d).1)
-    lines c.next_line.ensures.line)
+    (subst (λ (ls : List (ℕ × ℕ)). (d : ℕ × ℕ) → begun < length ls
+    → c.next_line.result ≤ (get_or ls begun d).1) lines c.next_line.ensures.line)
     (low, before)
