@@ -1,7 +1,8 @@
 -- The stops of a reader and of a pump differ.
-use Rattle.std.proofs.Common.{◌≡◌, ℕ, ◌+◌, ◌≤◌, List, ◌++◌, length, length-append, Result, Err, refl, arith, ◌∙◌}
+use Rattle.std.proofs.Common.{◌≡◌, ℕ, ◌+◌, ◌≤◌, List, ◌++◌, length, take, length-append, Result, Err, refl, arith, ◌∙◌}
 use Rattle.std.specs.declared.option.Option.{Option}
 use Rattle.std.proofs.KnownBytes.{Consumes-kept, Consumes-trans}
+use Rattle.std.proofs.lemmas.List.{length-take}
 use Rattle.std.specs.Io.KnownBytes.{Consumes}
 use Rattle.cdg_io.specs.Causes.{Count}
 use Rattle.cdg_io.specs.Moves.{ConsumesBelow}
@@ -75,3 +76,12 @@ stops_after left faults few most before mid after taken took quiet fits stops = 
   quiet = stops.quiet ∙ quiet;
   nothing = stops.nothing;
 }
+
+-- what one more read took, and how much that is in all
+pub read_more : (a b c : Option (List ℕ)) (old buf : List ℕ) (n : ℕ) → n ≤ length buf → Consumes a b old
+    → Consumes b c (take n buf)
+    → Consumes a c (old ++ take n buf) × (length (old ++ take n buf) ≡ length old + n)
+read_more a b c old buf n bound before now = (
+  Consumes-trans a b c old (take n buf) before now,
+  omega (arith, length-append old (take n buf), length-take n buf, bound),
+)

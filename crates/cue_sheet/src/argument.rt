@@ -1,11 +1,9 @@
 // The arguments of commands.
-ghost use Rattle.std.specs.Prelude.{◌≡◌, ◌≤◌, ◌<◌, IfSome, IsTrue, length, option_map, option_copied};
+ghost use Rattle.std.specs.Prelude.{◌≡◌, ◌≤◌, ◌<◌, IfSome, length, option_map, option_copied};
 ghost use Rattle.std.specs.List.{list_all, position};
-ghost use Rattle.disc_time.specs.Counts.{most_tracks, time_count};
-ghost use Rattle.disc_time.specs.Fields.{control_values};
 ghost use Rattle.text_lines.specs.Text.{most_text_bytes, words_in};
-ghost use Rattle.cue_sheet.specs.CueSheet.{IsText, is_catalogue_number, is_capital_code};
-ghost use Rattle.cue_sheet.specs.CueLines.{IsLineInRange, begins_quoted, catalogue_argument, code_argument, flags_argument, index_argument, is_file, is_flag, is_plain, is_quote, names_flag, plain, quoted, said_by, text_argument, track_argument, two_words};
+ghost use Rattle.cue_sheet.specs.CueSheet.{IsText, is_capital_code};
+ghost use Rattle.cue_sheet.specs.CueLines.{IsLineInRange, SaysCatalogue, SaysFlags, SaysIndex, SaysIsrc, SaysTrack, begins_quoted, catalogue_argument, code_argument, flags_argument, index_argument, is_file, is_flag, is_plain, is_quote, names_flag, plain, quoted, said_by, text_argument, track_argument, two_words};
 ghost use Rattle.cue_sheet.specs.Steps.{line_said};
 
 use crate::command::{SheetCommand, SheetLine, is_word};
@@ -20,27 +18,21 @@ pub(crate) fn spelled(command: SheetCommand, argument: &[u8]) -> Option<SheetLin
 {
     match command {
         SheetCommand::Remark => Some(SheetLine::Remark),
-        SheetCommand::Catalogue => Some(SheetLine::Catalogue(catalogue(argument)?)),
+        SheetCommand::Catalogue => catalogue(argument),
         SheetCommand::File => {
             if !is_file(argument) {
                 return None;
             }
             Some(SheetLine::File)
-        }
+        },
         SheetCommand::Title => Some(SheetLine::Title(text(argument)?)),
         SheetCommand::Performer => Some(SheetLine::Performer(text(argument)?)),
         SheetCommand::Songwriter => Some(SheetLine::Songwriter(text(argument)?)),
-        SheetCommand::Track => {
-            let (number, audio) = track(argument)?;
-            Some(SheetLine::Track { number, audio })
-        }
-        SheetCommand::Flags => Some(SheetLine::Flags(flags(argument)?)),
-        SheetCommand::Isrc => Some(SheetLine::Isrc(code(argument)?)),
+        SheetCommand::Track => track(argument),
+        SheetCommand::Flags => flags(argument),
+        SheetCommand::Isrc => code(argument),
         SheetCommand::Pregap => Some(SheetLine::Pregap(time(argument)?)),
-        SheetCommand::Index => {
-            let (number, time) = index(argument)?;
-            Some(SheetLine::Index { number, time })
-        }
+        SheetCommand::Index => index(argument),
         SheetCommand::Postgap => Some(SheetLine::Postgap(time(argument)?)),
     }
 }
@@ -141,25 +133,25 @@ fn word_count(line: &[u8]) -> usize
     count
 }
 
-// A catalogue number, 13 digits.
+// The line of a catalogue number, 13 digits.
 #[tactic(auto, unfolding(crate::specs::CueLines::catalogue_argument))]
-fn catalogue(argument: &[u8]) -> Option<[u8; CATALOGUE_DIGITS]>
-    ensures number { result ≡ catalogue_argument argument.now }
-    ensures range { IfSome result (λ digits. IsTrue (is_catalogue_number digits)) }
+fn catalogue(argument: &[u8]) -> Option<SheetLine<'_>>
+    ensures line { option_map line_said result ≡ option_map SaysCatalogue (catalogue_argument argument.now) }
+    ensures range { IfSome result (λ line. IsLineInRange (line_said line)) }
 {
     if argument.len() != CATALOGUE_DIGITS || !are_digits(argument) {
         return None;
     }
     let mut digits = [0; CATALOGUE_DIGITS];
     digits.copy_from_slice(argument);
-    Some(digits)
+    Some(SheetLine::Catalogue(digits))
 }
 
-// A track's code, its letters as capital ones.
+// The line of a track's code, its letters as capital ones.
 #[tactic(auto, unfolding(crate::specs::CueLines::code_argument))]
-fn code(argument: &[u8]) -> Option<[u8; ISRC_CHARACTERS]>
-    ensures code { result ≡ code_argument argument.now }
-    ensures range { IfSome result (λ code. IsTrue (is_capital_code code)) }
+fn code(argument: &[u8]) -> Option<SheetLine<'_>>
+    ensures line { option_map line_said result ≡ option_map SaysIsrc (code_argument argument.now) }
+    ensures range { IfSome result (λ line. IsLineInRange (line_said line)) }
 {
     if argument.len() != ISRC_CHARACTERS {
         return None;
@@ -170,7 +162,7 @@ fn code(argument: &[u8]) -> Option<[u8; ISRC_CHARACTERS]>
     if !is_code(&code) {
         return None;
     }
-    Some(code)
+    Some(SheetLine::Isrc(code))
 }
 
 // Whether it is two letters, three letters or digits, and seven digits, the letters all capital.
@@ -194,35 +186,39 @@ fn two_words(argument: &[u8]) -> Option<(&[u8], &[u8])>
     Some((first, second))
 }
 
-// A track's number, and whether its type is AUDIO.
-fn track(argument: &[u8]) -> Option<(u8, bool)>
-    ensures track { result ≡ track_argument (words_in argument.now) }
-    ensures range { IfSome result (λ t. (1 ≤ t.0) × (t.0 ≤ most_tracks)) }
+// The line of a track: its number, and whether its type is AUDIO.
+fn track(argument: &[u8]) -> Option<SheetLine<'_>>
+    ensures line { option_map line_said result
+        ≡ option_map (λ t. SaysTrack t.0 t.1) (track_argument (words_in argument.now)) }
+    ensures range { IfSome result (λ line. IsLineInRange (line_said line)) }
 {
     let (number, kind) = two_words(argument)?;
     let number = two_digits(number)?;
     if number == 0 {
         return None;
     }
-    Some((number, is_word(kind, b"AUDIO")))
+    let audio = is_word(kind, b"AUDIO");
+    Some(SheetLine::Track { number, audio })
 }
 
-// An index line's number and time.
-fn index(argument: &[u8]) -> Option<(u8, u32)>
-    ensures line { result ≡ index_argument (words_in argument.now) }
-    ensures range { IfSome result (λ line. (line.0 ≤ 99) × (line.1 < time_count)) }
+// An index line: its number and time.
+fn index(argument: &[u8]) -> Option<SheetLine<'_>>
+    ensures line { option_map line_said result
+        ≡ option_map (λ line. SaysIndex line.0 line.1) (index_argument (words_in argument.now)) }
+    ensures range { IfSome result (λ line. IsLineInRange (line_said line)) }
 {
     let (number, at) = two_words(argument)?;
     let number = two_digits(number)?;
-    let at = time(at)?;
-    Some((number, at))
+    let time = time(at)?;
+    Some(SheetLine::Index { number, time })
 }
 
-// The control bits of flags.
+// The line of flags: their control bits.
 #[tactic(auto, unfolding(crate::specs::CueLines::flags_argument))]
-fn flags(argument: &[u8]) -> Option<u8>
-    ensures control { result ≡ flags_argument (words_in argument.now) }
-    ensures range { IfSome result (λ control. control < control_values) }
+fn flags(argument: &[u8]) -> Option<SheetLine<'_>>
+    ensures line { option_map line_said result
+        ≡ option_map SaysFlags (flags_argument (words_in argument.now)) }
+    ensures range { IfSome result (λ line. IsLineInRange (line_said line)) }
 {
     if next_word(argument).is_none() {
         return None;
@@ -232,7 +228,7 @@ fn flags(argument: &[u8]) -> Option<u8>
     }
     let four_channels = 8 * u8::from(names_flag(argument, b"4CH"));
     let copy = 2 * u8::from(names_flag(argument, b"DCP"));
-    Some(four_channels + copy + u8::from(names_flag(argument, b"PRE")))
+    Some(SheetLine::Flags(four_channels + copy + u8::from(names_flag(argument, b"PRE"))))
 }
 
 fn are_flags(argument: &[u8]) -> bool

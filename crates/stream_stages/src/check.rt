@@ -57,7 +57,6 @@ impl Checker {
     ///
     /// `Torn`, `TooLong` and `ReadFault` as the input says: then nothing is written. After `WriteFault` the sink
     /// holds a prefix.
-    #[tactic(auto, using(crate::proofs::Ends::ends_first, crate::proofs::Ends::stops_stream))]
     pub fn check<S: Source, K: Sink>(
         &mut self,
         lead_in: u32,

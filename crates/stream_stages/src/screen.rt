@@ -131,7 +131,6 @@ impl Viewer {
     }
 
     // Draws the packs of a whole stream that are whole at a moment.
-    #[tactic(auto, using(crate::proofs::Ends::ends_first, crate::proofs::Ends::stops_moment, crate::proofs::Ends::viewed_stops))]
     fn view<S: Source>(
         &mut self,
         lead_in: u32,

@@ -1,6 +1,7 @@
-use Rattle.std.proofs.Common.{◌≡◌, ◌≤◌, ◌+◌, ◌∙◌, ◌++◌, drop, length, take, arith, length-append}
+use Rattle.std.proofs.Common.{◌≡◌, ◌<◌, ◌≤◌, ◌+◌, ◌∙◌, ◌++◌, drop, length, take, arith, length-append}
 use Rattle.std.proofs.lemmas.List.{length-drop, length-take}
 use Rattle.std.proofs.KnownBytes.{Consumes-trans}
+use Rattle.cdg_io.proofs.Stops.{Consumes-still, rose_once_since}
 use Rattle.cdg_io.proofs.whole.read_on.Goals as goal
 
 pub returns-in-Ok-clause-too_long : goal.returns-in-Ok-clause-too_long
@@ -45,3 +46,53 @@ loop-count-preserved g c =
       told = c.in-Ok.ensures.end.goes_on (omega (arith, c.in-Ok.count-test.1)) ∙ before.told;
       same = c.in-Ok.ensures.cause.same ∙ before.same;
     }
+
+pub returns-in-Ok-eq0-clause-no_memory : goal.returns-in-Ok-eq0-clause-no_memory
+returns-in-Ok-eq0-clause-no_memory g c = λ _.
+    let before = c.loop-count.invariant in
+    let (xs, count, taken) = before.taken in
+    let zero = c.in-Ok-eq0.field-0-test in
+    let some : 0 < length c.take.new.buf = omega (
+      arith,
+      c.take.auto.buf,
+      length-take (c.min-offered.result + 1) c.loop-count.chunk,
+      before.size,
+      c.min-offered.ensures,
+    ) in
+    record {
+      taken = xs;
+      within = omega (arith, count);
+      took = Consumes-still _ _ _ _ _ _ zero taken c.in-Ok-eq0.ensures.bytes.0;
+      end = c.in-Ok-eq0.ensures.bytes.1 zero some;
+      told = rose_once_since before.told (c.in-Ok-eq0.ensures.end.ended (omega (arith, zero)));
+    }
+
+pub returns-in-Err-clause-cut : goal.returns-in-Err-clause-cut
+returns-in-Err-clause-cut g c = λ _.
+    let (xs, count, taken) = c.loop-count.invariant.taken in
+    record {
+      last = c.loop-count.source;
+      taken = xs;
+      within = omega (arith, count);
+      took = taken;
+      quiet = c.loop-count.invariant.same;
+      nothing = c.in-Err.ensures.bytes;
+    }
+
+pub returns-in-Err-clause-no_memory : goal.returns-in-Err-clause-no_memory
+returns-in-Err-clause-no_memory g c = λ e. cc
+
+pub returns-in-Err-clause-too_long : goal.returns-in-Err-clause-too_long
+returns-in-Err-clause-too_long g c = λ e. cc
+
+pub returns-in-Ok-clause-no_memory : goal.returns-in-Ok-clause-no_memory
+returns-in-Ok-clause-no_memory g c = λ e. cc
+
+pub returns-in-Ok-clause-cut : goal.returns-in-Ok-clause-cut
+returns-in-Ok-clause-cut g c = λ e. cc
+
+pub returns-in-Ok-eq0-clause-too_long : goal.returns-in-Ok-eq0-clause-too_long
+returns-in-Ok-eq0-clause-too_long g c = λ e. cc
+
+pub returns-in-Ok-eq0-clause-cut : goal.returns-in-Ok-eq0-clause-cut
+returns-in-Ok-eq0-clause-cut g c = λ e. cc

@@ -1,6 +1,7 @@
 use Rattle.std.proofs.Common.{ℕ, ◌+◌, ◌-◌, ◌≤◌, List, ◌++◌, length, take, sym, ap, ◌∙◌, arith, rules}
 use borrow.Rule.Slice.PartMut.{post_of}
 use Rattle.std.proofs.Math.Seq.{take-length}
+use Rattle.std.proofs.lemmas.Grind.{common_steps}
 use Rattle.std.proofs.lemmas.List.{with_items_is, places}
 use Rattle.std.proofs.KnownBytes.{append_known-grown, Keeps-refl}
 use Rattle.cdg_io.proofs.Waiting.{piece_behind}
@@ -24,3 +25,6 @@ returns-clause-bytes g c =
     let whole = ap (λ (l : List ℕ). take self.end self.buffer.items ++ l) (sym (take-length piece)) in
     rw (← c.self.view_is)
     (append_known-grown _ _ _ _ _ (Keeps-refl _) (parts ∙ copied ∙ behind ∙ before ∙ whole))
+
+pub returns-clause-kept : goal.returns-clause-kept
+returns-clause-kept g c = grind (arith, common_steps)

@@ -1,5 +1,6 @@
 use Rattle.std.proofs.Common.{refl}
 use Rattle.raw_subcode.specs.Channels.{unit_size}
+use Rattle.stream_stages.proofs.Ends.{ends_unread, stops_played}
 use Rattle.stream_stages.proofs.Told.{counts_told, unread}
 use Rattle.stream_stages.proofs.Checks.{at_end_stop, checks_done, checked_done, checked_stop}
 use Rattle.stream_stages.proofs.check.Checker.check.Goals as goal
@@ -40,3 +41,11 @@ returns-in-Err-clause-faults g c =
     let (taken, w) = c.in-Err.ensures.watches in
     unread _ _ _ c.in-Err.ensures.read_fault.later _ _ c.play_stop.ensures w.no_write
     c.in-Err.ensures.read_fault.rose c.in-Err.ensures.read_fault.same
+
+pub returns-in-Err-clause-stops : goal.returns-in-Err-clause-stops
+returns-in-Err-clause-stops g c = stops_played c.in-Err.stop c.play_stop.result c.play_stop.ensures
+
+pub returns-in-Err-clause-ended : goal.returns-in-Err-clause-ended
+returns-in-Err-clause-ended g c =
+    let (taken, w) = c.in-Err.ensures.watches in
+    ends_unread c.in-Err.stop c.play_stop.result _ _ c.play_stop.ensures w.no_write c.in-Err.ensures.ended
