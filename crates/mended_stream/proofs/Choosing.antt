@@ -1,7 +1,6 @@
 -- The blocks of readings, and the first of them that passes a test.
 use Rattle.std.proofs.Common.{◌≡◌, ℕ, zero, suc, ◌+◌, ◌-◌, ◌*◌, ◌<◌, ◌≤◌, Bool, true, false, cond, List, [], ◌∷◌, length, get_or, take, drop, Some, None, refl, sym, ap, ◌∙◌, arith}
 use Rattle.std.specs.Prelude.{find, slice_range, unwrap_or}
-use Rattle.std.proofs.Math.Nat.{mul-le-mul_left}
 use Rattle.std.proofs.lemmas.List.{drop-drop, drop-take, get_or-map, length-map, take-take}
 use Rattle.bit_lists.specs.Counting.{parts}
 use Rattle.rw_mend.specs.Words.{block_at}

@@ -1,5 +1,5 @@
 -- Readings in memory that are mended, or why they are not.
-use Rattle.std.specs.Prelude.{◌≡◌, ◌==◌, ◌||◌, ◌&&◌, ◌*◌, ◌-◌, ◌/◌, ◌%◌, not, nat_lt, if◌then◌else◌, ℕ, List, length, Option, Some, None}
+use Rattle.std.specs.Prelude.{◌≡◌, ◌==◌, ◌||◌, ◌*◌, ◌-◌, ◌/◌, ◌%◌, not, nat_lt, if◌then◌else◌, ℕ, List, length, Option, Some, None}
 use Rattle.disc_time.specs.Counts.{most_lead_in}
 use Rattle.raw_subcode.specs.Sizes.{block_bytes, most_units, symbols_a_slot}
 use Rattle.rw_interleave.specs.Interleave.{whole_packs}

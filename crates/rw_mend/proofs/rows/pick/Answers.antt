@@ -1,4 +1,4 @@
-use Rattle.std.proofs.Common.{arith, ℕ, ◌≡◌, ◌<◌, length, get_or, sym, ap, ◌∙◌, subst, ◌+◌, ◌*◌, ◌≤◌, below_more}
+use Rattle.std.proofs.Common.{arith, ◌≡◌, ◌<◌, length, get_or, sym, ap, ◌∙◌, subst, ◌+◌, ◌*◌, below_more}
 use Rattle.std.proofs.Math.ListN.{set, length-set}
 use Rattle.std.proofs.lemmas.List.{get_or-set_other, get_or-set_same}
 use Rattle.rw_interleave.specs.Interleave.{place}

@@ -1,4 +1,4 @@
-use Rattle.std.proofs.Common.{arith, ℕ, ◌≡◌, ◌<◌, ◌%◌, length, map, sym, ap, ◌∙◌, rules}
+use Rattle.std.proofs.Common.{arith, ℕ, ◌≡◌, ◌%◌, length, map, sym, ap, ◌∙◌, rules}
 use Rattle.std.specs.Prelude.{slice_index}
 use Rattle.std.proofs.lemmas.List.{get_or-map, length-map}
 use Rattle.std.proofs.lemmas.List.FromFn.{fill_by_all}
