@@ -1,10 +1,10 @@
 -- The blocks of readings, and the first of them that passes a test.
 use Rattle.std.proofs.Common.{◌≡◌, ℕ, zero, suc, ◌+◌, ◌-◌, ◌*◌, ◌<◌, ◌≤◌, Bool, true, false, cond, List, [], ◌∷◌, length, get_or, take, drop, Some, None, refl, sym, ap, ◌∙◌, arith}
 use Rattle.std.specs.Prelude.{find, slice_range, unwrap_or}
-use Rattle.std.proofs.Math.Nat.{mul-le-mul_left}
 use Rattle.std.proofs.lemmas.List.{drop-drop, drop-take, get_or-map, length-map, take-take}
 use Rattle.bit_lists.specs.Counting.{parts}
 use Rattle.rw_mend.specs.Words.{block_at}
+use Rattle.rw_mend.proofs.Heaps.{part_at}
 use Rattle.mended_stream.specs.Chosen.{blocks_at}
 
 pub first_found : (p : List ℕ → Bool) (xs : List (List ℕ)) (r : ℕ) → r < length xs
@@ -24,23 +24,6 @@ none_found p (x ∷ xs) fails =
     ∙ none_found p xs (λ k small. fails (suc k) (omega (arith, small)))
 
 -- ---- The blocks of readings.
-
-pub part_at : (count size : ℕ) (xs : List ℕ) (r : ℕ) → r < count
-    → get_or (parts count size xs) r [] ≡ take size (drop (size * r) xs)
-part_at zero size xs r lt = absurd (omega arith)
-part_at (suc count) size xs zero lt =
-    let none : size * 0 ≡ 0 = omega arith in
-    ap (λ n. take size (drop n xs)) (sym none)
-part_at (suc count) size xs (suc r) lt =
-    part_at count size (drop size xs) r (omega arith)
-    ∙ ap (take size) (drop-drop (size * r) size xs ∙ ap (λ n. drop n xs) (omega arith))
-
-pub parts_length : (count size : ℕ) (xs : List ℕ) → length (parts count size xs) ≡ count
-parts_length zero size xs = refl
-parts_length (suc count) size xs = ap (λ n. suc n) (parts_length count size (drop size xs))
-
-pub fits : (size r count : ℕ) → r < count → size * r + size ≤ count * size
-fits size r count lt = omega (arith, mul-le-mul_left size lt)
 
 -- block b of reading r
 pub block_is : (count size r b : ℕ) (bytes : List ℕ) → r < count → 96 * b + 96 ≤ size

@@ -18,7 +18,7 @@ use Rattle.mended_stream.specs.Chosen.{framed_byte, read_byte}
 use Rattle.mended_stream.specs.Stream.{AreMendedIntoStream, IsMendedByte}
 use Rattle.mended_stream.specs.Symbols.{AreBytes, IsByte, IsMendedAt, stream_place}
 use Rattle.mended_stream.specs.declared.words.Words.{Words}
-use Rattle.mended_stream.proofs.Choosing.{part_at, parts_length}
+use Rattle.rw_mend.proofs.Heaps.{part_at, parts_length}
 use Rattle.mended_stream.proofs.Codewords.{own_codeword, own_long, own_source, text_at}
 
 -- a word is mended where its source is told

@@ -3,6 +3,7 @@ use Rattle.std.specs.Prelude.{◌≡◌, ◌≢◌, ◌+◌, ◌*◌, ◌/◌, �
 use Rattle.raw_subcode.specs.Sizes.{block_bytes, symbols_a_slot}
 use Rattle.rw_code.specs.Sizes.{word_symbols}
 use Rattle.rw_interleave.specs.Interleave.{place}
+use Rattle.rw_mend.specs.Tallies.{no_source}
 use Rattle.mended_stream.specs.Chosen.{framed_byte, read_byte}
 use Rattle.mended_stream.specs.declared.words.Words.{Words}
 
@@ -14,7 +15,7 @@ stream_place lead_in n i = block_bytes * lead_in + place n i
 pub record IsMendedAt (words : Words) (p n i : ℕ) : Type 0 where
   pub word : n < words.count
   pub symbol : i < word_symbols
-  pub found : slice_index words.sources.now n ≢ 255
+  pub found : slice_index words.sources.now n ≢ no_source
   pub place : stream_place words.lead_in n i ≡ p
 
 -- The symbol at byte p: of the text of the words that were mended, or else this one.
@@ -45,4 +46,4 @@ pub record AreMendedUnder (words : Words) (b : ℕ) : Type 0 where
   pub first : 4 * words.lead_in + 7 ≤ 4 * b
   pub last : 4 * b + 4 ≤ 4 * words.lead_in + words.count
   pub found : (n : ℕ) → 4 * b ≤ 4 * words.lead_in + 7 + n → 4 * words.lead_in + n < 4 * b + 4
-      → slice_index words.sources.now n ≢ 255
+      → slice_index words.sources.now n ≢ no_source

@@ -1,6 +1,5 @@
 // The reading that is taken for each block.
 ghost use Rattle.std.specs.Prelude.{◌≡◌, ◌==◌, ◌<◌, ◌≤◌, ◌+◌, ◌*◌, ◌%◌, [], length, slice_index_or};
-ghost use Rattle.std.specs.List.{list_all};
 ghost use Rattle.raw_subcode.specs.Sizes.{block_bytes};
 ghost use Rattle.rw_mend.specs.Words.{block_at, is_empty_block};
 ghost use Rattle.mended_stream.specs.Chosen.{blocks_at, first_framed, first_read, is_framed_block};
@@ -8,6 +7,7 @@ ghost use Rattle.mended_stream.specs.Readings.{AreHeld, held_parts};
 
 use q_channel::is_frame;
 use raw_subcode::{BLOCK_BYTES, Block};
+use rw_mend::is_empty_block;
 
 /// Readings of equal length, one behind another.
 #[derive(Clone, Copy)]
@@ -44,7 +44,7 @@ impl<'a> HeldReadings<'a> {
     {
         for r in 0..self.count {
             let block = self.block(r, b);
-            if !is_empty(block) {
+            if !is_empty_block(block) {
                 return block;
             }
         }
@@ -64,17 +64,6 @@ impl<'a> HeldReadings<'a> {
     }
 }
 
-// Whether a block is empty.
-fn is_empty(block: &[u8]) -> bool
-    requires { length block.now ≡ block_bytes }
-    ensures { result ≡ is_empty_block block.now }
-{
-    if !has_no_symbol(block) {
-        return false;
-    }
-    !is_framed(block)
-}
-
 // Whether the Q channel of a block is a frame.
 fn is_framed(block: &[u8]) -> bool
     requires { length block.now ≡ block_bytes }
@@ -83,15 +72,4 @@ fn is_framed(block: &[u8]) -> bool
     let mut bytes = [0; BLOCK_BYTES];
     bytes.copy_from_slice(block);
     is_frame(&Block::from_bytes(&bytes).q_frame())
-}
-
-// Whether all symbols of a block are 0: all are looked at, which is faster than to stop at the first.
-fn has_no_symbol(block: &[u8]) -> bool
-    ensures { result ≡ list_all (λ byte. byte % 64 == 0) block.now }
-{
-    let mut most = 0;
-    for i in 0..block.len() {
-        most = most.max(block[i] % 64);
-    }
-    most == 0
 }

@@ -2,6 +2,7 @@
 ghost use Rattle.std.specs.Prelude.{◌≡◌, ◌≢◌, true, ◌<◌, ◌≤◌, ◌+◌, ◌-◌, ◌*◌, ◌/◌, ◌%◌, ◌^◌, List, ℕ, length, slice_index};
 ghost use Rattle.raw_subcode.specs.Sizes.{block_bytes, most_units, symbols_a_slot};
 ghost use Rattle.rw_interleave.specs.Interleave.{swapped};
+ghost use Rattle.rw_mend.specs.Tallies.{no_source};
 ghost use Rattle.mended_stream.specs.Symbols.{AreMendedUnder, HasWordText, HaveSources, IsByte, IsSymbol};
 
 use raw_subcode::{BLOCK_BYTES, SLOTS_A_BLOCK, SYMBOLS_A_SLOT};
@@ -34,7 +35,7 @@ fn text_place(k: usize) -> usize
 
 // Whether none of some sources is that of a word with no codeword.
 fn are_found(sources: &[u8]) -> bool
-    ensures { result ≡ true → (j : ℕ) → j < length sources.now → slice_index sources.now j ≢ 255 }
+    ensures { result ≡ true → (j : ℕ) → j < length sources.now → slice_index sources.now j ≢ no_source }
 {
     for source in sources {
         if *source == NO_READING {

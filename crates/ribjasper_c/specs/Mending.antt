@@ -1,5 +1,5 @@
 -- Readings in memory that are mended, or why they are not.
-use Rattle.std.specs.Prelude.{◌≡◌, ◌==◌, ◌||◌, ◌&&◌, ◌*◌, ◌-◌, ◌/◌, ◌%◌, not, nat_lt, if◌then◌else◌, ℕ, List, length, Option, Some, None}
+use Rattle.std.specs.Prelude.{◌≡◌, ◌==◌, ◌||◌, ◌*◌, ◌-◌, ◌/◌, ◌%◌, not, nat_lt, if◌then◌else◌, ℕ, List, length, Option, Some, None}
 use Rattle.disc_time.specs.Counts.{most_lead_in}
 use Rattle.raw_subcode.specs.Sizes.{block_bytes, most_units, symbols_a_slot}
 use Rattle.rw_interleave.specs.Interleave.{whole_packs}
@@ -26,19 +26,6 @@ pub record AreMendedInto (lead_in : ℕ) (first second old new : List ℕ) (told
   pub bytes : told.bytes ≡ symbols_a_slot * whole_packs (length first / block_bytes - lead_in)
   pub blocks : told.blocks ≡ length first / block_bytes - lead_in
 
--- Why so many readings of these sizes together are not mended: 2 where the lead-in is too long or there are none or too
--- many, else 3 where they are not whole blocks of equal length, or too many blocks, else 6 where the room is smaller than
--- their packs, or there is room for sources and it is smaller than their words.
-abbrev pub readings_refusal : ℕ → ℕ → ℕ → ℕ → ℕ → Option ℕ
-readings_refusal length_of_all count lead_in room sources =
-    if nat_lt most_lead_in lead_in || (count == 0) || nat_lt 254 count then Some 2
-    else (if not (length_of_all % count == 0) || not (length_of_all / count % block_bytes == 0)
-    || nat_lt (block_bytes * most_units) (length_of_all / count) then Some 3
-    else (if nat_lt room (symbols_a_slot * whole_packs (length_of_all / count / block_bytes - lead_in))
-    || (nat_lt 0 sources && nat_lt sources (whole_packs (length_of_all / count / block_bytes - lead_in)))
-    then Some 6
-    else None))
-
 -- The packs of all readings stand at the front of the room, their sources where there is room for any, and what is told
 -- of them is true.
 pub record AreReadingsMended (count lead_in : ℕ) (readings old new old_sources new_sources : List ℕ)
@@ -47,8 +34,8 @@ pub record AreReadingsMended (count lead_in : ℕ) (readings old new old_sources
   pub bytes : told.bytes ≡ symbols_a_slot * words_in_each count lead_in readings
   pub blocks : told.blocks ≡ length readings / count / block_bytes - lead_in
 
--- Why so many readings of these sizes together are not mended into a stream: 2 and 3 as above, else 6 where the room is
--- smaller than a reading, or that for sources smaller than the words.
+-- Why so many readings of these sizes together are not mended into a stream: 2 and 3 as for packs (`readings_refusal`),
+-- else 6 where the room is smaller than a reading, or that for sources smaller than the words.
 abbrev pub stream_refusal : ℕ → ℕ → ℕ → ℕ → ℕ → Option ℕ
 stream_refusal length_of_all count lead_in room sources =
     if nat_lt most_lead_in lead_in || (count == 0) || nat_lt 254 count then Some 2

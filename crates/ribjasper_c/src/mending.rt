@@ -1,7 +1,8 @@
 // The packs of readings of one stream in memory, each mended by the others.
 ghost use Rattle.std.specs.Prelude.{◌≡◌, ◌==◌, ◌≤◌, if◌then◌else◌, IfSome, None, length, pos};
 ghost use Rattle.disc_time.specs.Counts.{most_lead_in};
-ghost use Rattle.ribjasper_c.specs.Mending.{refusal_of, readings_refusal, stream_refusal, AreMendedInto, AreReadingsMended, IsStreamMended};
+ghost use Rattle.rw_mend.specs.Refusals.{readings_refusal};
+ghost use Rattle.ribjasper_c.specs.Mending.{refusal_of, stream_refusal, AreMendedInto, AreReadingsMended, IsStreamMended};
 
 use crate::answers::{DAMAGED, DONE, REFUSED, USAGE, WRITE_FAULT};
 use disc_time::MOST_LEAD_IN;

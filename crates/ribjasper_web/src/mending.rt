@@ -2,7 +2,7 @@
 ghost use Rattle.std.specs.Prelude.{◌≡◌, ◌≤◌, IfSome, None, length, pos};
 ghost use Rattle.disc_time.specs.Counts.{most_lead_in};
 ghost use Rattle.rw_mend.specs.Many.{AreAllMendedInto};
-ghost use Rattle.ribjasper_web.specs.Mending.{mending_refusal};
+ghost use Rattle.rw_mend.specs.Refusals.{readings_refusal};
 
 use disc_time::MOST_LEAD_IN;
 use raw_subcode::{BLOCK_BYTES, MOST_UNITS, SLOTS_A_BLOCK};
@@ -23,11 +23,11 @@ pub extern "C" fn ribjasper_web_mend(
     sources: &mut [u8],
     tallies: &mut Tallies,
 ) -> i32
-    ensures mended { mending_refusal (length readings.now) count lead_in (length packs.old)
+    ensures mended { readings_refusal (length readings.now) count lead_in (length packs.old)
         (length sources.old) ≡ None
         → AreAllMendedInto count lead_in readings.now packs.old packs.new sources.old sources.new tallies.new
         × (result ≡ pos 0) }
-    ensures refused { IfSome (mending_refusal (length readings.now) count lead_in (length packs.old)
+    ensures refused { IfSome (readings_refusal (length readings.now) count lead_in (length packs.old)
         (length sources.old))
         (λ number. (result ≡ pos number) × (packs.new ≡ packs.old) × (sources.new ≡ sources.old)
         × (tallies.new ≡ tallies.old)) }

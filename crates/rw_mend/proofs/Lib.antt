@@ -13,6 +13,7 @@ pub mod Kept
 pub mod Missing
 pub mod Once
 pub mod Pairs
+pub mod Picking
 pub mod Reading
 pub mod Reordered
 pub mod Running

@@ -5,6 +5,7 @@ pub mod Laws
 pub mod Many
 pub mod Mender
 pub mod Readings
+pub mod Refusals
 pub mod Rows
 pub mod Steps
 pub mod Streams

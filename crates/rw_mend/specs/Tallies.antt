@@ -5,6 +5,10 @@ use Rattle.rw_mend.specs.declared.choice.WordSource.{WordSource}
 use Rattle.rw_mend.specs.declared.choice.WordSource.TheVariants.{Reading, Agreed}
 use Rattle.rw_mend.specs.declared.tallies.Tallies.{Tallies}
 
+-- the byte in place of a source where there is no codeword
+abbrev pub no_source : ℕ
+no_source = 255
+
 -- the byte that names where a codeword comes from: the number of a reading, 254 where two agree, 255 where there is none
 abbrev pub source_number : WordSource → ℕ
 source_number (Reading r) = r
@@ -12,7 +16,7 @@ source_number Agreed = 254
 
 abbrev pub source_byte : Option Mended → ℕ
 source_byte (Some mended) = source_number mended.source
-source_byte None = 255
+source_byte None = no_source
 
 -- a source that can be counted
 abbrev pub HasSource : WordSource → Type 0
@@ -24,6 +28,6 @@ pub record AreTallies (found : List (Option Mended)) (tallies : Tallies) : Type 
   pub of_reading : (r : ℕ) → r < 254
       → slice_index_or tallies.of_reading r 0 ≡ count_by (λ f. source_byte f == r) found
   pub agreed : tallies.agreed ≡ count_by (λ f. source_byte f == 254) found
-  pub none : tallies.none ≡ count_by (λ f. source_byte f == 255) found
+  pub none : tallies.none ≡ count_by (λ f. source_byte f == no_source) found
   pub reserved : tallies.reserved ≡ 0
   pub kept : length tallies.of_reading ≡ 254

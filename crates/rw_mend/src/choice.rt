@@ -33,7 +33,7 @@ pub const MOST_READINGS: usize = 254;
 /// The codeword that the readings of a word give together: the one with the fewest symbols against it; of several with
 /// as few the one that most readings give; or, where none gives one, the one on which two readings agree. `None` exactly
 /// where there is none.
-#[inline]
+#[inline(always)]
 pub fn mend(voices: &[Voice]) -> Option<Mended>
     requires { length voices.now ≤ 254 }
     ensures { IsMending voices.now result }
@@ -130,6 +130,7 @@ fn stands(voices: &[Voice], pack: &Pack, doubts: u8, voice: &Voice) -> bool
 }
 
 /// How many voices are a codeword.
+#[inline(always)]
 pub(crate) fn votes(voices: &[Voice], pack: &Pack) -> usize
     ensures { result ≡ votes voices.now pack.now }
 {

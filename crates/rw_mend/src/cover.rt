@@ -126,6 +126,14 @@ fn is_empty_at(program: &[u8], b: usize, blank: bool) -> bool
     is_empty(&program[at..at + BLOCK_BYTES], blank)
 }
 
+/// Whether a block of a stream is empty: no symbol of it is other than 0, and its Q channel is no frame.
+pub fn is_empty_block(block: &[u8]) -> bool
+    requires { length block.now ≡ block_bytes }
+    ensures { result ≡ is_empty_block block.now }
+{
+    is_empty(block, is_blank(block))
+}
+
 // Whether a block is empty.
 fn is_empty(block: &[u8], blank: bool) -> bool
     requires size { length block.now ≡ block_bytes }

@@ -16,6 +16,7 @@ mod voices;
 mod ways;
 
 pub use choice::{MOST_READINGS, Mended, WordSource, mend};
+pub use cover::is_empty_block;
 pub use laws::{
     a_clean_codeword_is_mended, a_clean_reading_comes_out, a_codeword_that_counts_alone_is_mended,
     a_reading_gives_its_conversion, a_reading_that_counts_alone_is_converted,

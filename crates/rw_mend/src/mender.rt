@@ -69,7 +69,9 @@ impl Mender {
         self.words
     }
 
-    /// Comes to word n from the word before it.
+    /// Comes to word n from the word before it. It stands in line in the loops over all words, whose counts of readings
+    /// it then knows.
+    #[inline(always)]
     pub(crate) fn come_to(&mut self, readings: &Readings, n: usize)
         requires within { n < self.old.words }
         requires hearing { IsHearing readings.now n self.old }
@@ -190,9 +192,8 @@ fn say_next(
     }
 }
 
-// The same where a reading misses graphics within reach. It is a function of its own so that other words do not pay for
-// its variables.
-#[inline(never)]
+// The same where a reading misses graphics within reach.
+#[inline]
 fn say_near(
     rows: &[GivenRow],
     count: usize,

@@ -1,8 +1,9 @@
 // The words of some readings in turn.
-ghost use Rattle.std.specs.Prelude.{◌≡◌, ◌⊎◌, ◌<◌, ◌≤◌, ◌+◌, ◌-◌, ◌*◌, ◌/◌, ◌%◌, ◌^◌, [], nat_lt, List, ℕ, length, slice_index_or, take, if◌then◌else◌};
+ghost use Rattle.std.specs.Prelude.{◌≡◌, ◌⊎◌, ◌<◌, ◌≤◌, ◌+◌, ◌-◌, ◌*◌, ◌/◌, ◌%◌, ◌^◌, [], nat_lt, List, ℕ, length, slice_index, slice_index_or, take, if◌then◌else◌};
 ghost use Rattle.raw_subcode.specs.Channels.{symbols_of};
 ghost use Rattle.raw_subcode.specs.Sizes.{block_bytes, symbols_a_slot};
-ghost use Rattle.rw_interleave.specs.Interleave.{word_of};
+ghost use Rattle.rw_code.specs.Sizes.{word_symbols};
+ghost use Rattle.rw_interleave.specs.Interleave.{place, word_of};
 ghost use Rattle.std.specs.List.{list_any};
 ghost use Rattle.rw_mend.specs.Choice.{voice_of_reading};
 ghost use Rattle.rw_mend.specs.Voices.{is_clean_graphics, voice_of};
@@ -15,8 +16,8 @@ use crate::choice::MOST_READINGS;
 use crate::cover::Trail;
 use crate::following::follow;
 use crate::readings::Readings;
-use crate::voices::hear_blank;
-use crate::{Voice, WordReading, hear};
+use crate::voices::{hear_blank, hear_likely};
+use crate::{Voice, WordReading};
 use raw_subcode::SLOTS_A_BLOCK;
 use rw_code::{SYMBOLS, Word};
 use rw_interleave::place;
@@ -71,7 +72,7 @@ pub(crate) fn hear_all(
     let program = readings.program(0);
     let mut trail = trails[0];
     let mut voice = Voice::Silent;
-    hear_one(program, n, &mut trail, &mut voice);
+    hear_one(&Voice::Silent, program, n, &mut trail, &mut voice);
     trails[0] = trail;
     row.voices[0] = voice;
     let first = FirstReading {
@@ -85,9 +86,9 @@ pub(crate) fn hear_all(
 // What the first reading gives for a word.
 #[derive(Clone, Copy)]
 struct FirstReading<'a> {
-    pub(crate) program: &'a [u8],
-    pub(crate) trail: Trail,
-    pub(crate) voice: Voice,
+    program: &'a [u8],
+    trail: Trail,
+    voice: Voice,
 }
 
 // The same of all readings but the first.
@@ -159,24 +160,24 @@ fn hear_beside(
         *trail = first.trail;
         *voice = first.voice;
     } else {
-        hear_one(program, n, trail, voice);
+        hear_one(&first.voice, program, n, trail, voice);
     }
 }
 
-// Hears what one reading gives.
-fn hear_one(program: &[u8], n: usize, trail: &mut Trail, voice: &mut Voice)
+// Hears what one reading gives, beside what another gives.
+fn hear_one(other: &Voice, program: &[u8], n: usize, trail: &mut Trail, voice: &mut Voice)
     requires within { block_bytes * ((n + 7) / 4) + block_bytes ≤ length program.now }
     requires trail { 0 < n → IsTrail program.now (n - 1) trail.old }
     ensures trail { IsTrail program.now n trail.new }
     ensures voice { voice.new ≡ voice_of (reading_at program.now n) }
 {
     trail.advance(program, n);
-    *voice = heard(program, n, trail);
+    *voice = heard(other, program, n, trail);
 }
 
 // What one reading gives for word n. One without symbols, as most are, is not looked at again.
 #[inline]
-fn heard(program: &[u8], n: usize, trail: &Trail) -> Voice
+fn heard(other: &Voice, program: &[u8], n: usize, trail: &Trail) -> Voice
     requires size { symbols_a_slot * (n + 8) ≤ length program.now }
     requires trail { IsTrail program.now n trail.now }
     ensures { result ≡ voice_of (reading_at program.now n) }
@@ -184,7 +185,7 @@ fn heard(program: &[u8], n: usize, trail: &Trail) -> Voice
     if trail.is_blank(n) {
         return hear_blank(trail.coverage(n));
     }
-    hear(&reading(program, n, trail))
+    hear_likely(other, &reading(program, n, trail))
 }
 
 /// Notes which readings miss graphics at word n.
@@ -293,8 +294,19 @@ fn word_at(program: &[u8], n: usize) -> Word
     ensures { result ≡ word_of (symbols_of program.now) n }
 {
     let mut bytes = [0; SYMBOLS];
+    pick(program, n, &mut bytes);
+    Word::new(&bytes)
+}
+
+// Picks the bytes in which they stand. It is a function of its own so that each goes where it belongs at once, and waits
+// in no register for the others.
+#[inline(never)]
+fn pick(program: &[u8], n: usize, bytes: &mut [u8; SYMBOLS])
+    requires { symbols_a_slot * (n + 8) ≤ length program.now }
+    ensures { (i : ℕ) → i < word_symbols
+        → slice_index bytes.new i ≡ slice_index program.now (place n i) }
+{
     for i in 0..SYMBOLS {
         bytes[i] = program[SYMBOLS * n + place(i) as usize];
     }
-    Word::new(&bytes)
 }

@@ -1,11 +1,12 @@
 // What a reading of a word gives.
-ghost use Rattle.std.specs.Prelude.{◌≡◌, List, ℕ};
-ghost use Rattle.rw_code.specs.Codeword.{differences};
+ghost use Rattle.std.specs.Prelude.{◌≡◌, List, ℕ, IfSome};
+ghost use Rattle.rw_code.specs.Codeword.{IsWord, Reads, differences};
 ghost use Rattle.rw_code.specs.Packs.{idle_pack};
 ghost use Rattle.rw_mend.specs.declared.voices.WordReading.{WordReading};
 ghost use Rattle.rw_mend.specs.Voices.{doubts_of, is_clean_graphics, is_idle_voice, is_idle_pack, voice_of};
 
-use rw_code::{Fixed, Pack, Word, correct};
+use rw_code::{Fixed, Pack, Word, correct, words_have_24_symbols};
+use rw_merge::differing;
 
 /// How much of a word a drive has read.
 #[derive(Clone, Copy, Debug, PartialEq, Eq)]
@@ -46,6 +47,9 @@ pub enum Voice {
     },
 }
 
+// The most wrong symbols of a word that is near a codeword.
+const MOST_WRONG: u8 = 2;
+
 // More than stands against any other codeword.
 const IDLE_DOUBTS: u8 = 3;
 
@@ -63,6 +67,51 @@ pub fn hear(reading: &WordReading) -> Voice
         },
         None => Voice::Lost { word: reading.word },
     }
+}
+
+/// The same, beside what another reading gives, which is most often the same codeword: that one is tried first.
+#[inline]
+pub(crate) fn hear_likely(other: &Voice, reading: &WordReading) -> Voice
+    ensures { result ≡ voice_of reading.now }
+{
+    if reading.coverage == Coverage::Unread {
+        return Voice::Silent;
+    }
+    match near(other, &reading.word) {
+        Some(fixed) => Voice::Near {
+            pack: fixed.pack,
+            doubts: doubts(reading.coverage, &fixed),
+        },
+        None => hear(reading),
+    }
+}
+
+// The codeword that a voice is, where a word is near it.
+#[inline]
+fn near(voice: &Voice, word: &Word) -> Option<Fixed>
+    ensures near { IfSome result (λ fixed. Reads word.now fixed.pack
+        × (fixed.wrong ≡ differences word.now fixed.pack)) }
+    ensures word { IsWord word.now }
+{
+    // What is found for a word is known of words alone.
+    words_have_24_symbols(word);
+    match voice {
+        Voice::Near { pack, .. } => near_pack(pack, word),
+        _ => None,
+    }
+}
+
+// A codeword, where a word is near it.
+#[inline]
+fn near_pack(pack: &Pack, word: &Word) -> Option<Fixed>
+    ensures { IfSome result (λ fixed. Reads word.now fixed.pack
+        × (fixed.wrong ≡ differences word.now fixed.pack)) }
+{
+    let wrong = differing(word, &pack.word());
+    if wrong > MOST_WRONG {
+        return None;
+    }
+    Some(Fixed { pack: *pack, wrong })
 }
 
 /// What a reading gives by itself of a word without symbols.

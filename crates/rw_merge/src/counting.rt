@@ -27,7 +27,7 @@ pub(crate) fn next_difference(
 }
 
 /// At how many positions two readings differ. All are looked at, which is faster than to stop at the first.
-pub(crate) fn differing(first: &Word, second: &Word) -> u8
+pub fn differing(first: &Word, second: &Word) -> u8
     ensures count { result ≡ differences first.now second.now }
     ensures first { IsWord first.now }
     ensures second { IsWord second.now }

@@ -16,6 +16,7 @@ ghost use Rattle.rw_merge.specs.Agreement.{IsAgreed};
 ghost use Rattle.rw_merge.specs.Merging.{IsMergedText};
 
 pub use agreement::agree;
+pub use counting::differing;
 pub use merge::{MergeStop, Merged, Merger, two_readings_give_packs};
 
 /// A law: for no two words are two codewords agreed.

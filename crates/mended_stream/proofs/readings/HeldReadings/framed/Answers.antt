@@ -2,7 +2,8 @@ use Rattle.std.proofs.Common.{◌≡◌, ◌<◌, true, [], length, get_or, ap, 
 use Rattle.rw_mend.specs.Words.{block_at}
 use Rattle.mended_stream.specs.Chosen.{blocks_at, first_framed, first_read, is_framed_block}
 use Rattle.mended_stream.specs.Readings.{held_parts}
-use Rattle.mended_stream.proofs.Choosing.{first_block, no_block, parts_length}
+use Rattle.rw_mend.proofs.Heaps.{parts_length}
+use Rattle.mended_stream.proofs.Choosing.{first_block, no_block}
 use Rattle.mended_stream.proofs.readings.HeldReadings.framed.Goals as goal
 
 pub returns-then-is_framed-clause-block : goal.returns-then-is_framed-clause-block

@@ -3,12 +3,13 @@ use Rattle.std.specs.Prelude.{not}
 use Rattle.rw_mend.specs.Words.{block_at, is_empty_block}
 use Rattle.mended_stream.specs.Chosen.{blocks_at, first_read}
 use Rattle.mended_stream.specs.Readings.{held_parts}
-use Rattle.mended_stream.proofs.Choosing.{block_of_reading, first_block, no_block, parts_length}
+use Rattle.rw_mend.proofs.Heaps.{parts_length}
+use Rattle.mended_stream.proofs.Choosing.{block_of_reading, first_block, no_block}
 use Rattle.mended_stream.proofs.readings.HeldReadings.read.Goals as goal
 
-pub returns-then-not-is_empty-clause-block : goal.returns-then-not-is_empty-clause-block
+pub returns-then-not-is_empty_block-clause-block : goal.returns-then-not-is_empty_block-clause-block
 unfolding first_read
-returns-then-not-is_empty-clause-block c =
+returns-then-not-is_empty_block-clause-block c =
     let held = c.args.self.now in
     let all = held_parts held in
     let b = c.args.b in

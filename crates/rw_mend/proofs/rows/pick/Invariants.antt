@@ -1,7 +1,7 @@
 use Rattle.std.proofs.Common.{◌≡◌, ℕ, ◌<◌, length}
 use Rattle.std.specs.Prelude.{slice_index}
 use Rattle.rw_interleave.specs.Interleave.{place}
-use Rattle.rw_mend.proofs.rows.word_at.Given as goal
+use Rattle.rw_mend.proofs.rows.pick.Given as goal
 
 abbrev pub invariant-loop-i : goal.invariant-loop-i
 invariant-loop-i l = record {
