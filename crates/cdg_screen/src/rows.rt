@@ -1,5 +1,5 @@
 // Rows of the screen and of its memory, whole or some of their columns.
-ghost use Rattle.std.specs.Prelude.{◌≡◌, ◌<◌, ◌≤◌, ◌+◌, ◌-◌, ◌&&◌, nat_le, nat_lt, if◌then◌else◌, ℕ, [], All, length, slice_index, slice_index_or};
+ghost use Rattle.std.specs.Prelude.{◌≡◌, ◌<◌, ◌≤◌, ◌+◌, ◌-◌, ◌*◌, ◌%◌, ◌&&◌, nat_le, nat_lt, if◌then◌else◌, ℕ, [], All, length, slice_index, slice_index_or};
 ghost use Rattle.cdg_instructions.specs.Sizes.{colour_count, screen_height, screen_width};
 ghost use Rattle.cdg_screen.specs.Memory.{at, seen};
 ghost use Rattle.cdg_screen.specs.Standing.{screen_pixel};
@@ -76,8 +76,8 @@ impl Memory {
             → slice_index columns.new i ≡ at self.now (x + i) y }
         ensures range { (i : ℕ) → slice_index columns.new i < colour_count }
     {
-        let row = &self.rows[(y + self.top) % SCREEN_HEIGHT];
-        let first = (x + self.left) % SCREEN_WIDTH;
+        let row = &self.rows[wrapped(y + self.top, SCREEN_HEIGHT)];
+        let first = wrapped(x + self.left, SCREEN_WIDTH);
         let count = columns.len().min(SCREEN_WIDTH - first);
         let rest = columns.len() - count;
         write_at(columns, 0, &row[first..first + count]);
@@ -88,14 +88,29 @@ impl Memory {
     }
 }
 
+// A place that goes on at the front, less than twice as far: no division.
+#[inline(always)]
+fn wrapped(place: usize, size: usize) -> usize
+    requires { place < 2 * size }
+    ensures { result ≡ place % size }
+{
+    if place < size { place } else { place - size }
+}
+
 // Makes the pixels from a place up to another one colour.
+#[inline(always)]
 fn fill(columns: &mut [u8], from: usize, to: usize, colour: u8)
     requires order { from ≤ to }
     requires room { to ≤ length columns.old }
     ensures { (i : ℕ) → slice_index columns.new i
         ≡ (if nat_le from i && nat_lt i to then colour else slice_index columns.old i) }
 {
-    columns[from..to].fill(colour);
+    // Each side of a whole row is as wide. A width that the compiler knows needs no call.
+    if to - from == TILE_WIDTH {
+        columns[from..from + TILE_WIDTH].fill(colour);
+    } else {
+        columns[from..to].fill(colour);
+    }
 }
 
 // Writes some pixels from a place on.

@@ -5,8 +5,11 @@ use Rattle.std.proofs.Math.Nat.{mul-le-mul_left}
 use Rattle.std.proofs.lemmas.Bool.{cases_lt}
 use Rattle.std.proofs.lemmas.Bool.Decides.{nat_tests}
 use Rattle.std.proofs.lemmas.List.{get_or-take}
+use Rattle.std.proofs.lemmas.Simd.{put_chunk_whole}
+use borrow.Rule.Slice.PartMut.{put_mid}
+use lib.Lanes.{put_chunk}
 use Rattle.cdg_screen.specs.Standing.{Standing, screen_pixel}
-use Rattle.cdg_screen.proofs.WholeRows.{else_before, else_behind, length-part, then_within}
+use Rattle.cdg_screen.proofs.WholeRows.{else_before, else_behind, length-part, piece_put, then_within}
 use Rattle.pixel_formats.specs.Formats.{pixel_bytes, pixel_size, shown_bytes, AreLineBytes}
 use Rattle.pixel_formats.specs.declared.format.PixelFormat.{PixelFormat}
 use Rattle.pixel_formats.specs.declared.format.PixelFormat.TheVariants.{Indexed, Rgb, Rgba, Bgra, RgbaLevels, BgraLevels, Rgb565}
@@ -19,11 +22,36 @@ in_row size i k width i_lt k_lt =
     let next : size * suc i ≤ size * width = mul-le-mul_left size (omega (arith, i_lt)) in
     omega (arith, next, k_lt)
 
+-- pixels with four bytes where the last one of so many has room for four
+pub in_room : (size i count room : ℕ) → i < count → size * count + 4 ≤ room + size → size * i + 4 ≤ room
+in_room size i count room lt fits =
+    let next : size * suc i ≤ size * count = mul-le-mul_left size (omega (arith, lt)) in
+    omega (arith, next, fits)
+
 from_there : (at n a b : ℕ) → at ≤ n → (if nat_le at n then a else b) ≡ a
 from_there at n a b from = grind (arith, nat_tests)
 
 before_there : (at n a b : ℕ) → n < at → (if nat_le at n then a else b) ≡ b
 before_there at n a b lt = grind (arith, nat_tests)
+
+-- four bytes that were written to a place as a vector, up to their end
+pub four_put : (line four : List ℕ) (at n : ℕ) → at + 4 ≤ length line → length four ≡ 4 → n < at + 4
+    → get_or (put_mid at (at + 4 - at) line (put_chunk 0 (take (at + 4 - at) (drop at line)) four)) n 0
+    ≡ (if nat_le at n then get_or four (n - at) 0 else get_or line n 0)
+four_put line four at n fits size lt =
+    let room : length (take (at + 4 - at) (drop at line)) ≡ at + 4 - at =
+    length-part line at (at + 4 - at) (omega (arith, fits)) in
+    let whole : put_chunk 0 (take (at + 4 - at) (drop at line)) four ≡ four =
+    put_chunk_whole (take (at + 4 - at) (drop at line)) four (omega (arith, room, size)) in
+    ap (λ ys. get_or (put_mid at (at + 4 - at) line ys) n 0) whole
+    ∙ piece_put at (at + 4 - at) line four n (omega (arith, fits, size)) (omega (arith, size))
+    ∙ elim (cases_lt n at) [
+      | inl early ↦
+          else_before at (at + length four) n _ _ early ∙ sym (before_there at n _ _ early)
+      | inr from ↦
+          then_within at (at + length four) n _ _ from (omega (arith, lt, size))
+          ∙ sym (from_there at n _ _ from)
+    ]
 
 -- so many bytes were written for pixel i, which has no more, behind those before it
 pub pixel_more : (old new four : List ℕ) (byte : ℕ → ℕ → ℕ) (size count i : ℕ) → size ≤ count

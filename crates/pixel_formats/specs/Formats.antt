@@ -42,10 +42,14 @@ shown_bytes format now x y =
     let number = screen_pixel now x y in
     pixel_bytes format number (slice_index now.colours number) (slice_index now.levels number)
 
--- the bytes of pixels of so many bytes each, one after the other, by a table of the bytes of each colour
-abbrev pub AreLineBytes : ℕ → List ℕ → List (List ℕ) → List ℕ → Type 0
-AreLineBytes size pixels table line = (i k : ℕ) → i < length pixels → k < size
+-- the first pixels, so many bytes each, one after the other, by a table of the bytes of each colour
+abbrev pub AreFirstBytes : ℕ → ℕ → List ℕ → List (List ℕ) → List ℕ → Type 0
+AreFirstBytes size count pixels table line = (i k : ℕ) → i < count → k < size
     → slice_index line (size * i + k) ≡ slice_index (slice_index_or table (slice_index pixels i) []) k
+
+-- all pixels
+abbrev pub AreLineBytes : ℕ → List ℕ → List (List ℕ) → List ℕ → Type 0
+AreLineBytes size pixels table line = AreFirstBytes size (length pixels) pixels table line
 
 -- so many bytes have room for the rows of a part, each `stride` bytes after the one before
 abbrev pub HasPixelRoom : PixelFormat → ScreenPart → ℕ → ℕ → Type 0

@@ -1,8 +1,12 @@
 // Rows of pixels as bytes.
 ghost use Rattle.std.specs.Prelude.{◌≡◌, ◌<◌, ◌≤◌, ◌+◌, ◌-◌, ◌*◌, nat_le, if◌then◌else◌, ℕ, [], length, slice_index, slice_index_or};
-ghost use Rattle.pixel_formats.specs.Formats.{AreLineBytes};
+ghost use Rattle.pixel_formats.specs.Formats.{AreFirstBytes, AreLineBytes};
 
 use cdg_instructions::COLOURS;
+use std::simd::prelude::*;
+
+// How many pixels a round of a loop writes, without a test between them.
+const ROUND: usize = 8;
 
 /// Writes two bytes for each pixel.
 pub(crate) fn write_twos(pixels: &[u8], table: &[[u8; 4]; COLOURS], line: &mut [u8])
@@ -15,10 +19,7 @@ pub(crate) fn write_twos(pixels: &[u8], table: &[[u8; 4]; COLOURS], line: &mut [
         return;
     }
     let last = pixels.len() - 1;
-    // Four bytes are written at once, of which the next pixel writes over the last two.
-    for i in 0..last {
-        put_four(line, 2 * i, &table[usize::from(pixels[i])]);
-    }
+    write_first(2, last, pixels, table, line);
     let last_colour = usize::from(pixels[last]);
     put_two(line, 2 * last, &table[last_colour]);
 }
@@ -34,10 +35,7 @@ pub(crate) fn write_threes(pixels: &[u8], table: &[[u8; 4]; COLOURS], line: &mut
         return;
     }
     let last = pixels.len() - 1;
-    // Four bytes are written at once, of which the next pixel writes over the fourth.
-    for i in 0..last {
-        put_four(line, 3 * i, &table[usize::from(pixels[i])]);
-    }
+    write_first(3, last, pixels, table, line);
     let last_colour = usize::from(pixels[last]);
     put_three(line, 3 * last, &table[last_colour]);
 }
@@ -49,8 +47,54 @@ pub(crate) fn write_fours(pixels: &[u8], table: &[[u8; 4]; COLOURS], line: &mut 
     requires entries { (p : ℕ) → p < 16 → length (slice_index_or table.now p []) ≡ 4 }
     ensures { AreLineBytes 4 pixels.now table.now line.new }
 {
-    for i in 0..pixels.len() {
-        put_four(line, 4 * i, &table[usize::from(pixels[i])]);
+    write_first(4, pixels.len(), pixels, table, line);
+}
+
+// Writes so many bytes for each of the first pixels. It is inlined, so that the size is known.
+#[inline(always)]
+fn write_first(
+    size: usize,
+    count: usize,
+    pixels: &[u8],
+    table: &[[u8; 4]; COLOURS],
+    line: &mut [u8],
+)
+    requires size { size ≤ 4 }
+    requires count { count ≤ length pixels.now }
+    requires room { size * count + 4 ≤ length line.old + size }
+    requires numbers { (i : ℕ) → i < length pixels.now → slice_index pixels.now i < 16 }
+    requires entries { (p : ℕ) → p < 16 → length (slice_index_or table.now p []) ≡ 4 }
+    ensures { AreFirstBytes size count pixels.now table.now line.new }
+{
+    let rounds = count / ROUND;
+    for r in 0..rounds {
+        write_more(size, ROUND * r, ROUND, pixels, table, line);
+    }
+    write_more(size, ROUND * rounds, count % ROUND, pixels, table, line);
+}
+
+// Writes so many bytes for each of some pixels, behind those of the pixels before them. Four are written at once, of
+// which the next pixel writes over what is more than its size.
+#[inline(always)]
+fn write_more(
+    size: usize,
+    from: usize,
+    count: usize,
+    pixels: &[u8],
+    table: &[[u8; 4]; COLOURS],
+    line: &mut [u8],
+)
+    requires size { size ≤ 4 }
+    requires count { from + count ≤ length pixels.now }
+    requires room { size * (from + count) + 4 ≤ length line.old + size }
+    requires numbers { (i : ℕ) → i < length pixels.now → slice_index pixels.now i < 16 }
+    requires entries { (p : ℕ) → p < 16 → length (slice_index_or table.now p []) ≡ 4 }
+    requires before { AreFirstBytes size from pixels.now table.now line.old }
+    ensures { AreFirstBytes size (from + count) pixels.now table.now line.new }
+{
+    for i in 0..count {
+        let colour = usize::from(pixels[from + i]);
+        put_four(line, size * (from + i), &table[colour]);
     }
 }
 
@@ -84,5 +128,6 @@ fn put_four(line: &mut [u8], at: usize, four: &[u8; 4])
     ensures { (n : ℕ) → n < at + 4 → slice_index line.new n
         ≡ (if nat_le at n then slice_index four.now (n - at) else slice_index line.old n) }
 {
-    line[at..at + 4].copy_from_slice(four);
+    // A vector is stored as one number, where `copy_from_slice` would look first whether the two lie over each other.
+    u8x4::from_array(*four).copy_to_slice(&mut line[at..at + 4]);
 }
