@@ -57,7 +57,8 @@ add_zero v = omega arith
 
 -- a digit behind a 0
 abbrev DigitRead : ℕ → Result (List ℕ) FromHexError → Type 0
-DigitRead c bytes = MatchResult bytes (λ value. Some (slice_index value 0) ≡ digit_in c) (λ e. None ≡ digit_in c)
+DigitRead c bytes = MatchResult bytes
+    (λ value. Some (slice_index value 0) ≡ digit_in c) (λ e. None ≡ digit_in c)
 
 digit_read_as : (c : ℕ) (o : Option ℕ) → hex_digit_value c ≡ o → DigitRead c (decode_sized (48 ∷ c ∷ []) 1)
 unfolding decode_pairs
@@ -135,8 +136,8 @@ pub decoded : {U : Type 0} (bytes : Result (List ℕ) FromHexError) (out : List 
 decoded (Ok b) out u t P Q (same, is) holds = subst P (sym is) holds
 decoded (Err e) out u t P Q other holds = absurd (cc)
 
-pub not_decoded : {U : Type 0} (bytes : Result (List ℕ) FromHexError) (out : List ℕ) (f : FromHexError) (t : U)
-    (P : List ℕ → Type 0) (Q : Type 0)
+pub not_decoded : {U : Type 0} (bytes : Result (List ℕ) FromHexError) (out : List ℕ) (f : FromHexError)
+    (t : U) (P : List ℕ → Type 0) (Q : Type 0)
     → MatchResult bytes (λ b. (err_of U f ≡ ok_of t) × (out ≡ b)) (λ e. err_of U f ≡ Err e)
     → MatchResult bytes P (λ e. Q)
     → Q

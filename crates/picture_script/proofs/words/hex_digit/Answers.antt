@@ -4,7 +4,8 @@ use Rattle.picture_script.proofs.words.hex_digit.Goals as goal
 
 pub returns-in-Ok-clause-value : goal.returns-in-Ok-clause-value
 returns-in-Ok-clause-value c =
-    decoded _ c.decode_to_slice.new.out _ tt (λ (value : List ℕ). Some (slice_index value 0) ≡ digit_in c.args.byte)
+    decoded _ c.decode_to_slice.new.out _ tt
+    (λ (value : List ℕ). Some (slice_index value 0) ≡ digit_in c.args.byte)
     (None ≡ digit_in c.args.byte) c.in-Ok.ensures.value (digit_read c.args.byte)
 
 pub returns-in-Ok-clause-below : goal.returns-in-Ok-clause-below
@@ -12,5 +13,6 @@ returns-in-Ok-clause-below c = digit_small c.args.byte _ (returns-in-Ok-clause-v
 
 pub returns-in-Err-clause-value : goal.returns-in-Err-clause-value
 returns-in-Err-clause-value c =
-    not_decoded _ c.decode_to_slice.new.out _ tt (λ (value : List ℕ). Some (slice_index value 0) ≡ digit_in c.args.byte)
+    not_decoded _ c.decode_to_slice.new.out _ tt
+    (λ (value : List ℕ). Some (slice_index value 0) ≡ digit_in c.args.byte)
     (None ≡ digit_in c.args.byte) c.in-Err.ensures.value (digit_read c.args.byte)
