@@ -653,9 +653,9 @@ typedef struct ribjasper_listed {
 
 /* Writes the lines of the texts of the first `lead_in` blocks, as the program's command `text` writes them, to the front
    of the `room` bytes at `out`. Answers RIBJASPER_CONVERTED; RIBJASPER_USAGE, also if the form is RIBJASPER_PACKS;
-   RIBJASPER_TORN; RIBJASPER_NO_ROOM; RIBJASPER_NO_MEMORY (it asks for the room of the texts and a mebibyte for their
-   lines, and frees all of it); or one of the three above. `out` is written if it answers RIBJASPER_CONVERTED, and
-   `told` then and if the texts are refused; otherwise nothing is. */
+   RIBJASPER_TORN; one of the three above; RIBJASPER_NO_ROOM; or RIBJASPER_NO_MEMORY, which comes only if the texts are
+   not refused (it asks for memory for the texts and their lines, and frees all of it). `out` is written if it answers
+   RIBJASPER_CONVERTED, and `told` then and if the texts are refused; otherwise nothing is. */
 RIBJASPER_NODISCARD
 int32_t ribjasper_texts(const uint8_t *stream, size_t length, uint32_t form, uint32_t lead_in, uint8_t *out, size_t room,
                         ribjasper_listed *told);

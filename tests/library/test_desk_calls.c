@@ -186,6 +186,20 @@ static void make_lead_in(uint8_t block[96], uint8_t packs[4][18])
     }
 }
 
+/* Refused texts write no line and ask for no memory, so that they are told where malloc refuses too. */
+static void refuses_texts(const uint8_t stream[288], int32_t why, uint32_t seq, uint32_t byte)
+{
+    uint8_t out[200];
+    ribjasper_listed told = { 9, 9, 9 };
+    const long before = requests;
+    memset(out, 9, sizeof out);
+    refused = requests;
+    CHECK(ribjasper_texts(stream, 288, RIBJASPER_RAW, 1, out, sizeof out, &told) == why);
+    refused = -1;
+    CHECK(requests == before && all_are(out, sizeof out, 9));
+    CHECK(told.bytes == 0 && told.seq == seq && told.byte == byte);
+}
+
 static void lead_ins(void)
 {
     static const char lines[] = "title 00 Demo\ntitle 01 One\npacks good 4 bad 0 other 0\n";
@@ -233,19 +247,54 @@ static void lead_ins(void)
     memcpy(torn, packs[0], 18);
     torn[4] = 'd';
     put_pack(stream, 0, torn);
-    CHECK(ribjasper_texts(stream, 288, RIBJASPER_RAW, 1, out, sizeof out, &told) == RIBJASPER_TEXT_MISSING);
-    CHECK(told.bytes == 0 && told.seq == 0 && told.byte == 0);
+    refuses_texts(stream, RIBJASPER_TEXT_MISSING, 0, 0);
     put_pack(stream, 0, packs[0]);
     put_pack(stream, 3, torn);
-    CHECK(ribjasper_texts(stream, 288, RIBJASPER_RAW, 1, out, sizeof out, &told) == RIBJASPER_TEXT_NO_SIZE);
-    CHECK(told.bytes == 0 && told.seq == 0 && told.byte == 0);
+    refuses_texts(stream, RIBJASPER_TEXT_NO_SIZE, 0, 0);
     put_pack(stream, 3, packs[3]);
     packs[1][6] = 100;
     seal(packs[1]);
     put_pack(stream, 1, packs[1]);
-    CHECK(ribjasper_texts(stream, 288, RIBJASPER_RAW, 1, out, sizeof out, &told) == RIBJASPER_TEXT_MALFORMED);
-    CHECK(told.bytes == 0 && told.seq == 1 && told.byte == 6);
-    CHECK(all_are(out, sizeof out, 9));
+    refuses_texts(stream, RIBJASPER_TEXT_MALFORMED, 1, 6);
+}
+
+/* The longest lines of a lead-in: all packs but the three with the sizes are of the kind with the longest name, the string
+   of the album has no byte that is printed as itself, and those of 99 tracks are tabs, each of which means the string
+   before it. */
+static void longest_texts(void)
+{
+    enum { PACKS = 256, TEXT = 12 * (PACKS - 3), STRING = TEXT - 1 - 2 * 99 };
+    static const char counts[] = "packs good 256 bad 0 other 0\n";
+    static uint8_t stream[96 * PACKS / 4] = { 0 }, text[12 * PACKS] = { 0 };
+    static uint8_t out[RIBJASPER_MOST_TEXTS] = { 0 }, lines[RIBJASPER_MOST_TEXTS] = { 0 };
+    ribjasper_listed told = { 9, 9, 9 };
+    size_t size = 0;
+    memset(text, 0x81, STRING);
+    for (size_t track = 1; track <= 99; track++)
+        text[STRING - 1 + 2 * track] = '\t';
+    text[TEXT + 1] = 1;             /* the first track */
+    text[TEXT + 2] = 99;            /* and the last */
+    text[TEXT + 12 + 8] = PACKS - 1; /* the last number */
+    for (size_t n = 0; n < PACKS; n++) {
+        uint8_t pack[18] = { 0 };
+        pack[0] = n < PACKS - 3 ? 0x82 : 0x8f;
+        pack[1] = (uint8_t)(n < PACKS - 3 ? 0 : n - (PACKS - 3));
+        pack[2] = (uint8_t)n;
+        memcpy(pack + 4, text + 12 * n, 12);
+        seal(pack);
+        put_pack(stream + 96 * (n / 4), n % 4, pack);
+    }
+    for (int track = 0; track <= 99; track++) {
+        size += (size_t)sprintf((char *)lines + size, "songwriter %02d ", track);
+        for (size_t i = 0; i < STRING; i++)
+            size += (size_t)sprintf((char *)lines + size, "\\81");
+        lines[size++] = '\n';
+    }
+    memcpy(lines + size, counts, sizeof counts - 1);
+    size += sizeof counts - 1;
+    CHECK(ribjasper_texts(stream, sizeof stream, RIBJASPER_RAW, PACKS / 4, out, size - 1, &told) == RIBJASPER_NO_ROOM);
+    CHECK(ribjasper_texts(stream, sizeof stream, RIBJASPER_RAW, PACKS / 4, out, sizeof out, &told) == RIBJASPER_CONVERTED);
+    CHECK(told.bytes == size && memcmp(out, lines, size) == 0 && all_are(out + size, sizeof out - size, 0));
 }
 
 /* All bytes of a file. */
@@ -373,6 +422,7 @@ int main(int count, char **words)
     refused_surveys();
     words_and_frames();
     lead_ins();
+    longest_texts();
     tallies();
     if (count == 5)
         as_the_program_says(words[1], (uint32_t)strtoul(words[2], NULL, 10), words[3], words[4]);

@@ -19,3 +19,4 @@ pub mod LeadInReading
 pub mod Finished
 pub mod Repeats
 pub mod EmptyBlocks
+pub mod LineSizes

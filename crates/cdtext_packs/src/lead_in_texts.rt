@@ -1,5 +1,5 @@
 // The stage that reads the text packs of the lead-in.
-ghost use Rattle.std.specs.Prelude.{◌≡◌, ◌≤◌, ◌<◌, ◌+◌, ◌-◌, ◌^◌, List, ℕ, None, IfOk, min, replicate, take, true};
+ghost use Rattle.std.specs.Prelude.{◌≡◌, ◌≤◌, ◌<◌, ◌+◌, ◌-◌, ◌^◌, List, ℕ, None, min, replicate, take, true};
 ghost use Rattle.raw_subcode.specs.Channels.{symbols_of};
 ghost use Rattle.raw_subcode.specs.Sizes.{block_bytes};
 ghost use Rattle.cdg_io.specs.Run.{run_state};
@@ -10,7 +10,6 @@ ghost use Rattle.cdtext_packs.specs.TextSteps.{fresh_texts, offered, text_next, 
 use crate::{Offer, PACK_BYTES, TextReader, offers_keep_the_first};
 use cdg_io::{Piece, Stage};
 use raw_subcode::{BLOCK_BYTES, Block};
-use std::alloc::{AllocError, Global};
 
 /// Offers the packs of the lead-in's blocks to a reader, four of each block, and counts what became of them.
 #[derive(Drop)]
@@ -27,17 +26,17 @@ pub struct LeadInTexts {
 }
 
 impl LeadInTexts {
-    /// A lead-in of no blocks, with room for all packs.
-    pub fn start(alloc: Global) -> Result<LeadInTexts, AllocError>
-        ensures { IfOk result (λ texts. texts ≡ fresh_texts 0) }
+    /// A lead-in of no blocks.
+    pub fn start() -> LeadInTexts
+        ensures { result ≡ fresh_texts 0 }
     {
-        Ok(LeadInTexts {
+        LeadInTexts {
             left: 0,
-            reader: TextReader::start(alloc)?,
+            reader: TextReader::new(),
             good: 0,
             bad: 0,
             other: 0,
-        })
+        }
     }
 
     /// Begins with a lead-in of so many blocks.

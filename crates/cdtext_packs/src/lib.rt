@@ -16,7 +16,7 @@ mod writer;
 
 pub use copy_laws::{bursts_are_noticed, texts_come_back};
 pub use kinds::{KINDS, Offer, PackStop, TextFault, TextKind};
-pub use laws::offers_keep_the_first;
+pub use laws::{offers_keep_the_first, texts_of_packs_fit};
 pub use lead_in::lead_in_symbols;
 pub use lead_in_texts::{LeadInTexts, lead_in_packs_are_read};
 pub use map::TextMap;

@@ -1,5 +1,5 @@
 // The reader of packs in any order, with any repeats.
-ghost use Rattle.std.specs.Prelude.{◌≡◌, ◌≤◌, ◌⊎◌, List, ℕ, Option, true, length, vec_len, IsOk, IfOk, IfErr, Ok, Err};
+ghost use Rattle.std.specs.Prelude.{◌≡◌, ◌≤◌, ◌⊎◌, List, ℕ, Option, true, length, IsOk, IfOk, IfErr, Ok, Err};
 ghost use Rattle.cdtext_packs.specs.Kept.{AreGood, nothing_kept, offer_of, kept_by};
 ghost use Rattle.cdtext_packs.specs.declared.kinds.Offer.TheVariants.{Again};
 ghost use Rattle.cdtext_packs.specs.Packs.{most_text_packs};
@@ -17,31 +17,40 @@ use std::marker::Model;
 /// The packs that are kept: at most one of each number. Each of them is good.
 #[derive(Drop)]
 pub struct TextReader {
-    kept: Vec<Option<TextPack>>,
+    kept: [Option<TextPack>; MOST_PACKS as usize],
 }
 
 impl Model for TextReader {
     ghost Value = { List (Option (List ℕ)) };
 
-    ghost view = { λ r. r.kept.items };
+    ghost view = { λ r. r.kept };
 
-    ghost invariant = { λ r. (vec_len r.kept ≡ most_text_packs) × AreGood r.kept.items };
+    ghost invariant = { λ r. AreGood r.kept };
 }
 
 impl TextReader {
-    /// A reader that keeps nothing, with room for 256 packs.
+    /// What `new` gives: no memory is asked for, and none can be wanted.
     pub fn start(alloc: Global) -> Result<TextReader, AllocError>
-        ensures { IfOk result (λ reader. reader ≡ nothing_kept) }
+        ensures fresh { IfOk result (λ reader. reader ≡ nothing_kept) }
+        ensures memory { IsOk result }
     {
-        let kept = vec![in alloc; None; MOST_PACKS as usize]?;
-        Ok(TextReader { kept })
+        Ok(TextReader::new())
+    }
+
+    /// A reader that keeps nothing.
+    pub fn new() -> TextReader
+        ensures { result ≡ nothing_kept }
+    {
+        TextReader {
+            kept: [None; MOST_PACKS as usize],
+        }
     }
 
     /// Forgets all packs.
     pub fn reset(&mut self)
         ensures { self.new ≡ nothing_kept }
     {
-        self.kept.fill(None);
+        *self = TextReader::new();
     }
 
     /// Keeps a good pack whose number is new.
@@ -98,7 +107,7 @@ impl TextReader {
         ensures refused { IfErr (read_texts self.now) (λ fault. result ≡ Err fault) }
         ensures memory { keeps_nothing self.now ≡ true → IsOk result }
     {
-        let kept = &self.kept[..];
+        let kept: &[Option<TextPack>] = &self.kept;
         if keeps_nothing(kept) {
             return Ok(TextMap::empty(alloc));
         }

@@ -12,3 +12,4 @@ pub mod ShowNumbers
 pub mod RowMarks
 pub mod Counted
 pub mod OneDigit
+pub mod HexWords

@@ -44,11 +44,10 @@ pub(crate) fn hex_digit(byte: u8) -> Option<u8>
     ensures value { result ≡ (if is_ascii_hexdigit byte then Some (digit_value byte) else None) }
     ensures below { IfSome result (λ d. d < 16) }
 {
-    match byte {
-        b'0'..=b'9' => Some(byte - b'0'),
-        b'a'..=b'f' => Some(byte - b'a' + 10),
-        b'A'..=b'F' => Some(byte - b'A' + 10),
-        _ => None,
+    let mut value = [0];
+    match hex::decode_to_slice([b'0', byte], &mut value) {
+        Ok(()) => Some(value[0]),
+        Err(_) => None,
     }
 }
 
@@ -61,10 +60,11 @@ fn colour(word: &[u8]) -> Option<u16>
     if word.len() != 4 || word[0] != b'0' {
         return None;
     }
-    let red = hex_digit(word[1])?;
-    let green = hex_digit(word[2])?;
-    let blue = hex_digit(word[3])?;
-    Some(256 * u16::from(red) + 16 * u16::from(green) + u16::from(blue))
+    let mut bytes = [0; 2];
+    match hex::decode_to_slice(word, &mut bytes) {
+        Ok(()) => Some(u16::from_be_bytes(bytes)),
+        Err(_) => None,
+    }
 }
 
 // Whether a word is one or more hexadecimal digits.

@@ -1,10 +1,9 @@
 -- What a call that lists texts answers.
 use Rattle.std.proofs.Common.{◌≡◌, ◌≢◌, ◌⊎◌, ℕ, ℤ, List, Ok, Err, Result, refl, sym, ap, ◌∙◌, subst, inl, inr}
-use Rattle.std.specs.Prelude.{pos, IfOk, IfErr}
+use Rattle.std.specs.Prelude.{pos, IsOk, IfOk, IfErr}
 use mir.Val.{to_z, of_z}
 use mir.Syntax.{w32}
 use Rattle.raw_subcode.specs.declared.form.Form.{Form}
-use Rattle.cdg_io.specs.Memory.{SinkInMemory}
 use Rattle.cdtext_packs.specs.Reading.{read_texts}
 use Rattle.cdtext_packs.specs.Texts.{Texts}
 use Rattle.cdtext_packs.specs.TextLines.{counted_lines}
@@ -12,8 +11,8 @@ use Rattle.cdtext_packs.specs.TextSteps.{HasRead}
 use Rattle.cdtext_packs.specs.declared.kinds.TextFault.{TextFault}
 use Rattle.cdtext_packs.specs.declared.kinds.TextFault.TheVariants.{Missing, NoSize, Malformed, NoMemory}
 use Rattle.cdtext_packs.specs.declared.lead_in_texts.LeadInTexts.{LeadInTexts}
-use Rattle.stream_stages.specs.TextListing.{packs_in, texts_of_lead_in, IsTextListed}
-use Rattle.ribjasper_c.specs.LeadIns.{fault_answer, fault_told, IsFaultOrShort, IsRefusedBy}
+use Rattle.stream_stages.specs.TextListing.{packs_in, texts_of_lead_in, IsTextFault, IsTextListed}
+use Rattle.ribjasper_c.specs.LeadIns.{fault_answer, fault_told, IsRefusedBy}
 use Rattle.ribjasper_c.specs.declared.lead_in.Listed.{Listed}
 use Rattle.ribjasper_c.proofs.ExitNumbers.{is_other}
 
@@ -33,6 +32,30 @@ passed_on NoSize answer e = ap (λ (z : ℤ). to_z w32 (of_z w32 z)) e
 passed_on (Malformed seq byte) answer e = ap (λ (z : ℤ). to_z w32 (of_z w32 z)) e
 passed_on NoMemory answer e = ap (λ (z : ℤ). to_z w32 (of_z w32 z)) e
 
+-- memory is short, or the fault is that of the packs
+abbrev IsFaultOrShort : TextFault → Result Texts TextFault → Type 0
+IsFaultOrShort fault texts = (fault ≡ NoMemory) ⊎ (texts ≡ Err fault)
+
+pub fault_or_short : (fault : TextFault) (texts : Result Texts TextFault) → IsTextFault fault texts
+    → IsFaultOrShort fault texts
+fault_or_short (Missing seq) texts is = inr is
+fault_or_short NoSize texts is = inr is
+fault_or_short (Malformed seq byte) texts is = inr is
+fault_or_short NoMemory texts is = inl refl
+
+-- where memory is wanted for them, packs give texts
+pub gives_texts : (fault : TextFault) (answer : ℤ) (texts : Result Texts TextFault)
+    → IsTextFault fault texts → answer ≡ fault_answer fault → answer ≡ pos 7
+    → IsOk texts
+gives_texts (Missing seq) answer texts is same e = is_other 8 7 (IsOk texts) refl refl (sym same ∙ e)
+gives_texts NoSize answer texts is same e = is_other 9 7 (IsOk texts) refl refl (sym same ∙ e)
+gives_texts (Malformed seq byte) answer texts is same e = is_other 10 7 (IsOk texts) refl refl (sym same ∙ e)
+gives_texts NoMemory answer texts is same e = is
+
+pub texts_given : (texts : Result Texts TextFault) (map : Texts) → texts ≡ Ok map → IsOk texts
+texts_given (Ok texts) map is = refl
+texts_given (Err fault) map is = absurd (cc)
+
 module _ (form : Form) (lead_in : ℕ) (stream : List ℕ) where
   -- the lines of the packs that were read
   pub listed : (s : LeadInTexts) (text : List ℕ) → HasRead (packs_in form lead_in stream) s
@@ -45,22 +68,22 @@ module _ (form : Form) (lead_in : ℕ) (stream : List ℕ) where
     none_bad = refl;
   }
 
-  pub all_listed : (s : LeadInTexts) (result : Result SinkInMemory TextFault)
+  pub all_listed : {X : Type 0} (bytes : X → List ℕ) (s : LeadInTexts) (result : Result X TextFault)
       → HasRead (packs_in form lead_in stream) s
-      → IfOk result (λ (lines : SinkInMemory). (map : Texts)
+      → IfOk result (λ lines. (map : Texts)
       × (read_texts s.reader ≡ Ok map)
-      × (lines.held ≡ counted_lines map s.good s.bad s.other))
-      → IfOk result (λ (lines : SinkInMemory). IsTextListed form lead_in stream lines.held 0)
-  all_listed s (Ok lines) read h = listed s lines.held read h
-  all_listed s (Err fault) read h = tt
+      × (bytes lines ≡ counted_lines map s.good s.bad s.other))
+      → IfOk result (λ lines. IsTextListed form lead_in stream (bytes lines) 0)
+  all_listed bytes s (Ok lines) read h = listed s (bytes lines) read h
+  all_listed bytes s (Err fault) read h = tt
 
-  pub all_refused : (s : LeadInTexts) (result : Result SinkInMemory TextFault)
+  pub all_refused : {X : Type 0} (s : LeadInTexts) (result : Result X TextFault)
       → HasRead (packs_in form lead_in stream) s
-      → IfErr result (λ fault. IsFaultOrShort fault (read_texts s.reader))
-      → IfErr result (λ fault. IsFaultOrShort fault (texts_of_lead_in form lead_in stream))
+      → IfErr result (λ fault. IsTextFault fault (read_texts s.reader))
+      → IfErr result (λ fault. IsTextFault fault (texts_of_lead_in form lead_in stream))
   all_refused s (Ok lines) read h = tt
   all_refused s (Err fault) read h =
-      subst (λ (r : Result Texts TextFault). IsFaultOrShort fault r) (ap read_texts read.kept) h
+      subst (λ (r : Result Texts TextFault). IsTextFault fault r) (ap read_texts read.kept) h
 
   -- the answer tells why the texts are refused
   abbrev Refusal : ℤ → Listed → Type 0

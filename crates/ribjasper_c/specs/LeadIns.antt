@@ -1,8 +1,7 @@
 -- The packs and the texts of a lead-in in memory.
-use Rattle.std.specs.Prelude.{◌≡◌, ℕ, ℤ, pos, ◌*◌, ◌<◌, ◌⊎◌, List, take, drop, Result, Err}
+use Rattle.std.specs.Prelude.{◌≡◌, ℕ, ℤ, pos, ◌*◌, ◌<◌, List, take, drop, Err}
 use Rattle.raw_subcode.specs.declared.form.Form.{Form}
 use Rattle.cdtext_packs.specs.LeadIn.{pack_at}
-use Rattle.cdtext_packs.specs.Texts.{Texts}
 use Rattle.cdtext_packs.specs.declared.kinds.TextFault.{TextFault}
 use Rattle.cdtext_packs.specs.declared.kinds.TextFault.TheVariants.{Missing, NoSize, Malformed, NoMemory}
 use Rattle.stream_stages.specs.TextListing.{texts_of_lead_in}
@@ -24,10 +23,6 @@ abbrev pub fault_told : TextFault → Listed
 fault_told (Missing seq) = record { bytes = 0; seq = seq; byte = 0 }
 fault_told (Malformed seq byte) = record { bytes = 0; seq = seq; byte = byte }
 fault_told _ = record { bytes = 0; seq = 0; byte = 0 }
-
--- memory is short, or the fault is that of the packs
-abbrev pub IsFaultOrShort : TextFault → Result Texts TextFault → Type 0
-IsFaultOrShort fault texts = (fault ≡ NoMemory) ⊎ (texts ≡ Err fault)
 
 -- this is why the packs of the lead-in give no texts
 abbrev pub IsRefusedBy : TextFault → Form → ℕ → List ℕ → Type 0

@@ -1,5 +1,5 @@
 // The packs and the texts of a lead-in.
-ghost use Rattle.std.specs.Prelude.{◌≡◌, ◌≢◌, ◌<◌, ◌≤◌, ◌⊎◌, ◌↔◌, ◌++◌, ◌+◌, ◌*◌, List, ℕ, IsTrue, IfOk, IfErr, Ok, pos, length, take, drop};
+ghost use Rattle.std.specs.Prelude.{◌≡◌, ◌≢◌, ◌<◌, ◌≤◌, ◌⊎◌, ◌↔◌, ◌++◌, ◌+◌, ◌*◌, List, ℕ, IsOk, IsTrue, IfOk, IfErr, Ok, Some, pos, length, take, drop};
 ghost use Rattle.disc_time.specs.Counts.{most_lead_in};
 ghost use Rattle.cdtext_packs.specs.Reading.{read_texts};
 ghost use Rattle.cdtext_packs.specs.TextLines.{counted_lines};
@@ -7,23 +7,19 @@ ghost use Rattle.cdtext_packs.specs.TextSteps.{HasRead};
 ghost use Rattle.cdtext_packs.specs.Texts.{Texts};
 ghost use Rattle.cdtext_packs.specs.declared.kinds.TextFault.{TextFault};
 ghost use Rattle.ribjasper_c.specs.Conversions.{stream_form};
-ghost use Rattle.ribjasper_c.specs.LeadIns.{fault_answer, fault_told, ArePacksOf, IsFaultOrShort, IsRefusedBy};
-ghost use Rattle.stream_stages.specs.TextListing.{packs_in, IsTextListed, IsWholeInput, texts_of_lead_in};
+ghost use Rattle.ribjasper_c.specs.LeadIns.{fault_answer, fault_told, ArePacksOf, IsRefusedBy};
+ghost use Rattle.stream_stages.specs.TextListing.{packs_in, IsTextFault, IsTextListed, IsWholeInput, texts_of_lead_in};
 
 use crate::answers::{
     DONE, NO_MEMORY, REFUSED, TEXT_MALFORMED, TEXT_MISSING, TEXT_NO_SIZE, USAGE, WRITE_FAULT,
 };
 use crate::converting::{copy_front, stream_form};
 use block_survey::{block_at, unit_bytes};
-use cdg_io::{Failed, MemSink, Stage};
+use cdg_io::{Failed, Sink, Stage};
 use cdtext_packs::{LeadInTexts, TextFault, TextMap, lead_in_packs_are_read, write_lines};
 use disc_time::MOST_LEAD_IN;
 use raw_subcode::{BLOCK_BYTES, Block, Form, MOST_UNITS};
-use std::alloc::Global;
-
-// The lines of a lead-in are shorter: its packs hold 3,072 characters, which are printed in three bytes each and, where
-// tracks have the string of the one before, up to a hundred times; and there are at most 700 lines.
-const MOST_TEXT: usize = 1 << 20;
+use std::alloc::{AllocError, Global};
 
 /// What is told of the texts of a lead-in.
 #[repr(C)]
@@ -80,6 +76,8 @@ pub extern "C" fn ribjasper_texts(
     ensures texts { (result ≡ pos 8) ⊎ (result ≡ pos 9) ⊎ (result ≡ pos 10) → (fault : TextFault)
         × IsRefusedBy fault (stream_form form) lead_in stream.now
         × (result ≡ fault_answer fault) × (told.new ≡ fault_told fault) }
+    // Memory is wanted only where the packs give texts.
+    ensures memory { result ≡ pos 7 → IsOk (texts_of_lead_in (stream_form form) lead_in stream.now) }
     ensures answer { (result ≡ pos 0) ⊎ (result ≡ pos 2) ⊎ (result ≡ pos 3) ⊎ (result ≡ pos 6)
         ⊎ (result ≡ pos 7) ⊎ (result ≡ pos 8) ⊎ (result ≡ pos 9) ⊎ (result ≡ pos 10) }
     ensures untouched { result ≢ pos 0 → out.new ≡ out.old }
@@ -97,13 +95,12 @@ pub extern "C" fn ribjasper_texts(
         Ok(lines) => lines,
         Err(fault) => return refuse(fault, told),
     };
-    let text = lines.bytes();
-    if text.len() > out.len() {
+    if lines.len() > out.len() {
         return WRITE_FAULT;
     }
-    copy_front(text, out);
+    copy_front(&lines, out);
     *told = Listed {
-        bytes: text.len() as u64,
+        bytes: lines.len() as u64,
         seq: 0,
         byte: 0,
     };
@@ -153,14 +150,12 @@ fn tell(told: &mut Listed, seq: u8, byte: u8)
 }
 
 // The lines of the texts of a lead-in.
-fn lines_of(alloc: Global, form: Form, lead_in: u32, stream: &[u8]) -> Result<MemSink, TextFault>
+fn lines_of(alloc: Global, form: Form, lead_in: u32, stream: &[u8]) -> Result<Vec<u8>, TextFault>
     requires { lead_in ≤ most_lead_in }
-    ensures lines { IfOk result (λ lines. IsTextListed form lead_in stream.now lines.held 0) }
-    ensures fault { IfErr result (λ fault. IsFaultOrShort fault (texts_of_lead_in form lead_in stream.now)) }
+    ensures lines { IfOk result (λ lines. IsTextListed form lead_in stream.now lines.items 0) }
+    ensures fault { IfErr result (λ fault. IsTextFault fault (texts_of_lead_in form lead_in stream.now)) }
 {
-    let Ok(mut texts) = LeadInTexts::start(alloc) else {
-        return Err(TextFault::NoMemory);
-    };
+    let mut texts = LeadInTexts::start();
     read_lead_in(&mut texts, form, lead_in, stream);
     let lines = write_texts(alloc, &texts);
     drop(texts);
@@ -181,10 +176,10 @@ fn read_lead_in(texts: &mut LeadInTexts, form: Form, lead_in: u32, stream: &[u8]
 }
 
 // Writes the lines of the texts that were read.
-fn write_texts(alloc: Global, texts: &LeadInTexts) -> Result<MemSink, TextFault>
+fn write_texts(alloc: Global, texts: &LeadInTexts) -> Result<Vec<u8>, TextFault>
     ensures lines { IfOk result (λ lines. (map : Texts) × (read_texts texts.now.reader ≡ Ok map)
-        × (lines.held ≡ counted_lines map texts.now.good texts.now.bad texts.now.other)) }
-    ensures fault { IfErr result (λ fault. IsFaultOrShort fault (read_texts texts.now.reader)) }
+        × (lines.items ≡ counted_lines map texts.now.good texts.now.bad texts.now.other)) }
+    ensures fault { IfErr result (λ fault. IsTextFault fault (read_texts texts.now.reader)) }
 {
     let map = match texts.reader.finish(alloc) {
         Ok(map) => map,
@@ -192,20 +187,51 @@ fn write_texts(alloc: Global, texts: &LeadInTexts) -> Result<MemSink, TextFault>
     };
     let lines = write_map(alloc, texts, &map);
     drop(map);
-    lines
+    match lines {
+        Ok(lines) => Ok(lines),
+        Err(_) => Err(TextFault::NoMemory),
+    }
 }
 
 // Writes the lines of a map of texts.
-fn write_map(alloc: Global, texts: &LeadInTexts, map: &TextMap) -> Result<MemSink, TextFault>
-    ensures lines { IfOk result (λ lines.
-        lines.held ≡ counted_lines map.now texts.now.good texts.now.bad texts.now.other) }
-    ensures memory { IfErr result (λ fault. fault ≡ TextFault.NoMemory) }
+fn write_map(alloc: Global, texts: &LeadInTexts, map: &TextMap) -> Result<Vec<u8>, AllocError>
+    ensures { IfOk result (λ lines.
+        lines.items ≡ counted_lines map.now texts.now.good texts.now.bad texts.now.other) }
 {
-    let Ok(mut lines) = MemSink::new(alloc, MOST_TEXT, Vec::new(alloc), Vec::new(alloc)) else {
-        return Err(TextFault::NoMemory);
+    let mut lines = LineSink {
+        bytes: Vec::new(alloc),
+        faults: 0,
     };
-    match write_lines(map, texts.good, texts.bad, texts.other, &mut lines) {
-        Ok(()) => Ok(lines),
-        Err(Failed) => Err(TextFault::NoMemory),
+    let written = write_lines(map, texts.good, texts.bad, texts.other, &mut lines);
+    let LineSink { bytes, faults: _ } = lines;
+    match written {
+        Ok(()) => Ok(bytes),
+        Err(Failed) => {
+            drop(bytes);
+            Err(AllocError)
+        }
+    }
+}
+
+// A sink whose memory grows with what it takes: it fails where memory is wanted, and nowhere else.
+#[derive(Drop)]
+struct LineSink {
+    bytes: Vec<u8>,
+    faults: u64,
+}
+
+impl Sink for LineSink {
+    ghost held = { λ s. Some s.bytes.items };
+
+    ghost faults = { λ s. s.faults };
+
+    fn put(&mut self, piece: &[u8]) -> Result<usize, Failed> {
+        match self.bytes.extend_from_slice(piece) {
+            Ok(()) => Ok(piece.len()),
+            Err(_) => {
+                self.faults = self.faults.saturating_add(1);
+                Err(Failed)
+            }
+        }
     }
 }

@@ -1,5 +1,5 @@
 // The lines of the Q channel of a stream, and those of the texts of its lead-in.
-ghost use Rattle.std.specs.Prelude.{◌≡◌, ◌≢◌, ◌≤◌, ◌-◌, List, ℕ, length, IfSome, IfErr, IfOk, IsErrOf, Ok, Err};
+ghost use Rattle.std.specs.Prelude.{◌≡◌, ◌≢◌, ◌≤◌, ◌-◌, List, ℕ, length, IfSome, IfErr, IfOk, IsErrOf, IsOk, Ok, Err};
 ghost use Rattle.disc_time.specs.Counts.{most_lead_in};
 ghost use Rattle.cdg_io.specs.Change.{passed};
 ghost use Rattle.cdg_io.specs.Streams.{Streams};
@@ -69,13 +69,15 @@ pub struct TextLister {
 }
 
 impl TextLister {
-    /// Takes the memory of the table.
+    /// A lister with an empty table, which stands in it: no memory is asked for, and none can be wanted.
     pub fn start(alloc: Global) -> Result<TextLister, AllocError>
-        ensures { IfOk result (λ lister. lister.texts.blocks ≡ fresh_texts 0) }
+        ensures fresh { IfOk result (λ lister. lister.texts.blocks ≡ fresh_texts 0) }
+        ensures memory { IsOk result }
     {
-        let texts = LeadInTexts::start(alloc)?;
         Ok(TextLister {
-            texts: SectorBlocks { blocks: texts },
+            texts: SectorBlocks {
+                blocks: LeadInTexts::start(),
+            },
         })
     }
 

@@ -1,25 +1,23 @@
-use Rattle.std.proofs.Common.{ℕ, ◌+◌, ◌*◌, Some, sym, ap, ◌∙◌}
-use Rattle.picture_script.proofs.HexDigits.{no_digit, no_red, no_green, no_blue, some_colour}
+use Rattle.std.proofs.Common.{◌≡◌, ◌<◌, ◌∙◌, Some, None, ap, subst, sym, ℕ}
+use Rattle.picture_script.specs.ScriptGrammar.{colour_in}
+use Rattle.picture_script.proofs.HexWords.{IsColour, colour_read, decoded, not_decoded, pair_is}
 use Rattle.picture_script.proofs.words.colour.Goals as goal
 
-pub returns-in_err-red-clause-value : goal.returns-in_err-red-clause-value
-returns-in_err-red-clause-value c =
-    c.from_residual.ensures ∙ sym (no_red c.args.word.now (no_digit _ _ c.in_err-red.ensures.value))
+pub returns-in-Ok-clause-value : goal.returns-in-Ok-clause-value
+returns-in-Ok-clause-value c =
+    let is =
+    decoded _ c.decode_to_slice.new.out _ tt (IsColour c.args.word.now) (None ≡ colour_in c.args.word.now)
+    c.in-Ok.ensures.value (colour_read c.args.word.now c.if-word-ne4.false c.if-word-ne48.false) in
+    ap Some (c.from_be_bytes.ensures ∙ pair_is c.decode_to_slice.new.out) ∙ is.0
 
-pub returns-in_err-green-clause-value : goal.returns-in_err-green-clause-value
-returns-in_err-green-clause-value c =
-    c.from_residual-in_err-green.ensures
-    ∙ sym (no_green c.args.word.now (no_digit _ _ c.in_err-green.ensures.value))
+pub returns-in-Ok-clause-below : goal.returns-in-Ok-clause-below
+returns-in-Ok-clause-below c =
+    let is =
+    decoded _ c.decode_to_slice.new.out _ tt (IsColour c.args.word.now) (None ≡ colour_in c.args.word.now)
+    c.in-Ok.ensures.value (colour_read c.args.word.now c.if-word-ne4.false c.if-word-ne48.false) in
+    subst (λ (n : ℕ). n < 4096) (sym (c.from_be_bytes.ensures ∙ pair_is c.decode_to_slice.new.out)) is.1
 
-pub returns-in_err-blue-clause-value : goal.returns-in_err-blue-clause-value
-returns-in_err-blue-clause-value c =
-    c.from_residual-in_err-blue.ensures
-    ∙ sym (no_blue c.args.word.now (no_digit _ _ c.in_err-blue.ensures.value))
-
-pub returns-clause-value : goal.returns-clause-value
-returns-clause-value c =
-    ap (λ (n : ℕ). Some (256 * n + 16 * c.from-2.result + c.from-3.result)) c.from.ensures
-    ∙ ap (λ (n : ℕ). Some (256 * c.in_ok-red.red + 16 * n + c.from-3.result)) c.from-2.ensures
-    ∙ ap (λ (n : ℕ). Some (256 * c.in_ok-red.red + 16 * c.in_ok-green.green + n)) c.from-3.ensures
-    ∙ some_colour c.args.word.now c.in_ok-red.red c.in_ok-green.green c.in_ok-blue.blue c.if-word-ne4.false
-    c.if-word-ne48.false c.in_ok-red.ensures.value c.in_ok-green.ensures.value c.in_ok-blue.ensures.value
+pub returns-in-Err-clause-value : goal.returns-in-Err-clause-value
+returns-in-Err-clause-value c =
+    not_decoded _ c.decode_to_slice.new.out _ tt (IsColour c.args.word.now) (None ≡ colour_in c.args.word.now)
+    c.in-Err.ensures.value (colour_read c.args.word.now c.if-word-ne4.false c.if-word-ne48.false)

@@ -3,7 +3,7 @@ use Rattle.ribjasper_c.proofs.lead_in.lines_of.Goals as goal
 
 pub returns-clause-lines : goal.returns-clause-lines
 returns-clause-lines c =
-    all_listed c.args.form c.args.lead_in c.args.stream.now c.read_lead_in.new.texts
+    all_listed c.args.form c.args.lead_in c.args.stream.now (λ lines. lines.items) c.read_lead_in.new.texts
     c.write_texts-lines.result c.read_lead_in.ensures c.write_texts-lines.ensures.lines
 
 pub returns-clause-fault : goal.returns-clause-fault

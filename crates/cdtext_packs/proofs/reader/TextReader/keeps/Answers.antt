@@ -9,14 +9,14 @@ use Rattle.cdtext_packs.proofs.reader.TextReader.keeps.Goals as goal
 pub returns-in-Some : goal.returns-in-Some
 returns-in-Some c = λ yes.
     let pack = c.args.pack.now in
-    let items = c.self.inside.kept.items in
     let place : pack_number pack ≡ c.from.result = sym (c.from.ensures ∙ c.number.ensures) in
     let there : with_number c.args.self.now (pack_number pack) ≡ Some pack =
     ap (λ (l : List (Option (List ℕ))). get_or l (pack_number pack) None) (sym c.self.view_is)
-    ∙ ap (λ i. get_or items i None) place
-    ∙ sym (get_or_read items _ _
-    (omega (arith, c.self.inside.kept.ok.0, c.self.invariant.0, c.number.type_inv, c.from.ensures))
-    c.index.ensures None)
+    ∙ ap (λ i. get_or c.self.inside.kept i None) place
+    ∙ sym (get_or_read c.self.inside.kept _ _
+    (omega (arith, c.self.told, c.number.type_inv, c.number.auto, c.from.ensures))
+    c.index-self-from.is None)
+    ∙ c.index-self-from.is
     ∙ c.in-Some.is
     ∙ ap Some (c.has_bytes_of.ensures yes) in
-    offered_again c.args.self.now pack (subst AreGood c.self.view_is c.self.invariant.1) there
+    offered_again c.args.self.now pack (subst AreGood c.self.view_is c.self.invariant) there
