@@ -33,7 +33,7 @@ others lack answer status n n' noted other silence =
 pub takes_none : (status : Status) (n : ℕ) → status ≢ NoMemory → IsTold NoMemory (count n n) status
 takes_none status n silence = silent NoMemory status n n (omega arith) silence refl
 
-not_lacking : (status : Status) → (status ≡ Done) ⊎ (status ≡ WriteFault) → status ≢ NoMemory
+pub not_lacking : (status : Status) → (status ≡ Done) ⊎ (status ≡ WriteFault) → status ≢ NoMemory
 not_lacking status (inl is) e = absurd (cc)
 not_lacking status (inr is) e = absurd (cc)
 
