@@ -77,6 +77,12 @@ pub found : {A : Type 0} (text : A) (n n' : ℕ) → n' ≡ n → TellsFault {T 
 found text n n' same =
     record { later = omega (arith, same); rose = λ e. absurd (cc); same = λ other. same }
 
+-- of a count by another name
+pub counted_from : {A : Type 0} (status : Status) (n m n' : ℕ) → n ≡ m
+    → TellsFault {T = A} NoMemory n n' (Err status) → TellsFault {T = A} NoMemory m n' (Err status)
+counted_from {A} status n m n' is told =
+    subst (λ (k : ℕ). TellsFault {T = A} NoMemory k n' (Err status)) is told
+
 -- a stop that was noted, and the status that it comes to
 module _ {A : Type 0} (n n' : ℕ) (later : n ≤ n') where
   is_lacked : Rose n n' → TellsFault {T = A} NoMemory n n' (Err NoMemory)
