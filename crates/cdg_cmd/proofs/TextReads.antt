@@ -1,15 +1,21 @@
 -- From the stop of reading a text to the status of a command.
-use Rattle.std.proofs.Common.{◌≡◌, ◌≢◌, ◌<◌, ◌≤◌, ◌+◌, ℕ, length, None, Some, IfSome, IsErrOf, Err, refl, sym, ap, subst, inl, inr, arith}
+use Rattle.std.proofs.Common.{◌≡◌, ◌≢◌, ◌<◌, ◌≤◌, ◌+◌, ℕ, List, [], ◌∷◌, length, None, Some, IfSome, IsErrOf, Ok, Err, refl, sym, ap, subst, inl, inr, arith}
 use Rattle.cdg_io.specs.Causes.{Count, TellsFault}
 use Rattle.cdg_io.specs.Change.{Bytes, Input, change, input}
 use Rattle.cdg_io.specs.Whole.{ConsumesExactly, ReadsWithin, StopsAtFault}
 use Rattle.cdg_io.specs.declared.whole.ReadStop.{ReadStop}
 use Rattle.cdg_io.specs.declared.whole.ReadStop.TheVariants as read
-use Rattle.text_lines.specs.Text.{most_text_bytes}
-use Rattle.cdg_cmd.specs.Authors.{IsScriptStop, IsSheetStop, IsInputStop, TakesAtStop}
+use Rattle.cue_sheet.specs.Answers.{IsCueAnswer}
+use Rattle.cue_sheet.specs.CueSheet.{CueSheet}
+use Rattle.cue_sheet.specs.Grammar.{read_cue}
+use Rattle.cue_sheet.specs.declared.fault.CueStop.{CueStop}
+use Rattle.cue_sheet.specs.declared.fault.CueStop.TheVariants as sheet
+use Rattle.text_lines.specs.Reading.{read_on}
+use Rattle.text_lines.specs.Text.{lines_in, most_text_bytes, without_mark}
+use Rattle.cdg_cmd.specs.Authors.{IsScriptStop, IsSheetStop, IsInputStop, NeedsMemory, TakesAtStop}
 use Rattle.cdg_cmd.specs.Ends.{ScriptEnds, SheetEnds, TextEnds}
 use Rattle.cdg_cmd.specs.Presses.{IsFileStop}
-use Rattle.cdg_cmd.specs.Stops.{read_status}
+use Rattle.cdg_cmd.specs.Stops.{read_status, sheet_status}
 use Rattle.cdg_cmd.specs.declared.status.Which.{Which}
 use Rattle.cdg_cmd.specs.declared.status.Which.TheVariants.{First, Second}
 use Rattle.cdg_cmd.specs.declared.status.Status.{Status}
@@ -23,6 +29,7 @@ pub record IsUnread {S : Type 0} (left : S → Bytes) (faults : S → ℕ) (ends
   pub long : stop ≡ read.TooLong → IfSome (left before) (λ text. most_text_bytes < length text)
   pub one_more : stop ≡ read.TooLong → ConsumesExactly (left before) (left after) (most_text_bytes + 1)
   pub lacking : stop ≡ read.NoMemory → ReadsWithin left ends most_text_bytes before after
+  pub needed : stop ≡ read.NoMemory → IfSome (left before) (λ text. 0 < length text)
   pub cut : stop ≡ read.Failed → StopsAtFault left faults most_text_bytes before after
   pub untold : stop ≢ read.NoMemory → ends after ≡ ends before
 
@@ -33,12 +40,14 @@ pub unread : {T S : Type 0} (left : S → Bytes) (faults : S → ℕ) (ends : S 
     → (IsErrOf {T = T} (Err stop) read.TooLong
     → ConsumesExactly (left before) (left after) (most_text_bytes + 1))
     → (IsErrOf {T = T} (Err stop) read.NoMemory → ReadsWithin left ends most_text_bytes before after)
+    → (IsErrOf {T = T} (Err stop) read.NoMemory → IfSome (left before) (λ text. 0 < length text))
     → (IsErrOf {T = T} (Err stop) read.Failed → StopsAtFault left faults most_text_bytes before after)
     → (stop ≢ read.NoMemory → ends after ≡ ends before) → IsUnread left faults ends before after stop
-unread left faults ends before after stop long one_more lacking cut untold = record {
+unread left faults ends before after stop long one_more lacking needed cut untold = record {
   long = λ e. long (ap Err e);
   one_more = λ e. one_more (ap Err e);
   lacking = λ e. lacking (ap Err e);
+  needed = λ e. needed (ap Err e);
   cut = λ e. cut (ap Err e);
   untold = untold;
 }
@@ -50,6 +59,17 @@ long_untold None Told Untold long untold = tt
 long_untold (Some text) Told Untold long untold =
     (λ within. absurd (omega (arith, within, long)), λ past. untold)
 
+-- memory is needed for a text that is not empty, and not too long
+needs_memory : (left : Bytes) → IfSome left (λ text. 0 < length text)
+    → IfSome left (λ text. length text ≤ most_text_bytes) → IfSome left NeedsMemory
+needs_memory None some within = tt
+needs_memory (Some text) some within = (some, within)
+
+-- and then it is not too long
+is_within : (left : Bytes) → IfSome left NeedsMemory → IfSome left (λ text. length text ≤ most_text_bytes)
+is_within None needed = tt
+is_within (Some text) needed = needed.1
+
 module _ {S : Type 0} (left : S → Bytes) (faults : S → ℕ) (ends : S → Count) (before after : S) where
   abbrev Unread : ReadStop → Type 0
   Unread stop = IsUnread left faults ends before after stop
@@ -58,7 +78,9 @@ module _ {S : Type 0} (left : S → Bytes) (faults : S → ℕ) (ends : S → Co
       → IsInputStop which (left before) (read_status which stop)
   text_at which read.Failed u = refl
   text_at which read.TooLong u = u.long refl
-  text_at which read.NoMemory u = known_within left ends most_text_bytes before after (u.lacking refl)
+  text_at which read.NoMemory u =
+      needs_memory (left before) (u.needed refl)
+      (known_within left ends most_text_bytes before after (u.lacking refl))
 
   pub no_text : (which : Which) (stop : ReadStop) (status : Status) → status ≡ read_status which stop
       → Unread stop
@@ -114,7 +136,7 @@ no_script left (ReadFault First) why = absurd (first_is_not_second why)
 no_script left (ReadFault Second) why = tt
 no_script left (Refused TooLong) why = why
 no_script left (Refused reason) why = absurd why
-no_script left NoMemory why = why
+no_script left NoMemory why = is_within left why
 no_script left Done why = absurd why
 no_script left (Damaged n) why = absurd why
 no_script left Usage why = absurd why
@@ -158,6 +180,37 @@ second_ends script (Damaged n) why taken ends = absurd why
 second_ends script Usage why taken ends = absurd why
 second_ends script (Late picture need free) why taken ends = absurd why
 second_ends script WriteFault why taken ends = absurd why
+
+-- A text that is read as a sheet is not empty, so memory is needed for it.
+
+no_empty_sheet : (sheet : CueSheet) → read_cue [] ≡ Ok sheet → ⊥
+unfolding read_on lines_in without_mark
+no_empty_sheet sheet reads = (cc)
+
+sheet_is_some : (text : List ℕ) (sheet : CueSheet) → read_cue text ≡ Ok sheet → 0 < length text
+sheet_is_some [] sheet reads = absurd (no_empty_sheet sheet reads)
+sheet_is_some (b ∷ rest) sheet reads = omega arith
+
+-- the text of an input that tells its bytes is what it held
+of_held : (left : Bytes) (text : List ℕ) (P : List ℕ → Type 0) → IfSome left (λ all. text ≡ all) → P text
+    → IfSome left P
+of_held None text P held holds = tt
+of_held (Some all) text P held holds = subst P held holds
+
+module _ (left : Bytes) (text : List ℕ) (within : length text ≤ most_text_bytes)
+    (held : IfSome left (λ all. text ≡ all)) where
+  sheet_stop : (stop : CueStop) → IsCueAnswer (read_cue text) (Err stop)
+      → IsSheetStop left (sheet_status stop)
+  sheet_stop (sheet.Fault line why) answer =
+      of_held left text (λ all. (length all ≤ most_text_bytes) × (read_cue all ≡ Err (line, why))) held
+      (within, answer)
+  sheet_stop sheet.NoMemory answer =
+      of_held left text NeedsMemory held (sheet_is_some text answer.0 answer.1, within)
+
+  -- why a text that was read gives no sheet
+  pub refused_sheet : (stop : CueStop) (status : Status) → status ≡ sheet_status stop
+      → IsCueAnswer (read_cue text) (Err stop) → IsSheetStop left status
+  refused_sheet stop status is answer = subst (IsSheetStop left) (sym is) (sheet_stop stop answer)
 
 -- the same status ends the call that made it
 pub same_stop : {A B : Type 0} (fault status : Status) (f f' : ℕ) → TellsFault {T = A} fault f f' (Err status)

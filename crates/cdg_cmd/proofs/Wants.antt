@@ -33,7 +33,7 @@ others lack answer status n n' noted other silence =
 pub takes_none : (status : Status) (n : ℕ) → status ≢ NoMemory → IsTold NoMemory (count n n) status
 takes_none status n silence = silent NoMemory status n n (omega arith) silence refl
 
-not_lacking : (status : Status) → (status ≡ Done) ⊎ (status ≡ WriteFault) → status ≢ NoMemory
+pub not_lacking : (status : Status) → (status ≡ Done) ⊎ (status ≡ WriteFault) → status ≢ NoMemory
 not_lacking status (inl is) e = absurd (cc)
 not_lacking status (inr is) e = absurd (cc)
 
@@ -76,6 +76,12 @@ as_it_was text n n' told = told.same (λ e. cc)
 pub found : {A : Type 0} (text : A) (n n' : ℕ) → n' ≡ n → TellsFault {T = A} NoMemory n n' (Ok text)
 found text n n' same =
     record { later = omega (arith, same); rose = λ e. absurd (cc); same = λ other. same }
+
+-- of a count by another name
+pub counted_from : {A : Type 0} (status : Status) (n m n' : ℕ) → n ≡ m
+    → TellsFault {T = A} NoMemory n n' (Err status) → TellsFault {T = A} NoMemory m n' (Err status)
+counted_from {A} status n m n' is told =
+    subst (λ (k : ℕ). TellsFault {T = A} NoMemory k n' (Err status)) is told
 
 -- a stop that was noted, and the status that it comes to
 module _ {A : Type 0} (n n' : ℕ) (later : n ≤ n') where

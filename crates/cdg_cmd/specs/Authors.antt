@@ -39,23 +39,27 @@ ReadsSheet input sheet = IsAtEnd input.after × IfSome input.before (λ text. Is
 abbrev pub ReadsScript : Change Bytes → List Drawing → Type 0
 ReadsScript input script = IsAtEnd input.after × IfSome input.before (λ text. IsScriptText text script)
 
--- why an input gives no text or file: memory is lacking only for one that is not too long
+-- memory is needed for a text or a file: it is not empty, and not too long
+abbrev pub NeedsMemory : List ℕ → Type 0
+NeedsMemory text = (0 < length text) × (length text ≤ most_text_bytes)
+
+-- why an input gives no text or file: memory is lacking only for one that needs it
 abbrev pub IsInputStop : Which → Bytes → Status → Type 0
 IsInputStop which left (ReadFault failed) = failed ≡ which
 IsInputStop which left (Refused TooLong) = IfSome left (λ text. most_text_bytes < length text)
-IsInputStop which left NoMemory = IfSome left (λ text. length text ≤ most_text_bytes)
+IsInputStop which left NoMemory = IfSome left NeedsMemory
 IsInputStop which left status = ⊥
 
--- why the first input gives no sheet: memory is lacking only for one that is not too long
+-- why the first input gives no sheet: memory is lacking only for one that needs it
 abbrev pub IsSheetStop : Bytes → Status → Type 0
 IsSheetStop left (ReadFault First) = ⊤
 IsSheetStop left (Refused TooLong) = IfSome left (λ text. most_text_bytes < length text)
 IsSheetStop left (Refused (Cue line why)) =
     IfSome left (λ text. (length text ≤ most_text_bytes) × (read_cue text ≡ Err (line, why)))
-IsSheetStop left NoMemory = IfSome left (λ text. length text ≤ most_text_bytes)
+IsSheetStop left NoMemory = IfSome left NeedsMemory
 IsSheetStop left status = ⊥
 
--- why the second input gives no script, likewise
+-- why the second input gives no script: memory may be lacking for an empty one too
 abbrev pub IsScriptStop : Bytes → Status → Type 0
 IsScriptStop left (ReadFault Second) = ⊤
 IsScriptStop left (Refused TooLong) = IfSome left (λ text. most_text_bytes < length text)

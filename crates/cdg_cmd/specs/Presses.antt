@@ -8,7 +8,7 @@ use Rattle.cdg_press.specs.Pressed.{IsPressed, Press, press_of}
 use Rattle.cdg_press.specs.Refusals.{IsPressable, IsPressStop}
 use Rattle.cdg_press.specs.declared.stops.PressStop.{PressStop}
 use Rattle.cdg_press.specs.declared.stops.PressStop.TheVariants as stop
-use Rattle.cdg_cmd.specs.Authors.{IsSheetStop, ReadsSheet, TakesAtStop}
+use Rattle.cdg_cmd.specs.Authors.{IsSheetStop, NeedsMemory, ReadsSheet, TakesAtStop}
 use Rattle.cdg_io.specs.Change.{Bytes, Change}
 use Rattle.cdg_cmd.specs.Call.{Call}
 use Rattle.cdg_cmd.specs.Stops.{press_status}
@@ -23,11 +23,11 @@ pub record ReadsFile (input : Change Bytes) (file : List ℕ) : Type 0 where
   pub within : length file ≤ most_text_bytes
   pub held : IfSome input.before (λ bytes. file ≡ bytes)
 
--- why the second input gives no file: memory is lacking only for one that is not too long
+-- why the second input gives no file: memory is lacking only for one that needs it
 abbrev pub IsFileStop : Bytes → Status → Type 0
 IsFileStop left (ReadFault Second) = ⊤
 IsFileStop left (Refused TooLong) = IfSome left (λ file. most_text_bytes < length file)
-IsFileStop left NoMemory = IfSome left (λ file. length file ≤ most_text_bytes)
+IsFileStop left NoMemory = IfSome left NeedsMemory
 IsFileStop left status = ⊥
 
 -- a pressed stream was put

@@ -5,6 +5,7 @@ mod command;
 mod laws;
 mod making;
 mod memory;
+mod no_memory;
 mod packs;
 mod status;
 mod streams;

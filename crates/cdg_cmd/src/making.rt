@@ -22,6 +22,7 @@ use picture_script::Script;
 use stream_trial::TrialStop;
 
 // The cue sheet of the first input, or the status that says why there is none.
+#[tactic(auto, using(crate::proofs::TextReads::refused_sheet))]
 fn read_sheet<S: Source>(memory: &mut CountedMemory, first: &mut S) -> Result<Sheet, Status>
     ensures ok { IfOk result (ReadsSheet (change S.left first.old first.new)) }
     ensures err { IfErr result (IsSheetStop (S.left first.old)) }

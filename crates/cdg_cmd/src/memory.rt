@@ -1,8 +1,8 @@
 // What commands ask memory for, with a count of the answers that said that there was none. Nothing but the calls here
-// reaches the allocator or raises that count.
+// reaches the allocator, and that count rises by `note` alone, to which each of them shows what it was answered.
 ghost use Rattle.std.specs.Prelude.{◌≡◌, ◌≢◌, ◌≤◌, ◌<◌, ◌↔◌, ℕ, List, Ok, Err, IfErr, IfOk, IfSome, IsTrue, OnOk, length};
 ghost use Rattle.std.specs.Io.KnownBytes.{Appends, IsAtEnd};
-ghost use Rattle.cdg_io.specs.Causes.{HasCause, Rose, RoseOnce, TellsFault};
+ghost use Rattle.cdg_io.specs.Causes.{HasCause, RoseOnce, TellsFault};
 ghost use Rattle.cdg_io.specs.Change.{change, input, passed};
 ghost use Rattle.cdg_io.specs.Moves.{AppendsPrefix};
 ghost use Rattle.cdg_cmd.specs.Answer.{IsListAnswer};
@@ -24,22 +24,18 @@ ghost use Rattle.stream_stages.specs.TextListing.{ListsTexts};
 ghost use Rattle.stream_trial.specs.Trial.{IsTrial};
 ghost use Rattle.subcode_author.specs.Authored.{disc_of};
 ghost use Rattle.text_lines.specs.Text.{most_text_bytes};
-ghost use Rattle.cdg_io.specs.declared.whole.ReadStop.TheVariants as read;
-ghost use Rattle.cdg_press.specs.declared.stops.PressStop.TheVariants as press;
 ghost use Rattle.cdtext_packs.specs.declared.kinds.TextFault.TheVariants as fault;
 ghost use Rattle.cue_sheet.specs.declared.fault.CueStop.TheVariants as sheet;
 ghost use Rattle.picture_script.specs.declared.reasons.ScriptStop.TheVariants as script;
 ghost use Rattle.stream_stages.specs.declared.played.PlayStop.TheVariants as play;
-ghost use Rattle.stream_trial.specs.declared.stops.TrialStop.TheVariants as tried;
-ghost use Rattle.subcode_author.specs.declared.stops.AuthorStop.TheVariants as author;
 
+use crate::no_memory::NoMemoryCount;
 use crate::status::read_status;
 use crate::{Status, Which};
 use cdg_checkpoint::Checkpointer;
-use cdg_io::{ReadStop, Sink, Source, read_whole};
+use cdg_io::{Sink, Source, read_whole};
 use cdg_press::{PressStop, press_stream};
 use cdg_thin::Thinner;
-use cdtext_packs::TextFault;
 use cue_sheet::{CueStop, Sheet};
 use picture_script::{Script, ScriptStop};
 use raw_subcode::Form;
@@ -50,90 +46,17 @@ use stream_trial::{TrialMemory, TrialStop, trial};
 use subcode_author::{AuthorStop, accepted_scripts_have_streams, author_stream};
 use text_lines::MOST_TEXT_BYTES;
 
-// A stop that may say that no memory was found.
-trait MemoryStop {
-    // The stop that says so.
-    ghost no_memory: { Self };
-
-    fn is_no_memory(&self) -> bool
-        ensures { IsTrue result ↔ (self.now ≡ no_memory) };
-}
-
-impl MemoryStop for AllocError {
-    ghost no_memory = { record {} };
-
-    fn is_no_memory(&self) -> bool {
-        true
-    }
-}
-
-impl MemoryStop for ReadStop {
-    ghost no_memory = { read.NoMemory };
-
-    fn is_no_memory(&self) -> bool {
-        matches!(self, ReadStop::NoMemory)
-    }
-}
-
-impl MemoryStop for CueStop {
-    ghost no_memory = { sheet.NoMemory };
-
-    fn is_no_memory(&self) -> bool {
-        matches!(self, CueStop::NoMemory)
-    }
-}
-
-impl MemoryStop for ScriptStop {
-    ghost no_memory = { script.NoMemory };
-
-    fn is_no_memory(&self) -> bool {
-        matches!(self, ScriptStop::NoMemory)
-    }
-}
-
-impl MemoryStop for PlayStop {
-    ghost no_memory = { play.Text fault.NoMemory };
-
-    fn is_no_memory(&self) -> bool {
-        matches!(self, PlayStop::Text(TextFault::NoMemory))
-    }
-}
-
-impl MemoryStop for AuthorStop {
-    ghost no_memory = { author.NoMemory };
-
-    fn is_no_memory(&self) -> bool {
-        matches!(self, AuthorStop::NoMemory)
-    }
-}
-
-impl MemoryStop for PressStop {
-    ghost no_memory = { press.NoMemory };
-
-    fn is_no_memory(&self) -> bool {
-        matches!(self, PressStop::NoMemory)
-    }
-}
-
-impl MemoryStop for TrialStop {
-    ghost no_memory = { tried.NoMemory };
-
-    fn is_no_memory(&self) -> bool {
-        matches!(self, TrialStop::NoMemory)
-    }
-}
-
 /// The allocator, with a count of the answers that said that no memory was found. Seen as that count.
 #[derive(Drop)]
 pub(crate) struct CountedMemory {
     alloc: Global,
-    refused: u64,
+    lacks: NoMemoryCount,
 }
 
 impl Model for CountedMemory {
     ghost Value = { ℕ };
 
-    ghost view = { λ m. m.refused };
+    ghost view = { λ m. m.lacks };
 }
 
 impl CountedMemory {
@@ -141,26 +64,9 @@ impl CountedMemory {
     pub(crate) fn new(alloc: Global) -> CountedMemory
         ensures { result ≡ 0 }
     {
-        CountedMemory { alloc, refused: 0 }
-    }
-
-    // Counts a stop that says that no memory was found, and no other.
-    fn note<E: MemoryStop>(&mut self, stop: &E)
-        ensures later { self.old ≤ self.new }
-        ensures lacks { stop.now ≡ E.no_memory → Rose self.old self.new }
-        ensures other { stop.now ≢ E.no_memory → self.new ≡ self.old }
-    {
-        if stop.is_no_memory() {
-            self.refused = self.refused.saturating_add(1);
-        }
-    }
-
-    // The same of an answer.
-    fn note_answer<T, E: MemoryStop>(&mut self, answer: &Result<T, E>)
-        ensures { TellsFault E.no_memory self.old self.new answer.now }
-    {
-        if let Err(stop) = answer {
-            self.note(stop);
+        CountedMemory {
+            alloc,
+            lacks: NoMemoryCount::none(),
         }
     }
 
@@ -168,7 +74,7 @@ impl CountedMemory {
         ensures { HasCause self.old self.new result }
     {
         let viewer = Viewer::start(self.alloc);
-        self.note_answer(&viewer);
+        self.lacks.note_answer(&viewer);
         viewer
     }
 
@@ -176,7 +82,7 @@ impl CountedMemory {
         ensures { HasCause self.old self.new result }
     {
         let checkpointer = Checkpointer::start(self.alloc);
-        self.note_answer(&checkpointer);
+        self.lacks.note_answer(&checkpointer);
         checkpointer
     }
 
@@ -185,7 +91,7 @@ impl CountedMemory {
         ensures counted { HasCause self.old self.new result }
     {
         let thinner = Thinner::start(self.alloc);
-        self.note_answer(&thinner);
+        self.lacks.note_answer(&thinner);
         thinner
     }
 
@@ -193,7 +99,7 @@ impl CountedMemory {
         ensures { HasCause self.old self.new result }
     {
         let lister = TextLister::start(self.alloc);
-        self.note_answer(&lister);
+        self.lacks.note_answer(&lister);
         lister
     }
 
@@ -218,7 +124,7 @@ impl CountedMemory {
         ensures counted { TellsFault (play.Text fault.NoMemory) self.old self.new result }
     {
         let listed = lister.text_list(self.alloc, lead_in, form, source, out);
-        self.note_answer(&listed);
+        self.lacks.note_answer(&listed);
         listed
     }
 
@@ -242,7 +148,7 @@ impl CountedMemory {
         match read_whole(self.alloc, source, MOST_TEXT_BYTES) {
             Ok(text) => Ok(text),
             Err(stop) => {
-                self.note(&stop);
+                self.lacks.note(&stop);
                 Err(read_status(which, stop))
             }
         }
@@ -254,7 +160,7 @@ impl CountedMemory {
         ensures counted { TellsFault sheet.NoMemory self.old self.new result }
     {
         let sheet = Sheet::parse(self.alloc, text);
-        self.note_answer(&sheet);
+        self.lacks.note_answer(&sheet);
         sheet
     }
 
@@ -265,7 +171,7 @@ impl CountedMemory {
         ensures counted { TellsFault script.NoMemory self.old self.new result }
     {
         let script = Script::parse(self.alloc, text);
-        self.note_answer(&script);
+        self.lacks.note_answer(&script);
         script
     }
 
@@ -291,7 +197,7 @@ impl CountedMemory {
         script.times_rise_and_colours_are_in_range();
         accepted_scripts_have_streams();
         let authored = author_stream(self.alloc, sheet, script, lead_in, length, out);
-        self.note_answer(&authored);
+        self.lacks.note_answer(&authored);
         authored
     }
 
@@ -314,7 +220,7 @@ impl CountedMemory {
         ensures counted { TellsFault PressStop.NoMemory self.old self.new result }
     {
         let pressed = press_stream(self.alloc, sheet, file, lead_in, length, out);
-        self.note_answer(&pressed);
+        self.lacks.note_answer(&pressed);
         pressed
     }
 
@@ -337,7 +243,7 @@ impl CountedMemory {
     {
         let mut memory = TrialMemory::new(self.alloc);
         let tried = trial(&mut memory, seed, pictures, out);
-        self.note_answer(&tried);
+        self.lacks.note_answer(&tried);
         tried
     }
 }

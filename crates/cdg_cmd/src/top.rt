@@ -1,5 +1,5 @@
 // Running a command: its line is split, its words are read, its work is done, and the line of its status is told.
-ghost use Rattle.std.specs.Prelude.{◌≡◌, ◌≢◌, ◌↔◌, ◌≤◌, ◌<◌, ◌⊎◌, ℕ, List, Some, None, IfSome, length, position, string_bytes, bytes_eq, codes};
+ghost use Rattle.std.specs.Prelude.{◌≡◌, ◌≢◌, ◌↔◌, ◌≤◌, ◌<◌, ℕ, List, Some, None, IfSome, length, position, string_bytes, bytes_eq, codes};
 ghost use Rattle.disc_time.specs.Counts.{most_program};
 ghost use Rattle.std.specs.List.{concat};
 ghost use Rattle.raw_subcode.specs.declared.form.Form.{Form};
@@ -17,11 +17,9 @@ ghost use Rattle.cdg_cmd.specs.Splitting.{split_of};
 ghost use Rattle.cdg_cmd.specs.Spelling.{IsAllowed, Spells};
 ghost use Rattle.cdg_io.specs.Change.{change, from_to, input};
 ghost use Rattle.cdg_cmd.specs.Call.{call};
-ghost use Rattle.cdg_cmd.specs.Keeps.{MayReadSecond, MayWrite, ReadsNone, TakesFirst, TakesNone, WritesLast};
 ghost use Rattle.cdg_cmd.specs.Performs.{Performs};
-ghost use Rattle.cdg_cmd.specs.Answer.{Does, GivesBack, GivesIfFound, LacksMemory};
+ghost use Rattle.cdg_cmd.specs.Answer.{GivesBack, GivesIfFound};
 ghost use Rattle.cdg_cmd.specs.Faults.{IsAnswered, IsTold, NoneRose, TellsFaults};
-ghost use Rattle.cdg_cmd.specs.Profile.{TellsEnds};
 ghost use Rattle.cdg_cmd.specs.Told.{Tells};
 ghost use Rattle.cdg_cmd.specs.Authors.{IsScriptText, IsSheetText};
 ghost use Rattle.cdg_cmd.specs.Headline.{HavePlace, IsDamagedCopy, PutsPicture, WritesOrIsLate, written_packs};
@@ -210,22 +208,12 @@ fn perform<S: Source, T: Source, K: Sink>(
 ) -> Status
     requires { IsAllowed command }
     ensures never { result ≢ Status.Usage }
-    ensures reads_none { ReadsNone command → first.new ≡ first.old }
-    ensures second { (second.new ≡ second.old)
-        ⊎ MayReadSecond command (input S.left S.ends first.old first.new) }
-    ensures writes_last { WritesLast command → ¬ (MayWrite result) → out.new ≡ out.old }
-    ensures no_memory { result ≡ Status.NoMemory → out.new ≡ out.old }
-    ensures no_memory_first { TakesFirst command → result ≡ Status.NoMemory
-        → (first.new ≡ first.old) × (second.new ≡ second.old) }
-    ensures takes_none { TakesNone command → result ≢ Status.NoMemory }
-    ensures does { result ≢ Status.NoMemory → Does command
-        (call S.left T.left K.held (first.old, second.old, out.old) (first.new, second.new, out.new)) result }
-    ensures lacks { result ≡ Status.NoMemory → LacksMemory command
-        (call S.left T.left K.held (first.old, second.old, out.old) (first.new, second.new, out.new)) }
+    ensures performs { Performs command
+        (input S.left S.ends first.old first.new) (input T.left T.ends second.old second.new)
+        (change K.held out.old out.new) (first.old, second.old, out.old)
+        (first.new, second.new, out.new) result }
     ensures faults { TellsFaults (call S.faults T.faults K.faults (first.old, second.old, out.old)
         (first.new, second.new, out.new)) result }
-    ensures ends { TellsEnds command (input S.left S.ends first.old first.new)
-        (input T.left T.ends second.old second.new) result }
     // Memory is wanted where a call says that none was found, and nowhere else.
     ensures wants { IsTold Status.NoMemory (from_to memory.old memory.new) result }
 {

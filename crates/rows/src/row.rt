@@ -140,7 +140,6 @@ impl<'a> Row<'a> {
         Ok(())
     }
 
-    // Reads a line of a row.
     fn read_line(&mut self, alloc: Global, line: &'a str, outputs: &Outputs) -> Result<()> {
         let (key, value) = line.split_once(' ').unwrap_or((line, ""));
         if let Some(what) = key.strip_prefix("first") {

@@ -9,7 +9,6 @@ use sha2::{Digest, Sha256};
 use std::alloc::{AllocError, Global};
 use std::mem::replace;
 
-// The first place where two lists differ.
 fn first_difference(wanted: &[u8], got: &[u8]) -> usize {
     let differs = wanted.iter().zip(got.iter()).position(|(a, b)| a != b);
     differs.unwrap_or(wanted.len().min(got.len()))
@@ -96,7 +95,6 @@ fn compare_parts(alloc: Global, row: &Row, got: &[u8]) -> Result<()> {
     Ok(())
 }
 
-// Fails where an output is not what a row wants.
 fn compare_output(alloc: Global, row: &Row, got: &[u8]) -> Result<()> {
     compare_extent(alloc, row, got)?;
     compare_count("length of out", row.length, got.len())?;
@@ -106,7 +104,6 @@ fn compare_output(alloc: Global, row: &Row, got: &[u8]) -> Result<()> {
     compare_parts(alloc, row, got)
 }
 
-// The inputs and outputs of a run.
 #[derive(Drop)]
 struct RunStreams {
     first: MemSource,

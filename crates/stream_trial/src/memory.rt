@@ -1,5 +1,5 @@
-// The memory of a trial, with a count of the answers that said that none was found. Nothing but the calls here reaches
-// the allocator or raises that count.
+// The memory of a trial, with a count of the answers that said that none was found. That count rises by `note` alone, to
+// which each call here shows what it was answered.
 ghost use Rattle.std.specs.Prelude.{◌≡◌, ◌≤◌, ◌<◌, ◌+◌, ◌*◌, ℕ, List, IfOk, IfErr};
 ghost use Rattle.cdg_io.specs.Causes.{HasCause};
 ghost use Rattle.cdg_workload.specs.Generated.{generated_drawings};
@@ -17,7 +17,7 @@ ghost use Rattle.stream_trial.specs.declared.stops.TrialStop.TheVariants.{NoMemo
 use crate::found::Found;
 use crate::generating::parse_script;
 use crate::needs::count_changes;
-use crate::stops::TrialStop;
+use crate::stops::{LackingCount, TrialStop};
 use crate::streams::play_stream;
 use picture_script::Script;
 use std::alloc::Global;
@@ -27,13 +27,13 @@ use std::marker::Model;
 #[derive(Drop)]
 pub struct TrialMemory {
     alloc: Global,
-    refused: u64,
+    lacks: LackingCount,
 }
 
 impl Model for TrialMemory {
     ghost Value = { ℕ };
 
-    ghost view = { λ m. m.refused };
+    ghost view = { λ m. m.lacks };
 }
 
 impl TrialMemory {
@@ -41,22 +41,9 @@ impl TrialMemory {
     pub fn new(alloc: Global) -> TrialMemory
         ensures { result ≡ 0 }
     {
-        TrialMemory { alloc, refused: 0 }
-    }
-
-    /// How many answers said that no memory was found.
-    pub fn refused(&self) -> u64
-        ensures { result ≡ self.now }
-    {
-        self.refused
-    }
-
-    // Counts a failure, which is that no memory was found.
-    fn note<T>(&mut self, answer: &Result<T, TrialStop>)
-        ensures { HasCause self.old self.new answer.now }
-    {
-        if answer.is_err() {
-            self.refused = self.refused.saturating_add(1);
+        TrialMemory {
+            alloc,
+            lacks: LackingCount::none(),
         }
     }
 
@@ -68,7 +55,7 @@ impl TrialMemory {
         ensures counted { HasCause self.old self.new result }
     {
         let script = parse_script(self.alloc, seed, pictures);
-        self.note(&script);
+        self.lacks.note(&script);
         script
     }
 
@@ -82,7 +69,7 @@ impl TrialMemory {
         ensures counted { HasCause self.old self.new result }
     {
         let changes = count_changes(self.alloc, script, blocks);
-        self.note(&changes);
+        self.lacks.note(&changes);
         changes
     }
 
@@ -103,7 +90,7 @@ impl TrialMemory {
         ensures counted { HasCause self.old self.new result }
     {
         let found = play_stream(self.alloc, script, seed, pictures);
-        self.note(&found);
+        self.lacks.note(&found);
         found
     }
 }

@@ -7,7 +7,7 @@ returns-in-Err-clause-err g c =
     let e = c.in-Err.ensures in
     let stopped =
     unread g.S.Source.left g.S.Source.faults g.S.Source.ends c.args.source.now c.read_whole.new.source
-    c.in-Err.stop e.too_long e.one_more e.no_memory e.cut e.not_told in
+    c.in-Err.stop e.too_long e.one_more e.no_memory e.needs_memory e.cut e.not_told in
     no_text g.S.Source.left g.S.Source.faults g.S.Source.ends c.args.source.now c.read_whole.new.source
     c.args.which c.in-Err.stop _ c.read_status.ensures stopped
 
@@ -16,7 +16,7 @@ returns-in-Err-clause-taken g c =
     let e = c.in-Err.ensures in
     let stopped =
     unread g.S.Source.left g.S.Source.faults g.S.Source.ends c.args.source.now c.read_whole.new.source
-    c.in-Err.stop e.too_long e.one_more e.no_memory e.cut e.not_told in
+    c.in-Err.stop e.too_long e.one_more e.no_memory e.needs_memory e.cut e.not_told in
     takes_unread g.S.Source.left g.S.Source.faults g.S.Source.ends c.args.source.now c.read_whole.new.source
     c.args.which c.in-Err.stop _ c.read_status.ensures stopped
 
@@ -25,7 +25,7 @@ returns-in-Err-clause-once g c =
     let e = c.in-Err.ensures in
     let stopped =
     unread g.S.Source.left g.S.Source.faults g.S.Source.ends c.args.source.now c.read_whole.new.source
-    c.in-Err.stop e.too_long e.one_more e.no_memory e.cut e.not_told in
+    c.in-Err.stop e.too_long e.one_more e.no_memory e.needs_memory e.cut e.not_told in
     text_ends g.S.Source.left g.S.Source.faults g.S.Source.ends c.args.source.now c.read_whole.new.source
     c.args.which c.in-Err.stop _ c.read_status.ensures stopped
 
@@ -35,5 +35,6 @@ returns-in-Err-clause-fault g c =
 
 pub returns-in-Err-clause-wants : goal.returns-in-Err-clause-wants
 returns-in-Err-clause-wants g c =
-    wants.unread _ _ c.note.ensures.later c.args.which c.in-Err.stop _ c.read_status.ensures
-    c.note.ensures.lacks c.note.ensures.other
+    wants.counted_from _ _ _ _ c.self.view_is
+    (wants.unread _ _ c.note.ensures.later c.args.which c.in-Err.stop _ c.read_status.ensures
+    c.note.ensures.lacks c.note.ensures.other)
