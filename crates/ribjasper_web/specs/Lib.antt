@@ -1,6 +1,4 @@
 pub mod Players
 pub mod Shown
 pub mod Packs
-pub mod Touches
 pub mod Mending
-pub mod Counts
