@@ -1,5 +1,3 @@
 pub mod Players
 pub mod Shown
 pub mod Packs
-pub mod Touches
-pub mod Counts

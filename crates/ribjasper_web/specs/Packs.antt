@@ -1,7 +1,7 @@
 -- Packs as they were read.
 use Rattle.std.specs.Prelude.{◌≡◌, ◌<◌, ℕ, ℤ, List, [], drop, length, pos, negsuc, slice_index_or}
 use Rattle.rw_code.specs.Codeword.{differences, Reads}
-use Rattle.ribjasper_web.specs.declared.taking.WebPack.{WebPack}
+use Rattle.ribjasper_web.specs.declared.reading.WebPack.{WebPack}
 
 -- a word is told by the codeword near it and how many of its symbols are wrong, or as it is and by -1
 abbrev pub IsTakenAs : List ℕ → List ℕ → ℤ → Type 0

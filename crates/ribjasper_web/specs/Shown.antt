@@ -1,8 +1,23 @@
--- What a page shows.
-use Rattle.std.specs.Prelude.{◌≡◌, ◌<◌, ◌+◌, ◌*◌, ◌/◌, ◌%◌, ℕ, slice_index}
+-- What a page is told of a player: its counts, what it shows and what a pack touches.
+use Rattle.std.specs.Prelude.{◌≡◌, ◌<◌, ◌+◌, ◌*◌, ◌/◌, ◌%◌, ℕ, slice_index, ◌-◌}
 use Rattle.cdg_instructions.specs.Sizes.{screen_width}
 use Rattle.cdg_screen.specs.Standing.{Standing, screen_pixel}
-use Rattle.ribjasper_web.specs.declared.showing.WebShown.{WebShown}
+use Rattle.ribjasper_web.specs.declared.picture.WebShown.{WebShown}
+use Rattle.rw_interleave.specs.Stream.{word_count}
+use Rattle.live_player.specs.declared.live.LivePlayer.{LivePlayer}
+use Rattle.ribjasper_web.specs.declared.counting.WebCounts.{WebCounts}
+use Rattle.cdg_screen.specs.declared.touching.Touched.{Touched}
+use Rattle.cdg_screen.specs.declared.touching.Touched.TheVariants.{Nothing, Tile, All, Border, Colours, Levels}
+
+-- what a player counts, whose form has this number; the words are those of the blocks that came behind its lead-in
+abbrev pub web_counts : ℕ → LivePlayer → WebCounts
+web_counts form player = record {
+  words = word_count player.words.form (player.blocks - player.lead_in);
+  form = form;
+  lead_in = player.lead_in;
+  blocks = player.blocks;
+  bad = player.bad;
+}
 
 -- a colour as a number whose bytes, the lowest first, are red, green, blue and 255
 unfoldable pub opaque : ℕ → ℕ
@@ -21,3 +36,12 @@ pub record IsShown (now : Standing) (shown : WebShown) : Type 0 where
   pub border : shown.border ≡ now.border
   pub h : shown.h ≡ now.h
   pub v : shown.v ≡ now.v
+
+-- a tile by its place, row by row of fifty; the rest by the numbers that follow the last tile
+abbrev pub number_touched : Touched → ℕ
+number_touched Nothing = 900
+number_touched (Tile row column) = 50 * row + column
+number_touched All = 901
+number_touched Border = 902
+number_touched Colours = 903
+number_touched Levels = 904

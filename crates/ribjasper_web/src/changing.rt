@@ -5,7 +5,7 @@ ghost use Rattle.cdg_screen.specs.Standing.{standing_after};
 ghost use Rattle.cdg_screen.specs.Touched.{touched_by};
 ghost use Rattle.live_player.specs.Lives.{instruction_of, standing_on};
 ghost use Rattle.ribjasper_web.specs.Players.{player_of};
-ghost use Rattle.ribjasper_web.specs.Touches.{number_touched};
+ghost use Rattle.ribjasper_web.specs.Shown.{number_touched};
 
 use crate::state::WebPlayer;
 use cdg_instructions::{Instr, SCREEN_COLUMNS, read_word};
@@ -42,7 +42,6 @@ pub extern "C" fn ribjasper_web_touches(pack: &[u8; SYMBOLS]) -> u32
     number(touches(&read_pack(pack)))
 }
 
-// What is touched, as a number.
 fn number(touched: Touched) -> u32
     ensures { result ≡ number_touched touched }
 {

@@ -2,13 +2,12 @@
 ghost use Rattle.std.specs.Prelude.{◌≡◌};
 ghost use Rattle.rw_interleave.specs.Stream.{word_count};
 ghost use Rattle.ribjasper_web.specs.Players.{numbered_form, player_of};
-ghost use Rattle.ribjasper_web.specs.Counts.{web_counts};
+ghost use Rattle.ribjasper_web.specs.Shown.{web_counts};
 
 use crate::state::WebPlayer;
 use raw_subcode::SLOTS_A_BLOCK;
 use rw_interleave::PACKS_KEPT_BACK;
 
-/// What a player counts since it began.
 #[repr(C)]
 #[derive(Clone, Copy)]
 pub struct WebCounts {
@@ -18,7 +17,6 @@ pub struct WebCounts {
     pub form: u32,
     /// The blocks of its lead-in, those that came and those still to come.
     pub lead_in: u32,
-    /// The blocks that came.
     pub blocks: u32,
     /// The words with no codeword near.
     pub bad: u32,

@@ -3,20 +3,17 @@
 
 mod changing;
 mod counting;
-mod forms;
 mod mending;
 mod picture;
 mod playing;
 mod reading;
 mod saving;
-mod showing;
 mod state;
 mod surveying;
-mod taking;
 mod texts;
 mod words;
 
 pub use counting::WebCounts;
-pub use showing::WebShown;
+pub use picture::WebShown;
+pub use reading::WebPack;
 pub use state::{PlainWords, WebPlayer};
-pub use taking::WebPack;

@@ -7,10 +7,23 @@ ghost use Rattle.live_player.specs.Lives.{standing_on};
 ghost use Rattle.ribjasper_web.specs.Players.{player_of};
 ghost use Rattle.ribjasper_web.specs.Shown.{IsShown, opaque, opaque_pixel};
 
-use crate::showing::WebShown;
 use crate::state::WebPlayer;
 use cdg_instructions::{SCREEN_HEIGHT, SCREEN_PIXELS, SCREEN_WIDTH};
 use cdg_screen::PlainScreen;
+
+#[repr(C)]
+#[derive(Clone, Copy)]
+pub struct WebShown {
+    /// The colours, each as 0xRGB.
+    pub colours: [u16; 16],
+    /// How much the colours let through, 0 to 63.
+    pub levels: [u8; 16],
+    pub border: u8,
+    /// How many pixels further right in the memory the screen begins, 0 to 5.
+    pub h: u8,
+    /// How many pixels further down, 0 to 11.
+    pub v: u8,
+}
 
 /// Writes the screen's pixels row by row, each as a number whose bytes, the lowest first, are red, green, blue and 255.
 #[unsafe(no_mangle)]

@@ -7,11 +7,19 @@ ghost use Rattle.raw_subcode.specs.declared.form.Form.{Form};
 ghost use Rattle.stream_stages.specs.Steps.{words_give};
 ghost use Rattle.ribjasper_web.specs.Packs.{AreTakenAs, IsTakenAs};
 ghost use Rattle.ribjasper_web.specs.Players.{player_of};
+ghost use Rattle.raw_subcode.specs.Channels.{IsPlanarForm};
 
 use crate::state::WebPlayer;
-use crate::taking::WebPack;
-use raw_subcode::BLOCK_BYTES;
-use rw_code::{Word, correct};
+use raw_subcode::{BLOCK_BYTES, Block};
+use rw_code::{SYMBOLS, Word, correct};
+
+/// The codeword near 24 symbols and how many of them were wrong, or these and -1.
+#[repr(C)]
+#[derive(Clone, Copy)]
+pub struct WebPack {
+    pub symbols: [u8; SYMBOLS],
+    pub wrong: i32,
+}
 
 /// Feeds a player the next block, and writes the packs that came with it; those behind them are left as they were. Their
 /// number, 0 to 4.
@@ -61,4 +69,15 @@ fn read(word: &Word) -> WebPack
             wrong: -1,
         },
     }
+}
+
+/// Writes the block with a planar form, as some drives give it.
+#[unsafe(no_mangle)]
+pub extern "C" fn ribjasper_web_from_planar(
+    planar: &[u8; BLOCK_BYTES],
+    block: &mut [u8; BLOCK_BYTES],
+)
+    ensures { IsPlanarForm block.new planar.now }
+{
+    *block = Block::from_planar(planar).bytes();
 }

@@ -6,9 +6,8 @@ ghost use Rattle.live_player.specs.Saving.{checkpoint_of, IsAt};
 ghost use Rattle.ribjasper_web.specs.Players.{player_of};
 
 use crate::state::{PlainWords, WebPlayer};
-use cdg_checkpoint::gathered_slots;
+use cdg_checkpoint::{FILE_BYTES, PlainFile, StreamCounts, gathered_slots};
 use cdg_io::SteadySource;
-use cdg_checkpoint::{FILE_BYTES, PlainFile, StreamCounts};
 use raw_subcode::Form;
 use stream_stages::BlockWords;
 
@@ -83,7 +82,6 @@ pub extern "C" fn ribjasper_web_load(
     }
 }
 
-// A file becomes these bytes.
 fn take_bytes(saved: &mut PlainFile, file: &[u8; FILE_BYTES])
     ensures { saved.new ≡ file.now }
 {

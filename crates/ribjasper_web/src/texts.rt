@@ -7,7 +7,6 @@ ghost use Rattle.raw_subcode.specs.Sizes.{slots_a_block};
 use raw_subcode::{BLOCK_BYTES, Block, SLOTS_A_BLOCK};
 use subcode_crc::crc16;
 
-// The bytes of a text pack.
 const TEXT_PACK: usize = 18;
 
 /// Writes text pack `k` of a block of the lead-in, 0 to 3. Whether its last two bytes are the check of the others, as 1 or
@@ -30,7 +29,6 @@ pub extern "C" fn ribjasper_web_text_pack(
     if matches(&found) { 1 } else { 0 }
 }
 
-// Text pack k of a block.
 fn text_pack_of(block: &[u8; BLOCK_BYTES], k: usize) -> [u8; TEXT_PACK]
     requires { k < 4 }
     ensures { result ≡ pack_at block.now k }

@@ -8,7 +8,6 @@ use rw_interleave::Gather;
 use stream_stages::BlockWords;
 
 impl PlainWords {
-    /// The numbers of a gatherer.
     pub(crate) fn of(words: &BlockWords) -> PlainWords
         ensures { gatherer_of result ≡ words.now }
     {
@@ -23,7 +22,6 @@ impl PlainWords {
         }
     }
 
-    /// The gatherer that these numbers are.
     pub(crate) fn words(&self) -> BlockWords
         ensures { result ≡ gatherer_of self.now }
     {
@@ -41,7 +39,6 @@ impl PlainWords {
     }
 }
 
-/// The form that a number means.
 pub(crate) fn form_of(number: u32) -> Form
     ensures { result ≡ numbered_form number }
 {
@@ -52,7 +49,6 @@ pub(crate) fn form_of(number: u32) -> Form
     }
 }
 
-// A number that means a form.
 fn number_of(form: Form) -> u32
     ensures { numbered_form result ≡ form }
 {

@@ -1,6 +1,6 @@
 use Rattle.std.proofs.Common.{ap, ◌∙◌}
 use Rattle.cdg_screen.specs.Touched.{touched_by}
-use Rattle.ribjasper_web.specs.Touches.{number_touched}
+use Rattle.ribjasper_web.specs.Shown.{number_touched}
 use Rattle.ribjasper_web.proofs.changing.ribjasper_web_touches.Goals as goal
 
 pub returns : goal.returns
