@@ -10,8 +10,7 @@ ghost use Rattle.cdg_checkpoint.specs.Table.{IsCheckpointFile};
 ghost use Rattle.live_player.specs.Saving.{checkpoint_of, IsAt};
 
 use crate::LivePlayer;
-use cdg_checkpoint::gathered_slots;
-use cdg_checkpoint::{PlainFile, StreamCounts};
+use cdg_checkpoint::{PlainFile, StreamCounts, gathered_slots};
 use raw_subcode::Form;
 
 impl LivePlayer {
