@@ -4,7 +4,7 @@ ghost use Rattle.std.specs.Prelude.{◌≡◌, ◌+◌, ◌*◌};
 /// The version's numbers, as those of the header.
 const MAJOR: u32 = 1;
 
-const MINOR: u32 = 4;
+const MINOR: u32 = 5;
 
 const PATCH: u32 = 0;
 
