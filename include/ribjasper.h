@@ -452,7 +452,7 @@ typedef struct ribjasper_mended {
 /* Mends two readings of one stream of raw blocks, whose first `lead_in` blocks are passed over: writes 24 bytes for each
    word to the front of the `room` bytes at `packs`, 4 B - 7 of B blocks of the program (none of one or none).
    Answers RIBJASPER_CONVERTED, or RIBJASPER_DAMAGED if words have no codeword; or otherwise, whichever holds
-first: RIBJASPER_USAGE if `lead_in` is above 450,000; RIBJASPER_TORN if the lengths differ, or are no whole blocks or
+   first: RIBJASPER_USAGE if `lead_in` is above 450,000; RIBJASPER_TORN if the lengths differ, or are no whole blocks or
    more than 1,000,000; RIBJASPER_NO_ROOM. Then nothing is written. It asks malloc for nothing. The readings may be the
    same bytes. */
 int32_t ribjasper_mend(const uint8_t *first, size_t first_length, const uint8_t *second, size_t second_length,
@@ -480,7 +480,7 @@ typedef struct ribjasper_mended_readings {
    the front of the `words` bytes at `sources`: the number of the reading whose codeword it is, RIBJASPER_AGREED or
    RIBJASPER_NO_READING. If `words` is 0 nothing is read or written at `sources`, and it may be null.
    Answers RIBJASPER_CONVERTED, or RIBJASPER_DAMAGED if words have no codeword; or otherwise, whichever holds
-first: RIBJASPER_USAGE if `lead_in` is above 450,000 or `count` is 0 or above 254; RIBJASPER_TORN if the readings are not
+   first: RIBJASPER_USAGE if `lead_in` is above 450,000 or `count` is 0 or above 254; RIBJASPER_TORN if the readings are not
    whole blocks of equal length, or more than 1,000,000 each; RIBJASPER_NO_ROOM if there is room for fewer packs, or
    `words` is neither 0 nor as many as the words. Then nothing is written. It asks malloc for nothing. */
 int32_t ribjasper_mend_readings(const uint8_t *readings, size_t length, uint32_t count, uint32_t lead_in,
@@ -591,7 +591,7 @@ RIBJASPER_NODISCARD int32_t ribjasper_sheet(const uint8_t *sheet, size_t length,
 
 /* Writes a text of a cue sheet to the front of the `room` bytes at `out`, and its length, which is 0 if none is given:
    at place 0 that of the album, at place k that of the k-th track. Answers as the call above; RIBJASPER_USAGE also if
-there is no such kind or place; and RIBJASPER_NO_ROOM if the text is longer than the room: then `bytes` is written. */
+   there is no such kind or place; and RIBJASPER_NO_ROOM if the text is longer than the room: then `bytes` is written. */
 RIBJASPER_NODISCARD int32_t ribjasper_sheet_text(const uint8_t *sheet, size_t length, uint32_t kind, uint32_t place,
                                                  uint8_t *out, size_t room, uint32_t *bytes);
 
@@ -628,7 +628,7 @@ typedef struct ribjasper_surveyed {
 
 /* Writes a row for each whole block of the `length` bytes at `stream`, whose first `lead_in` blocks are the lead-in, to
    the front of the `room` rows at `rows`. It asks for no memory. Answers RIBJASPER_CONVERTED, or otherwise, whichever
-holds first: RIBJASPER_USAGE; RIBJASPER_TORN, here only if there are more than 1,000,000 whole blocks;
+   holds first: RIBJASPER_USAGE; RIBJASPER_TORN, here only if there are more than 1,000,000 whole blocks;
    RIBJASPER_NO_ROOM if there are more blocks than rows. Then nothing is written. */
 RIBJASPER_NODISCARD
 int32_t ribjasper_survey(const uint8_t *stream, size_t length, uint32_t form, uint32_t lead_in, ribjasper_row *rows,
