@@ -11,7 +11,7 @@ const PATCH: u32 = 0;
 /// The version as one number.
 #[unsafe(no_mangle)]
 pub extern "C" fn ribjasper_version() -> u32
-    ensures { result ≡ 65536 * 1 + 256 * 4 + 0 }
+    ensures { result ≡ 65536 * 1 + 256 * 5 + 0 }
 {
     65536 * MAJOR + 256 * MINOR + PATCH
 }
