@@ -19,10 +19,9 @@ use crate::program::next_symbols;
 use crate::source::PackSource;
 use cdg_io::{Failed, Sink, put_all};
 use cdtext_packs::TextPack;
-use q_channel::FrameEncoder;
 use raw_subcode::BLOCK_BYTES;
 use rw_interleave::{Spread, spread_carries};
-use toc_model::{Channels, Layout};
+use toc_model::Layout;
 
 // Puts so many lead-in blocks.
 fn put_lead_in<K: Sink>(
@@ -68,12 +67,10 @@ fn put_program<P: PackSource, K: Sink>(
 {
     let blocks = layout.blocks();
     let mut quiet = 0;
-    let mut channels = Channels::start(layout);
-    let mut encoder = FrameEncoder::new();
     for b in 0..blocks {
         let mut symbols = [0; BLOCK_BYTES];
         next_symbols(source, spread, &mut quiet, &mut symbols);
-        let block = program_block(&mut channels, &mut encoder, b, &symbols);
+        let block = program_block(layout, b, &symbols);
         put_all(out, &block)?;
     }
     Ok(())

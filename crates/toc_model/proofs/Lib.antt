@@ -5,4 +5,3 @@ pub mod Gaps
 pub mod Need
 pub mod Tracks
 pub mod SheetPlaces
-pub mod Stretches

@@ -1,4 +1,3 @@
 pub mod Places
 pub mod Layout
 pub mod Answers
-pub mod Stretch

@@ -1,15 +1,13 @@
 // The layout of a disc.
-ghost use Rattle.std.specs.Prelude.{◌≡◌, ◌<◌, ◌≤◌, ◌+◌, ◌*◌, ℕ, length, slice_index_or, IfOk};
+ghost use Rattle.std.specs.Prelude.{◌≡◌, ◌<◌, ◌≤◌, ◌+◌, ◌*◌, length, slice_index_or, IfOk};
 ghost use Rattle.disc_time.specs.Counts.{most_lead_in, most_program, most_tracks};
 ghost use Rattle.disc_time.specs.Fields.{control_values};
 ghost use Rattle.q_channel.specs.QFrame.{IsValid, IsValidPoint};
-ghost use Rattle.toc_model.specs.Places.{DiscLayout, TrackPlace, audio_need, layout_of, program_blocks};
+ghost use Rattle.toc_model.specs.Places.{DiscLayout, audio_need, layout_of, program_blocks};
 ghost use Rattle.toc_model.specs.Layout.{IsLayout, disc_entries, entry_copies, p_bit, program_frame, toc_entries, toc_frame, track_at};
 ghost use Rattle.q_channel.specs.declared.frame.TocPoint.TheVariants.{First};
 ghost use Rattle.toc_model.specs.Answers.{IsBlockCount};
-ghost use Rattle.toc_model.specs.Stretch.{IsStretch};
 
-use crate::channels::Stretch;
 use crate::place::Place;
 use crate::places::{catalogue, gaps, need, places};
 use cue_sheet::Sheet;
@@ -24,14 +22,14 @@ const ENTRY_COPIES: u32 = 3;
 // How many entries are of no one track: those of the first and the last number, and of the lead-out.
 const DISC_ENTRIES: usize = 3;
 
-/// Of how many program blocks one may carry the catalogue number, and one its track's code.
-pub(crate) const CODE_PERIOD: u32 = 100;
+// Of how many program blocks one may carry the catalogue number, and one its track's code.
+const CODE_PERIOD: u32 = 100;
 
-/// Which of these blocks may carry the catalogue number.
-pub(crate) const CATALOGUE_TURN: u32 = 49;
+// Which of these blocks may carry the catalogue number.
+const CATALOGUE_TURN: u32 = 49;
 
-/// Which of these blocks may carry its track's code.
-pub(crate) const ISRC_TURN: u32 = 99;
+// Which of these blocks may carry its track's code.
+const ISRC_TURN: u32 = 99;
 
 /// Why a sheet has no layout with an audio of some length.
 #[derive(PartialEq, Eq, Debug, Drop)]
@@ -172,63 +170,6 @@ impl Layout {
     {
         let begun = self.tracks.partition_point(|place| place.begin() <= block);
         &self.tracks[begun - 1]
-    }
-
-    // Up to which block the track stays that of this one.
-    fn track_until(&self, block: u32) -> u32
-        ensures { (b : ℕ) → block ≤ b → (block < b → b < result)
-            → track_at self.now b ≡ track_at self.now block }
-    {
-        let begun = self.tracks.partition_point(|place| place.begin() <= block);
-        self.next_begin(begun)
-    }
-
-    // Where the track behind so many others begins, or the end of the program.
-    fn next_begin(&self, begun: usize) -> u32
-        ensures { (d : TrackPlace) → begun < length self.now.tracks
-            → result ≤ (slice_index_or self.now.tracks begun d).begin }
-    {
-        match self.tracks.get(begun) {
-            Some(next) => next.begin(),
-            None => self.blocks,
-        }
-    }
-
-    // Up to which block the P bit stays that of this one, where it does so no longer than up to another.
-    fn p_until(&self, block: u32, most: u32) -> u32
-        ensures stays { (b : ℕ) → block ≤ b → (block < b → b < result)
-            → p_bit self.now b ≡ p_bit self.now block }
-        ensures most { result ≤ most }
-    {
-        let past = self
-            .tracks
-            .partition_point(|place| place.music_begin() <= block);
-        match self.tracks.get(past) {
-            Some(next) => next.paused_until(block, most),
-            None => most,
-        }
-    }
-
-    /// What a block has in common with those behind it. It stays a call of its own, since few blocks begin a stretch.
-    #[inline(never)]
-    pub(crate) fn stretch(&self, block: u32) -> Stretch
-        requires { block < self.now.blocks }
-        ensures stretch { IsStretch self.now result }
-        ensures first { result.first ≡ block }
-    {
-        let place = self.track_at(block);
-        let of_track = self.track_until(block);
-        let of_index = place.index_until(block, of_track);
-        let until = self.p_until(block, of_index);
-        Stretch {
-            first: block,
-            until,
-            paused: self.p_bit(block),
-            control: place.control(),
-            track: place.number(),
-            index: place.index_at(block),
-            music: place.music_begin(),
-        }
     }
 
     /// The P bit of a program block: set in the pause before the music of a track, at least two seconds.

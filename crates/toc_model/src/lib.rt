@@ -1,10 +1,8 @@
 //! The layout of a Compact Disc: where the tracks of a cue sheet lie, and the P bit and Q frame of each block.
 #![tactic(auto)]
 
-mod channels;
 mod layout;
 mod place;
 mod places;
 
-pub use channels::Channels;
 pub use layout::{Layout, LayoutStop, count_blocks, toc_need};

@@ -1,5 +1,5 @@
 // A track on the disc.
-ghost use Rattle.std.specs.Prelude.{◌≡◌, ◌<◌, ◌≤◌, ℕ, IsTrue, length, slice_index_or};
+ghost use Rattle.std.specs.Prelude.{◌≡◌, ◌<◌, ◌≤◌, IsTrue};
 ghost use Rattle.disc_time.specs.Counts.{most_tracks, time_count};
 ghost use Rattle.disc_time.specs.Fields.{control_values};
 ghost use Rattle.toc_model.specs.Places.{TrackPlace};
@@ -89,28 +89,6 @@ impl Place {
         self.lines[begun - 1].0
     }
 
-    /// Up to which block the index stays that of this one, where it does so no longer than up to another.
-    pub(crate) fn index_until(&self, block: u32, most: u32) -> u32
-        ensures stays { (b : ℕ) → block ≤ b → (block < b → b < result)
-            → index_at self.now b ≡ index_at self.now block }
-        ensures most { result ≤ most }
-    {
-        let begun = self.lines.partition_point(|line| line.1 <= block);
-        self.next_line(begun, most)
-    }
-
-    // Where the line behind so many others begins, at most at a block.
-    fn next_line(&self, begun: usize, most: u32) -> u32
-        ensures line { (d : ℕ × ℕ) → begun < length self.now.lines
-            → result ≤ (slice_index_or self.now.lines begun d).1 }
-        ensures most { result ≤ most }
-    {
-        match self.lines.get(begun) {
-            Some(next) => most.min(next.1),
-            None => most,
-        }
-    }
-
     /// Whether a block lies in the pause before index 01.
     pub(crate) fn is_paused(&self, block: u32) -> bool
         ensures { result ≡ is_paused_for block self.now }
@@ -118,22 +96,6 @@ impl Place {
         let music = self.music_begin();
         let pause = (music - self.begin).max(PAUSE_BLOCKS);
         music - pause <= block && block < music
-    }
-
-    /// Up to which block it stays so, where that is before index 01 and no longer than up to another.
-    pub(crate) fn paused_until(&self, block: u32, most: u32) -> u32
-        ensures stays { (b : ℕ) → block ≤ b → (block < b → b < result)
-            → is_paused_for b self.now ≡ is_paused_for block self.now }
-        ensures music { result ≤ music_begin self.now }
-        ensures most { result ≤ most }
-    {
-        let music = self.music_begin();
-        let start = music - (music - self.begin).max(PAUSE_BLOCKS);
-        if block < start {
-            most.min(start)
-        } else {
-            most.min(music)
-        }
     }
 
     /// The frame that says the time of a block of the track.

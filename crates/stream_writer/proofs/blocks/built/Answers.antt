@@ -6,21 +6,21 @@ use Rattle.stream_writer.proofs.blocks.built.Goals as goal
 
 pub returns-clause-bytes : goal.returns-clause-bytes
 unfolding bits_of_frame
-returns-clause-bytes c frame is =
+returns-clause-bytes c =
     c.bytes.ensures.bytes
-    ∙ made_of c.args.p (bits_of_frame frame) c.args.symbols.now c.build.result c.bytes.ensures.size
+    ∙ made_of c.args.p (bits_of_frame c.args.frame.now) c.args.symbols.now c.build.result c.bytes.ensures.size
     c.bytes.ensures.small
-    c.build.ensures.p (c.build.ensures.q ∙ is.spelling) c.build.ensures.symbols
+    c.build.ensures.p (c.build.ensures.q ∙ c.encode.ensures.spelling) c.build.ensures.symbols
 
 pub returns-clause-built : goal.returns-clause-built
-returns-clause-built c frame is =
-    subst (λ block. IsBuilt block c.args.p frame c.args.symbols.now) (sym c.bytes.ensures.bytes)
+returns-clause-built c =
+    subst (λ block. IsBuilt block c.args.p c.args.frame.now c.args.symbols.now) (sym c.bytes.ensures.bytes)
     (record {
       size = c.bytes.ensures.size;
       are_bytes = c.bytes.ensures.small;
       channels = record {
         p = c.build.ensures.p;
-        q = subst (IsFrame frame) (sym c.build.ensures.q) is;
+        q = subst (IsFrame c.args.frame.now) (sym c.build.ensures.q) c.encode.ensures;
       };
       carried = c.build.ensures.symbols;
     })

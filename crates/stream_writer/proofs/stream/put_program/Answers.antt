@@ -1,6 +1,4 @@
 use Rattle.std.proofs.Common.{◌≡◌, ◌*◌, ◌+◌, refl, subst, ◌∙◌, arith}
-use Rattle.toc_model.specs.Layout.{p_bit, program_frame}
-use Rattle.stream_writer.specs.Blocks.{carrying_block, IsBuilt}
 use Rattle.stream_writer.specs.Given.{ComesLater}
 use Rattle.stream_writer.proofs.Pieces.{on_err}
 use Rattle.stream_writer.proofs.Slots.{none_later, later_more}
@@ -13,7 +11,6 @@ loop-b-init g c = record {
   done =
       none_done c.args.layout.now (g.P.PackSource.comes c.args.source.now) (g.K.Sink.held c.args.out.now)
       c.args.spread.now c.requires;
-  disc = c.start-channels.ensures;
   quiet = start_quiet c.args.spread.now c.requires;
   later = none_later _;
   same = refl;
@@ -29,9 +26,7 @@ returns-in_err-put_all-clause-part g c =
     c.loop-b.spread c.next_symbols.new.spread c.next_symbols.new.symbols c.program_block-block.result
     so_far.done (omega (arith, c.blocks-blocks.ensures.blocks)) so_far.later
     c.next_symbols.ensures.symbols
-    (subst (λ l. c.program_block-block.result ≡ carrying_block l c.loop-b.b c.next_symbols.new.symbols)
-    so_far.disc c.program_block-block.ensures.bytes)
-    c.in_err-put_all.ensures.part
+    c.program_block-block.ensures.bytes c.in_err-put_all.ensures.part
     (g.P.PackSource.comes c.next_symbols.new.source) c.next_symbols.ensures.later)
 
 pub loop-b-preserved : goal.loop-b-preserved
@@ -45,12 +40,7 @@ loop-b-preserved g c =
           c.loop-b.spread c.next_symbols.new.spread c.next_symbols.new.symbols c.program_block-block.result
           so_far.done so_far.later
           c.next_symbols.ensures.symbols
-          (subst (λ l. c.program_block-block.result ≡ carrying_block l c.loop-b.b c.next_symbols.new.symbols)
-          so_far.disc c.program_block-block.ensures.bytes)
-          (subst (λ l. IsBuilt c.program_block-block.result (p_bit l c.loop-b.b) (program_frame l c.loop-b.b)
-          c.next_symbols.new.symbols) so_far.disc c.program_block-block.ensures.built)
-          c.in_ok-put_all.ensures.ok;
-      disc = c.program_block-block.ensures.same ∙ so_far.disc;
+          c.program_block-block.ensures.bytes c.program_block-block.ensures.built c.in_ok-put_all.ensures.ok;
       quiet = c.next_symbols.ensures.quiet;
       later =
           later_more (g.P.PackSource.comes c.args.source.now) (g.P.PackSource.comes c.loop-b.source)
