@@ -48,7 +48,7 @@ if [ -e lib/libribjasper.so.0 ]; then
         >"$work/ribjasper-desk/DEBIAN/postinst"
     printf '#!/bin/sh\nset -e\npy3clean -p ribjasper-desk\n' >"$work/ribjasper-desk/DEBIAN/prerm"
     chmod 755 "$work/ribjasper-desk/DEBIAN/postinst" "$work/ribjasper-desk/DEBIAN/prerm"
-    warrant="Its desk is tested; what it says of subcode comes of proved functions."
+    warrant="Its desk is tested, not proved; it stands on the proved library."
     built_for=all recommends="ribjasper, python3-pil, python3-tqdm, python3-distributed, ffmpeg, fonts-dejavu-core"
     package ribjasper-desk "whole jobs over dumps and songs of the subcode of Compact Discs" \
         "libribjasper0 (= $version), python3 (>= 3.11)"
