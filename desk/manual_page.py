@@ -13,7 +13,9 @@ An output that is a file which the call reads, or another output of the call, is
 A file that is there already is replaced if it is of the kind that the command writes; other files are replaced with
 .B \-\-force
 alone. A file is replaced as a whole once all outputs of the call are written; if anything fails before, all of them stay
-as they were. A pipe, a device and a socket are written to, a symbolic link stays, and
+as they were. A pipe, a character device and a socket are written to, a disk with
+.B \-\-force
+alone; a symbolic link stays, and
 .B \-
 is standard output; a table that the command prints goes to standard error then.
 .SH ENVIRONMENT
@@ -25,6 +27,8 @@ the shared library, in place of the one that is installed
 the program
 .BR ribjasper (1),
 in place of the one that is installed
+.SH LICENCE
+MIT or Apache-2.0, as you like it: 2026 The Ribjasper authors.
 .SH SEE ALSO
 .BR ribjasper (1),
 .BR ribjasper (3)
