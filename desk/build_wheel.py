@@ -9,8 +9,10 @@ from pathlib import Path
 from typing import Any, Iterator
 
 DESK = Path(__file__).resolve().parent
-# The version stands beside the desk in an archive of its sources, and above it in the repository.
-VERSION = next(path for path in (DESK / "VERSION", DESK.parent / "VERSION") if path.exists()).read_text().strip()
+# The version stands beside the desk in an archive of its sources, and above it in the repository; between two releases it
+# ends in -dev, which packages of Python spell so.
+WRITTEN = next(path for path in (DESK / "VERSION", DESK.parent / "VERSION") if path.exists()).read_text().strip()
+VERSION = WRITTEN.replace("-dev", ".dev0")
 PROJECT: dict[str, Any] = tomllib.loads((DESK / "pyproject.toml").read_text())["project"]
 STEM = f"{PROJECT['name'].replace('-', '_')}-{VERSION}"
 WHEEL = "Wheel-Version: 1.0\nGenerator: build_wheel\nRoot-Is-Purelib: true\nTag: py3-none-any\n"

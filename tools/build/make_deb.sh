@@ -6,7 +6,8 @@ set -e
 cd "$(dirname "$0")/../.."
 command -v dpkg-deb >/dev/null || { echo "make_deb: dpkg-deb is missing (package dpkg)" >&2; exit 1; }
 [ -x bin/ribjasper ] || { echo "make_deb: there is no bin/ribjasper (make)" >&2; exit 1; }
-version=$(cat VERSION)
+# To Debian what comes before a release stands behind a tilde.
+version=$(sed 's/-dev$/~dev/' VERSION)
 architecture=$(dpkg --print-architecture)
 work=$(mktemp -d)
 trap 'rm -rf "$work"' EXIT
