@@ -69,7 +69,7 @@ def build_wheel(wheel_directory: str, config_settings: object = None, metadata_d
 
 def build_sdist(sdist_directory: str, config_settings: object = None) -> str:
     own = ("pyproject.toml", "README.md", "build_wheel.py", "manual_page.py")
-    files = [("PKG-INFO", metadata().encode()), ("VERSION", VERSION.encode()),
+    files = [("PKG-INFO", metadata().encode()), ("VERSION", WRITTEN.encode()),
              *((name, (DESK / name).read_bytes()) for name in own), *modules()]
     name = f"{STEM}.tar.gz"
     with tarfile.open(Path(sdist_directory) / name, "w:gz") as archive:
