@@ -10,6 +10,6 @@ mod saving;
 
 pub use drawing::play;
 pub use live::LivePlayer;
-pub use looking::PICTURE_BYTES;
+pub use looking::{PICTURE_BYTES, part_of_screen};
 pub use part::ScreenPart;
 pub use saving::a_saved_player_goes_on;

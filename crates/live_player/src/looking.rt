@@ -30,12 +30,7 @@ pub(crate) fn pixels(screen: &PlainScreen, pixels: &mut [u8; SCREEN_PIXELS])
 }
 
 /// The pixels of a part of the screen: row j of it stands `stride` times j bytes from the front.
-pub(crate) fn part_of_screen(
-    screen: &PlainScreen,
-    part: &ScreenPart,
-    pixels: &mut [u8],
-    stride: usize,
-)
+pub fn part_of_screen(screen: &PlainScreen, part: &ScreenPart, pixels: &mut [u8], stride: usize)
     requires part { IsOnScreen part.now }
     requires apart { part.now.width ≤ stride }
     requires room { HasRoomFor part.now stride (length pixels.old) }

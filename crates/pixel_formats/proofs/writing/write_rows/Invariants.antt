@@ -1,7 +1,7 @@
 use Rattle.std.proofs.Common.{◌≡◌, ◌<◌, ◌+◌, ◌*◌, ℕ, get_or}
 use Rattle.cdg_screen.specs.Memory.{seen}
 use Rattle.pixel_formats.specs.Formats.{pixel_size, shown_bytes}
-use Rattle.pixel_formats.proofs.writing.write_pixels.Given as goal
+use Rattle.pixel_formats.proofs.writing.write_rows.Given as goal
 
 abbrev pub invariant-loop-j : goal.invariant-loop-j
 invariant-loop-j l = record {
