@@ -21,7 +21,8 @@ impl PlainScreen {
     }
 
     /// Writes the numbers of the colours of pixels of row `y` of the screen, from column `x` on: one to each byte of
-    /// `columns`. They are all on the screen.
+    /// `columns`. They are all on the screen. It is inlined, since much of it goes where the place and the count are known.
+    #[inline(always)]
     pub fn write_columns(&self, x: usize, y: usize, columns: &mut [u8])
         requires width { x + length columns.old ≤ screen_width }
         requires height { y < screen_height }
