@@ -29,7 +29,9 @@ pub(crate) fn pixels(screen: &PlainScreen, pixels: &mut [u8; SCREEN_PIXELS])
     part_of_screen(screen, &whole, pixels, SCREEN_WIDTH);
 }
 
-/// The pixels of a part of the screen: row j of it stands `stride` times j bytes from the front.
+/// The pixels of a part of the screen: row j of it stands `stride` times j bytes from the front. It is inlined, since much of
+/// it goes where the part is known.
+#[inline(always)]
 pub fn part_of_screen(screen: &PlainScreen, part: &ScreenPart, pixels: &mut [u8], stride: usize)
     requires part { IsOnScreen part.now }
     requires apart { part.now.width ≤ stride }
@@ -43,6 +45,7 @@ pub fn part_of_screen(screen: &PlainScreen, part: &ScreenPart, pixels: &mut [u8]
 }
 
 // The pixels of row j of a part.
+#[inline(always)]
 fn write_line(screen: &PlainScreen, part: &ScreenPart, j: usize, line: &mut [u8])
     requires part { IsOnScreen part.now }
     requires row { j < part.now.height }
