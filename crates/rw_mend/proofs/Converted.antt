@@ -210,7 +210,7 @@ agreed_way voices None is = absurd is
 agreed_way voices (Some mended) is =
     ap (λ s. is_mended_by Together (Some (way_by s voices mended.pack))) is
 
-ways_at : (said : List (List Voice)) (found : List (Option Mended)) (n : ℕ) → n < length said
+pub ways_at : (said : List (List Voice)) (found : List (Option Mended)) (n : ℕ) → n < length said
     → n < length found → (n < length (ways_of said found))
     × (get_or (ways_of said found) n None ≡ way_of (get_or said n []) (get_or found n None))
 ways_at [] found n lt lt' = absurd (omega (arith, lt))
