@@ -57,7 +57,8 @@ way_turned Together First = refl
 way_turned Together Second = refl
 way_turned Together Together = refl
 
-mended_turned : (way : Way) (own : Option Way) → is_mended_by (turned_way way) (turned own) ≡ is_mended_by way own
+mended_turned : (way : Way) (own : Option Way)
+    → is_mended_by (turned_way way) (turned own) ≡ is_mended_by way own
 mended_turned way (Some own) = way_turned way own
 mended_turned way None = refl
 
