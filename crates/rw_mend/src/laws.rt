@@ -33,12 +33,27 @@ pub fn a_clean_codeword_is_mended()
 {}
 
 /// A law: a reading without a wrong symbol comes out whole, as if it were alone, beside any readings which, where no
-/// symbol of a word of theirs is wrong, give the same codeword or the idle pack: noise, scratches, no channels R to W.
+/// symbol of a word of theirs is wrong, give the same codeword or the idle pack: noise, scratches, no channels R to W. So
+/// the calls write what a conversion writes of it.
 pub fn a_clean_reading_comes_out()
-    ensures { (words r : ℕ) (programs : List (List ℕ)) (said : List (List Voice))
+    ensures words { (words r : ℕ) (programs : List (List ℕ)) (said : List (List Voice))
         (found : List (Option Mended))
         → IsCleanBeside words programs r → AreMended words programs said found
         → mended_text found ≡ given_text words programs r }
+    ensures two { (lead_in r : ℕ) (first second old new : List ℕ) (counts : MendCounts)
+        (found : List (Option (List ℕ))) → length first % block_bytes ≡ 0 → length second ≡ length first
+        → IsCleanBeside (whole_packs (length first / block_bytes - lead_in))
+        (program_of lead_in first ∷ program_of lead_in second ∷ []) r
+        → IsMendedInto lead_in first second old new counts
+        → IsRecovered Raw (program_symbols Raw (slice_index_or (first ∷ second ∷ []) r []) lead_in) found
+        → new ≡ cdg_bytes found ++ drop (length (cdg_bytes found)) old }
+    ensures many { (count lead_in r : ℕ) (readings old new old_sources new_sources : List ℕ)
+        (tallies : Tallies) (found : List (Option (List ℕ))) → (length readings / count) % block_bytes ≡ 0
+        → IsCleanBeside (words_in_each count lead_in readings) (programs_of count lead_in readings) r
+        → AreAllMendedInto count lead_in readings old new old_sources new_sources tallies
+        → IsRecovered Raw (program_symbols Raw
+        (slice_index_or (parts count (length readings / count) readings) r []) lead_in) found
+        → new ≡ cdg_bytes found ++ drop (length (cdg_bytes found)) old }
 {}
 
 /// A law: for the voices of a word one codeword at most is mended, of one source; so it is for each word of readings.
