@@ -438,7 +438,7 @@ int32_t ribjasper_convert(const uint8_t *stream, size_t length, uint32_t form, u
 /* What is reported of two readings that were mended: the bytes written, the blocks of the program, and how many words
    have the codeword that both readings give, that of the first alone, that of the second alone, or the one on which
    both agree if none counts; and how many have none, for which 24 zeros are written. The five add up to the words,
-   which are bytes / 24. */
+   which are bytes / 24. If the readings change places, so do of_first and of_second, and the others stay. */
 typedef struct ribjasper_mended {
     uint64_t bytes;
     uint32_t blocks;
