@@ -1,7 +1,7 @@
 use Rattle.std.proofs.Common.{◌≡◌, ◌*◌, ◌<◌, length, take, All, sym, ◌∙◌, subst, rules}
 use Rattle.std.proofs.lemmas.List.Elements.{All-append}
 use Rattle.cdtext_packs.proofs.Slots.{slots_more, slot_written, length-written}
-use Rattle.cdtext_packs.proofs.lead_in.lead_in_symbols.Goals as goal
+use Rattle.cdtext_packs.proofs.lead_in_texts.lead_in_symbols.Goals as goal
 
 pub loop-k-preserved : goal.loop-k-preserved
 loop-k-preserved c =

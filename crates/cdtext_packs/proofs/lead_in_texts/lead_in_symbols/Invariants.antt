@@ -1,7 +1,7 @@
 use Rattle.std.proofs.Common.{◌≡◌, ◌+◌, ◌*◌, ◌<◌, length, take, flat_map, All}
 use Rattle.bit_lists.specs.Counting.{below}
 use Rattle.cdtext_packs.specs.LeadIn.{lead_in_slot}
-use Rattle.cdtext_packs.proofs.lead_in.lead_in_symbols.Given as goal
+use Rattle.cdtext_packs.proofs.lead_in_texts.lead_in_symbols.Given as goal
 
 abbrev pub invariant-loop-k : goal.invariant-loop-k
 invariant-loop-k l = record {

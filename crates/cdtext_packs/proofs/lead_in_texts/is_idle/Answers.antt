@@ -2,7 +2,7 @@ use Rattle.std.proofs.Common.{◌≡◌, ◌%◌, arith, ap, ◌∙◌, inl, inr
 use Rattle.std.specs.Prelude.{slice_index}
 use Rattle.std.proofs.lemmas.Bool.{cases_lt}
 use Rattle.cdtext_packs.proofs.EmptyBlocks.{or_zeros, no_symbols}
-use Rattle.cdtext_packs.proofs.lead_in_texts.is_empty.Goals as goal
+use Rattle.cdtext_packs.proofs.lead_in_texts.is_idle.Goals as goal
 
 pub loop-byte-preserved : goal.loop-byte-preserved
 loop-byte-preserved c = λ none n lt.
