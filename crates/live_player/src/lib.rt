@@ -1,7 +1,6 @@
 //! A player of subcode streams that is fed blocks as they come.
 #![tactic(auto)]
 
-mod copying;
 mod drawing;
 mod live;
 mod looking;

@@ -2,7 +2,7 @@ use Rattle.std.proofs.Common.{◌%◌, ◌∙◌, arith}
 use Rattle.std.proofs.lemmas.Bool.{eqb-true}
 use Rattle.std.proofs.lemmas.List.{get_or-map}
 use Rattle.cdg_thin.proofs.Meanings.{idle_by_mode}
-use Rattle.cdg_thin.proofs.instruction.is_idle.Goals as goal
+use Rattle.cdg_thin.proofs.thinner.is_idle.Goals as goal
 
 pub returns : goal.returns
 returns c =

@@ -3,7 +3,7 @@ use Rattle.cdg_thin.proofs.Forms.{only_reading, only_text, text_again, text_alik
 use Rattle.cdg_thin.proofs.Meanings.{has_instruction}
 use Rattle.cdg_thin.proofs.Runs.{some_text}
 use Rattle.cdg_thin.specs.Steps.{pack_instruction}
-use Rattle.cdg_thin.proofs.laws.thin_forms_stand_alike.Goals as goal
+use Rattle.cdg_thin.proofs.thinner.thin_forms_stand_alike.Goals as goal
 
 pub returns-clause-alike : goal.returns-clause-alike
 returns-clause-alike c = text_alike

@@ -3,7 +3,7 @@ use Rattle.cdg_instructions.specs.Instruction.{Means}
 use Rattle.cdg_instructions.proofs.Meaning.{only_meaning}
 use Rattle.raw_subcode.specs.Channels.{symbols_of}
 use Rattle.cdg_thin.specs.Steps.{pack_instruction}
-use Rattle.cdg_thin.proofs.instruction.instruction.Goals as goal
+use Rattle.cdg_thin.proofs.thinner.instruction.Goals as goal
 
 pub returns-clause-meaning : goal.returns-clause-meaning
 unfolding pack_instruction
