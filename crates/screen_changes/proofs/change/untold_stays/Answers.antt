@@ -1,7 +1,7 @@
 use Rattle.screen_changes.specs.Changes.{watch_from}
 use Rattle.screen_changes.proofs.Kept.{tells}
 use Rattle.std.proofs.Common.{refl}
-use Rattle.screen_changes.proofs.keeping.untold_stays.Goals as goal
+use Rattle.screen_changes.proofs.change.untold_stays.Goals as goal
 
 pub returns : goal.returns
 returns c now instrs whole =
