@@ -1,5 +1,5 @@
 use Rattle.cdg_workload.proofs.Times.{so_many, ready_at, hold_at}
-use Rattle.cdg_workload.proofs.script_laws.generated_scripts_have_times.Goals as goal
+use Rattle.cdg_workload.proofs.script.generated_scripts_have_times.Goals as goal
 
 pub returns-clause-pictures : goal.returns-clause-pictures
 returns-clause-pictures c = so_many
