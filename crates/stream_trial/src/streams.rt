@@ -3,6 +3,7 @@ ghost use Rattle.std.specs.Prelude.{◌≡◌, ◌≤◌, ℕ, List, [], OnOk, I
 ghost use Rattle.cdg_workload.specs.Script.{most_generated};
 ghost use Rattle.cdg_workload.specs.Scratches.{scratched};
 ghost use Rattle.cdg_workload.specs.Generated.{generated_drawings};
+ghost use Rattle.pack_schedule.specs.Survey.{IsSurvey, IsWithin};
 ghost use Rattle.raw_subcode.specs.Channels.{program_symbols};
 ghost use Rattle.raw_subcode.specs.declared.form.Form.TheVariants.{Raw};
 ghost use Rattle.stream_trial.specs.TrialSheet.{trial_sheet};
@@ -18,20 +19,24 @@ use crate::sizes::count_audio;
 use crate::stops::TrialStop;
 use crate::trial_sheet_is_read;
 use cdg_workload::{scratches_are_bursts, scratches_are_damage};
+use pack_schedule::Survey;
 use picture_script::Script;
 use std::alloc::Global;
-use subcode_author::{AuthorStop, author_stream};
+use subcode_author::{AuthorStop, author_planned};
 
-/// Writes the stream of the script of a seed, and plays each of its blocks, with scratches of the same seed, as soon as
+/// Writes the stream of the script of a seed, whose changes are planned, and plays each of its blocks, with scratches of the same seed, as soon as
 /// it is written.
 pub(crate) fn play_stream(
     alloc: Global,
     script: &Script,
+    planned: Survey,
     seed: u64,
     pictures: u32,
 ) -> Result<Found, TrialStop>
     requires few { pictures ≤ most_generated }
     requires script { script.now ≡ generated_drawings seed pictures }
+    requires planned { IsSurvey script.now planned }
+    requires within { IsWithin script.now (trial_blocks pictures) }
     ensures played { IfOk result (λ found. (bytes : List ℕ) × (packs : List (List ℕ))
         × IsWrittenStream (disc_of trial_sheet script.now 0 (trial_audio pictures)) bytes packs
         × IsPlayedOut script.now (trial_blocks pictures) (program_symbols Raw bytes 0)
@@ -43,7 +48,7 @@ pub(crate) fn play_stream(
     scratches_are_damage();
     trial_sheet_is_read();
     let mut run = TrialRun::start(alloc, script, seed, pictures)?;
-    write_stream(alloc, script, pictures, &mut run)?;
+    write_stream(alloc, script, planned, pictures, &mut run)?;
     Ok(run.found())
 }
 
@@ -51,11 +56,14 @@ pub(crate) fn play_stream(
 fn write_stream(
     alloc: Global,
     script: &Script,
+    planned: Survey,
     pictures: u32,
     run: &mut TrialRun<'_>,
 ) -> Result<(), TrialStop>
     requires few { pictures ≤ most_generated }
     requires script { (seed : ℕ) × (script.now ≡ generated_drawings seed pictures) }
+    requires planned { IsSurvey script.now planned }
+    requires within { IsWithin script.now (trial_blocks pictures) }
     requires begun { run.old.history.bytes ≡ [] }
     ensures stream { OnOk result ((packs : List (List ℕ))
         × IsWrittenStream (disc_of trial_sheet script.now 0 (trial_audio pictures)) run.new.history.bytes
@@ -66,7 +74,8 @@ fn write_stream(
     // For the author, which refuses neither the sheet nor the script.
     trial_sheet_is_read();
     let sheet = parse_sheet(alloc)?;
-    let written = author_stream(alloc, &sheet, script, 0, count_audio(pictures), run);
+    let length = count_audio(pictures);
+    let written = author_planned(alloc, &sheet, script, planned, 0, length, run);
     drop(sheet);
     match written {
         Ok(()) => Ok(()),

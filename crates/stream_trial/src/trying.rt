@@ -10,6 +10,7 @@ ghost use Rattle.stream_trial.specs.declared.stops.TrialStop.TheVariants.{NoMemo
 
 use crate::lines::Report;
 use crate::memory::TrialMemory;
+use crate::needs::count_changes;
 use crate::sizes::count_blocks;
 use crate::stops::TrialStop;
 use crate::trial_sheet_is_read;
@@ -71,8 +72,9 @@ fn make_report(memory: &mut TrialMemory, seed: u64, pictures: u32) -> Result<Rep
     trial_sheet_is_read();
     let script = memory.script(seed, pictures)?;
     let blocks = count_blocks(pictures);
-    let changes = memory.changes(&script, blocks)?;
-    let found = memory.found(&script, seed, pictures)?;
+    let planned = memory.planned(&script, blocks)?;
+    let changes = count_changes(&script, &planned);
+    let found = memory.found(&script, planned, seed, pictures)?;
     Ok(Report {
         seed,
         pictures: u64::from(pictures),

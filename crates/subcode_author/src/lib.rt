@@ -10,7 +10,7 @@ mod stops;
 mod stream_laws;
 
 pub use answer_laws::each_disc_has_one_answer;
-pub use author::author_stream;
+pub use author::{author_planned, author_stream};
 pub use plans::{accept_disc, plans_tell_what_an_author_tells};
 pub use stops::AuthorStop;
 pub use stream_laws::{

@@ -1,14 +1,13 @@
-// What is judged before memory is asked, and the weaver, which plans in memory.
-ghost use Rattle.std.specs.Prelude.{◌≡◌, ◌<◌, ◌≤◌, List, IfOk, IfErr, OnOk};
+// What is judged before memory is asked, and the plan of the pictures, which needs memory.
+ghost use Rattle.std.specs.Prelude.{◌≡◌, ◌<◌, ◌≤◌, IfOk, IfErr, OnOk};
 ghost use Rattle.disc_time.specs.Counts.{most_program, time_count};
 ghost use Rattle.toc_model.specs.Places.{program_blocks};
 ghost use Rattle.pack_schedule.specs.Survey.{IsPastEnd, IsSurvey, IsWithin};
-ghost use Rattle.pack_schedule.specs.declared.surveys.told.PlannedChange.{PlannedChange};
 ghost use Rattle.subcode_author.specs.AuthorAnswer.{HoldsPictures, IsDiscStop, IsPictureStop};
 
 use crate::stops::AuthorStop;
 use cue_sheet::Sheet;
-use pack_schedule::{Weaver, is_past_end, survey};
+use pack_schedule::{Survey, is_past_end, survey};
 use picture_script::Script;
 use std::alloc::Global;
 use toc_model::count_blocks;
@@ -27,21 +26,13 @@ pub(crate) fn held_blocks(sheet: &Sheet, script: &Script, length: u32) -> Result
     Ok(blocks)
 }
 
-/// The weaver of a script whose pictures are all ready in time.
-pub(crate) fn start_weaver<'a>(
-    alloc: Global,
-    script: &'a Script,
-    blocks: u32,
-) -> Result<Weaver<'a>, AuthorStop>
+/// The planned changes of a script whose pictures are all ready in time.
+pub(crate) fn plan_script(alloc: Global, script: &Script, blocks: u32) -> Result<Survey, AuthorStop>
     requires blocks { blocks < time_count }
     requires end { ¬ IsPastEnd script.now blocks }
-    ensures script { IfOk result (λ w. w.script ≡ script.now) }
-    ensures given { IfOk result (λ w. w.given ≡ 0) }
     ensures within { OnOk result (IsWithin script.now blocks) }
-    ensures planned { OnOk result ((planned : List PlannedChange) × IsSurvey script.now planned) }
+    ensures planned { IfOk result (IsSurvey script.now) }
     ensures err { IfErr result (IsPictureStop script.now) }
 {
-    let planned = survey(alloc, script, blocks)?;
-    let weaver = Weaver::start(alloc, script, planned)?;
-    Ok(weaver)
+    Ok(survey(alloc, script, blocks)?)
 }

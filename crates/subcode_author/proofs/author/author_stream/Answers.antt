@@ -1,142 +1,71 @@
-use Rattle.std.proofs.Common.{◌≡◌, ℕ, ◌<◌, ◌≤◌, List, ap, sym, subst, ◌∙◌, arith}
-use Rattle.std.proofs.lemmas.Result.{err_from_is_err_and}
-use Rattle.cue_sheet.specs.CueSheet.{CueSheet}
-use Rattle.toc_model.specs.Places.{DiscLayout, layout_of, program_blocks}
-use Rattle.picture_script.specs.Script.{Drawing, pictures, ready_time, hold_time, picture_pixel}
-use Rattle.pack_schedule.specs.Shown.{AreColoursInRange}
-use Rattle.pack_schedule.specs.Survey.{IsPastEnd, IsSurvey, IsWithin}
-use Rattle.pack_schedule.specs.declared.surveys.told.PlannedChange.{PlannedChange}
-use Rattle.subcode_author.proofs.Schedules.{authored, cut_idle, is_accepted, part_of, IsPlannedScript}
-use Rattle.subcode_author.proofs.PictureStops.{late_told, picture_stop}
+use Rattle.std.proofs.Common.{◌≡◌, ℕ, subst, sym, arith}
+use Rattle.std.proofs.lemmas.Result.{err_from_is_err_and, on_ok_weaker, IfErr-weaker}
+use Rattle.pack_schedule.specs.Survey.{IsPastEnd, IsWithin}
+use Rattle.subcode_author.proofs.Schedules.{is_accepted}
+use Rattle.subcode_author.proofs.PictureStops.{late_told, picture_stop, written_stop}
 use Rattle.subcode_author.proofs.author.author_stream.Goals as goal
 
-pub of_sheet-requires-clause-need : goal.of_sheet-requires-clause-need
-of_sheet-requires-clause-need g c = c.in_ok-blocks.ensures.disc.0.0
-
-pub of_sheet-requires-clause-fits : goal.of_sheet-requires-clause-fits
-of_sheet-requires-clause-fits g c = c.in_ok-blocks.ensures.disc.0.1
-
-pub pack_texts-requires : goal.pack_texts-requires
-pack_texts-requires g c = c.in_ok-blocks.ensures.room
-
-pub start_weaver-requires-clause-blocks : goal.start_weaver-requires-clause-blocks
-start_weaver-requires-clause-blocks g c =
+pub plan_script-requires-clause-blocks : goal.plan_script-requires-clause-blocks
+plan_script-requires-clause-blocks g c =
     omega (arith, c.in_ok-blocks.ensures.blocks, c.in_ok-blocks.ensures.disc.0.1)
 
-pub start_weaver-requires-clause-end : goal.start_weaver-requires-clause-end
-start_weaver-requires-clause-end g c =
+pub plan_script-requires-clause-end : goal.plan_script-requires-clause-end
+plan_script-requires-clause-end g c =
     subst (λ (n : ℕ). ¬ IsPastEnd c.args.script.now n) (sym c.in_ok-blocks.ensures.blocks)
     c.in_ok-blocks.ensures.disc.1
 
-pub returns-in_err-weaver-clause-stop : goal.returns-in_err-weaver-clause-stop
-returns-in_err-weaver-clause-stop g c =
+pub author_planned-requires-clause-within : goal.author_planned-requires-clause-within
+author_planned-requires-clause-within g c =
+    subst (λ (n : ℕ). IsWithin c.args.script.now n) c.in_ok-blocks.ensures.blocks c.in_ok-planned.ensures.within
+
+pub returns-in_err-planned-clause-stop : goal.returns-in_err-planned-clause-stop
+returns-in_err-planned-clause-stop g c =
     let stop =
-    picture_stop c.args.sheet.now c.args.script.now c.args.lead_in c.args.length c.in_err-weaver.field-0.0
-    c.in_ok-blocks.ensures.disc c.in_ok-blocks.ensures.room c.in_err-weaver.ensures.err in
+    picture_stop c.args.sheet.now c.args.script.now c.args.lead_in c.args.length c.in_err-planned.field-0.0
+    c.in_ok-blocks.ensures.disc c.in_ok-blocks.ensures.room c.in_err-planned.ensures.err in
     let p =
-    err_from_is_err_and c.from_residual-in_err-weaver.result c.from_residual-in_err-weaver.ensures.1 in
+    err_from_is_err_and c.from_residual-in_err-planned.result c.from_residual-in_err-planned.ensures.1 in
     rw (p.1, p.2) stop
 
-pub returns-in_err-weaver-clause-late : goal.returns-in_err-weaver-clause-late
-returns-in_err-weaver-clause-late g c picture need free told =
+pub returns-in_err-planned-clause-late : goal.returns-in_err-planned-clause-late
+returns-in_err-planned-clause-late g c picture need free told =
     let stop =
-    picture_stop c.args.sheet.now c.args.script.now c.args.lead_in c.args.length c.in_err-weaver.field-0.0
-    c.in_ok-blocks.ensures.disc c.in_ok-blocks.ensures.room c.in_err-weaver.ensures.err in
+    picture_stop c.args.sheet.now c.args.script.now c.args.lead_in c.args.length c.in_err-planned.field-0.0
+    c.in_ok-blocks.ensures.disc c.in_ok-blocks.ensures.room c.in_err-planned.ensures.err in
     let p =
-    err_from_is_err_and c.from_residual-in_err-weaver.result c.from_residual-in_err-weaver.ensures.1 in
+    err_from_is_err_and c.from_residual-in_err-planned.result c.from_residual-in_err-planned.ensures.1 in
     let known = c.times_rise_and_colours_are_in_range.ensures in
     late_told c.needs_are_fewest.ensures.late c.args.sheet.now c.args.script.now c.args.lead_in c.args.length
-    c.in_err-weaver.field-0.0 (record { held = known.held; later = known.later })
+    c.in_err-planned.field-0.0 (record { held = known.held; later = known.later })
     (record { border = known.borders; colour = known.colours }) known.pixels stop picture need free
     (let first = p.1 in let second = p.2 in cc)
-
-known_script : (script : List Drawing) (blocks blocks' : ℕ) → blocks ≡ blocks' → IsWithin script blocks
-    → ((planned : List PlannedChange) × IsSurvey script planned)
-    → ((k : ℕ) → k < pictures script → ready_time script k ≤ hold_time script k) → AreColoursInRange script
-    → ((k x y : ℕ) → picture_pixel script k x y < 16)
-    → IsPlannedScript script blocks'
-known_script script blocks blocks' same within planned held ranges pixels = record {
-  within = subst (IsWithin script) same within;
-  survey = planned.0;
-  surveyed = planned.1;
-  held = held;
-  ranges = ranges;
-  pixels = pixels;
-}
-
-few_blocks : (sheet : CueSheet) (audio : ℕ) (layout : DiscLayout) → layout ≡ layout_of sheet audio
-    → program_blocks sheet audio ≤ 449999 → layout.blocks ≤ 449999
-few_blocks sheet audio layout is few = subst (λ (l : DiscLayout). l.blocks ≤ 449999) (sym is) few
-
-same_blocks : (sheet : CueSheet) (audio : ℕ) (layout : DiscLayout) (blocks : ℕ)
-    → layout ≡ layout_of sheet audio
-    → blocks ≡ program_blocks sheet audio → blocks ≡ layout.blocks
-same_blocks sheet audio layout blocks is same = same ∙ sym (ap (λ (l : DiscLayout). l.blocks) is)
-
-pub write_stream-requires-clause-cut : goal.write_stream-requires-clause-cut
-write_stream-requires-clause-cut g c =
-    let known = c.times_rise_and_colours_are_in_range.ensures in
-    cut_idle c.args.script.now c.in_ok-weaver.weaver c.in_ok-layout.layout.blocks
-    (few_blocks c.args.sheet.now c.args.length c.in_ok-layout.layout c.in_ok-layout.ensures
-    c.in_ok-blocks.ensures.disc.0.1)
-    (record { script_is = c.in_ok-weaver.ensures.script; given_is = c.in_ok-weaver.ensures.given })
-    (known_script c.args.script.now c.in_ok-blocks.blocks c.in_ok-layout.layout.blocks
-    (same_blocks c.args.sheet.now c.args.length c.in_ok-layout.layout c.in_ok-blocks.blocks
-    c.in_ok-layout.ensures c.in_ok-blocks.ensures.blocks) c.in_ok-weaver.ensures.within
-    c.in_ok-weaver.ensures.planned
-    known.held (record { border = known.borders; colour = known.colours }) known.pixels)
-
-pub returns-in_err-write_stream-clause-part : goal.returns-in_err-write_stream-clause-part
-returns-in_err-write_stream-clause-part g c = λ failed.
-    part_of c.args.sheet.now c.args.script.now c.in_ok-weaver.weaver c.in_ok-layout.layout c.deref.result.now
-    c.args.lead_in c.args.length
-    (g.K.Sink.held c.args.out.now) (g.K.Sink.held c.write_stream.new.out)
-    c.in_ok-layout.ensures
-    (few_blocks c.args.sheet.now c.args.length c.in_ok-layout.layout c.in_ok-layout.ensures
-    c.in_ok-blocks.ensures.disc.0.1)
-    (record { script_is = c.in_ok-weaver.ensures.script; given_is = c.in_ok-weaver.ensures.given })
-    (λ some. c.deref.ensures.value ∙ c.in_ok-texts.ensures.texts some)
-    (let part = c.in_err-write_stream.ensures.part in (part.0, part.1, part.2))
-
-pub returns-clause-authored : goal.returns-clause-authored
-returns-clause-authored g c =
-    let blocks = c.in_ok-blocks.ensures.blocks in
-    let known = c.times_rise_and_colours_are_in_range.ensures in
-    authored c.packs_are_a_schedule.ensures.schedule c.args.sheet.now c.args.script.now c.in_ok-weaver.weaver
-    c.in_ok-layout.layout c.deref.result.now c.args.lead_in c.args.length
-    (g.K.Sink.held c.args.out.now) (g.K.Sink.held c.write_stream.new.out)
-    c.in_ok-layout.ensures
-    (few_blocks c.args.sheet.now c.args.length c.in_ok-layout.layout c.in_ok-layout.ensures
-    c.in_ok-blocks.ensures.disc.0.1)
-    (record { script_is = c.in_ok-weaver.ensures.script; given_is = c.in_ok-weaver.ensures.given })
-    (λ some. c.deref.ensures.value ∙ c.in_ok-texts.ensures.texts some)
-    c.in_ok-blocks.ensures.room
-    (known_script c.args.script.now c.in_ok-blocks.blocks _ blocks c.in_ok-weaver.ensures.within
-    c.in_ok-weaver.ensures.planned
-    known.held (record { border = known.borders; colour = known.colours }) known.pixels)
-    c.in_ok-write_stream.ensures.ok
 
 pub returns-clause-accepted : goal.returns-clause-accepted
 returns-clause-accepted g c =
     let known = c.times_rise_and_colours_are_in_range.ensures in
-    is_accepted c.needs_are_fewest.ensures.change c.args.sheet.now c.args.script.now c.args.lead_in
+    on_ok_weaker c.author_planned.result
+    (λ _. is_accepted c.needs_are_fewest.ensures.change c.args.sheet.now c.args.script.now c.args.lead_in
     c.args.length c.in_ok-blocks.ensures.disc c.in_ok-blocks.ensures.room
-    (record { border = known.borders; colour = known.colours }) known.pixels c.in_ok-weaver.ensures.planned
+    (record { border = known.borders; colour = known.colours }) known.pixels
+    (c.in_ok-planned.planned, c.in_ok-planned.ensures.planned))
+    c.author_planned.ensures.authored
 
-pub returns-in_err-write_stream-clause-stop : goal.returns-in_err-write_stream-clause-stop
-returns-in_err-write_stream-clause-stop g c =
+pub returns-clause-fewest : goal.returns-clause-fewest
+returns-clause-fewest g c =
+    let known = c.times_rise_and_colours_are_in_range.ensures in
+    on_ok_weaker c.author_planned.result
+    (λ _ k lt. c.needs_are_fewest.ensures.change c.args.script.now k
+    (record { border = known.borders; colour = known.colours }) known.pixels)
+    c.author_planned.ensures.authored
+
+pub returns-clause-stop : goal.returns-clause-stop
+returns-clause-stop g c =
     let known = c.times_rise_and_colours_are_in_range.ensures in
     let accepted =
     is_accepted c.needs_are_fewest.ensures.change c.args.sheet.now c.args.script.now c.args.lead_in
     c.args.length c.in_ok-blocks.ensures.disc c.in_ok-blocks.ensures.room
-    (record { border = known.borders; colour = known.colours }) known.pixels c.in_ok-weaver.ensures.planned in
-    let p =
-    err_from_is_err_and c.from_residual-in_err-write_stream.result
-    c.from_residual-in_err-write_stream.ensures.1 in
-    rw (p.1, p.2) accepted
-
-pub returns-clause-fewest : goal.returns-clause-fewest
-returns-clause-fewest g c k lt =
-    let known = c.times_rise_and_colours_are_in_range.ensures in
-    c.needs_are_fewest.ensures.change c.args.script.now k
     (record { border = known.borders; colour = known.colours }) known.pixels
+    (c.in_ok-planned.planned, c.in_ok-planned.ensures.planned) in
+    IfErr-weaker c.author_planned.result _ _
+    (λ stop is. written_stop c.args.sheet.now c.args.script.now c.args.lead_in c.args.length stop accepted is)
+    c.author_planned.ensures.stop
