@@ -162,7 +162,13 @@ impl Thinner {
             ≡ concat (run_gives thin_next thin_gives self.old (units_of symbols_a_slot count packs.old)) }
     {
         let mut at = 0;
-        while at < packs.len() {
+        // Two at a time, since most packs are idle, which takes a look at a byte.
+        'pairs: while packs.len() - at >= 2 * SYMBOLS_A_SLOT {
+            self.thin_bytes(&mut packs[at..at + SYMBOLS_A_SLOT]);
+            self.thin_bytes(&mut packs[at + SYMBOLS_A_SLOT..at + 2 * SYMBOLS_A_SLOT]);
+            at += 2 * SYMBOLS_A_SLOT;
+        }
+        'rest: while at < packs.len() {
             self.thin_bytes(&mut packs[at..at + SYMBOLS_A_SLOT]);
             at += SYMBOLS_A_SLOT;
         }
