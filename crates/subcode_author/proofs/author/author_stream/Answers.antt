@@ -16,7 +16,8 @@ plan_script-requires-clause-end g c =
 
 pub author_planned-requires-clause-within : goal.author_planned-requires-clause-within
 author_planned-requires-clause-within g c =
-    subst (λ (n : ℕ). IsWithin c.args.script.now n) c.in_ok-blocks.ensures.blocks c.in_ok-planned.ensures.within
+    subst (λ (n : ℕ). IsWithin c.args.script.now n) c.in_ok-blocks.ensures.blocks
+    c.in_ok-planned.ensures.within
 
 pub returns-in_err-planned-clause-stop : goal.returns-in_err-planned-clause-stop
 returns-in_err-planned-clause-stop g c =

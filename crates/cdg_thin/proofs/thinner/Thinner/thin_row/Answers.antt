@@ -25,7 +25,8 @@ pub rest-preserved : goal.rest-preserved
 rest-preserved c =
     left_less c.args.self.now c.rest.self c.thin_bytes-in-rest.new.self (units_of 24 c.args.count c.args.packs.now)
     c.rest.packs c.thin_bytes-in-rest.new.bytes c.rest.at (c.rest.at + 24 - c.rest.at) c.rest-test.true
-    (omega arith) (search rules) c.thin_bytes-in-rest.ensures.next c.thin_bytes-in-rest.ensures.gives c.rest.invariant
+    (omega arith) (search rules) c.thin_bytes-in-rest.ensures.next c.thin_bytes-in-rest.ensures.gives
+    c.rest.invariant
 
 pub returns-clause-next : goal.returns-clause-next
 returns-clause-next c =

@@ -17,6 +17,7 @@ loop-i-preserved c =
     c.loop-i-test.true columns c.are_six_equal.ensures in (
       length-set c.loop-i.shared c.loop-i.i c.are_six_equal.result ∙ c.loop-i.invariant.0,
       marks_more (λ m. tile_of a c.args.row (m + 1) ≡ tile_of b c.args.row (m + 1)) c.loop-i.shared c.loop-i.i
-          c.are_six_equal.result (omega (arith, c.loop-i.invariant.0, c.loop-i-test.true)) c.loop-i.invariant.1
+          c.are_six_equal.result (omega (arith, c.loop-i.invariant.0, c.loop-i-test.true))
+          c.loop-i.invariant.1
           tile,
     )
