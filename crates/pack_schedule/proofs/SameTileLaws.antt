@@ -16,7 +16,7 @@ use Rattle.picture_script.proofs.Drawn.{picture_tile_is}
 use Rattle.picture_script.proofs.Parts.{tile_pixel, tile_size}
 use Rattle.pack_schedule.specs.Change.{settings, IsStart, tiles_before}
 use Rattle.pack_schedule.specs.PlannedChange.{planned_length, tile_steps, first_least, chosen_start}
-use Rattle.pack_schedule.specs.SameTiles.{IsToldRow, SameRow, SameTiles}
+use Rattle.pack_schedule.specs.SameTiles.{IsToldOfTiles, SameRow, SameTiles}
 use Rattle.pack_schedule.specs.Weights.{IsWeighed, AreWeights, not_weighed}
 use Rattle.pack_schedule.specs.declared.change.weights.Weighed.{Weighed}
 use Rattle.pack_schedule.proofs.Counting.{steps_so_far, none_so_far, one_more_tile, all_tiles}
@@ -98,22 +98,22 @@ row_kept script k r before now lt was is kept column from to =
 -- what is told of one row more
 pub row_told : (old new : List ℕ) (rows : List Bool) (columns : List (List Bool)) (r : ℕ) (whole : Bool)
     (marks : List Bool) → r < length rows → r < length columns
-    → ((m : ℕ) → m < r → IsToldRow old new (m + 1) (get_or rows m false) (get_or columns m []))
-    → IsToldRow old new (r + 1) whole marks
-    → (m : ℕ) → m < r + 1 → IsToldRow old new (m + 1) (get_or (slice_set rows r whole) m false)
+    → ((m : ℕ) → m < r → IsToldOfTiles old new (m + 1) (get_or rows m false) (get_or columns m []))
+    → IsToldOfTiles old new (r + 1) whole marks
+    → (m : ℕ) → m < r + 1 → IsToldOfTiles old new (m + 1) (get_or (slice_set rows r whole) m false)
     (get_or (slice_set columns r marks) m [])
 row_told old new rows columns r whole marks in_rows in_columns before here =
-    below_more (λ m. IsToldRow old new (m + 1) (get_or (slice_set rows r whole) m false)
+    below_more (λ m. IsToldOfTiles old new (m + 1) (get_or (slice_set rows r whole) m false)
     (get_or (slice_set columns r marks) m [])) r
     (λ m lt.
     let row = get_or-set_other rows r m whole false (λ e. omega (arith, e, lt)) in
     let mark = get_or-set_other columns r m marks [] (λ e. omega (arith, e, lt)) in
-    subst (λ w. IsToldRow old new (m + 1) w (get_or (slice_set columns r marks) m [])) (sym row)
-    (subst (IsToldRow old new (m + 1) (get_or rows m false)) (sym mark) (before m lt)))
+    subst (λ w. IsToldOfTiles old new (m + 1) w (get_or (slice_set columns r marks) m [])) (sym row)
+    (subst (IsToldOfTiles old new (m + 1) (get_or rows m false)) (sym mark) (before m lt)))
     (let row = get_or-set_same rows r whole false in_rows in
     let mark = get_or-set_same columns r marks [] in_columns in
-    subst (λ w. IsToldRow old new (r + 1) w (get_or (slice_set columns r marks) r [])) (sym row)
-    (subst (IsToldRow old new (r + 1) whole) (sym mark) here))
+    subst (λ w. IsToldOfTiles old new (r + 1) w (get_or (slice_set columns r marks) r [])) (sym row)
+    (subst (IsToldOfTiles old new (r + 1) whole) (sym mark) here))
 
 -- a picture whose tiles all stand
 same_so_far : (script : List Drawing) (k : ℕ) (before now : Board) → IsPicture script (k - 1) before

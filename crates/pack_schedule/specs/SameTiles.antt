@@ -20,11 +20,11 @@ AreToldColumns old new row columns = (column : ℕ) → 1 ≤ column → column 
     ↔ tile_of old row column ≡ tile_of new row column
 
 -- a row of which it is told that all its tiles are the same, or of each tile whether it is
-abbrev pub IsToldRow : List ℕ → List ℕ → ℕ → Bool → List Bool → Type 0
-IsToldRow old new row whole columns = (whole ≡ true → SameRow old new row)
+abbrev pub IsToldOfTiles : List ℕ → List ℕ → ℕ → Bool → List Bool → Type 0
+IsToldOfTiles old new row whole columns = (whole ≡ true → SameRow old new row)
     × (whole ≡ false → AreToldColumns old new row columns)
 
 -- the same of all rows
 abbrev pub AreToldTiles : List ℕ → List ℕ → ToldTiles → Type 0
 AreToldTiles old new told = (r : ℕ) → r < window_rows
-    → IsToldRow old new (r + 1) (slice_index_or told.rows r false) (slice_index_or told.columns r [])
+    → IsToldOfTiles old new (r + 1) (slice_index_or told.rows r false) (slice_index_or told.columns r [])

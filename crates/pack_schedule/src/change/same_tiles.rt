@@ -2,7 +2,7 @@
 ghost use Rattle.std.specs.Prelude.{◌≡◌, ◌<◌, ◌≤◌, ◌+◌, ◌-◌, ℕ, true, false, IsTrue, ◌↔◌, slice_index_or};
 ghost use Rattle.cdg_instructions.specs.Sizes.{window_columns, window_rows};
 ghost use Rattle.picture_script.specs.Board.{IsPicture, tile_of};
-ghost use Rattle.pack_schedule.specs.SameTiles.{AreToldTiles, IsToldRow, SameRow, SameTiles};
+ghost use Rattle.pack_schedule.specs.SameTiles.{AreToldTiles, IsToldOfTiles, SameRow, SameTiles};
 
 use cdg_instructions::{WINDOW_COLUMNS, WINDOW_ROWS};
 use picture_script::{Canvas, Script};
@@ -42,7 +42,7 @@ fn tell_row(
 ) -> bool
     requires row { r < window_rows }
     requires stays { drawn ≡ false → SameRow before.now.pixels now.now.pixels (r + 1) }
-    ensures { IsToldRow before.now.pixels now.now.pixels (r + 1) result columns.new }
+    ensures { IsToldOfTiles before.now.pixels now.now.pixels (r + 1) result columns.new }
 {
     if !drawn {
         return true;

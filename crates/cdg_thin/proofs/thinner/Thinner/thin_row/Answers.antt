@@ -12,7 +12,8 @@ overflow_sub-packs c = omega (arith, c.pairs.invariant.size)
 pub pairs-preserved : goal.pairs-preserved
 pairs-preserved c =
     left_two_less c.args.self.now c.pairs.self c.thin_bytes.new.self c.thin_bytes-in-pairs.new.self
-    (units_of 24 c.args.count c.args.packs.now) c.pairs.packs c.thin_bytes.new.bytes c.thin_bytes-in-pairs.new.bytes
+    (units_of 24 c.args.count c.args.packs.now) c.pairs.packs c.thin_bytes.new.bytes
+    c.thin_bytes-in-pairs.new.bytes
     c.pairs.at (c.pairs.at + 24 - c.pairs.at) (c.pairs.at + 48 - (c.pairs.at + 24))
     (omega (arith, c.pairs.invariant.size, c.pairs-test.true)) (omega arith) (omega arith) (search rules)
     (search rules) c.thin_bytes.ensures.next c.thin_bytes.ensures.gives c.thin_bytes-in-pairs.ensures.next
@@ -23,7 +24,8 @@ rest-init c = c.pairs.invariant
 
 pub rest-preserved : goal.rest-preserved
 rest-preserved c =
-    left_less c.args.self.now c.rest.self c.thin_bytes-in-rest.new.self (units_of 24 c.args.count c.args.packs.now)
+    left_less c.args.self.now c.rest.self c.thin_bytes-in-rest.new.self (units_of 24 c.args.count
+    c.args.packs.now)
     c.rest.packs c.thin_bytes-in-rest.new.bytes c.rest.at (c.rest.at + 24 - c.rest.at) c.rest-test.true
     (omega arith) (search rules) c.thin_bytes-in-rest.ensures.next c.thin_bytes-in-rest.ensures.gives
     c.rest.invariant
