@@ -7,7 +7,7 @@ ghost use Rattle.cdg_io.specs.Change.{change, input, passed};
 ghost use Rattle.cdg_io.specs.Moves.{AppendsPrefix};
 ghost use Rattle.cdg_cmd.specs.Answer.{IsListAnswer};
 ghost use Rattle.cdg_cmd.specs.Authors.{IsInputStop, IsPutFor, TakesAtStop};
-ghost use Rattle.cdg_cmd.specs.Ends.{TextEnds};
+ghost use Rattle.cdg_cmd.specs.Ends.{StopEnds};
 ghost use Rattle.cdg_cmd.specs.Presses.{IsPressedFor};
 ghost use Rattle.cdg_press.specs.Pressed.{press_of};
 ghost use Rattle.cdg_press.specs.Refusals.{IsShort};
@@ -143,7 +143,7 @@ impl CountedMemory {
             (S.faults source.old) (S.faults source.new) result }
         ensures wants { TellsFault Status.NoMemory self.old self.new result }
         ensures told { OnOk result (RoseOnce (S.ends source.old) (S.ends source.new)) }
-        ensures once { IfErr result (TextEnds (input S.left S.ends source.old source.new)) }
+        ensures once { IfErr result (StopEnds (input S.left S.ends source.old source.new)) }
     {
         match read_whole(self.alloc, source, MOST_TEXT_BYTES) {
             Ok(text) => Ok(text),
