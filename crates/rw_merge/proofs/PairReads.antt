@@ -61,8 +61,10 @@ none_filled k before now none same = (λ _. same, λ some. absurd (omega (arith,
 
 -- and one by all of them
 one_filled : (k : ℕ) (before now : Count) → k ≡ 1 → now ≡ counted_up 1 before → RoseBy k before now
-one_filled k before now one rose =
-    (λ none. absurd (omega (arith, none, one)), λ _. rose ∙ ap (λ (j : ℕ). counted_up j before) (omega (arith, one)))
+one_filled k before now one rose = (
+  λ none. absurd (omega (arith, none, one)),
+  λ _. rose ∙ ap (λ (j : ℕ). counted_up j before) (omega (arith, one)),
+)
 
 module _ {E : Type 0} {size n : ℕ} {input : ReadInput} {faults : Change ℕ} {room : List ℕ}
     (a : AsksFor {E = E} size input faults (Ok n) room) where
@@ -79,14 +81,17 @@ module _ {E : Type 0} {size n : ℕ} {input : ReadInput} {faults : Change ℕ} {
 
   -- nothing was taken at the end
   unless_ahead_none : n ≡ 0 → 0 < size → (m : ℕ) → ToldUnlessAhead (length (take n room)) m input.ends
-  unless_ahead_none none some m =
-      (λ most. a.told.ended (omega (arith, none, some)), λ less. absurd (omega (arith, less, none, size_taken)))
+  unless_ahead_none none some m = (
+    λ most. a.told.ended (omega (arith, none, some)),
+    λ less. absurd (omega (arith, less, none, size_taken)),
+  )
 
 module _ {E : Type 0} {n : ℕ} {input : ReadInput} {faults : Change ℕ} {room : List ℕ}
     (a : AsksFor {E = E} 96 input faults (Ok n) room) where
   block_filled : RoseBy (length (take n room) / 96) input.fills.before input.fills.after
   block_filled =
-      filled a _ (λ short. omega (arith, short, size_taken a)) (λ full. omega (arith, full, size_taken a, a.within))
+      filled a _ (λ short. omega (arith, short, size_taken a))
+      (λ full. omega (arith, full, size_taken a, a.within))
 
   half_read : IsWholeOrNone n → IsHalfRead input.left.after (take n room)
   half_read (inl none) = inr (none_taken n room none, a.end (omega (arith, none)))
@@ -102,7 +107,8 @@ module _ {E : Type 0} {n : ℕ} {input : ReadInput} {faults : Change ℕ} {room 
     (a : AsksFor {E = E} 1 input faults (Ok n) room) where
   byte_filled : RoseBy (length (take n room)) input.fills.before input.fills.after
   byte_filled =
-      filled a _ (λ short. omega (arith, short, size_taken a)) (λ full. omega (arith, full, size_taken a, a.within))
+      filled a _ (λ short. omega (arith, short, size_taken a))
+      (λ full. omega (arith, full, size_taken a, a.within))
 
 stops_no_pair : (stop : MergeStop) (A : Type 0) → ◌≡◌ {A = Result Bool MergeStop} (Err stop) (Ok true) → A
 stops_no_pair stop A same = absurd (cc)
@@ -175,7 +181,8 @@ module _ {E : Type 0} (block : ℕ) {first second : ReadInput} {f s : Change ℕ
       ),
       stops_no_pair (SecondTorn block) _,
     );
-    ended = (unless_ahead a half (length (take m other)) (omega (arith, part, size_taken b)), b.told.ended part);
+    ended =
+        (unless_ahead a half (length (take m other)) (omega (arith, part, size_taken b)), b.told.ended part);
     filled = block_filled a;
     other_filled = block_filled b;
   }
@@ -264,8 +271,10 @@ module _ {E : Type 0} (block : ℕ) {first second : ReadInput} {f s : Change ℕ
     other_took = b.took;
     said = (
       (omega (arith, whole, a.within, size_taken a), omega (arith, whole', b.within, size_taken b)),
-      λ same.
-      (take_all n one (omega (arith, whole, a.size_is)), take_all m other (omega (arith, whole', b.size_is))),
+      λ same. (
+        take_all n one (omega (arith, whole, a.size_is)),
+        take_all m other (omega (arith, whole', b.size_is)),
+      ),
     );
     ended = (a.told.goes_on whole, b.told.goes_on whole');
     filled = block_filled a;
@@ -341,7 +350,8 @@ module _ {E : Type 0} {first second : ReadInput} {f s : Change ℕ} {byte rest :
     took = a.took;
     other_took = b.took;
     said = inr (none_taken n byte none, omega (arith, some, b.within, size_taken b));
-    ended = (unless_ahead_none a none (omega arith) (length (take m rest)), b.told.goes_on (omega (arith, some)));
+    ended =
+        (unless_ahead_none a none (omega arith) (length (take m rest)), b.told.goes_on (omega (arith, some)));
     filled = byte_filled a;
     other_filled = byte_filled b;
   }

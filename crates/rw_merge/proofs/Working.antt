@@ -359,8 +359,10 @@ pub end_turns : (blocks a b : ℕ) (left other : Option (List ℕ)) (stop : Merg
     → a ≡ blocks * 96 + length us → b ≡ blocks * 96 + length vs
     → blocks ≡ most_units → IsEndRead (Err stop) (taken_of us left) (taken_of vs other)
     → TakesInTurn (Err stop) a b
-end_turns blocks a b left other FirstFault us vs a_is b_is all read =
-    (omega (arith, a_is, b_is, ap length read.0, ap length read.1), omega (arith, a_is, ap length read.0, all))
+end_turns blocks a b left other FirstFault us vs a_is b_is all read = (
+  omega (arith, a_is, b_is, ap length read.0, ap length read.1),
+  omega (arith, a_is, ap length read.0, all),
+)
 end_turns blocks a b left other SecondFault us vs a_is b_is all read = (
   omega (arith, a_is, ap length read.0),
   omega (arith, a_is, b_is, ap length read.0, ap length read.1),
@@ -509,7 +511,8 @@ works_skipped lead_in blocks left left' left'' other other' other'' held held' w
 pub write_stops : (lead_in blocks : ℕ)
     (left left' other other' held held' held'' : Option (List ℕ)) (w v w' v' : List (List ℕ))
     (bad more : ℕ) (xs ys us vs text : List ℕ)
-    → Works lead_in blocks left left' other other' held held' w v bad xs ys → length us ≡ 96 → length vs ≡ 96 → lead_in ≤ blocks → blocks < most_units
+    → Works lead_in blocks left left' other other' held held' w v bad xs ys → length us ≡ 96 → length vs ≡ 96
+    → lead_in ≤ blocks → blocks < most_units
     → IsPairFound w v us vs w' v' text more → AppendsPrefix held' held'' text
     → Merges lead_in (from_to held held'') (Err WriteFault) (xs ++ us) (ys ++ vs)
 write_stops lead_in blocks left left' other other' held held' held'' w v w' v' bad more xs ys us vs text works
@@ -524,32 +527,32 @@ write_stops lead_in blocks left left' other other' held held' held'' w v w' v' b
     text-append works.found pair.found ∙ ap (λ l. low ++ l) (sym pair.text_is) in
     let whole =
     found_text lead_in (blocks + 1) (xs ++ us) (ys ++ vs) [] [] w' v' (works.found ++ pair.found) next in
-      record {
-        in_step = (
-          omega (arith, next.first_size, next.second_size),
-          omega (arith, next.first_size, next.second_size),
-        );
-        within = (omega (arith, next.first_size, lt), omega (arith, next.second_size, lt));
-        turns = tt;
-        answer = tt;
-        done = tt;
-        put = λ e. absurd (e refl);
-        in_turn = λ e. (
-          blocks,
-          lt,
-          next.first_size,
-          next.second_size,
-          (
-            low,
-            high,
-            found_text lead_in blocks xs ys us vs w v works.found f,
-            subst₂ (λ (a b : List ℕ). GivesMergedText (blocks + 1) lead_in a b high) (append-nil (xs ++ us))
-                (append-nil (ys ++ vs)) whole,
-            between held held'' low text high put.0 grown
-                (Appends-trans held held' held'' low (take put.0 text) works.put put.2),
-          ),
-        );
-      }
+    record {
+      in_step = (
+        omega (arith, next.first_size, next.second_size),
+        omega (arith, next.first_size, next.second_size),
+      );
+      within = (omega (arith, next.first_size, lt), omega (arith, next.second_size, lt));
+      turns = tt;
+      answer = tt;
+      done = tt;
+      put = λ e. absurd (e refl);
+      in_turn = λ e. (
+        blocks,
+        lt,
+        next.first_size,
+        next.second_size,
+        (
+          low,
+          high,
+          found_text lead_in blocks xs ys us vs w v works.found f,
+          subst₂ (λ (a b : List ℕ). GivesMergedText (blocks + 1) lead_in a b high) (append-nil (xs ++ us))
+              (append-nil (ys ++ vs)) whole,
+          between held held'' low text high put.0 grown
+              (Appends-trans held held' held'' low (take put.0 text) works.put put.2),
+        ),
+      );
+    }
 
 -- what the code finds for the blocks that it read
 pub pair_found : (w v : List (List ℕ)) (one other us vs : List ℕ) (w' v' w'' v'' : List (List ℕ))

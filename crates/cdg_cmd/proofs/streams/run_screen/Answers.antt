@@ -28,7 +28,11 @@ returns-in-Ok-clause-faults g c =
 
 pub returns-in-Ok-clause-ended : goal.returns-in-Ok-clause-ended
 returns-in-Ok-clause-ended g c = λ found.
-    record { answer = c.screen_at.result; status_is = c.play_status.ensures; ended = c.screen_at.ensures.ended }
+    record {
+      answer = c.screen_at.result;
+      status_is = c.play_status.ensures;
+      ended = c.screen_at.ensures.ended;
+    }
 
 pub returns-in-Ok-clause-wants : goal.returns-in-Ok-clause-wants
 returns-in-Ok-clause-wants g c =

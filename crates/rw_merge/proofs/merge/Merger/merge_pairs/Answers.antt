@@ -1,4 +1,4 @@
-use Rattle.std.proofs.Common.{◌≡◌, ◌+◌, ◌*◌, ℕ, ◌++◌, [], length, length-append, sym, ap, ◌∙◌, refl, subst, arith}
+use Rattle.std.proofs.Common.{◌≡◌, ◌*◌, ◌++◌, [], length, length-append, sym, ap, ◌∙◌, refl, subst, arith}
 use Rattle.std.specs.Prelude.{Bool}
 use Rattle.std.specs.Io.KnownBytes.{Appends}
 use Rattle.std.proofs.KnownBytes.{Consumes-trans}
@@ -59,7 +59,8 @@ returns-in-Ok-false-clause-answer g c =
     let pair = rw c.in-Ok-false.field-0-test at c.in-Ok-false.ensures.pair in
     let read = pair.said.0 in
     both_of_whole c.args.lead_in c.loop-block.block _ c.loop-block.bad _ _ _ _ _ _ _ _ _ _ _ xs ys _ _ works
-    pair.took pair.other_took read.0 read.1 read.2 read.3 (omega (arith, c.loop-block-test.true)) c.saturating_sub.ensures
+    pair.took pair.other_took read.0 read.1 read.2 read.3 (omega (arith, c.loop-block-test.true))
+    c.saturating_sub.ensures
 
 pub returns-in-Err-clause-merges : goal.returns-in-Err-clause-merges
 returns-in-Err-clause-merges g c =
@@ -77,7 +78,7 @@ returns-in-Err-clause-merges g c =
       said =
           pair_stops c.args.lead_in c.loop-block.block _ _ _ _ _ _ _ _ _ _ _ xs ys _ _ c.in-Err.stop works
           pair.said.0 c.loop-block-test.true;
-      ended = 
+      ended =
           stop_since _ _ _ _ _ _ before.first_told before.second_told (c.loop-block.block * 96) _ _ _ _
           (omega (arith, length-append xs pair.taken, sizes.first_size))
           (omega (arith, length-append ys pair.other_taken, sizes.second_size)) c.in-Err.stop pair.ended;
@@ -123,7 +124,8 @@ returns-in-Ok-nothing_follows-clause-merges g c =
           byte_filled_after c.loop-block.block xs _ _ _ _ sizes.first_size (omega (arith, ap length none)) all
           before.first_rooms pair.filled;
       other_filled =
-          byte_filled_after c.loop-block.block ys _ _ _ _ sizes.second_size (omega (arith, ap length none')) all
+          byte_filled_after c.loop-block.block ys _ _ _ _ sizes.second_size (omega (arith, ap length none'))
+          all
           before.second_rooms pair.other_filled;
     }
 
@@ -155,7 +157,7 @@ returns-in-Err-nothing_follows-clause-merges g c =
       said =
           end_stops c.args.lead_in c.loop-block.block _ _ _ _ _ _ _ _ _ _ _ xs ys _ _
           c.in-Err-nothing_follows.stop works pair.said all;
-      ended = 
+      ended =
           stop_since _ _ _ _ _ _ before.first_told before.second_told (c.loop-block.block * 96) _ _ _ _
           (omega (arith, length-append xs pair.taken, sizes.first_size))
           (omega (arith, length-append ys pair.other_taken, sizes.second_size))
@@ -241,7 +243,8 @@ loop-block-preserved g c =
               xs ++ us,
               ys ++ vs,
               works_more c.args.lead_in c.loop-block.block _ _ _ _ _ _ _ _ _ _ _ _ _ _ _ xs ys us vs _ works
-                  pair.took pair.other_took read.0 read.1 w.if-block-lead_in.true found put c.if-block-lead_in.bad w.bad-is,
+                  pair.took pair.other_took read.0 read.1 w.if-block-lead_in.true found put
+                  c.if-block-lead_in.bad w.bad-is,
             );
             no_first_fault = c.in-Ok-true.ensures.faults.0 ∙ before.no_first_fault;
             no_second_fault = c.in-Ok-true.ensures.faults.1 ∙ before.no_second_fault;
@@ -262,7 +265,8 @@ loop-block-preserved g c =
             works = (
               xs ++ us,
               ys ++ vs,
-              skipped_as c.args.lead_in c.loop-block.block _ _ _ _ _ _ _ _ _ _ _ _ _ xs ys us vs works pair.took
+              skipped_as c.args.lead_in c.loop-block.block _ _ _ _ _ _ _ _ _ _ _ _ _ xs ys us vs works
+                  pair.took
                   pair.other_took read.0 read.1 w.if-block-lead_in.false held w.self-is w.bad-is,
             );
             no_first_fault = c.in-Ok-true.ensures.faults.0 ∙ before.no_first_fault;
@@ -297,8 +301,10 @@ returns-in-Err-clause-faults g c =
 
 pub returns-in-Err-clause-ends : goal.returns-in-Err-clause-ends
 returns-in-Err-clause-ends g c =
-    let read = c.in-Err.ensures.pair.said.0 in
-    (first_at_end c.loop-block.block _ _ c.in-Err.stop _ read, second_at_end c.loop-block.block _ _ c.in-Err.stop _ read)
+    let read = c.in-Err.ensures.pair.said.0 in (
+      first_at_end c.loop-block.block _ _ c.in-Err.stop _ read,
+      second_at_end c.loop-block.block _ _ c.in-Err.stop _ read,
+    )
 
 pub returns-in-Ok-nothing_follows-clause-faults : goal.returns-in-Ok-nothing_follows-clause-faults
 returns-in-Ok-nothing_follows-clause-faults g c =
@@ -347,4 +353,3 @@ returns-in-Err-put_all-clause-answer g c = write_answer c.args.lead_in _ _
 
 pub merge-requires : goal.merge-requires
 merge-requires g c = c.loop-block.invariant.same
-
