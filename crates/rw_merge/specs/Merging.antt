@@ -61,7 +61,8 @@ IsAnswer lead_in (Err WriteFault) first second = ⊤
 
 -- How much was taken of two inputs where no whole block came of one of them, as it had none or a read of it
 -- failed. If this was the first, as many whole blocks were taken of the second; if it was the second, whole
--- blocks were taken of the first, and of the second less than a block beyond them.
+-- blocks were taken of the first, and of the second less than a block beyond them. A read that failed came before any
+-- byte past the most blocks.
 abbrev pub TakesInTurn : Result Merged MergeStop → ℕ → ℕ → Type 0
 TakesInTurn (Err FirstFault) first second = (second ≡ first / block_bytes * block_bytes)
     × (first ≤ most_units * block_bytes)
