@@ -8,16 +8,16 @@ use Rattle.pack_schedule.specs.Survey.{IsPastEnd, IsSurvey, IsWithin}
 use Rattle.pack_schedule.specs.declared.surveys.told.PlannedChange.{PlannedChange}
 use Rattle.subcode_author.proofs.Schedules.{authored, cut_idle, is_accepted, part_of, IsPlannedScript}
 use Rattle.subcode_author.proofs.PictureStops.{late_told, picture_stop}
-use Rattle.subcode_author.proofs.author.author_stream.Goals as goal
+use Rattle.subcode_author.proofs.author.author_counted.Goals as goal
 
-pub of_sheet-requires-clause-need : goal.of_sheet-requires-clause-need
-of_sheet-requires-clause-need g c = c.in_ok-blocks.ensures.disc.0.0
+pub take_layout-requires-clause-need : goal.take_layout-requires-clause-need
+take_layout-requires-clause-need g c = c.in_ok-blocks.ensures.disc.0.0
 
-pub of_sheet-requires-clause-fits : goal.of_sheet-requires-clause-fits
-of_sheet-requires-clause-fits g c = c.in_ok-blocks.ensures.disc.0.1
+pub take_layout-requires-clause-fits : goal.take_layout-requires-clause-fits
+take_layout-requires-clause-fits g c = c.in_ok-blocks.ensures.disc.0.1
 
-pub pack_texts-requires : goal.pack_texts-requires
-pack_texts-requires g c = c.in_ok-blocks.ensures.room
+pub take_texts-requires : goal.take_texts-requires
+take_texts-requires g c = c.in_ok-blocks.ensures.room
 
 pub start_weaver-requires-clause-blocks : goal.start_weaver-requires-clause-blocks
 start_weaver-requires-clause-blocks g c =
@@ -77,12 +77,12 @@ pub write_stream-requires-clause-cut : goal.write_stream-requires-clause-cut
 write_stream-requires-clause-cut g c =
     let known = c.times_rise_and_colours_are_in_range.ensures in
     cut_idle c.args.script.now c.in_ok-weaver.weaver c.in_ok-layout.layout.blocks
-    (few_blocks c.args.sheet.now c.args.length c.in_ok-layout.layout c.in_ok-layout.ensures
+    (few_blocks c.args.sheet.now c.args.length c.in_ok-layout.layout c.in_ok-layout.ensures.layout
     c.in_ok-blocks.ensures.disc.0.1)
     (record { script_is = c.in_ok-weaver.ensures.script; given_is = c.in_ok-weaver.ensures.given })
     (known_script c.args.script.now c.in_ok-blocks.blocks c.in_ok-layout.layout.blocks
     (same_blocks c.args.sheet.now c.args.length c.in_ok-layout.layout c.in_ok-blocks.blocks
-    c.in_ok-layout.ensures c.in_ok-blocks.ensures.blocks) c.in_ok-weaver.ensures.within
+    c.in_ok-layout.ensures.layout c.in_ok-blocks.ensures.blocks) c.in_ok-weaver.ensures.within
     c.in_ok-weaver.ensures.planned
     known.held (record { border = known.borders; colour = known.colours }) known.pixels)
 
@@ -91,8 +91,8 @@ returns-in_err-write_stream-clause-part g c = λ failed.
     part_of c.args.sheet.now c.args.script.now c.in_ok-weaver.weaver c.in_ok-layout.layout c.deref.result.now
     c.args.lead_in c.args.length
     (g.K.Sink.held c.args.out.now) (g.K.Sink.held c.write_stream.new.out)
-    c.in_ok-layout.ensures
-    (few_blocks c.args.sheet.now c.args.length c.in_ok-layout.layout c.in_ok-layout.ensures
+    c.in_ok-layout.ensures.layout
+    (few_blocks c.args.sheet.now c.args.length c.in_ok-layout.layout c.in_ok-layout.ensures.layout
     c.in_ok-blocks.ensures.disc.0.1)
     (record { script_is = c.in_ok-weaver.ensures.script; given_is = c.in_ok-weaver.ensures.given })
     (λ some. c.deref.ensures.value ∙ c.in_ok-texts.ensures.texts some)
@@ -105,8 +105,8 @@ returns-clause-authored g c =
     authored c.packs_are_a_schedule.ensures.schedule c.args.sheet.now c.args.script.now c.in_ok-weaver.weaver
     c.in_ok-layout.layout c.deref.result.now c.args.lead_in c.args.length
     (g.K.Sink.held c.args.out.now) (g.K.Sink.held c.write_stream.new.out)
-    c.in_ok-layout.ensures
-    (few_blocks c.args.sheet.now c.args.length c.in_ok-layout.layout c.in_ok-layout.ensures
+    c.in_ok-layout.ensures.layout
+    (few_blocks c.args.sheet.now c.args.length c.in_ok-layout.layout c.in_ok-layout.ensures.layout
     c.in_ok-blocks.ensures.disc.0.1)
     (record { script_is = c.in_ok-weaver.ensures.script; given_is = c.in_ok-weaver.ensures.given })
     (λ some. c.deref.ensures.value ∙ c.in_ok-texts.ensures.texts some)
