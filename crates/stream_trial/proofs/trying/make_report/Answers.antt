@@ -2,11 +2,11 @@ use Rattle.std.proofs.Common.{refl, ◌∙◌, arith}
 use Rattle.stream_trial.proofs.Trials.{is_trial}
 use Rattle.stream_trial.proofs.trying.make_report.Goals as goal
 
-pub found-requires-clause-few : goal.found-requires-clause-few
-found-requires-clause-few c = c.requires.1
+pub play_stream-requires-clause-few : goal.play_stream-requires-clause-few
+play_stream-requires-clause-few c = c.requires.1
 
-pub found-requires-clause-script : goal.found-requires-clause-script
-found-requires-clause-script c = c.in_ok-script.ensures.script
+pub play_stream-requires-clause-script : goal.play_stream-requires-clause-script
+play_stream-requires-clause-script c = c.in_ok-script.ensures.script
 
 pub returns-clause-report : goal.returns-clause-report
 returns-clause-report c =
