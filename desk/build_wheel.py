@@ -9,8 +9,10 @@ from pathlib import Path
 from typing import Any, Iterator
 
 DESK = Path(__file__).resolve().parent
-# The version stands beside the desk in an archive of its sources, and above it in the repository.
-VERSION = next(path for path in (DESK / "VERSION", DESK.parent / "VERSION") if path.exists()).read_text().strip()
+# The version stands beside the desk in an archive of its sources, and above it in the repository; between two releases it
+# ends in -dev, which packages of Python spell so.
+WRITTEN = next(path for path in (DESK / "VERSION", DESK.parent / "VERSION") if path.exists()).read_text().strip()
+VERSION = WRITTEN.replace("-dev", ".dev0")
 PROJECT: dict[str, Any] = tomllib.loads((DESK / "pyproject.toml").read_text())["project"]
 STEM = f"{PROJECT['name'].replace('-', '_')}-{VERSION}"
 WHEEL = "Wheel-Version: 1.0\nGenerator: build_wheel\nRoot-Is-Purelib: true\nTag: py3-none-any\n"
@@ -67,7 +69,7 @@ def build_wheel(wheel_directory: str, config_settings: object = None, metadata_d
 
 def build_sdist(sdist_directory: str, config_settings: object = None) -> str:
     own = ("pyproject.toml", "README.md", "build_wheel.py", "manual_page.py")
-    files = [("PKG-INFO", metadata().encode()), ("VERSION", VERSION.encode()),
+    files = [("PKG-INFO", metadata().encode()), ("VERSION", WRITTEN.encode()),
              *((name, (DESK / name).read_bytes()) for name in own), *modules()]
     name = f"{STEM}.tar.gz"
     with tarfile.open(Path(sdist_directory) / name, "w:gz") as archive:

@@ -4,7 +4,7 @@ import argparse
 import sys
 from typing import Iterator
 
-from build_wheel import VERSION
+from build_wheel import WRITTEN
 from ribjasper.main import parser
 
 FILES = r"""
@@ -13,7 +13,9 @@ An output that is a file which the call reads, or another output of the call, is
 A file that is there already is replaced if it is of the kind that the command writes; other files are replaced with
 .B \-\-force
 alone. A file is replaced as a whole once all outputs of the call are written; if anything fails before, all of them stay
-as they were. A pipe, a device and a socket are written to, a symbolic link stays, and
+as they were. A pipe, a character device and a socket are written to, a disk with
+.B \-\-force
+alone; a symbolic link stays, and
 .B \-
 is standard output; a table that the command prints goes to standard error then.
 .SH ENVIRONMENT
@@ -25,6 +27,8 @@ the shared library, in place of the one that is installed
 the program
 .BR ribjasper (1),
 in place of the one that is installed
+.SH LICENCE
+MIT or Apache-2.0, as you like it: 2026 The Ribjasper authors.
 .SH SEE ALSO
 .BR ribjasper (1),
 .BR ribjasper (3)
@@ -72,7 +76,7 @@ def commands(of: argparse.ArgumentParser) -> dict[str, argparse.ArgumentParser]:
 def page() -> str:
     top = parser()
     lines = [r".\" Written by desk/manual_page.py from the parser of the desk.",
-             f'.TH RIBJASPER\\-DESK 1 "" "Ribjasper {VERSION}" "User commands"', ".SH NAME",
+             f'.TH RIBJASPER\\-DESK 1 "" "Ribjasper {WRITTEN}" "User commands"', ".SH NAME",
              r"ribjasper\-desk \- whole jobs over dumps and songs of the subcode of Compact Discs",
              ".SH SYNOPSIS", f".B {roff(call(top))}", ".SH DESCRIPTION", roff(top.description or "")]
     for action in shown(top):

@@ -5,9 +5,10 @@
 //!
 //! rustc -O examples/player.rs -L lib -l dylib=ribjasper
 use std::error::Error;
-use std::ffi::{c_char, c_void, CStr};
+use std::ffi::CStr;
 use std::fs::File;
 use std::io::{self, Read, Write};
+use std::os::raw::{c_char, c_void};
 
 const BLOCK: usize = 96;
 const WIDTH: usize = 300;
@@ -33,7 +34,7 @@ struct Change {
     levels: u8,
 }
 
-unsafe extern "C" {
+extern "C" {
     fn ribjasper_player_open(player: *mut Handle) -> i32;
     fn ribjasper_player_close(player: *mut Handle);
     fn ribjasper_player_feed_all(

@@ -44,7 +44,7 @@ extern "C" {
 #endif
 
 #define RIBJASPER_VERSION_MAJOR 1
-#define RIBJASPER_VERSION_MINOR 5
+#define RIBJASPER_VERSION_MINOR 6
 #define RIBJASPER_VERSION_PATCH 0
 
 /* The version of this header as one number. */
@@ -383,9 +383,9 @@ typedef struct ribjasper_tally {
 } ribjasper_tally;
 
 /* Feeds an open player the next block, as ribjasper_player_feed does, and adds what comes with it to `tally`. If the
-tally began when the player did, its counts are what the program's command `check` prints of all blocks so far. It is
-   yours: a player that is saved, loaded or copied takes nothing of it along, so keep a copy of it beside the checkpoint
-   and go on with that, or with zeros to count from there. It asks for no memory. */
+   tally began when the player did, its packs and frames are counted as the program's command `check` counts them, of all
+   blocks so far. It is yours: a player that is saved, loaded or copied takes nothing of it along, so keep a copy of it
+   beside the checkpoint and go on with that, or with zeros to count from there. It asks for no memory. */
 int32_t ribjasper_player_feed_counted(ribjasper_player *player, const uint8_t block[RIBJASPER_BLOCK],
                                       ribjasper_tally *tally);
 
@@ -438,7 +438,7 @@ int32_t ribjasper_convert(const uint8_t *stream, size_t length, uint32_t form, u
 /* What is reported of two readings that were mended: the bytes written, the blocks of the program, and how many words
    have the codeword that both readings give, that of the first alone, that of the second alone, or the one on which
    both agree if none counts; and how many have none, for which 24 zeros are written. The five add up to the words,
-   which are bytes / 24. */
+   which are bytes / 24. If the readings change places, so do of_first and of_second, and the others stay. */
 typedef struct ribjasper_mended {
     uint64_t bytes;
     uint32_t blocks;
@@ -606,7 +606,7 @@ RIBJASPER_NODISCARD int32_t ribjasper_sheet_text(const uint8_t *sheet, size_t le
 
 /* What is found of a block. The words counted are those whose last symbol comes with the block: with block b of the
    program the words 4 b - 7 to 4 b - 4 (none below 0), or of RIBJASPER_PACKS its four; with a block of the lead-in none.
-   The sums of all rows are the numbers of the program's command `check`. */
+   The sums over all rows are six numbers of the program's command `check`: clean, one, two, bad, q-good and q-bad. */
 typedef struct ribjasper_row {
     uint32_t absolute; /* of a frame of kind 0 the block of its absolute time, or RIBJASPER_NO_TIME */
     uint8_t clean;     /* how many words are codewords */

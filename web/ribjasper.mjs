@@ -1,11 +1,11 @@
 // The subcode of compact discs in a web page: a player of CD+G, and what else the calls of crates/ribjasper_web give.
 //
-// All of it is proved Rattle, compiled to WebAssembly (ribjasper.wasm, 83 kB); what stands here passes numbers and bytes
+// All of it is proved Rattle, compiled to WebAssembly (ribjasper.wasm); what stands here passes numbers and bytes
 // on. The module's memory has 64-bit addresses: Chromium 133, Firefox 134 and Node 24 have them, Node 20 and 22 with
 // --experimental-wasm-memory64. Nothing is fetched but ribjasper.wasm itself, and that only where `load` is not given it.
 
-/** The version of the library that this came with. */
-export const VERSION = "1.1.0";
+/** The version of the library that this came with: `make web` writes it. */
+export const VERSION = "";
 /** The screen, in pixels. */
 export const WIDTH = 300;
 export const HEIGHT = 216;

@@ -117,7 +117,7 @@ def web() -> Web | None:
     if folder is not None:
         found = Web(Path(folder) / "ribjasper.wasm", Path(folder) / "ribjasper.mjs")
     else:
-        built = checkout("lib", "web", "ribjasper.wasm"), checkout("web", "ribjasper.mjs")
+        built = checkout("lib", "web", "ribjasper.wasm"), checkout("lib", "web", "ribjasper.mjs")
         if not built[0] or not built[1]:
             return None
         found = Web(built[0], built[1])

@@ -23,7 +23,7 @@ def add_wishes(parser: argparse.ArgumentParser) -> None:
     parser.add_argument("--font", type=Path, action="append", default=[], metavar="FILE",
                         help=f"a font ({DEFAULT_FONT.stem}); once more for letters that the first lacks")
     parser.add_argument("--size", type=number_in(LEAST_SIZE, MOST_SIZE), metavar="PIXELS",
-                        help="of the letters (from 16 to 24, by the lines)")
+                        help="of the letters (24 to 16 by the lines, or less if most would break)")
     parser.add_argument("--rows", type=number_in(LEAST_ROWS, MOST_ROWS), metavar="N", help="rows a page (4)")
     parser.add_argument("--sweep", action="store_true", help="light a word little by little while it is sung")
     parser.add_argument("--lead", type=seconds_in(0, LONGEST_LEAD), metavar="SECONDS",
@@ -45,10 +45,11 @@ def wishes_of(arguments: argparse.Namespace, end: int | None) -> Wishes:
 def add_parser(commands: Commands) -> None:
     parser = commands.add_parser(
         "lyrics", help="make a picture script of a song",
-        description="Makes a picture script of lyrics with times: LRC with times of lines or of words, or ASS with "
-        "\\k times. Words light up when they are sung, and the next lines are drawn while the last are still sung. "
-        "Nothing of the script is late; what cannot be shown at its time is reported with its line.")
-    parser.add_argument("song", type=Path, metavar="SONG", help="the lyrics: SONG.lrc or SONG.ass")
+        description="Makes a picture script of lyrics with times: LRC with times of lines or of words, ASS with \\k "
+        "times, UltraStar, SubRip or karaoke MIDI. Words light up when they are sung, and the next lines are drawn while "
+        "the last are still sung. Nothing of the script is late; what cannot be shown at its time is reported with its "
+        "line.")
+    parser.add_argument("song", type=Path, metavar="SONG", help="the lyrics; their kind is found by what is in the file")
     add_wishes(parser)
     parser.add_argument("--audio", type=Path, metavar="WAV", help="the audio, which the script must not outlast")
     parser.add_argument("-o", "--output", type=Path, required=True, metavar="FILE", help="the script")

@@ -28,7 +28,7 @@ TOO_FEW, COMPARED = 12, 200
 def add_parser(commands: Any) -> None:
     parser = commands.add_parser(
         "mend",
-        help="make the best .cdg file or stream of two readings or more",
+        help="make one .cdg file or stream of two readings or more",
         description="Puts readings of one disc side by side by their Q times and writes, word by word, the codeword of the "
         "reading that is the least wrong, or that on which readings agree. The output is a .cdg file; or a mended stream: "
         "raw blocks (.raw, .subcode) or planar ones (.sub), with P and Q of the first reading whose frame is good. "

@@ -19,7 +19,7 @@ class MainTest(FolderTest):
 
     @unittest.skipUnless(has("ribjasper_version"), "lib/ or the program is not built (make library, make)")
     def test_version(self) -> None:
-        self.assertEqual(desk("--version").out, f"ribjasper-desk {(TOP / 'VERSION').read_text().strip()}\n")
+        self.assertEqual(desk("--version").out, f"ribjasper-desk {(TOP / 'VERSION').read_text().strip().removesuffix('-dev')}\n")
 
     def test_without_the_library(self) -> None:
         path = self.write("dump", bytes(96))

@@ -76,6 +76,19 @@ for blocks in $moments; do
         failed=1
     fi
 done
+# Programs that were made with the header of 1.1.0 run on this library.
+older="-O2 -Wall -Wextra -Werror -std=c99 -I$top/tests/library/older"
+cc $older "$top/examples/player.c" -L"$top/lib" -lribjasper -o player_of_older
+cc $older "$top/tests/library/test_library.c" "$top/lib/libribjasper.a" $wrap -o test_library_of_older
+cc $older "$top/tests/library/test_plan.c" "$top/lib/libribjasper.a" $wrap -o test_plan_of_older
+mkdir older
+if (cd older && LD_LIBRARY_PATH=$top/lib ../player_of_older $moments <../stream) && ./test_library_of_older >/dev/null &&
+    ./test_plan_of_older >/dev/null && (for blocks in $moments; do cmp $blocks.ppm older/$blocks.ppm || exit 1; done); then
+    echo "compare_player: programs that were made with 1.1.0 run, and their screens are equal"
+else
+    echo "compare_player: programs that were made with 1.1.0 do not run as they did" >&2
+    failed=1
+fi
 mkdir broken
 { head -c $((96 * 300)) stream; tail -c +$((96 * 320 + 1)) stream; } >shorter
 (cd broken && ../player 449 777 <../shorter)

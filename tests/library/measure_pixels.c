@@ -1,12 +1,14 @@
 /* How long the library takes for a picture in each format, beside plain C (tests/library/plain_pixels.c) that two compilers made with
-   -O3: each in turn, many times, and of each the median. Its bytes are compared with those of the plain C.
+   -O3: each in turn, in many rounds, and of each the least and the median round. Its bytes are compared with those of the plain C.
 
    gcc -O3 -DPLAIN=plain_by_gcc -Iinclude -c tests/library/plain_pixels.c -o by_gcc.o
    clang -O3 -DPLAIN=plain_by_clang -Iinclude -c tests/library/plain_pixels.c -o by_clang.o
    cc -O2 -Iinclude tests/library/measure_pixels.c by_gcc.o by_clang.o lib/libribjasper.a -o measure_pixels && ./measure_pixels
 
-   With the arguments `once` and the number of a line it makes that picture a hundred times, for a tool that counts
-   instructions of the three functions. */
+   With the argument `runs` and a number it does all that so many times and prints of each line, over all runs, the median time
+   of ours and the least, median and greatest ratio to each compiler, once by the least rounds and once by the median rounds.
+   With `once` and the number of a line it makes that picture a hundred times with each of the three, for a tool that counts
+   their instructions. */
 #include "plain_pixels.h"
 
 #include <stdio.h>
@@ -14,9 +16,11 @@
 #include <string.h>
 #include <time.h>
 
-#define ROUNDS 301
+#define ROUNDS 101
 #define INNER 8
 #define MAKERS 3
+#define LINES 18
+#define MOST_RUNS 100
 
 static struct plain plain;
 static uint8_t made[MAKERS][259200];
@@ -34,10 +38,19 @@ static int by_size(const void *one, const void *other)
     return (a > b) - (a < b);
 }
 
-static double median(double *times)
+/* Of times, in order: the least, the median and the greatest. */
+struct spread {
+    double least, median, greatest;
+};
+
+static struct spread spread_of(double *times, int count)
 {
-    qsort(times, ROUNDS, sizeof *times, by_size);
-    return times[ROUNDS / 2];
+    struct spread it;
+    qsort(times, (size_t)count, sizeof *times, by_size);
+    it.least = times[0];
+    it.median = times[count / 2];
+    it.greatest = times[count - 1];
+    return it;
 }
 
 static ribjasper_player player = RIBJASPER_CLOSED;
@@ -51,7 +64,7 @@ struct line {
     int x, y, width, height;
 };
 
-static const struct line lines[] = {
+static const struct line lines[LINES] = {
     { "screen", SCREEN, RIBJASPER_INDEXED, 0, 0, 300, 216 },
     { "picture", PICTURE, RIBJASPER_RGB, 0, 0, 300, 216 },
     { "pixels, indexed", PIXELS, RIBJASPER_INDEXED, 0, 0, 300, 216 },
@@ -103,13 +116,13 @@ static void make(const struct line *it, int maker)
     __asm__ volatile("" : : : "memory");
 }
 
-static void compare(const struct line *it)
+/* How long each maker takes for a line: the rounds of all of them in turn. */
+static void measure(const struct line *it, struct spread spreads[MAKERS])
 {
     static double times[MAKERS][ROUNDS];
     size_t bytes = stride_of(it) * (size_t)it->height;
     int inner = INNER * (64800 / (it->width * it->height) < 64 ? 64800 / (it->width * it->height) : 64);
     int round, maker, n;
-    double medians[MAKERS];
     for (round = 0; round < ROUNDS; round++)
         for (maker = 0; maker < MAKERS; maker++) {
             double start = now();
@@ -122,9 +135,51 @@ static void compare(const struct line *it)
         exit(1);
     }
     for (maker = 0; maker < MAKERS; maker++)
-        medians[maker] = median(times[maker]);
-    printf("%-22s %7.2f us, by gcc %7.2f us (%.2f), by clang %7.2f us (%.2f)\n", it->name, medians[0], medians[1],
-           medians[0] / medians[1], medians[2], medians[0] / medians[2]);
+        spreads[maker] = spread_of(times[maker], ROUNDS);
+}
+
+static void compare(const struct line *it)
+{
+    struct spread by[MAKERS];
+    int maker;
+    measure(it, by);
+    printf("%-22s %7.2f us (least %.2f)", it->name, by[0].median, by[0].least);
+    for (maker = 1; maker < MAKERS; maker++)
+        printf(", by %s %7.2f us: %.2f (least %.2f)", maker == 1 ? "gcc" : "clang", by[maker].median,
+               by[0].median / by[maker].median, by[0].least / by[maker].least);
+    printf("\n");
+}
+
+static void print_spread(double *ratios, int runs)
+{
+    struct spread it = spread_of(ratios, runs);
+    printf("  %.2f %.2f %.2f", it.least, it.median, it.greatest);
+}
+
+static void compare_runs(int runs)
+{
+    static double ours[LINES][MOST_RUNS], least[LINES][MAKERS][MOST_RUNS], median[LINES][MAKERS][MOST_RUNS];
+    int run, n, maker;
+    for (run = 0; run < runs; run++)
+        for (n = 0; n < LINES; n++) {
+            struct spread by[MAKERS];
+            measure(&lines[n], by);
+            ours[n][run] = by[0].median;
+            for (maker = 1; maker < MAKERS; maker++) {
+                least[n][maker][run] = by[0].least / by[maker].least;
+                median[n][maker][run] = by[0].median / by[maker].median;
+            }
+        }
+    printf("%d runs; of each the least, median and greatest\n%-22s %10s  %-16s%-16s%-16s%-16s\n", runs, "", "ours, us",
+           "gcc, least", "gcc, median", "clang, least", "clang, median");
+    for (n = 0; n < LINES; n++) {
+        printf("%-22s %10.2f", lines[n].name, spread_of(ours[n], runs).median);
+        for (maker = 1; maker < MAKERS; maker++) {
+            print_spread(least[n][maker], runs);
+            print_spread(median[n][maker], runs);
+        }
+        printf("\n");
+    }
 }
 
 int main(int count, char **words)
@@ -154,8 +209,10 @@ int main(int count, char **words)
     if (count == 3 && strcmp(words[1], "once") == 0) {
         for (n = 0; n < 300; n++)
             make(&lines[atoi(words[2])], (int)(n % MAKERS));
+    } else if (count == 3 && strcmp(words[1], "runs") == 0 && atoi(words[2]) > 0 && atoi(words[2]) <= MOST_RUNS) {
+        compare_runs(atoi(words[2]));
     } else {
-        for (n = 0; n < sizeof lines / sizeof *lines; n++)
+        for (n = 0; n < LINES; n++)
             compare(&lines[n]);
     }
     ribjasper_player_close(&player);

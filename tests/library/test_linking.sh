@@ -12,6 +12,8 @@ done
 work=$(mktemp -d)
 trap 'rm -rf "$work"' EXIT
 version=$(cat VERSION)
+# What the library says, also between two releases.
+number=${version%-dev}
 failed=0
 
 complain() {
@@ -53,7 +55,7 @@ readelf -d lib/libribjasper.so.0 | grep -q 'SONAME.*\[libribjasper.so.0\]' || co
 # A second library with a heap of its own, as another of the same kit has it, does not clash.
 cc -c tools/build/heap.c -o "$work/heap.o"
 cc $strict tests/library/test_layout.c "$work/heap.o" lib/libribjasper.a -o "$work/beside"
-[ "$("$work/beside")" = "$version" ] || complain "the library for good tells another version than VERSION"
+[ "$("$work/beside")" = "$number" ] || complain "the library for good tells another version than VERSION"
 
 # Installed where a distribution would put it, and found by pkg-config.
 libraries=/usr/lib/$(cc -dumpmachine)
@@ -69,7 +71,7 @@ else
 fi
 cc tests/library/test_layout.c $flags -o "$work/shared"
 told=$(LD_LIBRARY_PATH=$installed "$work/shared")
-[ "$told" = "$version" ] || complain "the shared library tells another version"
+[ "$told" = "$number" ] || complain "the shared library tells another version"
 readelf -d "$work/shared" | grep -q 'NEEDED.*\[libribjasper.so.0\]' || complain "a program asks for another name"
 
 # Installed below a name with blanks and other odd characters, and found there by pkg-config, CMake and man.
@@ -77,7 +79,7 @@ odd="$work/a prefix & more"
 tools/build/install.sh "" "$odd" "$odd/lib" libribjasper0 libribjasper-dev
 if command -v pkg-config >/dev/null; then
     eval "cc tests/library/test_layout.c $(PKG_CONFIG_PATH=$odd/lib/pkgconfig pkg-config --cflags --libs ribjasper) -o \"$work/odd\"" &&
-        [ "$(LD_LIBRARY_PATH=$odd/lib "$work/odd")" = "$version" ] || complain "ribjasper.pc does not survive a blank"
+        [ "$(LD_LIBRARY_PATH=$odd/lib "$work/odd")" = "$number" ] || complain "ribjasper.pc does not survive a blank"
 fi
 if command -v cmake >/dev/null; then
     mkdir "$work/cmake"
@@ -94,7 +96,7 @@ END
     if cmake -S "$work/cmake" -B "$work/cmake/built" -DCMAKE_PREFIX_PATH="$odd" >"$work/cmake/told" 2>&1 &&
         cmake --build "$work/cmake/built" >>"$work/cmake/told" 2>&1; then
         for program in shared static; do
-            [ "$("$work/cmake/built/$program")" = "$version" ] || complain "CMake links another library"
+            [ "$("$work/cmake/built/$program")" = "$number" ] || complain "CMake links another library"
         done
     else
         tail -n 5 "$work/cmake/told" >&2
@@ -112,7 +114,7 @@ done
 other=aarch64-unknown-linux-gnu
 if [ -f lib/$other/libribjasper.a ] && command -v qemu-aarch64-static aarch64-linux-gnu-gcc >/dev/null; then
     aarch64-linux-gnu-gcc -static -O2 -Iinclude tests/library/test_layout.c lib/$other/libribjasper.a -o "$work/layout"
-    [ "$(qemu-aarch64-static "$work/layout")" = "$version" ] || complain "the library for $other does not run"
+    [ "$(qemu-aarch64-static "$work/layout")" = "$number" ] || complain "the library for $other does not run"
     if [ -x bin/ribjasper ]; then
         aarch64-linux-gnu-gcc -static -O2 -Iinclude examples/player.c lib/$other/libribjasper.a -o "$work/player"
         cd "$work"

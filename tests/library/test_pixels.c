@@ -130,6 +130,11 @@ static void pixels(void)
         check_part(&player, format, 300, 216, 0, 0, 0, 0);
         check_part(&player, format, 5, 7, 0, 9, 3, 0);
         check_part(&player, format, 5, 7, 9, 0, 3, 0);
+        /* Narrow and high, with one pixel more each, in the window and beyond it. */
+        for (n = 1; n < 20; n++) {
+            check_part(&player, format, 100, 12, n, 192, n % 3, 0);
+            check_part(&player, format, 290 - n, 0, n, 216, n % 5, 7);
+        }
         CHECK(ribjasper_player_pixels(&player, format, 0, 0, 0, 0, NULL, 0, 0) == RIBJASPER_DONE);
     }
     for (n = 0; n < 700; n++) {

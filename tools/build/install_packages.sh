@@ -2,9 +2,11 @@
 # Installs, where it may, what the checks use beside Python itself, as root, by apt-get, within some minutes: packages of
 # Python, fonts, compilers, a browser, and the programs that ours are compared with. Whatever comes of it, it ends well: checks that
 # lack a package are skipped, and counted.
-packages="python3-pil python3-tqdm python3-distributed python3-hypothesis python3-mido mypy fonts-dejavu-core fonts-vlgothic
-ffmpeg cdrdao cdrskin libburn-dev valgrind gcc g++ clang binutils pkg-config cmake lld nodejs chromium"
+packages="python3-venv python3-pil python3-tqdm python3-distributed python3-hypothesis python3-mido mypy fonts-dejavu-core
+fonts-vlgothic ffmpeg cdrdao cdrskin libburn-dev valgrind gcc g++ clang binutils pkg-config cmake lld nodejs chromium"
 [ "$(id -u)" = 0 ] && command -v apt-get >/dev/null && command -v dpkg-query >/dev/null || exit 0
+# A Rust compiler from elsewhere does as well.
+command -v rustc >/dev/null || packages="$packages rustc"
 lacking=
 for package in $packages; do
     dpkg-query --show --showformat='${db:Status-Status}' "$package" 2>/dev/null | grep -qx installed || lacking="$lacking $package"

@@ -6,7 +6,8 @@ set -e
 cd "$(dirname "$0")/../.."
 command -v dpkg-deb >/dev/null || { echo "make_deb: dpkg-deb is missing (package dpkg)" >&2; exit 1; }
 [ -x bin/ribjasper ] || { echo "make_deb: there is no bin/ribjasper (make)" >&2; exit 1; }
-version=$(cat VERSION)
+# To Debian what comes before a release stands behind a tilde.
+version=$(sed 's/-dev$/~dev/' VERSION)
 architecture=$(dpkg --print-architecture)
 work=$(mktemp -d)
 trap 'rm -rf "$work"' EXIT
@@ -48,7 +49,7 @@ if [ -e lib/libribjasper.so.0 ]; then
         >"$work/ribjasper-desk/DEBIAN/postinst"
     printf '#!/bin/sh\nset -e\npy3clean -p ribjasper-desk\n' >"$work/ribjasper-desk/DEBIAN/prerm"
     chmod 755 "$work/ribjasper-desk/DEBIAN/postinst" "$work/ribjasper-desk/DEBIAN/prerm"
-    warrant="Its desk is tested; what it says of subcode comes of proved functions."
+    warrant="Its desk is tested, not proved; it stands on the proved library."
     built_for=all recommends="ribjasper, python3-pil, python3-tqdm, python3-distributed, ffmpeg, fonts-dejavu-core"
     package ribjasper-desk "whole jobs over dumps and songs of the subcode of Compact Discs" \
         "libribjasper0 (= $version), python3 (>= 3.11)"

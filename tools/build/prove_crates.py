@@ -7,6 +7,7 @@ themselves looks at all of it again, so nothing here is taken on trust."""
 from __future__ import annotations
 
 import argparse
+import fcntl
 import hashlib
 import os
 import pathlib
@@ -16,6 +17,7 @@ import subprocess
 import sys
 import threading
 import time
+from typing import IO
 
 ROOT = pathlib.Path(__file__).resolve().parents[2]
 site.addsitedir(str(ROOT / "tools" / "shared"))
@@ -216,6 +218,17 @@ def lanes() -> int:
     return max(1, min(len(os.sched_getaffinity(0)), int(free / BYTES)))
 
 
+def alone() -> IO[bytes]:
+    """What keeps other calls in this checkout out while it is open, since they would use the same rooms."""
+    lock = open(__file__, "rb")
+    try:
+        fcntl.flock(lock, fcntl.LOCK_EX | fcntl.LOCK_NB)
+    except BlockingIOError:
+        print("another call proves in this checkout: waiting until it ends", flush=True)
+        fcntl.flock(lock, fcntl.LOCK_EX)
+    return lock
+
+
 def main() -> int:
     below = graph()
     parser = argparse.ArgumentParser(
@@ -223,6 +236,7 @@ def main() -> int:
     )
     parser.add_argument("crates", nargs="+", choices=below, metavar="CRATE", help="a crate of the repository")
     names = libraries(below, parser.parse_args().crates)
+    _lock = alone()
     proving = Proving(names, below, stamps(names, below), lanes())
     if proving.left:
         number, how_long = len(proving.left), spoken(proving.seconds_left())

@@ -1,6 +1,8 @@
 #!/usr/bin/env python3
 """Tests of prove_crates.py: a crate is proved in a copy of it and of what it stands on, which has to be whole."""
 import pathlib
+import subprocess
+import sys
 import tempfile
 import unittest
 
@@ -31,6 +33,18 @@ class CopiesTest(unittest.TestCase):
             self.assertFalse((copy / "out/room").exists())
             self.assertTrue((copy / "out/rlib/file").exists())
             self.assertTrue((copy / "proofs/room/file").exists())
+
+
+class AloneTest(unittest.TestCase):
+    def test_a_second_call_waits_for_the_first(self) -> None:
+        code = "import prove_crates; prove_crates.alone(); print('alone')"
+        folder = pathlib.Path(prove_crates.__file__).parent
+        with prove_crates.alone():
+            second = subprocess.Popen([sys.executable, "-c", code], cwd=folder, stdout=subprocess.PIPE, text=True)
+            assert second.stdout is not None
+            self.assertIn("waiting", second.stdout.readline())
+            self.assertIsNone(second.poll())
+        self.assertEqual(second.communicate(timeout=60)[0], "alone\n")
 
 
 class OrderTest(unittest.TestCase):

@@ -6,4 +6,7 @@ found=$(grep -rnE '\b(forget|leak|into_raw|into_raw_parts|ManuallyDrop)\b' --inc
 [ -z "$found" ] || { echo "check_forgotten: memory may be lost: $found" >&2; exit 1; }
 raw=$(grep -rlE '\binto_raw_with_allocator\b' --include='*.rt' crates/*/src)
 [ "$raw" = crates/ribjasper_c/src/handle/parts.rt ] || { echo "check_forgotten: a box is taken apart in $raw" >&2; exit 1; }
+# A box would give its allocator to whoever asks; then what plays could ask for memory.
+asked=$(grep -rnE "\ballocator[[:space:]]*\(" --include="*.rt" crates/*/src)
+[ -z "$asked" ] || { echo "check_forgotten: a box is asked for its allocator: $asked" >&2; exit 1; }
 echo "check_forgotten: no code forgets memory"

@@ -69,6 +69,8 @@ for program in bin/ribjasper crates/ribjasper/out/ribjasper; do
         told=$(examples/demo.py "$room" 2>&1) || complain "the tour fails: $(echo "$told" | tail -n 3)"
         rm -rf "$room"
         tests/program/try_refusals.py "$program" || complain "an example of docs/FORMATS.md is not refused as it says"
+        told=$(tests/program/try_formats.py "$program" 2>&1) ||
+            complain "the program is not as docs/FORMATS.md says: $(echo "$told" | tail -n 6)"
         break
     fi
 done

@@ -78,11 +78,17 @@ def lines_of(made: Table) -> Iterator[str]:
     yield f"times: {total / 60:.1f} processor minutes"
 
 
+def keeps_proofs() -> bool:
+    """Whether the kit's gate keeps proofs between two runs, so that it has a word for one from nothing."""
+    said = subprocess.run(["rt", "help"], stdin=subprocess.DEVNULL, stdout=subprocess.PIPE, stderr=subprocess.STDOUT)
+    return b"--anew" in said.stdout
+
+
 def run(log: pathlib.Path, anew: bool) -> int:
     """Runs the gate into a log, and adds the table."""
     with open(log, "w") as out:
         started = time.monotonic()
-        words = ["rt", "ci", *["--anew"] * anew]
+        words = ["rt", "ci", *["--anew"] * (anew and keeps_proofs())]
         gate = subprocess.Popen(words, stdin=subprocess.DEVNULL, stdout=out, stderr=subprocess.STDOUT)
         watch = Watch(gate.pid)
         while gate.poll() is None:

@@ -39,7 +39,7 @@ for document in README.md docs/FORMATS.md docs/GUIDE.md; do
         [ "$document" = README.md ] || cat "$work/begin"
         blocks "$kinds" "$document"
     } >"$work/commands"
-    if ! env -i HOME="$home" PATH=/usr/local/bin:/usr/bin:/bin LANG=C.UTF-8 sh -e "$work/commands" >"$work/told" 2>&1; then
+    if ! env -i HOME="$home" PATH=/usr/local/bin:/usr/bin:/bin sh -e "$work/commands" >"$work/told" 2>&1; then
         tail -n 5 "$work/told" >&2
         echo "guide: a command of $document fails" >&2
         failed=1

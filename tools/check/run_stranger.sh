@@ -15,7 +15,7 @@ awk '/^```sh/ { inside = 1; next } /^```$/ { inside = 0; next } inside' README.m
 
 stranger() {
     begun=$(date +%s)
-    if ! env -i HOME="$work/home" PATH=/usr/local/bin:/usr/bin:/bin LANG=C.UTF-8 sh -e "$1" >"$work/printed" 2>&1; then
+    if ! env -i HOME="$work/home" PATH=/usr/local/bin:/usr/bin:/bin sh -e "$1" >"$work/printed" 2>&1; then
         tail -n 20 "$work/printed" >&2
         echo "stranger: $2 fails" >&2
         exit 1

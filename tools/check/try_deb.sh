@@ -16,7 +16,7 @@ for file in $files; do
     [ -e "$file" ] || { echo "try_deb: $file was not installed" >&2; exit 1; }
 done
 [ "$(printf '' | ribjasper convert --lead-in 0 | wc -c)" = 0 ]
-! command -v ribjasper-desk >/dev/null || [ "$(ribjasper-desk --version)" = "ribjasper-desk $(cat VERSION)" ]
+! command -v ribjasper-desk >/dev/null || [ "$(ribjasper-desk --version)" = "ribjasper-desk $(sed 's/-dev$//' VERSION)" ]
 dpkg --purge $names >/dev/null
 [ ! -e /usr/bin/ribjasper ] || { echo "try_deb: the program is still there" >&2; exit 1; }
 echo "try_deb: the packages are installed and removed again"

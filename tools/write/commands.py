@@ -103,7 +103,7 @@ def manual(formats: str, commands: list[Row]) -> str:
         *BEGINNING,
     ]
     for words, inputs, output in commands:
-        out += entry(words, f"Reads {roff(inputs)}. Writes {roff(output)}.")
+        out += entry(words, f"Reads {'nothing' if inputs == 'none' else roff(inputs)}. Writes {roff(output)}.")
     out += [*letters(formats), *statuses(formats), *refusals(formats)]
     out += [".SH NOTES", "What ends quietly, or with a line that is easily misread."]
     for seen, meaning, remedy in table(formats, "| You see | It is | What to do |"):
@@ -112,7 +112,8 @@ def manual(formats: str, commands: list[Row]) -> str:
     for said, lines in examples(formats):
         out += [roff(said), ".PP", ".nf", ".RS", *map(roff, lines), ".RE", ".fi", ".PP"]
     out += [".SH LICENCE", "MIT or Apache-2.0, as you like it: 2026 The Ribjasper authors."]
-    out += [".SH SEE ALSO", "Formats, byte by byte, and the guide: docs/FORMATS.md and docs/GUIDE.md of the project."]
+    out += [".SH SEE ALSO", ".BR ribjasper\\-desk (1),", ".BR ribjasper (3);"]
+    out += ["formats, byte by byte, and the guide: docs/FORMATS.md and docs/GUIDE.md of the project."]
     return "\n".join(out) + "\n"
 
 

@@ -47,7 +47,8 @@ LIBRARY = ("block_survey", "rw_mend", "mended_stream", "disc_plan", "live_player
 # What an act says first, where its claims name something that it does not show.
 SAID = {
     "Packs come back": "Here `disc` is a cue sheet and a script with a lead-in and a length, `stream` the bytes of an authored"
-    " stream of it, and `packs` the packs that this stream carries, each a list of 24 symbols.",
+    " stream of it, and `packs` the packs that this stream carries, each a list of 24 symbols. What is used of"
+    " `IsAuthored` is its field `carries`, that these packs are spread over the program symbols of `stream`, and their count.",
     "Pictures are shown": "An authored stream is what any author may write: it carries a schedule of the script. What is taken"
     " on trust here are the framing around the packs, the grammars of the two texts and the words of the command line.",
 }

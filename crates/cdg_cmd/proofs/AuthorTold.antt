@@ -1,21 +1,15 @@
 -- From the answers of the parts of `author` to its status.
-use Rattle.std.proofs.Common.{◌≡◌, ◌≢◌, ◌<◌, ◌≤◌, ℕ, None, Some, IfSome, length, Result, Ok, Err, refl, sym, ap, subst, inl, inr, arith}
-use Rattle.cue_sheet.specs.CueSheet.{CueSheet}
-use Rattle.text_lines.specs.Text.{most_text_bytes}
-use Rattle.std.specs.Io.KnownBytes.{IsAtEnd}
-use Rattle.cdg_io.specs.Causes.{Rose, RoseOnce, TellsFault}
-use Rattle.rw_merge.specs.Merging.{EndIsTold, EndIsUntold}
+use Rattle.std.proofs.Common.{◌≡◌, ◌≢◌, ◌≤◌, ℕ, Result, Ok, Err, refl, sym, ap, subst, arith}
+use Rattle.cdg_io.specs.Causes.{Rose, TellsFault}
 use Rattle.subcode_author.specs.declared.stops.AuthorStop.{AuthorStop}
 use Rattle.subcode_author.specs.declared.stops.AuthorStop.TheVariants as stop
-use Rattle.cdg_cmd.specs.Authors.{IsScriptStop, IsSheetStop, IsSheetText, ReadsSheet}
-use Rattle.cdg_io.specs.Change.{Bytes, Input}
-use Rattle.cdg_cmd.specs.Ends.{EndsWithin, ScriptEnds, SheetEnds}
+use Rattle.cdg_cmd.specs.Authors.{IsScriptStop, IsSheetStop}
+use Rattle.cdg_io.specs.Change.{Bytes}
 use Rattle.cdg_cmd.specs.Faults.{IsTold, TellsFaults}
 use Rattle.cdg_cmd.specs.Stops.{author_status}
 use Rattle.cdg_cmd.specs.declared.status.Which.TheVariants.{First, Second}
-use Rattle.cdg_cmd.specs.declared.status.Refusal.TheVariants.{TooLong, Cue}
 use Rattle.cdg_cmd.specs.declared.status.Status.{Status}
-use Rattle.cdg_cmd.specs.declared.status.Status.TheVariants.{Done, Damaged, Usage, Refused, Late, ReadFault, WriteFault, NoMemory}
+use Rattle.cdg_cmd.specs.declared.status.Status.TheVariants.{ReadFault, WriteFault}
 use Rattle.cdg_cmd.proofs.Quiet.{count, silent, told}
 
 -- a count that did not change
@@ -146,91 +140,3 @@ told_of_both sheet script answer status f f' t t' k k' is first second out =
     (sym is)
     (told_at_end answer f f' t t' k k' first.later (first.same (λ e. cc)) second.later (second.same (λ e. cc))
     out.later out.rose out.same)
-
--- Ends
-
--- a text that was read is not too long
-known : (left : Bytes) (text : CueSheet) (Told Untold : Type 0)
-    → IfSome left (λ bytes. IsSheetText bytes text) → Told
-    → IfSome left
-    (λ bytes. (length bytes ≤ most_text_bytes → Told) × (most_text_bytes < length bytes → Untold))
-known None text Told Untold reads told = tt
-known (Some bytes) text Told Untold reads told =
-    (λ within. told, λ long. absurd (omega (arith, reads.within, long)))
-
-read_within : (input : Input) (text : CueSheet) → IfSome input.left.before (λ bytes. IsSheetText bytes text)
-    → EndIsTold input → EndsWithin input
-read_within input text reads told =
-    (inr told, known input.left.before text (EndIsTold input) (EndIsUntold input) reads told)
-
-of_sheet : (answer : Result (Unit {0}) AuthorStop) (first : Input)
-    → RoseOnce first.ends.before first.ends.after
-    → SheetEnds first (author_status answer)
-of_sheet (Ok done) first told = told
-of_sheet (Err (stop.LengthShort need)) first told = told
-of_sheet (Err (stop.DiscTooLong blocks)) first told = told
-of_sheet (Err (stop.PastEnd blocks)) first told = told
-of_sheet (Err (stop.TextTooLong packs)) first told = told
-of_sheet (Err (stop.LeadInShort need)) first told = told
-of_sheet (Err (stop.Late picture need free)) first told = told
-of_sheet (Err stop.WriteFault) first told = told
-of_sheet (Err stop.NoMemory) first told = told
-
-of_script : (answer : Result (Unit {0}) AuthorStop) (script : Input) → IsAtEnd script.left.after
-    → EndIsTold script
-    → ScriptEnds script (author_status answer)
-of_script (Ok done) script end told = told
-of_script (Err (stop.LengthShort need)) script end told = told
-of_script (Err (stop.DiscTooLong blocks)) script end told = told
-of_script (Err (stop.PastEnd blocks)) script end told = told
-of_script (Err (stop.TextTooLong packs)) script end told = told
-of_script (Err (stop.LeadInShort need)) script end told = told
-of_script (Err (stop.Late picture need free)) script end told = told
-of_script (Err stop.WriteFault) script end told = told
-of_script (Err stop.NoMemory) script end told = inr (end, told)
-
--- the sheet is refused, and the script is not read
-pub sheet_stopped : (left : Bytes) (status : Status) (script : Input) → script.left.after ≡ script.left.before
-    → EndIsUntold script → IsSheetStop left status → ScriptEnds script status
-sheet_stopped left Done script same untold why = absurd why
-sheet_stopped left (Damaged k) script same untold why = absurd why
-sheet_stopped left (Refused TooLong) script same untold why = untold
-sheet_stopped left (Refused (Cue line reason)) script same untold why = untold
-sheet_stopped left (Refused reason) script same untold why = absurd why
-sheet_stopped left (Late picture need free) script same untold why = absurd why
-sheet_stopped left NoMemory script same untold why = inl (same, untold)
-sheet_stopped left Usage script same untold why = absurd why
-sheet_stopped left (ReadFault which) script same untold why = untold
-sheet_stopped left WriteFault script same untold why = absurd why
-
--- the sheet was read, and the second input is not too long, or is
-pub second_stopped : (first : Input) (sheet : CueSheet) (status : Status) → ReadsSheet first.left sheet
-    → RoseOnce first.ends.before first.ends.after → status ≢ ReadFault First
-    → SheetEnds first status
-second_stopped first sheet Done reads told other = told
-second_stopped first sheet (Damaged k) reads told other = told
-second_stopped first sheet (Refused TooLong) reads told other = read_within first sheet reads.1 told
-second_stopped first sheet (Refused reason) reads told other = told
-second_stopped first sheet (Late picture need free) reads told other = told
-second_stopped first sheet NoMemory reads told other = told
-second_stopped first sheet Usage reads told other = told
-second_stopped first sheet (ReadFault First) reads told other = absurd (other refl)
-second_stopped first sheet (ReadFault Second) reads told other = told
-second_stopped first sheet WriteFault reads told other = told
-
-pub script_stopped : (first : Input) (sheet : CueSheet) (left : Bytes) (status : Status)
-    → IsScriptStop left status → ReadsSheet first.left sheet → RoseOnce first.ends.before first.ends.after
-    → SheetEnds first status
-script_stopped first sheet left status why reads told =
-    second_stopped first sheet status reads told (not_first left status why)
-
-pub sheet_read : (answer : Result (Unit {0}) AuthorStop) (status : Status) (first : Input)
-    → status ≡ author_status answer → RoseOnce first.ends.before first.ends.after
-    → SheetEnds first status
-sheet_read answer status first is told =
-    subst (λ (s : Status). SheetEnds first s) (sym is) (of_sheet answer first told)
-
-pub script_read : (answer : Result (Unit {0}) AuthorStop) (status : Status) (script : Input)
-    → status ≡ author_status answer → IsAtEnd script.left.after → EndIsTold script → ScriptEnds script status
-script_read answer status script is end told =
-    subst (λ (s : Status). ScriptEnds script s) (sym is) (of_script answer script end told)

@@ -2,6 +2,7 @@ mod AuthorStatus
 mod AuthorTold
 mod Commands
 mod Decimals
+mod Ended
 pub mod FirstHalf
 mod LastWords
 mod LateTold

@@ -1,12 +1,9 @@
 -- From the answer of a merger to the status of a command.
 use Rattle.std.proofs.Common.{◌≡◌, ◌≢◌, ◌≤◌, ◌==◌, ℕ, Bool, true, false, Result, Ok, Err, IsErrOf, refl, sym, subst, ◌∙◌, if◌then◌else◌, arith}
 use Rattle.cdg_io.specs.Causes.{Rose, TellsFault}
-use Rattle.cdg_io.specs.Change.{Input}
-use Rattle.rw_merge.specs.Merging.{EndIsTold, EndsBoth}
 use Rattle.rw_merge.specs.declared.merge.Merged.{Merged}
 use Rattle.rw_merge.specs.declared.merge.MergeStop.{MergeStop}
 use Rattle.rw_merge.specs.declared.merge.MergeStop.TheVariants as merge
-use Rattle.cdg_cmd.specs.Ends.{ReadingsEnd}
 use Rattle.cdg_cmd.specs.Faults.{TellsFaults}
 use Rattle.cdg_cmd.specs.Stops.{merge_status}
 use Rattle.cdg_cmd.specs.declared.status.Which.TheVariants.{First, Second}
@@ -84,30 +81,6 @@ pub told_none : (f t k : ℕ)
 told_none f t k =
     none f f t t k k (omega arith) (omega arith) (omega arith) NoMemory (λ e. cc) (λ e. cc) (λ e. cc) refl
     refl refl
-
--- Ends
-
-whole_ends : (one other : Input) (good : Bool) (bad : ℕ) → EndIsTold one × EndIsTold other
-    → ReadingsEnd one other (if good then Done else Damaged bad)
-whole_ends one other true bad told = told
-whole_ends one other false bad told = told
-
-ends : (answer : Result Merged MergeStop) (one other : Input) → EndsBoth answer one other
-    → ReadingsEnd one other (merge_status answer)
-ends (Ok merged) one other tells = whole_ends one other (merged.bad == 0) merged.bad tells
-ends (Err merge.FirstFault) one other tells = tells
-ends (Err merge.SecondFault) one other tells = tells
-ends (Err merge.WriteFault) one other tells = tells
-ends (Err merge.TooLong) one other tells = tells
-ends (Err (merge.Torn block)) one other tells = tells
-ends (Err (merge.SecondTorn block)) one other tells = tells
-ends (Err (merge.Unequal blocks)) one other tells = tells
-
-pub ended : (answer : Result Merged MergeStop) (status : Status) (one other : Input)
-    → status ≡ merge_status answer
-    → EndsBoth answer one other → ReadingsEnd one other status
-ended answer status one other is tells =
-    subst (λ (s : Status). ReadingsEnd one other s) (sym is) (ends answer one other tells)
 
 -- A merger never lacks memory, and its words were a form
 

@@ -2,18 +2,16 @@
 use Rattle.std.specs.Io.KnownBytes.{IsAtEnd}
 use Rattle.raw_subcode.specs.declared.form.Form.{Form}
 use Rattle.stream_stages.specs.TextListing.{GivesTexts, IsListedBy}
-use Rattle.std.proofs.Common.{inr, Some, None, IfSome, ◌≡◌, ◌≢◌, ◌≤◌, ◌==◌, ℕ, Bool, true, false, Result, Ok, Err, IfErr, IsErrOf, refl, sym, subst, ◌∙◌, if◌then◌else◌, arith}
+use Rattle.std.proofs.Common.{Some, None, IfSome, ◌≡◌, ◌≢◌, ◌≤◌, ◌==◌, ℕ, Bool, true, false, Result, Ok, Err, IfErr, IsErrOf, refl, sym, subst, ◌∙◌, if◌then◌else◌, arith}
 use Rattle.cdg_io.specs.Causes.{Rose}
-use Rattle.cdg_io.specs.Change.{Bytes, Input}
-use Rattle.rw_merge.specs.Merging.{EndIsTold, EndIsUntold}
+use Rattle.cdg_io.specs.Change.{Bytes}
 use Rattle.cdtext_packs.specs.declared.kinds.TextFault.{TextFault}
 use Rattle.cdtext_packs.specs.declared.kinds.TextFault.TheVariants as fault
-use Rattle.stream_stages.specs.Calls.{EndFirst, EndInTurn, IsEarly, IsMomentStop, IsStreamStop}
+use Rattle.stream_stages.specs.Calls.{IsEarly, IsMomentStop, IsStreamStop}
 use Rattle.stream_stages.specs.Faults.{TellsStops}
 use Rattle.stream_stages.specs.declared.played.Played.{Played}
 use Rattle.stream_stages.specs.declared.played.PlayStop.{PlayStop}
 use Rattle.stream_stages.specs.declared.played.PlayStop.TheVariants as play
-use Rattle.cdg_cmd.specs.Ends.{EndsAsListed, EndsFirst, EndsInTurn, StreamEnds}
 use Rattle.cdg_cmd.specs.Keeps.{MayWrite}
 use Rattle.cdg_cmd.proofs.Quiet.{count}
 use Rattle.cdg_cmd.proofs.Quiet as quiet
@@ -73,12 +71,7 @@ pub told_none : (f k : ℕ) → TellsOne (count f f) (count k k) NoMemory
 told_none f k =
     quiet.none f f k k (omega arith) (omega arith) NoMemory (λ e. cc) (λ e. cc) (λ e. cc) (λ e. cc) refl refl
 
--- Ends
-
-whole_end : (cut : Type 0) (input : Input) (good : Bool) (bad : ℕ) → EndIsTold input
-    → StreamEnds cut input (if good then Done else Damaged bad)
-whole_end cut input true bad told = told
-whole_end cut input false bad told = told
+-- Stops
 
 moment_stop : (answer : Result Played PlayStop) → IfErr answer IsStreamStop → IfErr answer IsMomentStop
 moment_stop (Ok played) stops = tt
@@ -88,82 +81,6 @@ moment_stop (Err (play.Torn block)) stops = tt
 moment_stop (Err play.TooLong) stops = tt
 moment_stop (Err (play.PastEnd blocks)) stops = tt
 moment_stop (Err (play.Text why)) stops = absurd stops
-
-in_turn : (answer : Result Played PlayStop) (input : Input) → IfErr answer IsStreamStop
-    → EndInTurn answer input.ends.before input.ends.after
-    → EndsInTurn input (play_status answer)
-in_turn (Ok played) input stops told = whole_end (EndIsUntold input) input (played.bad == 0) played.bad told
-in_turn (Err play.ReadFault) input stops told = told
-in_turn (Err play.WriteFault) input stops told = told
-in_turn (Err (play.Torn block)) input stops told = told
-in_turn (Err play.TooLong) input stops told = told
-in_turn (Err (play.PastEnd blocks)) input stops told = absurd stops
-in_turn (Err (play.Text why)) input stops told = absurd stops
-
-first : (answer : Result Played PlayStop) (input : Input) → IfErr answer IsMomentStop
-    → EndFirst answer input.ends.before input.ends.after
-    → EndsFirst input (play_status answer)
-first (Ok played) input stops told = whole_end (EndIsTold input) input (played.bad == 0) played.bad told
-first (Err play.ReadFault) input stops told = told
-first (Err play.WriteFault) input stops told = told
-first (Err (play.Torn block)) input stops told = told
-first (Err play.TooLong) input stops told = told
-first (Err (play.PastEnd blocks)) input stops told = told
-first (Err (play.Text why)) input stops told = absurd stops
-
-whole_list : (input : Input) (good : Bool) (bad : ℕ) → EndIsTold input
-    → EndsAsListed input (if good then Done else Damaged bad)
-whole_list input true bad told = told
-whole_list input false bad told = told
-
-listed : (answer : Result Played PlayStop) (input : Input)
-    → EndFirst answer input.ends.before input.ends.after
-    → ((stop : PlayStop) → answer ≡ Err stop → ¬ (IsEarly stop) → IsAtEnd input.left.after)
-    → EndsAsListed input (play_status answer)
-listed (Ok played) input told ended = whole_list input (played.bad == 0) played.bad told
-listed (Err play.ReadFault) input told ended = told
-listed (Err play.WriteFault) input told ended = told
-listed (Err (play.Torn block)) input told ended = told
-listed (Err play.TooLong) input told ended = told
-listed (Err (play.PastEnd blocks)) input told ended = told
-listed (Err (play.Text (fault.Missing seq))) input told ended = told
-listed (Err (play.Text fault.NoSize)) input told ended = told
-listed (Err (play.Text (fault.Malformed seq byte))) input told ended = told
-listed (Err (play.Text fault.NoMemory)) input told ended =
-    inr (ended (play.Text fault.NoMemory) refl (λ early. early), told)
-
--- of a call that writes as it reads,
-pub ended_in_turn : (answer : Result Played PlayStop) (status : Status) (input : Input)
-    → status ≡ play_status answer → IfErr answer IsStreamStop
-    → EndInTurn answer input.ends.before input.ends.after
-    → EndsInTurn input status
-ended_in_turn answer status input is stops told =
-    subst (λ (s : Status). EndsInTurn input s) (sym is) (in_turn answer input stops told)
-
--- that shows a moment,
-pub ended_first : (answer : Result Played PlayStop) (status : Status) (input : Input)
-    → status ≡ play_status answer → IfErr answer IsMomentStop
-    → EndFirst answer input.ends.before input.ends.after
-    → EndsFirst input status
-ended_first answer status input is stops told =
-    subst (λ (s : Status). EndsFirst input s) (sym is) (first answer input stops told)
-
--- that writes after the whole of a stream,
-pub ended_whole : (answer : Result Played PlayStop) (status : Status) (input : Input)
-    → status ≡ play_status answer → IfErr answer IsStreamStop
-    → EndFirst answer input.ends.before input.ends.after
-    → EndsFirst input status
-ended_whole answer status input is stops told =
-    ended_first answer status input is (moment_stop answer stops) told
-
--- and that lists texts
-pub ended_listed : (answer : Result Played PlayStop) (status : Status) (input : Input)
-    → status ≡ play_status answer
-    → EndFirst answer input.ends.before input.ends.after
-    → ((stop : PlayStop) → answer ≡ Err stop → ¬ (IsEarly stop) → IsAtEnd input.left.after)
-    → EndsAsListed input status
-ended_listed answer status input is told ended =
-    subst (λ (s : Status). EndsAsListed input s) (sym is) (listed answer input told ended)
 
 -- Where the output may not be written
 

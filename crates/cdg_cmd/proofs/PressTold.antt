@@ -1,24 +1,21 @@
 -- From the answers of the parts of `press` to its status.
-use Rattle.std.proofs.Common.{◌≡◌, ◌≢◌, ◌≤◌, ℕ, List, [], Result, Ok, Err, OnOk, IfErr, refl, sym, ap, subst, inr}
-use Rattle.std.specs.Io.KnownBytes.{Appends, IsAtEnd}
-use Rattle.cdg_io.specs.Causes.{Rose, RoseOnce, TellsFault}
-use Rattle.rw_merge.specs.Merging.{EndIsTold}
+use Rattle.std.proofs.Common.{◌≡◌, ◌≢◌, ◌≤◌, ℕ, List, [], Result, Ok, Err, OnOk, IfErr, refl, sym, ap, subst}
+use Rattle.std.specs.Io.KnownBytes.{Appends}
+use Rattle.cdg_io.specs.Causes.{Rose, TellsFault}
 use Rattle.cue_sheet.specs.CueSheet.{CueSheet}
 use Rattle.cdg_press.specs.Pressed.{IsPressed, press_of}
 use Rattle.cdg_press.specs.Refusals.{IsPressable, IsPressStop}
 use Rattle.cdg_press.specs.declared.stops.PressStop.{PressStop}
 use Rattle.cdg_press.specs.declared.stops.PressStop.TheVariants as stop
-use Rattle.cdg_io.specs.Change.{Bytes, Input, change}
-use Rattle.cdg_cmd.specs.Authors.{ReadsSheet}
-use Rattle.cdg_cmd.specs.Ends.{ScriptEnds, SheetEnds}
+use Rattle.cdg_io.specs.Change.{Bytes, change}
 use Rattle.cdg_cmd.specs.Faults.{IsTold, TellsFaults}
 use Rattle.cdg_cmd.specs.Presses.{IsFileStop, IsPressedFor, PutsPressedPrefix}
 use Rattle.cdg_cmd.specs.Stops.{press_status}
 use Rattle.cdg_cmd.specs.declared.status.Which.TheVariants.{First, Second}
 use Rattle.cdg_cmd.specs.declared.status.Status.{Status}
-use Rattle.cdg_cmd.specs.declared.status.Status.TheVariants.{Done, Usage, ReadFault, WriteFault, NoMemory}
+use Rattle.cdg_cmd.specs.declared.status.Status.TheVariants.{Done, Usage, ReadFault, WriteFault}
 use Rattle.cdg_cmd.proofs.AuthorStatus.{unchanged}
-use Rattle.cdg_cmd.proofs.AuthorTold.{of_input, second_stopped, still}
+use Rattle.cdg_cmd.proofs.AuthorTold.{of_input, still}
 use Rattle.cdg_cmd.proofs.Quiet.{count, silent, told}
 
 not_first : (left : Bytes) (status : Status) → IsFileStop left status → status ≢ ReadFault First
@@ -124,53 +121,6 @@ told_of_both sheet file answer status f f' t t' k k' is first second out =
     (sym is)
     (told_at_end answer f f' t t' k k' first.later (first.same (λ e. cc)) second.later (second.same (λ e. cc))
     out.later out.rose out.same)
-
--- Ends
-
-of_sheet : (answer : Result (Unit {0}) PressStop) (first : Input)
-    → RoseOnce first.ends.before first.ends.after
-    → SheetEnds first (press_status answer)
-of_sheet (Ok done) first told = told
-of_sheet (Err (stop.PackTorn pack)) first told = told
-of_sheet (Err (stop.LengthShort need)) first told = told
-of_sheet (Err (stop.DiscTooLong blocks)) first told = told
-of_sheet (Err (stop.Gap track)) first told = told
-of_sheet (Err (stop.CdgTooLong packs room)) first told = told
-of_sheet (Err (stop.TextTooLong packs)) first told = told
-of_sheet (Err (stop.LeadInShort need)) first told = told
-of_sheet (Err stop.NoMemory) first told = told
-of_sheet (Err stop.WriteFault) first told = told
-
-of_file : (answer : Result (Unit {0}) PressStop) (file : Input) → IsAtEnd file.left.after → EndIsTold file
-    → ScriptEnds file (press_status answer)
-of_file (Ok done) file end told = told
-of_file (Err (stop.PackTorn pack)) file end told = told
-of_file (Err (stop.LengthShort need)) file end told = told
-of_file (Err (stop.DiscTooLong blocks)) file end told = told
-of_file (Err (stop.Gap track)) file end told = told
-of_file (Err (stop.CdgTooLong packs room)) file end told = told
-of_file (Err (stop.TextTooLong packs)) file end told = told
-of_file (Err (stop.LeadInShort need)) file end told = told
-of_file (Err stop.NoMemory) file end told = inr (end, told)
-of_file (Err stop.WriteFault) file end told = told
-
--- the sheet was read, and the file is refused
-pub file_stopped : (first : Input) (sheet : CueSheet) (left : Bytes) (status : Status)
-    → IsFileStop left status → ReadsSheet first.left sheet → RoseOnce first.ends.before first.ends.after
-    → SheetEnds first status
-file_stopped first sheet left status why reads told =
-    second_stopped first sheet status reads told (not_first left status why)
-
-pub sheet_read : (answer : Result (Unit {0}) PressStop) (status : Status) (first : Input)
-    → status ≡ press_status answer → RoseOnce first.ends.before first.ends.after
-    → SheetEnds first status
-sheet_read answer status first is told =
-    subst (λ (s : Status). SheetEnds first s) (sym is) (of_sheet answer first told)
-
-pub file_read : (answer : Result (Unit {0}) PressStop) (status : Status) (file : Input)
-    → status ≡ press_status answer → IsAtEnd file.left.after → EndIsTold file → ScriptEnds file status
-file_read answer status file is end told =
-    subst (λ (s : Status). ScriptEnds file s) (sym is) (of_file answer file end told)
 
 -- What is put
 

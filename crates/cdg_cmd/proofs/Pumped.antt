@@ -1,12 +1,9 @@
 -- From the answer of a pump to the status of a command.
 use Rattle.std.proofs.Common.{◌≡◌, ◌≢◌, ◌≤◌, ℕ, Result, Ok, Err, IsErrOf, refl, sym, subst, ◌∙◌}
 use Rattle.cdg_io.specs.Causes.{Rose, TellsFault}
-use Rattle.cdg_io.specs.Change.{Input}
-use Rattle.cdg_io.specs.Pump.{TellsEndOf}
 use Rattle.cdg_io.specs.declared.pumping.Pumped.{Pumped}
 use Rattle.cdg_io.specs.declared.pumping.PumpStop.{PumpStop}
 use Rattle.cdg_io.specs.declared.pumping.PumpStop.TheVariants as pump
-use Rattle.cdg_cmd.specs.Ends.{EndsInTurn}
 use Rattle.cdg_cmd.proofs.Quiet.{count}
 use Rattle.cdg_cmd.proofs.Quiet as quiet
 use Rattle.cdg_cmd.specs.Faults.{TellsOne}
@@ -36,21 +33,6 @@ pub told_one : (answer : Result Pumped PumpStop) (status : Status) (f f' k k' : 
 told_one answer status f f' k k' is read write =
     subst (λ (s : Status). TellsOne (count f f') (count k k') s) (sym is)
     (faults answer f f' k k' read.later write.later read.rose read.same write.rose write.same)
-
-pumped : (answer : Result Pumped PumpStop) (input : Input)
-    → TellsEndOf answer input.ends.before input.ends.after
-    → EndsInTurn input (pump_status answer)
-pumped (Ok done) input told = told
-pumped (Err pump.ReadFault) input told = told
-pumped (Err pump.WriteFault) input told = told
-pumped (Err (pump.Torn unit)) input told = told
-pumped (Err pump.TooLong) input told = told
-
-pub ended_in_turn : (answer : Result Pumped PumpStop) (status : Status) (input : Input)
-    → status ≡ pump_status answer → TellsEndOf answer input.ends.before input.ends.after
-    → EndsInTurn input status
-ended_in_turn answer status input is told =
-    subst (λ (s : Status). EndsInTurn input s) (sym is) (pumped answer input told)
 
 never_memory_at : (answer : Result Pumped PumpStop) → pump_status answer ≢ NoMemory
 never_memory_at (Ok done) e = absurd (cc)

@@ -1,19 +1,15 @@
 -- From the answer of a resumed call to the status of a command.
-use Rattle.std.proofs.Common.{◌≡◌, ◌≢◌, ◌≤◌, ◌<◌, ◌==◌, ◌⊎◌, ℕ, Bool, true, false, List, length, Result, Ok, Err, IfErr, IsErrOf, refl, sym, subst, ◌∙◌, inl, inr, if◌then◌else◌, arith}
-use Rattle.std.specs.Prelude.{IsErr, IsOk}
+use Rattle.std.proofs.Common.{◌≡◌, ◌≢◌, ◌≤◌, ◌==◌, ◌⊎◌, ℕ, Bool, true, false, List, length, Result, Ok, Err, IfErr, IsErrOf, refl, sym, subst, ◌∙◌, inl, inr, if◌then◌else◌, arith}
+use Rattle.std.specs.Prelude.{IsErr}
 use Rattle.std.specs.Io.KnownBytes.{Consumes, IsAtEnd}
-use Rattle.std.proofs.Math.Nat.{eq-or-lt_of_le}
-use Rattle.std.proofs.lemmas.Bool.{cases_lt}
 use Rattle.cdg_io.specs.Causes.{Rose, RoseOnce, TellsFault}
-use Rattle.rw_merge.specs.Merging.{EndIsTold, EndIsUntold}
-use Rattle.cdg_checkpoint.specs.Table.{Across, Bad, Border, Check, Colours, Down, IsBadAt, IsCheckpointFile, LeadIn, Levels, Mark, Memory, Part, Program, Slots, ToCome, byte_of, file_size, row}
-use Rattle.cdg_checkpoint.specs.Resumed.{IsAcceptedBy, acceptance, EndsAsResumed as TellsRest}
+use Rattle.cdg_checkpoint.specs.Table.{file_size}
+use Rattle.cdg_checkpoint.specs.Resumed.{IsAcceptedBy, acceptance}
 use Rattle.cdg_checkpoint.specs.declared.stops.Resumed.{Resumed}
 use Rattle.cdg_checkpoint.specs.declared.stops.ResumeStop.{ResumeStop}
 use Rattle.cdg_checkpoint.specs.declared.stops.ResumeStop.TheVariants as resume
 use Rattle.cdg_io.specs.Change.{Input}
 use Rattle.cdg_cmd.specs.Checkpoints.{ReadsCheckpoint}
-use Rattle.cdg_cmd.specs.Ends.{CheckpointEnds, RestEnds}
 use Rattle.cdg_cmd.specs.Faults.{TellsFaults}
 use Rattle.cdg_cmd.specs.Keeps.{MayWrite}
 use Rattle.cdg_cmd.specs.Stops.{resume_status}
@@ -78,104 +74,6 @@ told answer status f f' t t' k k' is first second out =
     (sym is)
     (faults f f' t t' k k' first.later second.later out.later answer first.rose first.same second.rose
     second.same out.rose out.same)
-
--- Ends
-
--- each field begins within the file
-field_within : (part : Part) (k : ℕ) → k < (row part).count → byte_of part k < file_size
-field_within Mark k lt = omega (arith, lt)
-field_within ToCome k lt = omega (arith, lt)
-field_within LeadIn k lt = omega (arith, lt)
-field_within Program k lt = omega (arith, lt)
-field_within Bad k lt = omega (arith, lt)
-field_within Slots k lt = omega (arith, lt)
-field_within Memory k lt = omega (arith, lt)
-field_within Border k lt = omega (arith, lt)
-field_within Across k lt = omega (arith, lt)
-field_within Down k lt = omega (arith, lt)
-field_within Colours k lt = omega (arith, lt)
-field_within Levels k lt = omega (arith, lt)
-field_within Check k lt = omega (arith, lt)
-
--- where the file is not too long, its bad byte is within
-bad_within : (file : List ℕ) (byte : ℕ) → IsBadAt file byte → length file ≤ file_size → byte < file_size
-bad_within file byte bad le =
-    elim (eq-or-lt_of_le le) [
-      | inl whole ↦ (let here = (bad.field whole).here in
-          omega (arith, here.byte_is, field_within (bad.field whole).part here.k here.field))
-      | inr short ↦ omega (arith, bad.short short, short)
-    ]
-
-whole_first : (input : Input) (good : Bool) (bad : ℕ) → EndIsTold input
-    → CheckpointEnds input (if good then Done else Damaged bad)
-whole_first input true bad rose = rose
-whole_first input false bad rose = rose
-
-module _ (at : ℕ) (input : Input) (file : List ℕ) where
-  -- a byte that tells that the file is too long is past its last, and any other is not
-  bad_end : (byte : ℕ) → IsBadAt file byte → (length file ≤ file_size → EndIsTold input)
-      → (file_size < length file → EndIsUntold input)
-      → (byte < file_size → EndIsTold input) × (file_size ≤ byte → EndIsUntold input)
-  bad_end byte bad rises stays =
-      elim (cases_lt file_size (length file)) [
-        | inl lt ↦ (λ below. absurd (omega (arith, bad.long lt, below)), λ past. stays lt)
-        | inr le ↦ (λ below. rises le, λ past. absurd (omega (arith, bad_within file byte bad le, past)))
-      ]
-
-  of_file : IsCheckpointFile file → (length file ≤ file_size → EndIsTold input) → EndIsTold input
-  of_file is rises = rises (omega (arith, is.size))
-
-  first_end : (answer : Result Resumed ResumeStop) → IsAcceptedBy (acceptance answer) at file
-      → (answer ≢ Err resume.FirstFault → length file ≤ file_size → EndIsTold input)
-      → (answer ≢ Err resume.FirstFault → file_size < length file → EndIsUntold input)
-      → (answer ≡ Err resume.FirstFault → EndIsUntold input)
-      → CheckpointEnds input (resume_status answer)
-  first_end (Ok resumed) accepted rises stays failed =
-      whole_first input (resumed.bad == 0) resumed.bad (of_file accepted.0 (rises (λ e. cc)))
-  first_end (Err resume.FirstFault) accepted rises stays failed = failed refl
-  first_end (Err resume.SecondFault) accepted rises stays failed = of_file accepted.0 (rises (λ e. cc))
-  first_end (Err resume.WriteFault) accepted rises stays failed = of_file accepted.0 (rises (λ e. cc))
-  first_end (Err (resume.BadSave byte)) accepted rises stays failed =
-      bad_end byte accepted (rises (λ e. cc)) (stays (λ e. cc))
-  first_end (Err (resume.BeforeSave blocks)) accepted rises stays failed =
-      of_file accepted.0 (rises (λ e. cc))
-  first_end (Err (resume.Torn block)) accepted rises stays failed = of_file accepted.0 (rises (λ e. cc))
-  first_end (Err resume.TooLong) accepted rises stays failed = of_file accepted.0 (rises (λ e. cc))
-  first_end (Err (resume.PastEnd blocks)) accepted rises stays failed = of_file accepted.0 (rises (λ e. cc))
-
-  pub first_ended : (answer : Result Resumed ResumeStop) (status : Status) → status ≡ resume_status answer
-      → IsAcceptedBy (acceptance answer) at file
-      → (answer ≢ Err resume.FirstFault → length file ≤ file_size → EndIsTold input)
-      → (answer ≢ Err resume.FirstFault → file_size < length file → EndIsUntold input)
-      → (answer ≡ Err resume.FirstFault → EndIsUntold input)
-      → CheckpointEnds input status
-  first_ended answer status is accepted rises stays failed =
-      subst (λ (s : Status). CheckpointEnds input s) (sym is) (first_end answer accepted rises stays failed)
-
-whole_second : (input : Input) (good : Bool) (bad : ℕ) → EndIsTold input
-    → RestEnds input (if good then Done else Damaged bad)
-whole_second input true bad rose = rose
-whole_second input false bad rose = rose
-
-second_end : (answer : Result Resumed ResumeStop) (input : Input)
-    → (IsErr (acceptance answer) → EndIsUntold input)
-    → (IsOk (acceptance answer) → TellsRest answer input.ends.before input.ends.after)
-    → RestEnds input (resume_status answer)
-second_end (Ok resumed) input same tells = whole_second input (resumed.bad == 0) resumed.bad (tells refl)
-second_end (Err resume.FirstFault) input same tells = same refl
-second_end (Err resume.SecondFault) input same tells = tells refl
-second_end (Err resume.WriteFault) input same tells = tells refl
-second_end (Err (resume.BadSave byte)) input same tells = same refl
-second_end (Err (resume.BeforeSave blocks)) input same tells = same refl
-second_end (Err (resume.Torn block)) input same tells = tells refl
-second_end (Err resume.TooLong) input same tells = tells refl
-second_end (Err (resume.PastEnd blocks)) input same tells = tells refl
-
-pub second_ended : (answer : Result Resumed ResumeStop) (status : Status) (input : Input)
-    → status ≡ resume_status answer → (IsErr (acceptance answer) → EndIsUntold input)
-    → (IsOk (acceptance answer) → TellsRest answer input.ends.before input.ends.after) → RestEnds input status
-second_ended answer status input is same tells =
-    subst (λ (s : Status). RestEnds input s) (sym is) (second_end answer input same tells)
 
 -- The rest is read only after a checkpoint
 module _ {T : Type 0} (x y : T) (at : ℕ) (first : Input) (file : List ℕ) where

@@ -1,7 +1,7 @@
 -- From the stop of reading a text to the status of a command.
-use Rattle.std.proofs.Common.{◌≡◌, ◌≢◌, ◌<◌, ◌≤◌, ◌+◌, ℕ, List, [], ◌∷◌, length, None, Some, IfSome, IsErrOf, Ok, Err, refl, sym, ap, subst, inl, inr, arith}
+use Rattle.std.proofs.Common.{◌≡◌, ◌≢◌, ◌<◌, ◌≤◌, ◌+◌, ℕ, List, [], ◌∷◌, length, None, Some, IfSome, IsErrOf, Ok, Err, refl, sym, ap, subst, arith}
 use Rattle.cdg_io.specs.Causes.{Count, TellsFault}
-use Rattle.cdg_io.specs.Change.{Bytes, Input, change, input}
+use Rattle.cdg_io.specs.Change.{Bytes, change, input}
 use Rattle.cdg_io.specs.Whole.{ConsumesExactly, ReadsWithin, StopsAtFault}
 use Rattle.cdg_io.specs.declared.whole.ReadStop.{ReadStop}
 use Rattle.cdg_io.specs.declared.whole.ReadStop.TheVariants as read
@@ -13,7 +13,7 @@ use Rattle.cue_sheet.specs.declared.fault.CueStop.TheVariants as sheet
 use Rattle.text_lines.specs.Reading.{read_on}
 use Rattle.text_lines.specs.Text.{lines_in, most_text_bytes, without_mark}
 use Rattle.cdg_cmd.specs.Authors.{IsScriptStop, IsSheetStop, IsInputStop, NeedsMemory, TakesAtStop}
-use Rattle.cdg_cmd.specs.Ends.{ScriptEnds, SheetEnds, TextEnds}
+use Rattle.cdg_cmd.specs.Ends.{StopEnds}
 use Rattle.cdg_cmd.specs.Presses.{IsFileStop}
 use Rattle.cdg_cmd.specs.Stops.{read_status, sheet_status}
 use Rattle.cdg_cmd.specs.declared.status.Which.{Which}
@@ -51,13 +51,6 @@ unread left faults ends before after stop long one_more lacking needed cut untol
   cut = λ e. cut (ap Err e);
   untold = untold;
 }
-
-long_untold : (left : Bytes) (Told Untold : Type 0) → IfSome left (λ text. most_text_bytes < length text)
-    → Untold
-    → IfSome left (λ text. (length text ≤ most_text_bytes → Told) × (most_text_bytes < length text → Untold))
-long_untold None Told Untold long untold = tt
-long_untold (Some text) Told Untold long untold =
-    (λ within. absurd (omega (arith, within, long)), λ past. untold)
 
 -- memory is needed for a text that is not empty, and not too long
 needs_memory : (left : Bytes) → IfSome left (λ text. 0 < length text)
@@ -100,16 +93,16 @@ module _ {S : Type 0} (left : S → Bytes) (faults : S → ℕ) (ends : S → Co
       subst (TakesAtStop (change left before after)) (sym is) (takes which stop u)
 
   text_ends_at : (which : Which) (stop : ReadStop) → Unread stop
-      → TextEnds (input left ends before after) (read_status which stop)
+      → StopEnds (input left ends before after) (read_status which stop)
   text_ends_at which read.Failed u = u.untold (λ e. cc)
   text_ends_at which read.TooLong u = u.untold (λ e. cc)
   text_ends_at which read.NoMemory u = (u.lacking refl).told
 
   pub text_ends : (which : Which) (stop : ReadStop) (status : Status) → status ≡ read_status which stop
       → Unread stop
-      → TextEnds (input left ends before after) status
+      → StopEnds (input left ends before after) status
   text_ends which stop status is u =
-      subst (TextEnds (input left ends before after)) (sym is) (text_ends_at which stop u)
+      subst (StopEnds (input left ends before after)) (sym is) (text_ends_at which stop u)
 
 -- What holds where an input gives no text, of the cue sheet, of the script and of the file
 
@@ -154,32 +147,6 @@ no_file left (Damaged n) why = absurd why
 no_file left Usage why = absurd why
 no_file left (Late picture need free) why = absurd why
 no_file left WriteFault why = absurd why
-
-pub sheet_ends : (sheet : Input) (status : Status) → IsInputStop First sheet.left.before status
-    → TextEnds sheet status
-    → SheetEnds sheet status
-sheet_ends sheet (ReadFault First) why ends = ends
-sheet_ends sheet (ReadFault Second) why ends = absurd (second_is_not_first why)
-sheet_ends sheet (Refused TooLong) why ends = (inl ends, long_untold sheet.left.before _ _ why ends)
-sheet_ends sheet (Refused reason) why ends = absurd why
-sheet_ends sheet NoMemory why ends = ends
-sheet_ends sheet Done why ends = absurd why
-sheet_ends sheet (Damaged n) why ends = absurd why
-sheet_ends sheet Usage why ends = absurd why
-sheet_ends sheet (Late picture need free) why ends = absurd why
-sheet_ends sheet WriteFault why ends = absurd why
-
-pub second_ends : (script : Input) (status : Status) → IsInputStop Second script.left.before status
-    → TakesAtStop script.left status → TextEnds script status → ScriptEnds script status
-second_ends script (ReadFault which) why taken ends = ends
-second_ends script (Refused TooLong) why taken ends = ends
-second_ends script (Refused reason) why taken ends = absurd why
-second_ends script NoMemory why taken ends = inr (taken, ends)
-second_ends script Done why taken ends = absurd why
-second_ends script (Damaged n) why taken ends = absurd why
-second_ends script Usage why taken ends = absurd why
-second_ends script (Late picture need free) why taken ends = absurd why
-second_ends script WriteFault why taken ends = absurd why
 
 -- A text that is read as a sheet is not empty, so memory is needed for it.
 

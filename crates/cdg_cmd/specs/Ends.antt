@@ -1,112 +1,80 @@
 -- How often a command comes to the end of an input: the count of told ends rises once, where the input is read to its
--- end, and nowhere else.
-use Rattle.std.specs.Prelude.{◌≡◌, ◌⊎◌, ◌<◌, ◌≤◌, length, IfSome}
-use Rattle.std.specs.Io.KnownBytes.{IsAtEnd}
-use Rattle.cdg_io.specs.Change.{Input}
-use Rattle.cdg_checkpoint.specs.Table.{file_size}
-use Rattle.rw_merge.specs.Merging.{EndIsTold, EndIsUntold, EndsAtStop}
-use Rattle.rw_merge.specs.declared.merge.MergeStop.TheVariants as merge
-use Rattle.text_lines.specs.Text.{most_text_bytes}
-use Rattle.cdg_cmd.specs.declared.status.Which.TheVariants.{First, Second}
-use Rattle.cdg_cmd.specs.declared.status.Refusal.TheVariants.{TooLong, Torn, SecondTorn, Unequal, PastEnd, BadSave, Cue}
+-- end, and nowhere else. Where a command makes one call, it is what the answer of this call says.
+use Rattle.std.specs.Prelude.{◌≡◌, ◌⊎◌, ℕ, List, IsErr, IsOk, Result, length}
+use Rattle.std.specs.Io.KnownBytes.{Consumes, IsAtEnd}
+use Rattle.cdg_io.specs.Causes.{Count}
+use Rattle.cdg_io.specs.Change.{Bytes, Input}
+use Rattle.cdg_checkpoint.specs.Resumed.{EndsAsResumed, IsAcceptedBy, ReadsSaved, acceptance}
+use Rattle.cdg_checkpoint.specs.declared.stops.Resumed.{Resumed}
+use Rattle.cdg_checkpoint.specs.declared.stops.ResumeStop.{ResumeStop}
+use Rattle.rw_merge.specs.Merging.{EndsBoth, Told, Untold}
+use Rattle.rw_merge.specs.declared.merge.Merged.{Merged}
+use Rattle.rw_merge.specs.declared.merge.MergeStop.{MergeStop}
+use Rattle.stream_stages.specs.Calls.{EndFirst}
+use Rattle.cue_sheet.specs.CueSheet.{CueSheet}
+use Rattle.cdg_cmd.specs.Authors.{IsSheetStop, ReadsSheet, TakesAtStop}
+use Rattle.cdg_cmd.specs.Stops.{merge_status, play_status, resume_status}
+use Rattle.cdg_cmd.specs.declared.status.Refusal.TheVariants.{TooLong}
 use Rattle.cdg_cmd.specs.declared.status.Status.{Status}
-use Rattle.cdg_cmd.specs.declared.status.Status.TheVariants.{Done, Damaged, Usage, Refused, Late, ReadFault, WriteFault, NoMemory}
+use Rattle.cdg_cmd.specs.declared.status.Status.TheVariants.{Refused, ReadFault, NoMemory}
 
--- Memory was lacking before an input was touched, or after its end was told.
-abbrev pub EndsOrUntouched : Input → Type 0
-EndsOrUntouched input = ((input.left.after ≡ input.left.before) × EndIsUntold input)
-    ⊎ (IsAtEnd input.left.after × EndIsTold input)
+-- The status is that of an answer, and the end of an input was told as this answer says.
+pub record EndsAs {A : Type 0} (status_of : A → Status) (told : A → Count → Count → Type 0) (input : Input)
+    (status : Status) : Type 0 where
+  pub answer : A
+  pub status_is : status ≡ status_of answer
+  pub ended : told answer input.ends.before input.ends.after
 
--- Of a command on a stream, where this holds after a failed write. Memory is taken before anything is read.
-abbrev pub StreamEnds : Type 0 → Input → Status → Type 0
-StreamEnds cut input Done = EndIsTold input
-StreamEnds cut input (Damaged n) = EndIsTold input
-StreamEnds cut input (Refused TooLong) = EndIsUntold input
-StreamEnds cut input (Refused why) = EndIsTold input
-StreamEnds cut input (ReadFault which) = EndIsUntold input
-StreamEnds cut input WriteFault = cut
-StreamEnds cut input NoMemory = EndIsUntold input
-StreamEnds cut input Usage = EndIsUntold input
-StreamEnds cut input (Late picture need free) = EndIsTold input
-
--- it writes as it reads
-abbrev pub EndsInTurn : Input → Status → Type 0
-EndsInTurn input status = StreamEnds (EndIsUntold input) input status
-
--- it writes nothing before it read all
-abbrev pub EndsFirst : Input → Status → Type 0
-EndsFirst input status = StreamEnds (EndIsTold input) input status
-
--- it lists the texts of a lead-in, for which memory may be lacking before it reads and after the end
+-- It lists the texts of a lead-in, for which memory may be lacking before it reads and after the end.
 abbrev pub EndsAsListed : Input → Status → Type 0
-EndsAsListed input NoMemory = EndsOrUntouched input
-EndsAsListed input status = EndsFirst input status
+EndsAsListed input status =
+    ((status ≡ NoMemory) × (input.left.after ≡ input.left.before) × Untold input.ends)
+    ⊎ (EndsAs play_status EndFirst input status × (status ≡ NoMemory → IsAtEnd input.left.after))
 
--- Of an input that may be too long for a text: the end is told once where it is not, and else not; where the input
--- does not tell its bytes, at most once.
-abbrev pub EndsWithin : Input → Type 0
-EndsWithin input = (EndIsUntold input ⊎ EndIsTold input) × IfSome input.left.before (λ text.
-    (length text ≤ most_text_bytes → EndIsTold input) × (most_text_bytes < length text → EndIsUntold input))
+-- Of an input that gives no text or file, or one that is refused: its end was told but where it is too long or a read
+-- failed.
+abbrev pub StopEnds : Input → Status → Type 0
+StopEnds input (Refused TooLong) = Untold input.ends
+StopEnds input (ReadFault which) = Untold input.ends
+StopEnds input status = Told input.ends
 
--- Of an input that gives no text or file: its end is told where there is no memory for it, and else not.
-abbrev pub TextEnds : Input → Status → Type 0
-TextEnds input NoMemory = EndIsTold input
-TextEnds input status = EndIsUntold input
-
--- The cue sheet of `author` and `press`, which is read to its end also where there is no memory for it. The second input
--- too may be too long.
-abbrev pub SheetEnds : Input → Status → Type 0
-SheetEnds sheet (Refused TooLong) = EndsWithin sheet
-SheetEnds sheet (ReadFault First) = EndIsUntold sheet
-SheetEnds sheet status = EndIsTold sheet
-
--- Their second input, which is not read where the sheet is refused or lacks memory.
-abbrev pub ScriptEnds : Input → Status → Type 0
-ScriptEnds script (Refused TooLong) = EndIsUntold script
-ScriptEnds script (Refused (Cue line why)) = EndIsUntold script
-ScriptEnds script (ReadFault which) = EndIsUntold script
-ScriptEnds script NoMemory = EndsOrUntouched script
-ScriptEnds script status = EndIsTold script
+-- The cue sheet of `author` or `press` and then their second input, which may be why they stop, as may the answer to
+-- both.
+pub data TextsEnd {A : Type 0} (is_second_stop : Bytes → Status → Type 0) (status_of : A → Status)
+    (sheet second : Input) (status : Status) : Type 0 where
+  AtSheet : IsSheetStop sheet.left.before status → StopEnds sheet status
+      → second.left.after ≡ second.left.before → Untold second.ends
+      → TextsEnd is_second_stop status_of sheet second status
+  AtSecond : (text : CueSheet) → ReadsSheet sheet.left text → Told sheet.ends
+      → is_second_stop second.left.before status → TakesAtStop second.left status → StopEnds second status
+      → TextsEnd is_second_stop status_of sheet second status
+  AfterBoth : Told sheet.ends → IsAtEnd second.left.after → Told second.ends → (answer : A)
+      → status ≡ status_of answer → TextsEnd is_second_stop status_of sheet second status
 
 -- two readings, which are read in turn
-abbrev pub ReadingsEnd : Input → Input → Status → Type 0
-ReadingsEnd one other Done = EndIsTold one × EndIsTold other
-ReadingsEnd one other (Damaged n) = EndIsTold one × EndIsTold other
-ReadingsEnd one other (Refused (Torn block)) = EndsAtStop (merge.Torn block) one other
-ReadingsEnd one other (Refused (SecondTorn block)) = EndsAtStop (merge.SecondTorn block) one other
-ReadingsEnd one other (Refused (Unequal blocks)) = EndsAtStop (merge.Unequal blocks) one other
-ReadingsEnd one other (Refused TooLong) = EndsAtStop merge.TooLong one other
-ReadingsEnd one other (ReadFault First) = EndsAtStop merge.FirstFault one other
-ReadingsEnd one other (ReadFault Second) = EndsAtStop merge.SecondFault one other
-ReadingsEnd one other WriteFault = EndsAtStop merge.WriteFault one other
-ReadingsEnd one other status = ⊥
+pub record ReadingsEnd (one other : Input) (status : Status) : Type 0 where
+  pub answer : Result Merged MergeStop
+  pub status_is : status ≡ merge_status answer
+  pub taken : List ℕ
+  pub other_taken : List ℕ
+  pub took : Consumes one.left.before one.left.after taken
+  pub other_took : Consumes other.left.before other.left.after other_taken
+  pub ended : EndsBoth answer (length taken) (length other_taken) one.ends other.ends
 
--- The checkpoint of `resume`: where its first bad byte is past the file's last, the file is too long and its end was
--- not reached.
-abbrev pub CheckpointEnds : Input → Status → Type 0
-CheckpointEnds file (Refused (BadSave byte)) = (byte < file_size → EndIsTold file)
-    × (file_size ≤ byte → EndIsUntold file)
-CheckpointEnds file (ReadFault First) = EndIsUntold file
-CheckpointEnds file NoMemory = EndIsUntold file
-CheckpointEnds file status = EndIsTold file
-
--- the rest of its stream
-abbrev pub RestEnds : Input → Status → Type 0
-RestEnds rest Done = EndIsTold rest
-RestEnds rest (Damaged n) = EndIsTold rest
-RestEnds rest (Refused (Torn block)) = EndIsTold rest
-RestEnds rest (Refused (PastEnd blocks)) = EndIsTold rest
-RestEnds rest WriteFault = EndIsTold rest
-RestEnds rest status = EndIsUntold rest
+-- the file of a checkpoint, and the rest of its stream, which is read only where the file is accepted
+pub record ResumeEnds (at : ℕ) (saved rest : Input) (status : Status) : Type 0 where
+  pub answer : Result Resumed ResumeStop
+  pub status_is : status ≡ resume_status answer
+  pub file : List ℕ
+  pub accepted : IsAcceptedBy (acceptance answer) at file
+  pub reads : ReadsSaved saved answer file
+  pub unread : IsErr (acceptance answer) → Untold rest.ends
+  pub ended : IsOk (acceptance answer) → EndsAsResumed answer rest.ends.before rest.ends.after
 
 -- a command that does not read it
 abbrev pub NeverEnds : Input → Status → Type 0
-NeverEnds input status = EndIsUntold input
+NeverEnds input status = Untold input.ends
 
 -- Of a command that reads no second input: the end of its first is told so.
 abbrev pub FirstEnds : (Input → Status → Type 0) → Input → Input → Status → Type 0
-FirstEnds ends one other status = ends one status × EndIsUntold other
-
--- Of a command that reads two inputs one after the other: their ends are told so.
-abbrev pub BothEnd : (Input → Status → Type 0) → (Input → Status → Type 0) → Input → Input → Status → Type 0
-BothEnd ends other_ends one other status = ends one status × other_ends other status
+FirstEnds ends one other status = ends one status × Untold other.ends

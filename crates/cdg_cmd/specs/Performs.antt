@@ -3,7 +3,7 @@ use Rattle.std.specs.Prelude.{◌≡◌, ◌≢◌}
 use Rattle.cdg_io.specs.Change.{Bytes, Change, Input}
 use Rattle.cdg_cmd.specs.Answer.{Does, LacksMemory}
 use Rattle.cdg_cmd.specs.Call.{Call}
-use Rattle.cdg_cmd.specs.Keeps.{Keeps, TakesNone, WantsMemory}
+use Rattle.cdg_cmd.specs.Keeps.{Keeps, TakesFirst, TakesNone, WantsMemory}
 use Rattle.cdg_cmd.specs.Profile.{TellsEnds}
 use Rattle.cdg_cmd.specs.declared.command.Command.{Command}
 use Rattle.cdg_cmd.specs.declared.status.Status.{Status}
@@ -24,8 +24,9 @@ pub record Performs {S T K : Type 0} (command : Command) (first second : Input) 
   pub does : status ≢ NoMemory → Does command (seen_bytes first second out) status
   -- what is known of the inputs where no memory was found
   pub lacks : status ≡ NoMemory → LacksMemory command (seen_bytes first second out)
-  -- the end of an input is told once where it was read to its end, and else not
-  pub ends : TellsEnds command first second status
+  -- the end of an input is told once where it was read to its end, and else not; an input is as it was where memory
+  -- that is taken first was not found (`memory`)
+  pub ends : (TakesFirst command → status ≢ NoMemory) → TellsEnds command first second status
 
 -- What a command did where memory was found; one that takes no memory wants none.
 pub record Did (command : Command) (call : Call Bytes) (status : Status) : Type 0 where

@@ -15,7 +15,7 @@ use Rattle.cdg_cmd.specs.Stops.{press_status}
 use Rattle.cdg_cmd.specs.declared.status.Which.TheVariants.{Second}
 use Rattle.cdg_cmd.specs.declared.status.Refusal.TheVariants.{TooLong}
 use Rattle.cdg_cmd.specs.declared.status.Status.{Status}
-use Rattle.cdg_cmd.specs.declared.status.Status.TheVariants.{Refused, ReadFault, WriteFault, NoMemory}
+use Rattle.cdg_cmd.specs.declared.status.Status.TheVariants.{Refused, ReadFault, NoMemory}
 
 -- an input was read to its end, and this file, which is not too long, is what it held
 pub record ReadsFile (input : Change Bytes) (file : List ℕ) : Type 0 where

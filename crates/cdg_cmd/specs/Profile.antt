@@ -1,14 +1,19 @@
 -- A row for each command: its name and its words, what it reads, when it takes memory, when it writes, and how the
 -- ends of its inputs are told. What it does stands in `Does`.
 use Rattle.std.specs.Prelude.{◌≡◌, ◌≢◌, ◌≤◌, ◌<◌, ◌^◌, ℕ, List, [], codes, ⊤}
+use Rattle.cdg_checkpoint.specs.Saved.{EndsAsSaved}
 use Rattle.cdg_io.specs.Change.{Bytes, Change, Input}
+use Rattle.cdg_io.specs.Pump.{TellsEndOf}
 use Rattle.cdg_workload.specs.Script.{most_generated}
 use Rattle.cue_sheet.specs.CueSheet.{CueSheet}
 use Rattle.disc_time.specs.Counts.{most_lead_in, time_count}
 use Rattle.raw_subcode.specs.declared.form.Form.TheVariants.{Cooked}
-use Rattle.cdg_cmd.specs.Authors.{ReadsSheet}
+use Rattle.stream_stages.specs.Calls.{EndFirst, EndInTurn}
+use Rattle.cdg_cmd.specs.Authors.{IsScriptStop, ReadsSheet}
 use Rattle.cdg_cmd.specs.Checkpoints.{ReadsCheckpoint}
-use Rattle.cdg_cmd.specs.Ends.{BothEnd, CheckpointEnds, EndsAsListed, EndsFirst, EndsInTurn, FirstEnds, NeverEnds, ReadingsEnd, RestEnds, ScriptEnds, SheetEnds}
+use Rattle.cdg_cmd.specs.Ends.{EndsAs, EndsAsListed, FirstEnds, NeverEnds, ReadingsEnd, ResumeEnds, TextsEnd}
+use Rattle.cdg_cmd.specs.Presses.{IsFileStop}
+use Rattle.cdg_cmd.specs.Stops.{author_status, play_status, press_status, pump_status, thin_status}
 use Rattle.cdg_cmd.specs.Words.{IsLeadInOption, IsLengths, IsMoment, IsScratchOptions, IsSeedOptions, IsStreamOptions, IsTimedOptions}
 use Rattle.cdg_cmd.specs.declared.command.Command.{Command}
 use Rattle.cdg_cmd.specs.declared.command.Command.TheVariants.{Convert, Screen, State, Check, Q, Text, Author, Planar, Raw, Scratch, Gen, Trial, Merge, Thin, Press, Save, Resume}
@@ -75,34 +80,34 @@ HasNoOptions options = options ≡ []
 abbrev pub profile : Command → Profile
 profile (Convert lead_in form) = profile_row (codes "convert")
     (lead_in ≤ most_lead_in) (IsStreamOptions lead_in form)
-    OneInput TakesNothing AsItGoes (FirstEnds EndsInTurn)
+    OneInput TakesNothing AsItGoes (FirstEnds (EndsAs play_status EndInTurn))
 profile (Screen lead_in form at) = profile_row (codes "screen")
     ((lead_in ≤ most_lead_in) × (at < time_count)) (IsTimedOptions lead_in form at)
-    OneInput TakesBefore AtTheEnd (FirstEnds EndsFirst)
+    OneInput TakesBefore AtTheEnd (FirstEnds (EndsAs play_status EndFirst))
 profile (State lead_in form at) = profile_row (codes "state")
     ((lead_in ≤ most_lead_in) × (at < time_count)) (IsTimedOptions lead_in form at)
-    OneInput TakesBefore AtTheEnd (FirstEnds EndsFirst)
+    OneInput TakesBefore AtTheEnd (FirstEnds (EndsAs play_status EndFirst))
 profile (Check lead_in form) = profile_row (codes "check")
     (lead_in ≤ most_lead_in) (IsStreamOptions lead_in form)
-    OneInput TakesNothing AtTheEnd (FirstEnds EndsFirst)
+    OneInput TakesNothing AtTheEnd (FirstEnds (EndsAs play_status EndFirst))
 profile (Q lead_in form) = profile_row (codes "q")
     ((lead_in ≤ most_lead_in) × (form ≢ Cooked)) (IsStreamOptions lead_in form)
-    OneInput TakesNothing AsItGoes (FirstEnds EndsInTurn)
+    OneInput TakesNothing AsItGoes (FirstEnds (EndsAs play_status EndInTurn))
 profile (Text lead_in form) = profile_row (codes "text")
     ((lead_in ≤ most_lead_in) × (form ≢ Cooked)) (IsStreamOptions lead_in form)
     OneInput TakesLater AtTheEnd (FirstEnds EndsAsListed)
 profile (Author lead_in length) = profile_row (codes "author")
     ((lead_in ≤ most_lead_in) × (length < time_count)) (IsLengths lead_in length)
-    AfterSheet TakesLater AtTheEnd (BothEnd SheetEnds ScriptEnds)
+    AfterSheet TakesLater AtTheEnd (TextsEnd IsScriptStop author_status)
 profile Planar = profile_row (codes "planar")
     ⊤ HasNoOptions
-    OneInput TakesNothing AsItGoes (FirstEnds EndsInTurn)
+    OneInput TakesNothing AsItGoes (FirstEnds (EndsAs pump_status TellsEndOf))
 profile Raw = profile_row (codes "raw")
     ⊤ HasNoOptions
-    OneInput TakesNothing AsItGoes (FirstEnds EndsInTurn)
+    OneInput TakesNothing AsItGoes (FirstEnds (EndsAs pump_status TellsEndOf))
 profile (Scratch lead_in seed) = profile_row (codes "scratch")
     ((lead_in ≤ most_lead_in) × (seed < 2 ^ 64)) (IsScratchOptions lead_in seed)
-    OneInput TakesNothing AsItGoes (FirstEnds EndsInTurn)
+    OneInput TakesNothing AsItGoes (FirstEnds (EndsAs pump_status TellsEndOf))
 profile (Gen seed pictures) = profile_row (codes "gen")
     ((seed < 2 ^ 64) × (1 ≤ pictures) × (pictures ≤ most_generated)) (IsSeedOptions seed pictures)
     NoInput TakesNothing AsItGoes (FirstEnds NeverEnds)
@@ -114,17 +119,18 @@ profile (Merge lead_in) = profile_row (codes "merge")
     InTurn TakesNothing AsItGoes ReadingsEnd
 profile Thin = profile_row (codes "thin")
     ⊤ HasNoOptions
-    OneInput TakesBefore AsItGoes (FirstEnds EndsInTurn)
+    OneInput TakesBefore AsItGoes (FirstEnds (EndsAs thin_status TellsEndOf))
 profile (Press lead_in length) = profile_row (codes "press")
     ((lead_in ≤ most_lead_in) × (length < time_count)) (IsLengths lead_in length)
-    AfterSheet TakesLater AtTheEnd (BothEnd SheetEnds ScriptEnds)
+    AfterSheet TakesLater AtTheEnd (TextsEnd IsFileStop press_status)
 profile (Save lead_in) = profile_row (codes "save")
     (lead_in ≤ most_lead_in) (IsLeadInOption lead_in)
-    OneInput TakesBefore AtTheEnd (FirstEnds EndsFirst)
+    OneInput TakesBefore AtTheEnd (FirstEnds (EndsAs pump_status EndsAsSaved))
 profile (Resume at) = profile_row (codes "resume")
     (at < time_count) (IsMoment at)
-    (AfterCheckpoint at) TakesBefore AtTheEnd (BothEnd CheckpointEnds RestEnds)
+    (AfterCheckpoint at) TakesBefore AtTheEnd (ResumeEnds at)
 
--- Of both inputs: the end is told once where the input was read to its end, and else not at all.
+-- Of both inputs, where memory that is taken before they are read was found: the end is told once where the input was
+-- read to its end, and else not at all.
 abbrev pub TellsEnds : Command → Input → Input → Status → Type 0
 TellsEnds command = (profile command).ends

@@ -5,10 +5,11 @@ ghost use Rattle.cdg_io.specs.Causes.{RoseOnce, TellsFault};
 ghost use Rattle.cdg_cmd.specs.Authors.{AuthorsWith, IsScriptStop, IsSheetStop, ReadsScript, ReadsSheet, TakesAtStop};
 ghost use Rattle.cdg_io.specs.Change.{change, from_to, input};
 ghost use Rattle.cdg_cmd.specs.Call.{call};
-ghost use Rattle.cdg_cmd.specs.Ends.{ScriptEnds, SheetEnds};
+ghost use Rattle.cdg_cmd.specs.Ends.{StopEnds, TextsEnd};
 ghost use Rattle.cdg_cmd.specs.Faults.{TellsFaults, IsTold};
 ghost use Rattle.cdg_cmd.specs.Keeps.{MayReadSecond};
-ghost use Rattle.cdg_cmd.specs.Presses.{PressesWith};
+ghost use Rattle.cdg_cmd.specs.Presses.{IsFileStop, PressesWith};
+ghost use Rattle.cdg_cmd.specs.Stops.{author_status, press_status};
 ghost use Rattle.cdg_workload.specs.Script.{generated_script, most_generated};
 ghost use Rattle.cdg_cmd.specs.Answer.{Generates, Tries};
 
@@ -31,7 +32,7 @@ fn read_sheet<S: Source>(memory: &mut CountedMemory, first: &mut S) -> Result<Sh
         (S.faults first.old) (S.faults first.new) result }
     ensures wants { TellsFault Status.NoMemory memory.old memory.new result }
     ensures told { OnOk result (RoseOnce (S.ends first.old) (S.ends first.new)) }
-    ensures once { IfErr result (SheetEnds (input S.left S.ends first.old first.new)) }
+    ensures once { IfErr result (StopEnds (input S.left S.ends first.old first.new)) }
 {
     let text = match memory.read_text(Which::First, first) {
         Ok(text) => text,
@@ -52,7 +53,7 @@ fn read_script<S: Source>(memory: &mut CountedMemory, second: &mut S) -> Result<
         (S.faults second.old) (S.faults second.new) result }
     ensures wants { TellsFault Status.NoMemory memory.old memory.new result }
     ensures told { OnOk result (RoseOnce (S.ends second.old) (S.ends second.new)) }
-    ensures once { IfErr result (ScriptEnds (input S.left S.ends second.old second.new)) }
+    ensures once { IfErr result (StopEnds (input S.left S.ends second.old second.new)) }
 {
     let text = match memory.read_text(Which::Second, second) {
         Ok(text) => text,
@@ -83,8 +84,8 @@ pub(crate) fn run_author<S: Source, T: Source, K: Sink>(
         ⊎ MayReadSecond (Command.Author lead_in length) (input S.left S.ends first.old first.new) }
     ensures faults { TellsFaults (call S.faults T.faults K.faults (first.old, second.old, out.old)
         (first.new, second.new, out.new)) result }
-    ensures first_ended { SheetEnds (input S.left S.ends first.old first.new) result }
-    ensures second_ended { ScriptEnds (input T.left T.ends second.old second.new) result }
+    ensures ended { TextsEnd IsScriptStop author_status (input S.left S.ends first.old first.new)
+        (input T.left T.ends second.old second.new) result }
     // Memory is wanted where a call says that none was found, and nowhere else.
     ensures wants { IsTold Status.NoMemory (from_to memory.old memory.new) result }
 {
@@ -118,8 +119,8 @@ pub(crate) fn run_press<S: Source, T: Source, K: Sink>(
         ⊎ MayReadSecond (Command.Press lead_in length) (input S.left S.ends first.old first.new) }
     ensures faults { TellsFaults (call S.faults T.faults K.faults (first.old, second.old, out.old)
         (first.new, second.new, out.new)) result }
-    ensures first_ended { SheetEnds (input S.left S.ends first.old first.new) result }
-    ensures second_ended { ScriptEnds (input T.left T.ends second.old second.new) result }
+    ensures ended { TextsEnd IsFileStop press_status (input S.left S.ends first.old first.new)
+        (input T.left T.ends second.old second.new) result }
     // Memory is wanted where a call says that none was found, and nowhere else.
     ensures wants { IsTold Status.NoMemory (from_to memory.old memory.new) result }
 {

@@ -1,5 +1,6 @@
 // What commands ask memory for, with a count of the answers that said that there was none. Nothing but the calls here
-// reaches the allocator, and that count rises by `note` alone, to which each of them shows what it was answered.
+// reaches the allocator, and that count rises by `note` alone, to which each of them shows what it was answered, or by what
+// an author and a trial count themselves.
 ghost use Rattle.std.specs.Prelude.{◌≡◌, ◌≢◌, ◌≤◌, ◌<◌, ◌↔◌, ℕ, List, Ok, Err, IfErr, IfOk, IfSome, IsTrue, OnOk, length};
 ghost use Rattle.std.specs.Io.KnownBytes.{Appends, IsAtEnd};
 ghost use Rattle.cdg_io.specs.Causes.{HasCause, RoseOnce, TellsFault};
@@ -7,7 +8,7 @@ ghost use Rattle.cdg_io.specs.Change.{change, input, passed};
 ghost use Rattle.cdg_io.specs.Moves.{AppendsPrefix};
 ghost use Rattle.cdg_cmd.specs.Answer.{IsListAnswer};
 ghost use Rattle.cdg_cmd.specs.Authors.{IsInputStop, IsPutFor, TakesAtStop};
-ghost use Rattle.cdg_cmd.specs.Ends.{TextEnds};
+ghost use Rattle.cdg_cmd.specs.Ends.{StopEnds};
 ghost use Rattle.cdg_cmd.specs.Presses.{IsPressedFor};
 ghost use Rattle.cdg_press.specs.Pressed.{press_of};
 ghost use Rattle.cdg_press.specs.Refusals.{IsShort};
@@ -29,7 +30,7 @@ ghost use Rattle.cue_sheet.specs.declared.fault.CueStop.TheVariants as sheet;
 ghost use Rattle.picture_script.specs.declared.reasons.ScriptStop.TheVariants as script;
 ghost use Rattle.stream_stages.specs.declared.played.PlayStop.TheVariants as play;
 
-use crate::no_memory::NoMemoryCount;
+use crate::no_memory::{note, note_answer};
 use crate::status::read_status;
 use crate::{Status, Which};
 use cdg_checkpoint::Checkpointer;
@@ -42,8 +43,8 @@ use raw_subcode::Form;
 use std::alloc::{AllocError, Global};
 use std::marker::Model;
 use stream_stages::{PlayStop, Played, TextLister, Viewer};
-use stream_trial::{TrialMemory, TrialStop, trial};
-use subcode_author::{AuthorStop, accepted_scripts_have_streams, author_stream};
+use stream_trial::{TrialStop, trial};
+use subcode_author::{AuthorStop, NoMemoryCount, accepted_scripts_have_streams, author_counted};
 use text_lines::MOST_TEXT_BYTES;
 
 /// The allocator, with a count of the answers that said that no memory was found. Seen as that count.
@@ -74,7 +75,7 @@ impl CountedMemory {
         ensures { HasCause self.old self.new result }
     {
         let viewer = Viewer::start(self.alloc);
-        self.lacks.note_answer(&viewer);
+        note_answer(&mut self.lacks, &viewer);
         viewer
     }
 
@@ -82,7 +83,7 @@ impl CountedMemory {
         ensures { HasCause self.old self.new result }
     {
         let checkpointer = Checkpointer::start(self.alloc);
-        self.lacks.note_answer(&checkpointer);
+        note_answer(&mut self.lacks, &checkpointer);
         checkpointer
     }
 
@@ -91,7 +92,7 @@ impl CountedMemory {
         ensures counted { HasCause self.old self.new result }
     {
         let thinner = Thinner::start(self.alloc);
-        self.lacks.note_answer(&thinner);
+        note_answer(&mut self.lacks, &thinner);
         thinner
     }
 
@@ -99,7 +100,7 @@ impl CountedMemory {
         ensures { HasCause self.old self.new result }
     {
         let lister = TextLister::start(self.alloc);
-        self.lacks.note_answer(&lister);
+        note_answer(&mut self.lacks, &lister);
         lister
     }
 
@@ -124,7 +125,7 @@ impl CountedMemory {
         ensures counted { TellsFault (play.Text fault.NoMemory) self.old self.new result }
     {
         let listed = lister.text_list(self.alloc, lead_in, form, source, out);
-        self.lacks.note_answer(&listed);
+        note_answer(&mut self.lacks, &listed);
         listed
     }
 
@@ -143,12 +144,12 @@ impl CountedMemory {
             (S.faults source.old) (S.faults source.new) result }
         ensures wants { TellsFault Status.NoMemory self.old self.new result }
         ensures told { OnOk result (RoseOnce (S.ends source.old) (S.ends source.new)) }
-        ensures once { IfErr result (TextEnds (input S.left S.ends source.old source.new)) }
+        ensures once { IfErr result (StopEnds (input S.left S.ends source.old source.new)) }
     {
         match read_whole(self.alloc, source, MOST_TEXT_BYTES) {
             Ok(text) => Ok(text),
             Err(stop) => {
-                self.lacks.note(&stop);
+                note(&mut self.lacks, &stop);
                 Err(read_status(which, stop))
             }
         }
@@ -160,7 +161,7 @@ impl CountedMemory {
         ensures counted { TellsFault sheet.NoMemory self.old self.new result }
     {
         let sheet = Sheet::parse(self.alloc, text);
-        self.lacks.note_answer(&sheet);
+        note_answer(&mut self.lacks, &sheet);
         sheet
     }
 
@@ -171,7 +172,7 @@ impl CountedMemory {
         ensures counted { TellsFault script.NoMemory self.old self.new result }
     {
         let script = Script::parse(self.alloc, text);
-        self.lacks.note_answer(&script);
+        note_answer(&mut self.lacks, &script);
         script
     }
 
@@ -196,9 +197,15 @@ impl CountedMemory {
         sheet.tracks_are_in_order();
         script.times_rise_and_colours_are_in_range();
         accepted_scripts_have_streams();
-        let authored = author_stream(self.alloc, sheet, script, lead_in, length, out);
-        self.lacks.note_answer(&authored);
-        authored
+        author_counted(
+            self.alloc,
+            &mut self.lacks,
+            sheet,
+            script,
+            lead_in,
+            length,
+            out,
+        )
     }
 
     /// Writes the stream of a sheet and a file of packs.
@@ -220,7 +227,7 @@ impl CountedMemory {
         ensures counted { TellsFault PressStop.NoMemory self.old self.new result }
     {
         let pressed = press_stream(self.alloc, sheet, file, lead_in, length, out);
-        self.lacks.note_answer(&pressed);
+        note_answer(&mut self.lacks, &pressed);
         pressed
     }
 
@@ -241,9 +248,6 @@ impl CountedMemory {
         ensures untouched { result ≡ Err TrialStop.NoMemory → out.new ≡ out.old }
         ensures counted { TellsFault TrialStop.NoMemory self.old self.new result }
     {
-        let mut memory = TrialMemory::new(self.alloc);
-        let tried = trial(&mut memory, seed, pictures, out);
-        self.lacks.note_answer(&tried);
-        tried
+        trial(self.alloc, &mut self.lacks, seed, pictures, out)
     }
 }

@@ -1,6 +1,5 @@
-// The count of the answers that said that no memory was found. It rises by `note` alone, which is shown why a call
-// stopped.
-ghost use Rattle.std.specs.Prelude.{◌≡◌, ◌≢◌, ◌≤◌, ◌↔◌, ℕ, IsTrue};
+// How a stop is counted that says that no memory was found: by `note` alone, which is shown why a call stopped.
+ghost use Rattle.std.specs.Prelude.{◌≡◌, ◌≢◌, ◌≤◌, ◌↔◌, IsTrue};
 ghost use Rattle.cdg_io.specs.Causes.{Rose, TellsFault};
 ghost use Rattle.cdg_io.specs.declared.whole.ReadStop.TheVariants as read;
 ghost use Rattle.cdg_press.specs.declared.stops.PressStop.TheVariants as press;
@@ -8,8 +7,6 @@ ghost use Rattle.cdtext_packs.specs.declared.kinds.TextFault.TheVariants as faul
 ghost use Rattle.cue_sheet.specs.declared.fault.CueStop.TheVariants as sheet;
 ghost use Rattle.picture_script.specs.declared.reasons.ScriptStop.TheVariants as script;
 ghost use Rattle.stream_stages.specs.declared.played.PlayStop.TheVariants as play;
-ghost use Rattle.stream_trial.specs.declared.stops.TrialStop.TheVariants as tried;
-ghost use Rattle.subcode_author.specs.declared.stops.AuthorStop.TheVariants as author;
 
 use cdg_io::ReadStop;
 use cdg_press::PressStop;
@@ -17,10 +14,8 @@ use cdtext_packs::TextFault;
 use cue_sheet::CueStop;
 use picture_script::ScriptStop;
 use std::alloc::AllocError;
-use std::marker::Model;
 use stream_stages::PlayStop;
-use stream_trial::TrialStop;
-use subcode_author::AuthorStop;
+use subcode_author::NoMemoryCount;
 
 // A stop that may say that no memory was found.
 pub(crate) trait MemoryStop {
@@ -71,14 +66,6 @@ impl MemoryStop for PlayStop {
     }
 }
 
-impl MemoryStop for AuthorStop {
-    ghost no_memory = { author.NoMemory };
-
-    fn is_no_memory(&self) -> bool {
-        matches!(self, AuthorStop::NoMemory)
-    }
-}
-
 impl MemoryStop for PressStop {
     ghost no_memory = { press.NoMemory };
 
@@ -87,51 +74,22 @@ impl MemoryStop for PressStop {
     }
 }
 
-impl MemoryStop for TrialStop {
-    ghost no_memory = { tried.NoMemory };
-
-    fn is_no_memory(&self) -> bool {
-        matches!(self, TrialStop::NoMemory)
+/// Counts a stop that says that no memory was found, and no other.
+pub(crate) fn note<E: MemoryStop>(count: &mut NoMemoryCount, stop: &E)
+    ensures later { count.old ≤ count.new }
+    ensures lacks { stop.now ≡ E.no_memory → Rose count.old count.new }
+    ensures other { stop.now ≢ E.no_memory → count.new ≡ count.old }
+{
+    if stop.is_no_memory() {
+        count.note(&AllocError);
     }
 }
 
-/// How many answers said that no memory was found. Seen as that count.
-#[derive(Drop)]
-pub(crate) struct NoMemoryCount {
-    count: u64,
-}
-
-impl Model for NoMemoryCount {
-    ghost Value = { ℕ };
-
-    ghost view = { λ c. c.count };
-}
-
-impl NoMemoryCount {
-    /// Before the first answer.
-    pub(crate) fn none() -> NoMemoryCount
-        ensures { result ≡ 0 }
-    {
-        NoMemoryCount { count: 0 }
-    }
-
-    /// Counts a stop that says that no memory was found, and no other.
-    pub(crate) fn note<E: MemoryStop>(&mut self, stop: &E)
-        ensures later { self.old ≤ self.new }
-        ensures lacks { stop.now ≡ E.no_memory → Rose self.old self.new }
-        ensures other { stop.now ≢ E.no_memory → self.new ≡ self.old }
-    {
-        if stop.is_no_memory() {
-            self.count = self.count.saturating_add(1);
-        }
-    }
-
-    /// The same of an answer.
-    pub(crate) fn note_answer<T, E: MemoryStop>(&mut self, answer: &Result<T, E>)
-        ensures { TellsFault E.no_memory self.old self.new answer.now }
-    {
-        if let Err(stop) = answer {
-            self.note(stop);
-        }
+/// The same of an answer.
+pub(crate) fn note_answer<T, E: MemoryStop>(count: &mut NoMemoryCount, answer: &Result<T, E>)
+    ensures { TellsFault E.no_memory count.old count.new answer.now }
+{
+    if let Err(stop) = answer {
+        note(count, stop);
     }
 }

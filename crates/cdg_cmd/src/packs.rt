@@ -4,9 +4,12 @@ ghost use Rattle.disc_time.specs.Counts.{most_lead_in, time_count};
 ghost use Rattle.cdg_cmd.specs.Answer.{Does};
 ghost use Rattle.cdg_io.specs.Change.{change, from_to, input};
 ghost use Rattle.cdg_cmd.specs.Call.{call, one_input};
-ghost use Rattle.cdg_cmd.specs.Ends.{ReadingsEnd, EndsInTurn, EndsFirst, CheckpointEnds, RestEnds};
+ghost use Rattle.cdg_cmd.specs.Ends.{EndsAs, ReadingsEnd, ResumeEnds};
 ghost use Rattle.cdg_cmd.specs.Faults.{IsTold, TellsFaults, TellsOne};
 ghost use Rattle.cdg_cmd.specs.Keeps.{MayWrite, MayReadSecond};
+ghost use Rattle.cdg_cmd.specs.Stops.{pump_status, thin_status};
+ghost use Rattle.cdg_io.specs.Pump.{TellsEndOf};
+ghost use Rattle.cdg_checkpoint.specs.Saved.{EndsAsSaved};
 
 use crate::memory::CountedMemory;
 use crate::status::{merge_status, pump_status, resume_status, thin_status};
@@ -39,7 +42,7 @@ pub(crate) fn run_merge<S: Source, T: Source, K: Sink>(
 }
 
 /// Writes the thin form of a file of packs as they are read.
-#[tactic(auto, using(crate::proofs::ThinTold::told_one, crate::proofs::Played::told_none, crate::proofs::ThinTold::never_memory, crate::proofs::ThinTold::ended_in_turn))]
+#[tactic(auto, using(crate::proofs::ThinTold::told_one, crate::proofs::Played::told_none, crate::proofs::ThinTold::never_memory, crate::proofs::Ended::ended_as))]
 pub(crate) fn run_thin<S: Source, K: Sink>(
     memory: &mut CountedMemory,
     source: &mut S,
@@ -50,7 +53,8 @@ pub(crate) fn run_thin<S: Source, K: Sink>(
     ensures no_memory { result ≡ Status.NoMemory → (source.new ≡ source.old) × (out.new ≡ out.old) }
     ensures faults { TellsOne (change S.faults source.old source.new)
         (change K.faults out.old out.new) result }
-    ensures ended { EndsInTurn (input S.left S.ends source.old source.new) result }
+    ensures ended { result ≢ Status.NoMemory
+        → EndsAs thin_status TellsEndOf (input S.left S.ends source.old source.new) result }
     // Memory is wanted where a call says that none was found, and nowhere else.
     ensures wants { IsTold Status.NoMemory (from_to memory.old memory.new) result }
 {
@@ -75,7 +79,8 @@ pub(crate) fn run_save<S: Source, K: Sink>(
     ensures untouched { ¬ (MayWrite result) → out.new ≡ out.old }
     ensures faults { TellsOne (change S.faults source.old source.new)
         (change K.faults out.old out.new) result }
-    ensures ended { EndsFirst (input S.left S.ends source.old source.new) result }
+    ensures ended { result ≢ Status.NoMemory
+        → EndsAs pump_status EndsAsSaved (input S.left S.ends source.old source.new) result }
     // Memory is wanted where a call says that none was found, and nowhere else.
     ensures wants { IsTold Status.NoMemory (from_to memory.old memory.new) result }
 {
@@ -105,8 +110,8 @@ pub(crate) fn run_resume<S: Source, T: Source, K: Sink>(
         ⊎ MayReadSecond (Command.Resume at) (input S.left S.ends first.old first.new) }
     ensures faults { TellsFaults (call S.faults T.faults K.faults (first.old, second.old, out.old)
         (first.new, second.new, out.new)) result }
-    ensures first_ended { CheckpointEnds (input S.left S.ends first.old first.new) result }
-    ensures second_ended { RestEnds (input T.left T.ends second.old second.new) result }
+    ensures ended { result ≢ Status.NoMemory → ResumeEnds at (input S.left S.ends first.old first.new)
+        (input T.left T.ends second.old second.new) result }
     // Memory is wanted where a call says that none was found, and nowhere else.
     ensures wants { IsTold Status.NoMemory (from_to memory.old memory.new) result }
 {
@@ -117,7 +122,7 @@ pub(crate) fn run_resume<S: Source, T: Source, K: Sink>(
 }
 
 /// Writes a stream with the scratches of a seed as its blocks are read.
-#[tactic(auto, using(crate::proofs::Pumped::told_one, crate::proofs::Pumped::ended_in_turn, crate::proofs::Pumped::never_memory))]
+#[tactic(auto, using(crate::proofs::Pumped::told_one, crate::proofs::Ended::ended_as, crate::proofs::Pumped::never_memory))]
 pub(crate) fn run_scratch<S: Source, K: Sink>(
     lead_in: u32,
     seed: u64,
@@ -130,33 +135,33 @@ pub(crate) fn run_scratch<S: Source, K: Sink>(
     ensures memory { result ≢ Status.NoMemory }
     ensures faults { TellsOne (change S.faults source.old source.new)
         (change K.faults out.old out.new) result }
-    ensures ended { EndsInTurn (input S.left S.ends source.old source.new) result }
+    ensures ended { EndsAs pump_status TellsEndOf (input S.left S.ends source.old source.new) result }
 {
     pump_status(scratch(lead_in, seed, source, out))
 }
 
 /// Writes the planar form of each block as the blocks are read.
-#[tactic(auto, using(crate::proofs::Pumped::told_one, crate::proofs::Pumped::ended_in_turn, crate::proofs::Pumped::never_memory))]
+#[tactic(auto, using(crate::proofs::Pumped::told_one, crate::proofs::Ended::ended_as, crate::proofs::Pumped::never_memory))]
 pub(crate) fn run_planar<S: Source, K: Sink>(source: &mut S, out: &mut K) -> Status
     ensures does { Does Command.Planar (one_input S.left K.held (source.old, out.old)
         (source.new, out.new)) result }
     ensures memory { result ≢ Status.NoMemory }
     ensures faults { TellsOne (change S.faults source.old source.new)
         (change K.faults out.old out.new) result }
-    ensures ended { EndsInTurn (input S.left S.ends source.old source.new) result }
+    ensures ended { EndsAs pump_status TellsEndOf (input S.left S.ends source.old source.new) result }
 {
     pump_status(pump(source, MOST_UNITS, &mut PlanarForms, out))
 }
 
 /// Writes the block of each planar form as the blocks are read.
-#[tactic(auto, using(crate::proofs::Pumped::told_one, crate::proofs::Pumped::ended_in_turn, crate::proofs::Pumped::never_memory))]
+#[tactic(auto, using(crate::proofs::Pumped::told_one, crate::proofs::Ended::ended_as, crate::proofs::Pumped::never_memory))]
 pub(crate) fn run_raw<S: Source, K: Sink>(source: &mut S, out: &mut K) -> Status
     ensures does { Does Command.Raw (one_input S.left K.held (source.old, out.old)
         (source.new, out.new)) result }
     ensures memory { result ≢ Status.NoMemory }
     ensures faults { TellsOne (change S.faults source.old source.new)
         (change K.faults out.old out.new) result }
-    ensures ended { EndsInTurn (input S.left S.ends source.old source.new) result }
+    ensures ended { EndsAs pump_status TellsEndOf (input S.left S.ends source.old source.new) result }
 {
     pump_status(pump(source, MOST_UNITS, &mut BlockForms, out))
 }

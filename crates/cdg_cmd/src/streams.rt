@@ -4,9 +4,11 @@ ghost use Rattle.disc_time.specs.Counts.{most_lead_in, time_count};
 ghost use Rattle.cdg_cmd.specs.Answer.{Does, LacksMemory};
 ghost use Rattle.cdg_io.specs.Change.{change, from_to, input};
 ghost use Rattle.cdg_cmd.specs.Call.{one_input};
-ghost use Rattle.cdg_cmd.specs.Ends.{EndsInTurn, EndsFirst, EndsAsListed};
+ghost use Rattle.stream_stages.specs.Calls.{EndFirst, EndInTurn};
+ghost use Rattle.cdg_cmd.specs.Ends.{EndsAs, EndsAsListed};
 ghost use Rattle.cdg_cmd.specs.Faults.{IsTold, TellsOne};
 ghost use Rattle.cdg_cmd.specs.Keeps.{MayWrite};
+ghost use Rattle.cdg_cmd.specs.Stops.{play_status};
 
 use crate::memory::CountedMemory;
 use crate::status::play_status;
@@ -16,7 +18,7 @@ use raw_subcode::Form;
 use stream_stages::{Checker, Converter, list_frames};
 
 /// Writes the packs of a stream as its blocks are read.
-#[tactic(auto, using(crate::proofs::Played::told_one, crate::proofs::Played::never_memory, crate::proofs::Played::ended_in_turn))]
+#[tactic(auto, using(crate::proofs::Played::told_one, crate::proofs::Played::never_memory, crate::proofs::Ended::ended_as))]
 pub(crate) fn run_convert<S: Source, K: Sink>(
     lead_in: u32,
     form: Form,
@@ -29,13 +31,13 @@ pub(crate) fn run_convert<S: Source, K: Sink>(
     ensures memory { result ≢ Status.NoMemory }
     ensures faults { TellsOne (change S.faults source.old source.new)
         (change K.faults out.old out.new) result }
-    ensures ended { EndsInTurn (input S.left S.ends source.old source.new) result }
+    ensures ended { EndsAs play_status EndInTurn (input S.left S.ends source.old source.new) result }
 {
     play_status(Converter::new().convert(lead_in, form, source, out))
 }
 
 /// Writes the counts of a stream.
-#[tactic(auto, using(crate::proofs::Played::told_one, crate::proofs::Played::never_memory, crate::proofs::Played::ended_whole, crate::proofs::Played::untouched))]
+#[tactic(auto, using(crate::proofs::Played::told_one, crate::proofs::Played::never_memory, crate::proofs::Ended::ended_as, crate::proofs::Played::untouched))]
 pub(crate) fn run_check<S: Source, K: Sink>(
     lead_in: u32,
     form: Form,
@@ -49,13 +51,13 @@ pub(crate) fn run_check<S: Source, K: Sink>(
     ensures untouched { ¬ (MayWrite result) → out.new ≡ out.old }
     ensures faults { TellsOne (change S.faults source.old source.new)
         (change K.faults out.old out.new) result }
-    ensures ended { EndsFirst (input S.left S.ends source.old source.new) result }
+    ensures ended { EndsAs play_status EndFirst (input S.left S.ends source.old source.new) result }
 {
     play_status(Checker::new().check(lead_in, form, source, out))
 }
 
 /// Writes the lines of the Q channel as blocks are read.
-#[tactic(auto, using(crate::proofs::Played::told_one, crate::proofs::Played::never_memory, crate::proofs::Played::ended_in_turn))]
+#[tactic(auto, using(crate::proofs::Played::told_one, crate::proofs::Played::never_memory, crate::proofs::Ended::ended_as))]
 pub(crate) fn run_q<S: Source, K: Sink>(
     lead_in: u32,
     form: Form,
@@ -69,7 +71,7 @@ pub(crate) fn run_q<S: Source, K: Sink>(
     ensures memory { result ≢ Status.NoMemory }
     ensures faults { TellsOne (change S.faults source.old source.new)
         (change K.faults out.old out.new) result }
-    ensures ended { EndsInTurn (input S.left S.ends source.old source.new) result }
+    ensures ended { EndsAs play_status EndInTurn (input S.left S.ends source.old source.new) result }
 {
     play_status(list_frames(lead_in, form, source, out))
 }
@@ -123,7 +125,8 @@ pub(crate) fn run_screen<S: Source, K: Sink>(
     ensures untouched { ¬ (MayWrite result) → out.new ≡ out.old }
     ensures faults { TellsOne (change S.faults source.old source.new)
         (change K.faults out.old out.new) result }
-    ensures ended { EndsFirst (input S.left S.ends source.old source.new) result }
+    ensures ended { result ≢ Status.NoMemory
+        → EndsAs play_status EndFirst (input S.left S.ends source.old source.new) result }
     // Memory is wanted where a call says that none was found, and nowhere else.
     ensures wants { IsTold Status.NoMemory (from_to memory.old memory.new) result }
 {
@@ -151,7 +154,8 @@ pub(crate) fn run_state<S: Source, K: Sink>(
     ensures untouched { ¬ (MayWrite result) → out.new ≡ out.old }
     ensures faults { TellsOne (change S.faults source.old source.new)
         (change K.faults out.old out.new) result }
-    ensures ended { EndsFirst (input S.left S.ends source.old source.new) result }
+    ensures ended { result ≢ Status.NoMemory
+        → EndsAs play_status EndFirst (input S.left S.ends source.old source.new) result }
     // Memory is wanted where a call says that none was found, and nowhere else.
     ensures wants { IsTold Status.NoMemory (from_to memory.old memory.new) result }
 {

@@ -114,7 +114,7 @@ pub fn run<S: Source, T: Source, K: Sink, E: Sink>(
         IsSheetText cue disc.sheet → IsScriptText text disc.script
         → WritesOrIsLate disc (change K.held out.old out.new) result)) }
     // A picture that is told late cannot be ready: no list of instructions without scrolls brings it in the
-    // packs that are free for it.
+    // packs that are free for it. One for the first picture has to make all settings, so that a blank one may be late.
     ensures late { (lead_in audio picture need free : ℕ) (script : List Drawing)
         → Spells (Command.Author lead_in audio) (texts words.now) → result ≡ Status.Late picture need free
         → IfSome (T.left second.old) (λ text. IsScriptText text script

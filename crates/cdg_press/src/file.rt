@@ -39,13 +39,17 @@ impl<'a> PackSource for FileSource<'a> {
 }
 
 // The codeword of the symbols of a pack, whatever parity it has, or none where it is idle. Most packs of a file are
-// idle, and these are told without a look at their sums.
+// zeros, which are told before any symbol is taken; idle ones are told without a look at their sums.
 fn made_good(pack: &[u8]) -> Option<Pack>
     requires { length pack.now ≡ pack_bytes }
     ensures { IsMadeGood (symbols_of pack.now) (unwrap_or result idle_pack) }
 {
     let mut bytes = [0; PACK_BYTES];
     bytes.copy_from_slice(pack);
+    let zeros = bytes == [0; PACK_BYTES];
+    if zeros {
+        return None;
+    }
     let word = Word::new(&bytes);
     if word.bytes() == [0; PACK_BYTES] {
         return None;

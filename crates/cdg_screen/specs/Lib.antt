@@ -1,4 +1,5 @@
 pub mod Standing
 pub mod Memory
+pub mod Columns
 pub mod Texts
 pub mod Touched

@@ -1,6 +1,7 @@
 // Rows of the screen and of its memory, whole or some of their columns.
-ghost use Rattle.std.specs.Prelude.{◌≡◌, ◌<◌, ◌≤◌, ◌+◌, ◌-◌, ◌*◌, ◌%◌, ◌&&◌, nat_le, nat_lt, if◌then◌else◌, ℕ, [], All, length, slice_index, slice_index_or};
+ghost use Rattle.std.specs.Prelude.{◌≡◌, ◌<◌, ◌≤◌, ◌+◌, ◌-◌, ◌*◌, ◌%◌, ◌&&◌, nat_le, nat_lt, if◌then◌else◌, ℕ, [], All, IfSome, length, slice_index, slice_index_or};
 ghost use Rattle.cdg_instructions.specs.Sizes.{colour_count, screen_height, screen_width};
+ghost use Rattle.cdg_screen.specs.Columns.{AreColumns};
 ghost use Rattle.cdg_screen.specs.Memory.{at, seen};
 ghost use Rattle.cdg_screen.specs.Standing.{screen_pixel};
 
@@ -20,7 +21,8 @@ impl PlainScreen {
     }
 
     /// Writes the numbers of the colours of pixels of row `y` of the screen, from column `x` on: one to each byte of
-    /// `columns`. They are all on the screen.
+    /// `columns`. They are all on the screen. It is inlined, since much of it goes where the place and the count are known.
+    #[inline(always)]
     pub fn write_columns(&self, x: usize, y: usize, columns: &mut [u8])
         requires width { x + length columns.old ≤ screen_width }
         requires height { y < screen_height }
@@ -42,6 +44,25 @@ impl PlainScreen {
         self.memory
             .copy_columns(across, down, &mut columns[left..right]);
         fill(columns, right, end, self.border);
+    }
+
+    /// The same numbers where they stand side by side in the memory. None if the border or an end of a row of the memory
+    /// is among them.
+    pub fn columns(&self, x: usize, y: usize, count: usize) -> Option<&[u8]>
+        requires width { x + count ≤ screen_width }
+        requires height { y < screen_height }
+        ensures { IfSome result (λ columns. AreColumns (seen self.now) x y count columns.now) }
+    {
+        if x < TILE_WIDTH || x + count > SCREEN_WIDTH - TILE_WIDTH {
+            return None;
+        }
+        if y < TILE_HEIGHT || y >= SCREEN_HEIGHT - TILE_HEIGHT {
+            return None;
+        }
+        let across = x + usize::from(self.h);
+        let down = y + usize::from(self.v);
+        let columns = self.memory.columns(across, down, count)?;
+        Some(columns)
     }
 
     /// Row `y` of the memory, 300 numbers of colours. `y` is below 216.
@@ -66,6 +87,23 @@ impl Memory {
         let mut row = [0; SCREEN_WIDTH];
         self.copy_columns(0, y, &mut row);
         row
+    }
+
+    // Pixels of row y, from column x on, unless they go on at its front.
+    fn columns(&self, x: usize, y: usize, count: usize) -> Option<&[u8]>
+        requires width { x + count ≤ screen_width }
+        requires height { y < screen_height }
+        ensures size { IfSome result (λ columns. length columns.now ≡ count) }
+        ensures pixels { IfSome result (λ columns. (i : ℕ) → i < count
+            → slice_index columns.now i ≡ at self.now (x + i) y) }
+        ensures range { IfSome result (λ columns. (i : ℕ) → slice_index columns.now i < colour_count) }
+    {
+        let row = &self.rows[wrapped(y + self.top, SCREEN_HEIGHT)];
+        let first = wrapped(x + self.left, SCREEN_WIDTH);
+        if count > SCREEN_WIDTH - first {
+            return None;
+        }
+        Some(&row[first..first + count])
     }
 
     // Copies pixels of row y, from column x on.

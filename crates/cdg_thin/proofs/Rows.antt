@@ -1,5 +1,5 @@
 -- Packs that stand one behind another, and that the stage goes over where they stand.
-use Rattle.std.proofs.Common.{◌≡◌, ℕ, length-append, length-drop, suc, ◌+◌, ◌-◌, ◌*◌, ◌<◌, ◌≤◌, List, ◌∷◌, ◌++◌, length, take, drop, Some, refl, sym, ap, ap₂, ◌∙◌, append_assoc, append-nil, length-take-le, take_all, arith}
+use Rattle.std.proofs.Common.{◌≡◌, ℕ, length-append, length-drop, suc, ◌+◌, ◌-◌, ◌*◌, ◌<◌, ◌≤◌, List, ◌∷◌, ◌++◌, length, take, drop, Some, refl, subst, sym, ap, ap₂, ◌∙◌, append_assoc, append-nil, length-take-le, take_all, arith}
 use Rattle.std.proofs.lemmas.List.{drop-drop, take-append-drop}
 use Rattle.std.proofs.lemmas.Slice.{take-put_mid, drop-put_mid}
 use Rattle.std.specs.List.{concat}
@@ -106,6 +106,25 @@ left_less s now now' all row new at k within is long after gave left =
           ∙ sym (append_assoc (take at row) new (run now' (units_of 24 n (drop (at + 24) row'))))
           ∙ ap (λ (l : List ℕ). l ++ run now' (units_of 24 n (drop (at + 24) row'))) (sym front);
     }
+
+-- two more
+pub left_two_less : (s now mid now' : Standing) (all : List (List ℕ)) (row first second : List ℕ)
+    (at k m : ℕ) → at + 48 ≤ length row → k ≡ 24 → m ≡ 24 → length first ≡ k → length second ≡ m
+    → mid ≡ thin_next now (take k (drop at row)) → Some first ≡ thin_gives now (take k (drop at row))
+    → now' ≡ thin_next mid (take m (drop (at + 24) (put_mid at k row first)))
+    → Some second ≡ thin_gives mid (take m (drop (at + 24) (put_mid at k row first)))
+    → Left s all now row at
+    → Left s all now' (put_mid (at + 24) m (put_mid at k row first) second) (at + 48)
+left_two_less s now mid now' all row first second at k m within is_k is_m long_k long_m one gave two gave_two
+    left =
+    let row' : List ℕ = put_mid at k row first in
+    let size : length row' ≡ length row = put_length at k row first (omega (arith, is_k, within)) long_k in
+    let half = left_less s now mid all row first at k (omega (arith, within)) is_k long_k one gave left in
+    let whole =
+    left_less s mid now' all row' second (at + 24) m (omega (arith, size, within)) is_m long_m two gave_two
+    half in
+    let end : at + 24 + 24 ≡ at + 48 = omega arith in
+    subst (Left s all now' (put_mid (at + 24) m row' second)) end whole
 
 -- The packs that a row begins with were copied to a buffer from a place on, and the stage went over them there: what
 -- follows them is left, the stage ran, and what it gave stands behind what the buffer held.

@@ -1,5 +1,5 @@
 // From packs to those of the thin form.
-ghost use Rattle.std.specs.Prelude.{◌≡◌, ◌≢◌, ◌≤◌, ◌*◌, List, ℕ, [], ◌∷◌, length, Err, IfOk, IfSome, IsErrOf, Some};
+ghost use Rattle.std.specs.Prelude.{◌≡◌, ◌≢◌, ◌≤◌, ◌*◌, List, ℕ, [], ◌∷◌, length, Err, IfOk, IfSome, IsErrOf, Some, ◌/◌, IsTrue};
 ghost use Rattle.std.specs.List.{concat};
 ghost use Rattle.cdg_instructions.specs.Instruction.{InRange};
 ghost use Rattle.cdg_io.specs.Causes.{TellsFault};
@@ -10,13 +10,16 @@ ghost use Rattle.cdg_screen.specs.Standing.{blank, standing_after};
 ghost use Rattle.raw_subcode.specs.Sizes.{symbols_a_slot};
 ghost use Rattle.cdg_thin.specs.Calls.{Thins, ThinsAll, most_file_packs};
 ghost use Rattle.cdg_thin.specs.Steps.{pack_instruction, is_needless, thin_next, thin_gives};
+ghost use Rattle.bit_lists.specs.Counting.{whole_parts};
+ghost use Rattle.cdg_thin.specs.Thin.{AreInstructionsOf, IsInstructionOf, IsThinText, StandAlike, is_graphic};
+ghost use Rattle.cdg_instructions.specs.declared.instr.Instr.{Instr};
+ghost use Rattle.cdg_instructions.specs.declared.instr.Instr.TheVariants.{Idle};
 
-use crate::instruction::{instruction, is_graphic, is_idle};
-use crate::laws::thin_forms_stand_alike;
-use cdg_instructions::Instr;
+use cdg_instructions::{Instr, read_word};
 use cdg_io::{PassedUnits, Piece, PumpStop, Pumped, Sink, Source, UnitStage, pump_units};
 use cdg_screen::Screen;
 use raw_subcode::{MOST_UNITS, SLOTS_A_BLOCK, SYMBOLS_A_SLOT};
+use rw_code::Word;
 use std::alloc::{AllocError, Global};
 use std::marker::Model;
 
@@ -162,7 +165,13 @@ impl Thinner {
             ≡ concat (run_gives thin_next thin_gives self.old (units_of symbols_a_slot count packs.old)) }
     {
         let mut at = 0;
-        while at < packs.len() {
+        // Two at a time, since most packs are idle, which takes a look at a byte.
+        'pairs: while packs.len() - at >= 2 * SYMBOLS_A_SLOT {
+            self.thin_bytes(&mut packs[at..at + SYMBOLS_A_SLOT]);
+            self.thin_bytes(&mut packs[at + SYMBOLS_A_SLOT..at + 2 * SYMBOLS_A_SLOT]);
+            at += 2 * SYMBOLS_A_SLOT;
+        }
+        'rest: while at < packs.len() {
             self.thin_bytes(&mut packs[at..at + SYMBOLS_A_SLOT]);
             at += SYMBOLS_A_SLOT;
         }
@@ -213,4 +222,45 @@ impl UnitStage for Thinner {
             end,
         }
     }
+}
+
+/// Laws: after each number of packs the same stands in a file and in its thin form; the thin form of a thin form is
+/// itself; each file has exactly one thin form, of as many packs.
+pub fn thin_forms_stand_alike()
+    ensures alike { (bytes text : List ℕ) (m : ℕ) → IsThinText bytes text
+        → StandAlike m (whole_parts symbols_a_slot bytes) (whole_parts symbols_a_slot text) }
+    ensures again { (bytes text : List ℕ) → IsThinText bytes text → IsThinText text text }
+    ensures some { (bytes : List ℕ) → (text : List ℕ) × IsThinText bytes text }
+    ensures only { (bytes one other : List ℕ) → IsThinText bytes one → IsThinText bytes other → one ≡ other }
+    ensures size { (bytes text : List ℕ) → IsThinText bytes text
+        → length text ≡ symbols_a_slot * (length bytes / symbols_a_slot) }
+    // 24 bytes have an instruction, and packs have no more than one list of them.
+    ensures reading { (pack : List ℕ) → length pack ≡ symbols_a_slot
+        → (instr : Instr) × IsInstructionOf pack instr }
+    ensures one_reading { (packs : List (List ℕ)) (one other : List Instr)
+        → AreInstructionsOf packs one → AreInstructionsOf packs other → one ≡ other }
+{}
+
+// The instruction of 24 bytes, whose parity may be anything. The codeword that they make, whose parity is made good,
+// has the same.
+fn instruction(bytes: &[u8; SYMBOLS_A_SLOT]) -> Instr
+    ensures meaning { result ≡ pack_instruction bytes.now }
+    ensures range { InRange result }
+{
+    read_word(&Word::new(bytes))
+}
+
+// Whether 24 bytes are seen to say nothing, by the first of them.
+#[inline]
+fn is_idle(bytes: &[u8; SYMBOLS_A_SLOT]) -> bool
+    ensures { IsTrue result → pack_instruction bytes.now ≡ Idle }
+{
+    bytes[0] % 64 == 0
+}
+
+// Whether it is one of the nine graphics instructions.
+fn is_graphic(instr: &Instr) -> bool
+    ensures { result ≡ is_graphic instr.now }
+{
+    !matches!(instr, Instr::Idle | Instr::Foreign | Instr::Unknown)
 }

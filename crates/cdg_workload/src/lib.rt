@@ -4,13 +4,11 @@
 mod needle;
 mod scratching;
 mod script;
-mod script_laws;
-mod words;
 
 pub use scratching::{
     Scratches, scratch, scratches_are_bursts, scratches_are_damage, scratches_go_block_by_block,
 };
-pub use script::{BLOCKS_A_PICTURE, BLOCKS_HELD, MOST_GENERATED, write_script};
-pub use script_laws::{
-    generated_scripts_are_read, generated_scripts_are_short, generated_scripts_have_times,
+pub use script::{
+    BLOCKS_A_PICTURE, BLOCKS_HELD, MOST_GENERATED, generated_scripts_are_read,
+    generated_scripts_are_short, generated_scripts_have_times, write_script,
 };

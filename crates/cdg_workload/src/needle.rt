@@ -174,7 +174,7 @@ fn sixteen_of(row: &[u8]) -> [u8; MOST_BURST]
 {
     match row.first_chunk::<MOST_BURST>() {
         Some(array) => *array,
-        None => [0; MOST_BURST],
+        None => unreachable!(),
     }
 }
 

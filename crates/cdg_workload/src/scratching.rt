@@ -14,7 +14,7 @@ ghost use Rattle.cdg_workload.specs.Scratches.{scratched, scratching};
 ghost use Rattle.cdg_workload.specs.Steps.{fresh_scratches, scratches_after, block_next, block_gives};
 
 use crate::needle::Needle;
-use crate::words::generator;
+use crate::script::generator;
 use cdg_io::{PassedUnits, Piece, PumpStop, Pumped, Sink, Source, UnitStage, pump_units};
 use raw_subcode::{BLOCK_BYTES, Form, MOST_UNITS};
 use rw_interleave::bursts_are_damage;

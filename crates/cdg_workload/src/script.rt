@@ -1,12 +1,15 @@
 // The script of a seed.
-ghost use Rattle.std.specs.Prelude.{◌≡◌, ◌<◌, ◌≤◌, ◌+◌, ◌/◌, ◌%◌, ◌++◌, length, OnOk, OnErr};
+ghost use Rattle.std.specs.Prelude.{◌≡◌, ◌<◌, ◌≤◌, ◌+◌, ◌/◌, ◌%◌, ◌++◌, length, OnOk, OnErr, ◌*◌, ℕ, Ok};
 ghost use Rattle.std.specs.Io.KnownBytes.{Appends};
 ghost use Rattle.cdg_io.specs.Causes.{HasCause};
 ghost use Rattle.cdg_io.specs.Moves.{AppendsPrefix};
-ghost use Rattle.cdg_workload.specs.Script.{generated_show_line, generated_script, most_generated};
+ghost use Rattle.cdg_workload.specs.Script.{generated_show_line, generated_script, most_generated, ready_block, hold_block};
 ghost use Rattle.cdg_workload.specs.Pictures.{after_two, rect_from, picture_from};
+ghost use Rattle.picture_script.specs.Script.{pictures, ready_time, hold_time};
+ghost use Rattle.picture_script.specs.ScriptGrammar.{read_script};
+ghost use Rattle.cdg_workload.specs.Generated.{generated_drawings};
+ghost use Rattle.cdg_workload.specs.Generator.{generator};
 
-use crate::words::generator;
 use cdg_io::{Failed, Piece, Sink, put_all};
 use disc_time::Msf;
 use itoa::{Buffer, Integer};
@@ -139,4 +142,35 @@ fn add_show(lines: &mut Piece, k: u32)
     lines.add(b" ");
     lines.add(&Msf::of_block(ready + BLOCKS_HELD).text());
     lines.add(b"\n");
+}
+
+/// A law: every generated script is accepted, and its lines say these drawings.
+pub fn generated_scripts_are_read()
+    ensures { (seed count : ℕ) → count ≤ most_generated
+        → read_script (generated_script seed count) ≡ Ok (generated_drawings seed count) }
+{}
+
+/// A law: a generated script has at most 230 bytes of colours, and 95 of each picture.
+pub fn generated_scripts_are_short()
+    ensures { (seed count : ℕ) → length (generated_script seed count) ≤ 230 + 95 * count }
+{}
+
+/// A law: picture k of a generated script is ready at block 800 (k + 1) and held for twenty blocks, so 780 blocks
+/// come between two pictures.
+pub fn generated_scripts_have_times()
+    ensures pictures { (seed count : ℕ) → pictures (generated_drawings seed count) ≡ count }
+    ensures ready { (seed count k : ℕ) → k < count
+        → ready_time (generated_drawings seed count) k ≡ ready_block k }
+    ensures hold { (seed count k : ℕ) → k < count
+        → hold_time (generated_drawings seed count) k ≡ hold_block k }
+{}
+
+// The stream of the generator that scripts and scratches are made by.
+const STREAM: u64 = 54;
+
+#[tactic(auto, unfolding(crate::specs::Generator::generator))]
+pub(crate) fn generator(seed: u64) -> Pcg32
+    ensures { result ≡ generator seed }
+{
+    Pcg32::new(seed, STREAM)
 }

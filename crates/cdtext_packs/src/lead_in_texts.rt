@@ -1,15 +1,16 @@
 // The stage that reads the text packs of the lead-in.
-ghost use Rattle.std.specs.Prelude.{◌≡◌, ◌≤◌, ◌<◌, ◌+◌, ◌-◌, ◌^◌, List, ℕ, None, min, replicate, take, true};
+ghost use Rattle.std.specs.Prelude.{◌≡◌, ◌≤◌, ◌<◌, ◌+◌, ◌-◌, ◌^◌, List, ℕ, None, min, replicate, take, true, All};
 ghost use Rattle.raw_subcode.specs.Channels.{symbols_of};
 ghost use Rattle.raw_subcode.specs.Sizes.{block_bytes};
 ghost use Rattle.cdg_io.specs.Run.{run_state};
 ghost use Rattle.disc_time.specs.Counts.{most_lead_in};
-ghost use Rattle.cdtext_packs.specs.LeadIn.{lead_in_packs};
+ghost use Rattle.cdtext_packs.specs.LeadIn.{lead_in_packs, lead_in_slot, lead_in_symbols};
 ghost use Rattle.cdtext_packs.specs.TextSteps.{fresh_texts, offered, text_next, HasRead};
 
+use crate::pack::TextPack;
 use crate::{Offer, PACK_BYTES, TextReader, offers_keep_the_first};
 use cdg_io::{Piece, Stage};
-use raw_subcode::{BLOCK_BYTES, Block};
+use raw_subcode::{BLOCK_BYTES, Block, SLOTS_A_BLOCK, SYMBOLS_A_SLOT, text_symbols};
 
 /// Offers the packs of the lead-in's blocks to a reader, four of each block, and counts what became of them.
 #[derive(Drop)]
@@ -50,9 +51,9 @@ impl LeadInTexts {
         self.other = 0;
     }
 
-    // Counts the four packs of a block without symbols: bytes of zeros, whose check does not match.
+    // Counts the four packs of an idle block: bytes of zeros, whose check does not match.
     #[inline]
-    fn count_empty(&mut self)
+    fn count_idle(&mut self)
         ensures { self.new ≡ record self.old { bad = min (self.old.bad + 4) (2 ^ 32 - 1) } }
     {
         self.bad = self.bad.saturating_add(4);
@@ -73,7 +74,7 @@ impl LeadInTexts {
 
 // Whether no symbol of a block is other than 0: most lead-ins carry no texts.
 #[inline]
-fn is_empty(block: &[u8; BLOCK_BYTES]) -> bool
+fn is_idle(block: &[u8; BLOCK_BYTES]) -> bool
     ensures { result ≡ true → symbols_of block.now ≡ replicate block_bytes 0 }
 {
     let mut all = 0;
@@ -96,8 +97,8 @@ impl Stage for LeadInTexts {
     fn feed(&mut self, block: &[u8; BLOCK_BYTES]) -> Option<Piece> {
         if self.left > 0 {
             self.left -= 1;
-            if is_empty(block) {
-                self.count_empty();
+            if is_idle(block) {
+                self.count_idle();
                 return None;
             }
             let block = Block::from_bytes(block);
@@ -117,4 +118,30 @@ pub fn lead_in_packs_are_read()
         → HasRead (lead_in_packs (take lead_in blocks)) (run_state text_next (fresh_texts lead_in) blocks) }
 {
     offers_keep_the_first();
+}
+
+/// The symbols of block `l` of the lead-in, each below 64: the packs over and over, four in a block, without parity
+/// and not spread, or zeros where there are none.
+pub fn lead_in_symbols(packs: &[TextPack], l: u32) -> [u8; BLOCK_BYTES]
+    requires { l < most_lead_in }
+    ensures symbols { result ≡ lead_in_symbols packs.now l }
+    ensures bound { All (λ s. s < 64) result }
+{
+    let mut symbols = [0; BLOCK_BYTES];
+    for k in 0..SLOTS_A_BLOCK {
+        let slot = slot_symbols(packs, SLOTS_A_BLOCK * l as usize + k);
+        symbols[SYMBOLS_A_SLOT * k..SYMBOLS_A_SLOT * k + SYMBOLS_A_SLOT].copy_from_slice(&slot);
+    }
+    symbols
+}
+
+// The symbols of slot j.
+fn slot_symbols(packs: &[TextPack], j: usize) -> [u8; SYMBOLS_A_SLOT]
+    ensures symbols { result ≡ lead_in_slot packs.now j }
+    ensures bound { All (λ s. s < 64) result }
+{
+    if packs.is_empty() {
+        return [0; SYMBOLS_A_SLOT];
+    }
+    text_symbols(&packs[j % packs.len()].bytes())
 }

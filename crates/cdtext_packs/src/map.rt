@@ -183,7 +183,6 @@ impl TextMap {
         }
     }
 
-    /// The strings of a kind.
     pub(crate) fn strings(&self, kind: TextKind) -> &Strings
         ensures strings { result.now ≡ strings_of kind self.now }
     {
@@ -198,7 +197,6 @@ impl TextMap {
         }
     }
 
-    /// Whether every string is empty.
     pub(crate) fn has_no_text(&self) -> bool
         ensures { result ≡ has_no_text self.now }
     {

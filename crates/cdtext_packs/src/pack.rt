@@ -45,7 +45,6 @@ impl TextPack {
         self.bytes
     }
 
-    /// A pack of any bytes.
     pub(crate) fn from_bytes(bytes: &[u8; PACK_BYTES]) -> TextPack
         ensures { result ≡ bytes.now }
     {

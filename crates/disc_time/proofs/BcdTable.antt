@@ -3,7 +3,7 @@ use Rattle.std.proofs.Common.{◌≡◌, ℕ, ◌≤◌, Bool, true, ◌==◌, g
 use Rattle.std.proofs.lemmas.Bool.{eqb-true}
 use Rattle.bit_lists.proofs.Tests.{all_below, all_below-at}
 use Rattle.disc_time.specs.Time.{bcd}
-use Rattle.disc_time.specs.declared.bcd_table.TheConstants.{BYTES}
+use Rattle.disc_time.specs.declared.time.TheConstants.{BYTES}
 
 has_byte : ℕ → Bool
 has_byte n = get_or BYTES n 0 == bcd n

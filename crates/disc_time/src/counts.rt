@@ -1,5 +1,6 @@
-// How many blocks there are in a second, a minute, a lead-in and a program, how many tracks on a disc, and how many bytes
-// in a text. Clauses call them by the names of specs/Counts.antt.
+// How many blocks there are in a second, a minute, a lead-in and a program, how many tracks on a disc, how many bytes in a
+// text, and how much the fields hold that a cue sheet gives and the Q channel carries. Clauses call them by the names of
+// specs/Counts.antt and specs/Fields.antt.
 
 /// Blocks a second: a block is as long as a sector, 588 of 44,100 samples (IEC 60908).
 pub const BLOCKS_A_SECOND: u32 = 75;
@@ -29,3 +30,12 @@ pub const MOST_TRACKS: u8 = 99;
 /// How many bytes a text has at most: 2^26. A sheet and a script of a thousand pictures of the whole window are
 /// shorter, and an input that does not end is refused before it takes all memory.
 pub const MOST_TEXT_BYTES: usize = 67_108_864;
+
+/// Digits of a catalogue number: the thirteen of a bar code (EAN-13).
+pub const CATALOGUE_DIGITS: usize = 13;
+
+/// Characters of an ISRC, the recording code of a track (ISO 3901).
+pub const ISRC_CHARACTERS: usize = 12;
+
+/// Values of a control field, which has four bits.
+pub const CONTROL_VALUES: u8 = 16;

@@ -1,7 +1,6 @@
 //! A player of subcode streams that is fed blocks as they come.
 #![tactic(auto)]
 
-mod copying;
 mod drawing;
 mod live;
 mod looking;
@@ -10,6 +9,6 @@ mod saving;
 
 pub use drawing::play;
 pub use live::LivePlayer;
-pub use looking::PICTURE_BYTES;
+pub use looking::{PICTURE_BYTES, part_of_screen};
 pub use part::ScreenPart;
 pub use saving::a_saved_player_goes_on;

@@ -17,6 +17,7 @@ use cdg_instructions::SCREEN_PIXELS;
 use cdg_screen::PlainScreen;
 use raw_subcode::{BLOCK_BYTES, Form};
 use rw_code::{SYMBOLS, Word};
+use rw_interleave::Gather;
 use std::alloc::{AllocError, Global};
 use stream_stages::{BlockOfWords, BlockWords};
 
@@ -223,5 +224,31 @@ impl LivePlayer {
         ensures ranges { (result.0 ≤ 5) × (result.1 ≤ 11) }
     {
         looking::offsets(&self.screen)
+    }
+
+    /// Shows, gathers and counts from here on what another player does.
+    pub fn copy_from(&mut self, other: &LivePlayer)
+        ensures { self.new ≡ other.now }
+    {
+        self.lead_in = other.lead_in;
+        self.blocks = other.blocks;
+        self.bad = other.bad;
+        let words = &mut self.words;
+        words.form = other.words.form;
+        words.lead_in = other.words.lead_in;
+        words.gather = copy_of(&other.words.gather);
+        self.screen.copy_from(&other.screen);
+    }
+}
+
+// The same slots, gathered so far.
+fn copy_of(gather: &Gather) -> Gather
+    ensures { result ≡ gather.now }
+{
+    Gather {
+        early: gather.early,
+        late: gather.late,
+        count: gather.count,
+        quiet: gather.quiet,
     }
 }

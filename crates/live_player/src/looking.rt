@@ -29,13 +29,10 @@ pub(crate) fn pixels(screen: &PlainScreen, pixels: &mut [u8; SCREEN_PIXELS])
     part_of_screen(screen, &whole, pixels, SCREEN_WIDTH);
 }
 
-/// The pixels of a part of the screen: row j of it stands `stride` times j bytes from the front.
-pub(crate) fn part_of_screen(
-    screen: &PlainScreen,
-    part: &ScreenPart,
-    pixels: &mut [u8],
-    stride: usize,
-)
+/// The pixels of a part of the screen: row j of it stands `stride` times j bytes from the front. It is inlined, since much of
+/// it goes where the part is known.
+#[inline(always)]
+pub fn part_of_screen(screen: &PlainScreen, part: &ScreenPart, pixels: &mut [u8], stride: usize)
     requires part { IsOnScreen part.now }
     requires apart { part.now.width ≤ stride }
     requires room { HasRoomFor part.now stride (length pixels.old) }
@@ -43,7 +40,27 @@ pub(crate) fn part_of_screen(
 {
     for j in 0..part.height {
         let line = &mut pixels[stride * j..stride * j + part.width];
-        screen.write_columns(part.left, part.top + j, line);
+        write_line(screen, part, j, line);
+    }
+}
+
+// The pixels of row j of a part.
+#[inline(always)]
+fn write_line(screen: &PlainScreen, part: &ScreenPart, j: usize, line: &mut [u8])
+    requires part { IsOnScreen part.now }
+    requires row { j < part.now.height }
+    requires size { length line.old ≡ part.now.width }
+    ensures { (i : ℕ) → i < part.now.width
+        → slice_index line.new i ≡ screen_pixel (seen screen.now) (part.now.left + i) (part.now.top + j) }
+{
+    // Of a whole row the compiler knows where it begins and ends.
+    if line.len() == SCREEN_WIDTH {
+        screen.write_columns(0, part.top + j, line);
+        return;
+    }
+    match screen.columns(part.left, part.top + j, part.width) {
+        Some(columns) => line.copy_from_slice(columns),
+        None => screen.write_columns(part.left, part.top + j, line),
     }
 }
 

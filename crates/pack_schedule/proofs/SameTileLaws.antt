@@ -1,22 +1,23 @@
 -- Tiles that are the same before and after.
-use Rattle.std.proofs.Common.{◌≡◌, ◌≢◌, ℕ, zero, suc, ◌+◌, ◌-◌, ◌*◌, ◌/◌, ◌%◌, ◌<◌, ◌≤◌, Bool, true, false, List, [], ◌∷◌, map, length, get_or, refl, ap, ap₂, sym, subst, ◌∙◌, inl, inr, arith, bit_xor}
+use Rattle.std.proofs.Common.{◌≡◌, ◌≢◌, ℕ, zero, suc, ◌+◌, ◌-◌, ◌*◌, ◌/◌, ◌%◌, ◌<◌, ◌≤◌, Bool, true, false, List, [], ◌∷◌, map, length, get_or, refl, ap, ap₂, sym, subst, ◌∙◌, inl, inr, arith, below_more, bit_xor}
 use Rattle.std.specs.Prelude.{Option, Some, None, not, slice_index, slice_set, nat_lt, if◌then◌else◌}
 use Rattle.std.specs.Option.{is_some}
 use Rattle.std.specs.Int.Bits.{xor_self}
 use Rattle.std.proofs.lemmas.Bool.{cases_lt}
 use Rattle.std.proofs.lemmas.Bool.Decides.{nat_tests}
-use Rattle.std.proofs.lemmas.List.{get_or-set_other, get_or-set_same}
+use Rattle.std.proofs.lemmas.List.{get_or_default, get_or-set_other, get_or-set_same}
 use Rattle.bit_lists.specs.Counting.{below}
 use Rattle.cdg_instructions.specs.Sizes.{tile_pixels}
 use Rattle.cdg_instructions.specs.declared.instr.Instr.{Instr}
 use Rattle.tile_author.specs.Plan.{are_equal, delta, steps, plan, weight}
 use Rattle.picture_script.specs.Script.{Drawing, picture_pixel, picture_tile}
 use Rattle.picture_script.specs.Board.{Board, IsPicture, tile_of}
+use Rattle.picture_script.specs.DrawnRows.{KeepsRows}
 use Rattle.picture_script.proofs.Drawn.{picture_tile_is}
 use Rattle.picture_script.proofs.Parts.{tile_pixel, tile_size}
 use Rattle.pack_schedule.specs.Change.{settings, IsStart, tiles_before}
 use Rattle.pack_schedule.specs.PlannedChange.{planned_length, tile_steps, first_least, chosen_start}
-use Rattle.pack_schedule.specs.SameTiles.{SameRow, SameTiles}
+use Rattle.pack_schedule.specs.SameTiles.{IsRowTold, SameRow, SameTiles}
 use Rattle.pack_schedule.specs.Weights.{IsWeighed, AreWeights, not_weighed}
 use Rattle.pack_schedule.specs.declared.change.weights.Weighed.{Weighed}
 use Rattle.pack_schedule.proofs.Counting.{steps_so_far, none_so_far, one_more_tile, all_tiles}
@@ -95,24 +96,35 @@ row_kept script k r before now lt was is kept column from to =
     ∙ sym (is.pixels_are x y (omega arith) (omega arith)))
     is ∙ sym (tile_picture script k (r + 1) column now (omega arith) (omega (arith, lt)) from to is)
 
+-- pictures between which no row was drawn on
+pub undrawn_same : (script : List Drawing) (k : ℕ) (before now : Board) (drawn : List Bool)
+    → length drawn ≡ 16
+    → IsPicture script (k - 1) before → IsPicture script k now → KeepsRows script k drawn
+    → ((r : ℕ) → r < 16 → get_or drawn r false ≡ false) → SameTiles before.pixels now.pixels
+undrawn_same script k before now drawn size was is keeps undrawn =
+    all_rows before.pixels now.pixels 16 (omega arith)
+    (λ m lt. row_kept script k m before now lt was is
+    (keeps m (get_or_default drawn m true false (omega (arith, lt, size)) ∙ undrawn m lt)).1)
+
 -- what is told of one row more
-pub row_told : (old new : List ℕ) (same : List Bool) (r : ℕ) (told : Bool) → r < length same
-    → ((m : ℕ) → m < 16 → get_or same m false ≡ true → SameRow old new (m + 1))
-    → (told ≡ true → SameRow old new (r + 1))
-    → (m : ℕ) → m < 16 → get_or (slice_set same r told) m false ≡ true → SameRow old new (m + 1)
-row_told old new same r told inside so_far here m lt is = elim (cases_lt m r) [
-  | inl less ↦ so_far m lt (sym (get_or-set_other same r m told false (λ e. omega (arith, e, less))) ∙ is)
-  | inr from ↦ elim (cases_lt r m) [
-    | inl more ↦ so_far m lt (sym (get_or-set_other same r m told false (λ e. omega (arith, e, more))) ∙ is)
-    | inr to ↦
-        let equal : r ≡ m = omega (arith, from, to) in
-        let at : told ≡ true =
-        sym (get_or-set_same same r told false inside)
-        ∙ ap (λ n. get_or (slice_set same r told) n false) equal
-        ∙ is in
-        subst (λ n. SameRow old new (n + 1)) equal (here at)
-  ]
-]
+pub row_told : (old new : List ℕ) (rows : List Bool) (columns : List (List Bool)) (r : ℕ) (whole : Bool)
+    (marks : List Bool) → r < length rows → r < length columns
+    → ((m : ℕ) → m < r → IsRowTold old new (m + 1) (get_or rows m false) (get_or columns m []))
+    → IsRowTold old new (r + 1) whole marks
+    → (m : ℕ) → m < r + 1 → IsRowTold old new (m + 1) (get_or (slice_set rows r whole) m false)
+    (get_or (slice_set columns r marks) m [])
+row_told old new rows columns r whole marks in_rows in_columns before here =
+    below_more (λ m. IsRowTold old new (m + 1) (get_or (slice_set rows r whole) m false)
+    (get_or (slice_set columns r marks) m [])) r
+    (λ m lt.
+    let row = get_or-set_other rows r m whole false (λ e. omega (arith, e, lt)) in
+    let mark = get_or-set_other columns r m marks [] (λ e. omega (arith, e, lt)) in
+    subst (λ w. IsRowTold old new (m + 1) w (get_or (slice_set columns r marks) m [])) (sym row)
+    (subst (IsRowTold old new (m + 1) (get_or rows m false)) (sym mark) (before m lt)))
+    (let row = get_or-set_same rows r whole false in_rows in
+    let mark = get_or-set_same columns r marks [] in_columns in
+    subst (λ w. IsRowTold old new (r + 1) w (get_or (slice_set columns r marks) r [])) (sym row)
+    (subst (IsRowTold old new (r + 1) whole) (sym mark) here))
 
 -- a picture whose tiles all stand
 same_so_far : (script : List Drawing) (k : ℕ) (before now : Board) → IsPicture script (k - 1) before

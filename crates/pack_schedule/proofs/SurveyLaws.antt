@@ -13,6 +13,7 @@ use Rattle.pack_schedule.specs.Brings.{CannotBeReady, IsChange, IsNeed}
 use Rattle.pack_schedule.specs.Survey.{nothing_planned, IsPlanned, ArePlanned, IsPastEnd, IsStop, IsSurvey, IsWithin}
 use Rattle.pack_schedule.specs.Weaving.{Stands}
 use Rattle.pack_schedule.specs.declared.surveys.told.PlannedChange.{PlannedChange}
+use Rattle.pack_schedule.specs.declared.stops.LatePicture.{LatePicture}
 use Rattle.pack_schedule.specs.declared.stops.Stop.{Stop}
 use Rattle.pack_schedule.specs.declared.stops.Stop.TheVariants.{Late}
 use Rattle.pack_schedule.proofs.TimeOrder.{hold_order}
@@ -198,13 +199,16 @@ pub in_time : (script : List Drawing) (k start need : ℕ) → start ≡ start_o
 in_time script k start need is test = elim (leb_tells (start + need + 7) (4 * ready_time script k))
     [ inl less ↦ omega (arith, less.1, is) | inr more ↦ absurd (cc) ]
 
+abbrev pub late_picture : ℕ → ℕ → ℕ → LatePicture
+late_picture k need free = record { picture = k; need = need; free = free }
+
 -- what is told of a change that is not in time
 pub late_at : (script : List Drawing) (k start need free : ℕ) → start ≡ start_of script k
     → need ≡ length (planned_change script k) → free ≡ free_packs script k
     → nat_le (start + need + 7) (4 * ready_time script k) ≡ false
-    → (Late k need free ≡ Late k (length (planned_change script k)) (free_packs script k))
+    → (late_picture k need free ≡ late_picture k (length (planned_change script k)) (free_packs script k))
     × (¬ IsInTime script k (length (planned_change script k)))
 late_at script k start need free start_is need_is free_is test = (
-  (λ i. Late k (need_is i) (free_is i)),
+  (λ i. late_picture k (need_is i) (free_is i)),
   subst (λ n. ¬ IsInTime script k n) need_is (not_in_time script k start need start_is test),
 )

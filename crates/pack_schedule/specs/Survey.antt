@@ -1,9 +1,12 @@
 -- When the change of each picture is sent, what it begins with, and how long it is.
-use Rattle.std.specs.Prelude.{◌≡◌, ℕ, ◌-◌, ◌<◌, ◌≤◌, ⊤, List, length, slice_index_or, None}
+use Rattle.std.specs.Prelude.{◌≡◌, ℕ, ◌-◌, ◌<◌, ◌≤◌, ⊤, List, [], length, slice_index_or, None, vec_capacity, vec_len}
 use Rattle.picture_script.specs.Script.{Drawing, pictures, hold_time}
+use Rattle.picture_script.specs.Board.{IsBlank}
 use Rattle.pack_schedule.specs.Schedule.{start_of, IsInTime, IsLate}
 use Rattle.pack_schedule.specs.PlannedChange.{chosen_start, planned_change}
+use Rattle.pack_schedule.specs.declared.surveys.room.SurveyRoom.{SurveyRoom}
 use Rattle.pack_schedule.specs.declared.surveys.told.PlannedChange.{PlannedChange}
+use Rattle.pack_schedule.specs.declared.stops.LatePicture.{LatePicture}
 use Rattle.pack_schedule.specs.declared.stops.Stop.{Stop}
 use Rattle.pack_schedule.specs.declared.stops.Stop.TheVariants.{PastEnd, Late, NoMemory}
 
@@ -33,6 +36,17 @@ IsWithin script blocks = (k : ℕ) → k < pictures script → hold_time script 
 -- the last picture is held for longer
 abbrev pub IsPastEnd : List Drawing → ℕ → Type 0
 IsPastEnd script blocks = (0 < pictures script) × (blocks < hold_time script (pictures script - 1))
+
+-- room for a survey of so many pictures, in which nothing is drawn and nothing planned
+pub record IsRoomFor (count : ℕ) (room : SurveyRoom) : Type 0 where
+  pub before : IsBlank room.before × (room.before.at ≡ None)
+  pub now : IsBlank room.now × (room.now.at ≡ None)
+  pub none : (room.planned.items ≡ []) × (vec_len room.planned ≡ 0)
+  pub fits : count ≤ vec_capacity room.planned
+
+-- the first picture that is late, with its numbers
+abbrev pub IsLatePicture : List Drawing → LatePicture → Type 0
+IsLatePicture script late = IsLate script late.picture late.need late.free
 
 -- why there is no schedule
 abbrev pub IsStop : List Drawing → ℕ → Stop → Type 0

@@ -21,6 +21,6 @@ pub use length_laws::{
 };
 pub use planner::{PlanRow, Planner};
 pub use screen_laws::scheduled_pictures_are_shown;
-pub use stops::Stop;
-pub use surveys::{PlannedChange, Survey, is_past_end, survey};
+pub use stops::{LatePicture, Stop};
+pub use surveys::{PlannedChange, Survey, SurveyRoom, is_past_end, survey, survey_in};
 pub use weaver::Weaver;

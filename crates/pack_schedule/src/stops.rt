@@ -1,6 +1,14 @@
 // The reasons for which a script has no schedule, and those that memory gives.
 use std::alloc::{AllocError, AllocFailed};
 
+/// The first picture that cannot be ready, the packs that it needs and those that are free for it.
+#[derive(Clone, Copy, PartialEq, Eq, Debug)]
+pub struct LatePicture {
+    pub picture: u32,
+    pub need: u32,
+    pub free: u32,
+}
+
 /// Why a script has no schedule.
 #[derive(Clone, Copy, PartialEq, Eq, Debug)]
 pub enum Stop {
@@ -31,5 +39,20 @@ impl<T: Drop> From<AllocFailed<T>> for Stop {
 
     fn from(_error: AllocFailed<T>) -> Stop {
         Stop::NoMemory
+    }
+}
+
+impl From<LatePicture> for Stop {
+    ghost use Rattle.std.specs.Prelude.{◌≡◌};
+    ghost use Rattle.pack_schedule.specs.declared.stops.Stop.TheVariants.{Late};
+
+    ghost from_gives = { λ late e. e ≡ Late late.picture late.need late.free };
+
+    fn from(late: LatePicture) -> Stop {
+        Stop::Late {
+            picture: late.picture,
+            need: late.need,
+            free: late.free,
+        }
     }
 }

@@ -1,50 +1,18 @@
 -- Parts of two windows that are the same.
-use Rattle.std.proofs.Common.{◌≡◌, ℕ, ◌+◌, ◌-◌, ◌*◌, ◌/◌, ◌%◌, ◌<◌, ◌≤◌, Bool, true, List, length, take, drop, get_or, sym, ap, ap₂, ◌∙◌, inl, inr, arith}
+use Rattle.std.proofs.Common.{◌≡◌, ℕ, ◌+◌, ◌-◌, ◌*◌, ◌/◌, ◌%◌, ◌<◌, ◌≤◌, Bool, true, false, List, length, take, drop, get_or, below_more, get_or-set_other, get_or-set_same, sym, subst, ap, ap₂, ◌∙◌, inl, inr, arith}
 use borrow.Rule.Slice.PartMut.{put_mid}
 use Rattle.std.proofs.lemmas.Bool.{cases_lt}
 use Rattle.std.proofs.lemmas.Bool.Decides.{nat_tests}
 use Rattle.picture_script.proofs.Windows.{written-at, length-written}
-use Rattle.std.specs.Str.{bytes_eq}
-use Rattle.std.proofs.lemmas.Grind.{same_number_lists}
-use Rattle.std.proofs.lemmas.Slice.Eq.{bytes_eq-Decides}
-use Rattle.std.proofs.lemmas.List.{get_or-take, get_or-drop, length-take, length-drop}
+use Rattle.std.specs.Prelude.{◌↔◌, slice_set}
+use Rattle.std.proofs.lemmas.List.{get_or-take, get_or-drop}
 use Rattle.std.proofs.lemmas.List.FromFn.{length-map-range_with_len, get_or-map-range_with_len}
-use Rattle.picture_script.specs.Board.{pixel_of, tile_of}
+use Rattle.picture_script.specs.Board.{pixel_of, tile_of, IsSameColumn}
 use Rattle.picture_script.proofs.Drawn.{tile_is}
 
 -- the elements from a place on, so many of them, are the same
 abbrev pub SamePart : List ℕ → List ℕ → ℕ → ℕ → Type 0
 SamePart a b start count = (i : ℕ) → start ≤ i → i < start + count → get_or a i 0 ≡ get_or b i 0
-
-pub same_part : (a b : List ℕ) (start count : ℕ) (r : Bool) → start + count ≤ length a
-    → start + count ≤ length b
-    → r ≡ bytes_eq (take (start + count - start) (drop start a)) (take (start + count - start) (drop start b))
-    → (r ≡ true → SamePart a b start count) × (SamePart a b start count → r ≡ true)
-same_part a b start count r in_a in_b e =
-    let n : ℕ = start + count - start in
-    let decides = bytes_eq-Decides (take n (drop start a)) (take n (drop start b)) in
-    let size_a : length (take n (drop start a)) ≡ count =
-    omega (arith, length-take n (drop start a), length-drop start a) in
-    let size_b : length (take n (drop start b)) ≡ count =
-    omega (arith, length-take n (drop start b), length-drop start b) in
-    let at : (xs : List ℕ) (i : ℕ) → i < count
-    → get_or (take n (drop start xs)) i 0 ≡ get_or xs (start + i) 0 =
-    λ xs i lt. get_or-take n (drop start xs) i 0 (omega arith) ∙ get_or-drop start xs i 0 in (
-      (λ yes i from to.
-          let back : start + (i - start) ≡ i = omega arith in
-          let same = decides.0 (sym e ∙ yes) in
-          ap (λ m. get_or a m 0) (sym back)
-          ∙ sym (at a (i - start) (omega arith))
-          ∙ ap (λ xs. get_or xs (i - start) 0) same
-          ∙ at b (i - start) (omega arith)
-          ∙ ap (λ m. get_or b m 0) back),
-      (λ all. e
-          ∙ decides.1 (same_number_lists (take n (drop start a)) (take n (drop start b))
-          (omega (arith, size_a, size_b)) (λ i lt.
-          at a i (omega (arith, lt, size_a))
-          ∙ all (start + i) (omega arith) (omega (arith, lt, size_a))
-          ∙ sym (at b i (omega (arith, lt, size_a)))))),
-    )
 
 pub tile_pixel : (pixels : List ℕ) (row column q : ℕ) → q < 72
     → get_or (tile_of pixels row column) q 0
@@ -84,21 +52,85 @@ tile_of_lines a b row column all =
     ∙ all (q / 6) (omega arith) (288 * (12 * (row - 1) + q / 6) + (6 * (column - 1) + q % 6)) (omega arith)
     (omega arith))
 
--- a row of tiles
-pub tiles_of_row : (a b : List ℕ) (row : ℕ) → 1 ≤ row → SamePart a b (3456 * (row - 1)) 3456 → (column : ℕ)
-    → 1 ≤ column → column ≤ 48
+-- a tile is six columns
+pub tile_of_columns : (a b : List ℕ) (row column : ℕ) → 1 ≤ row → 1 ≤ column
+    → ((i : ℕ) → i < 6 → IsSameColumn a b (3456 * (row - 1) + (6 * (column - 1) + i)))
     → tile_of a row column ≡ tile_of b row column
-tiles_of_row a b row first all column from to =
-    tile_of_lines a b row column (λ j lt i i_from i_to. all i (omega arith) (omega arith))
+tile_of_columns a b row column row_ge column_ge all =
+    tile_of_lines a b row column (λ j lt i from to.
+    let n : ℕ = i - (288 * (12 * (row - 1) + j) + 6 * (column - 1)) in
+    let at : 3456 * (row - 1) + (6 * (column - 1) + n) + 288 * j ≡ i = omega arith in
+    ap (λ m. get_or a m 0) (sym at) ∙ all n (omega arith) j lt ∙ ap (λ m. get_or b m 0) at)
 
-pub row_of_tiles : (a b : List ℕ) (row : ℕ) → 1 ≤ row
-    → ((column : ℕ) → 1 ≤ column → column ≤ 48 → tile_of a row column ≡ tile_of b row column)
-    → SamePart a b (3456 * (row - 1)) 3456
-row_of_tiles a b row first all i from to =
-    let d : ℕ = i - 3456 * (row - 1) in
-    let column : ℕ = d % 288 / 6 + 1 in
-    line_of_tile a b row column (d / 288) (omega arith) (all column (omega arith) (omega arith)) i
-    (omega arith) (omega arith)
+pub columns_of_tile : (a b : List ℕ) (row column i : ℕ) → 1 ≤ row → 1 ≤ column → i < 6
+    → tile_of a row column ≡ tile_of b row column
+    → IsSameColumn a b (3456 * (row - 1) + (6 * (column - 1) + i))
+columns_of_tile a b row column i row_ge column_ge i_lt same j lt =
+    line_of_tile a b row column j lt same (3456 * (row - 1) + (6 * (column - 1) + i) + 288 * j) (omega arith)
+    (omega arith)
+
+-- what is told of a tile where it is told of its columns
+pub tile_told : (a b : List ℕ) (row i : ℕ) (equal : List Bool) (all : Bool) → 1 ≤ row → i < 48
+    → ((x : ℕ) → x < 288 → get_or equal x false ≡ true ↔ IsSameColumn a b (3456 * (row - 1) + x))
+    → (all ≡ true ↔ ((n : ℕ) → n < 6 → get_or equal (6 * i + n) false ≡ true))
+    → all ≡ true ↔ tile_of a row (i + 1) ≡ tile_of b row (i + 1)
+tile_told a b row i equal all row_ge lt columns six =
+    let at : (n : ℕ) → 3456 * (row - 1) + (6 * (i + 1 - 1) + n) ≡ 3456 * (row - 1) + (6 * i + n) = λ n.
+    omega arith in (
+      (λ told. tile_of_columns a b row (i + 1) row_ge (omega arith)
+          (λ n n_lt. subst (IsSameColumn a b) (sym (at n))
+          ((columns (6 * i + n) (omega arith)).0 (six.0 told n n_lt)))),
+      (λ same. six.1 (λ n n_lt. (columns (6 * i + n) (omega arith)).1
+          (subst (IsSameColumn a b) (at n)
+          (columns_of_tile a b row (i + 1) n row_ge (omega arith) n_lt same)))),
+    )
+
+-- one mark more
+pub marks_more : (P : ℕ → Type 0) (marks : List Bool) (i : ℕ) (told : Bool) → i < length marks
+    → ((m : ℕ) → m < i → get_or marks m false ≡ true ↔ P m) → (told ≡ true ↔ P i)
+    → (m : ℕ) → m < i + 1 → get_or (slice_set marks i told) m false ≡ true ↔ P m
+marks_more P marks i told inside before here =
+    below_more (λ m. get_or (slice_set marks i told) m false ≡ true ↔ P m) i
+    (λ m lt.
+    let other = get_or-set_other marks i m told false (λ e. omega (arith, e, lt)) in (
+      (λ is. (before m lt).0 (sym other ∙ is)),
+      (λ p. other ∙ (before m lt).1 p),
+    ))
+    (let same = get_or-set_same marks i told false inside in (
+      (λ is. here.0 (sym same ∙ is)),
+      (λ p. same ∙ here.1 p),
+    ))
+
+line_at : (xs ys : List ℕ) (start x : ℕ) → xs ≡ ys → x < 288
+    → get_or (take (start + 288 - start) (drop start xs)) x 0 ≡ get_or ys (start + x) 0
+line_at xs ys start x same lt =
+    get_or-take (start + 288 - start) (drop start xs) x 0 (omega arith)
+    ∙ get_or-drop start xs x 0
+    ∙ ap (λ zs. get_or zs (start + x) 0) same
+
+-- one line more of the columns
+pub column_more : (a b here there : List ℕ) (start j : ℕ) (old new : List Bool) → here ≡ a → there ≡ b
+    → ((x : ℕ) → x < 288 → get_or old x false ≡ true
+    ↔ ((m : ℕ) → m < j → get_or a (start + x + 288 * m) 0 ≡ get_or b (start + x + 288 * m) 0))
+    → ((x : ℕ) → x < 288 → get_or new x false ≡ true
+    ↔ (get_or old x false ≡ true)
+    × (get_or (take (start + 288 * j + 288 - (start + 288 * j)) (drop (start + 288 * j) here)) x 0
+    ≡ get_or (take (start + 288 * j + 288 - (start + 288 * j)) (drop (start + 288 * j) there)) x 0))
+    → (x : ℕ) → x < 288 → get_or new x false ≡ true
+    ↔ ((m : ℕ) → m < j + 1 → get_or a (start + x + 288 * m) 0 ≡ get_or b (start + x + 288 * m) 0)
+column_more a b here there start j old new here_is there_is before more x lt =
+    let place : start + 288 * j + x ≡ start + x + 288 * j = omega arith in
+    let at_a = line_at here a (start + 288 * j) x here_is lt ∙ ap (λ n. get_or a n 0) place in
+    let at_b = line_at there b (start + 288 * j) x there_is lt ∙ ap (λ n. get_or b n 0) place in (
+      (λ told.
+          let both = (more x lt).0 told in
+          below_more (λ m. get_or a (start + x + 288 * m) 0 ≡ get_or b (start + x + 288 * m) 0) j
+          ((before x lt).0 both.0) (sym at_a ∙ both.1 ∙ at_b)),
+      (λ all. (more x lt).1 (
+        (before x lt).1 (λ m m_lt. all m (omega arith)),
+        at_a ∙ all j (omega arith) ∙ sym at_b,
+      )),
+    )
 
 pub tile_line : (pixels old piece : List ℕ) (left top j : ℕ) → length old ≡ 72 → j < 12 → length piece ≡ 6
     → ((i : ℕ) → i < 6 → get_or piece i 0 ≡ pixel_of pixels (left + i) (top + j))

@@ -55,6 +55,11 @@ tile_of pixels row column =
     map (λ p. pixel_of pixels (tile_width * (column - 1) + p % tile_width)
     (tile_height * (row - 1) + p / tile_width)) (below tile_pixels)
 
+-- twelve pixels, one below the other from a place on, are the same
+abbrev pub IsSameColumn : List ℕ → List ℕ → ℕ → Type 0
+IsSameColumn a b place = (j : ℕ) → j < tile_height
+    → slice_index a (place + window_width * j) ≡ slice_index b (place + window_width * j)
+
 -- numbers of colours
 abbrev pub AreColours : List ℕ → Type 0
 AreColours colours = (i : ℕ) → slice_index colours i < colour_count

@@ -1,8 +1,13 @@
 // A canvas on which the pictures of a script are drawn.
+ghost use Rattle.std.specs.Prelude.{◌≡◌, ◌<◌, ◌≤◌, ◌+◌, ℕ, ◌↔◌, slice_index_or, true, false};
+ghost use Rattle.cdg_instructions.specs.Sizes.{tile_width, window_width};
+
 use crate::line::ScriptLine;
 use crate::script::Script;
 use crate::window::Window;
-use cdg_instructions::{COLOURS, PIXELS, TILE_HEIGHT, TILE_WIDTH, Tile, WINDOW_WIDTH};
+use cdg_instructions::{
+    COLOURS, PIXELS, TILE_HEIGHT, TILE_WIDTH, Tile, WINDOW_COLUMNS, WINDOW_WIDTH,
+};
 use std::alloc::{AllocError, Global};
 use std::marker::Model;
 
@@ -29,7 +34,7 @@ impl Model for Canvas {
 }
 
 impl Canvas {
-    ghost use Rattle.std.specs.Prelude.{◌≡◌, ◌<◌, ◌≤◌, ◌+◌, ◌-◌, ◌*◌, ℕ, List, length, slice_index, slice_index_or, true, IfOk, IsTrue, ◌↔◌, Some, None, take};
+    ghost use Rattle.std.specs.Prelude.{◌≡◌, ◌<◌, ◌≤◌, ◌+◌, ◌-◌, ◌*◌, ℕ, List, length, slice_index, slice_index_or, true, false, IfOk, ◌↔◌, Some, None, take};
     ghost use Rattle.picture_script.specs.Script.{Drawing, Fill, Picture, drawn, drawn_by, pictures, picture_tile};
     ghost use Rattle.picture_script.specs.Board.{Board, pixel_of, tile_of, AreColours, IsBlank, IsPicture, IsDrawn, IsSet, StandsBefore};
     ghost use Rattle.picture_script.specs.Lines.{said, is_kept};
@@ -193,37 +198,22 @@ impl Canvas {
         }
     }
 
-    /// Whether the tiles of a row from 1 to 16 are those of another canvas.
-    pub fn has_row_of(&self, other: &Canvas, row: u8) -> bool
+    /// Which tiles of a row from 1 to 16 are those of another canvas, from the left. All pixels of the row are looked at,
+    /// many at once.
+    pub fn shared_columns(&self, other: &Canvas, row: u8) -> [bool; WINDOW_COLUMNS]
         requires first { 1 ≤ row }
         requires last { row ≤ window_rows }
-        ensures { IsTrue result ↔ ((column : ℕ) → 1 ≤ column → column ≤ window_columns
-            → tile_of self.now.pixels row column ≡ tile_of other.now.pixels row column) }
+        ensures { (column : ℕ) → 1 ≤ column → column ≤ window_columns
+            → slice_index_or result (column - 1) false ≡ true
+            ↔ tile_of self.now.pixels row column ≡ tile_of other.now.pixels row column }
     {
-        let count = TILE_HEIGHT * WINDOW_WIDTH;
-        self.window
-            .has_part_of(&other.window, count * (usize::from(row) - 1), count)
-    }
-
-    /// Whether the tile at a row from 1 to 16 and a column from 1 to 48 is that of another canvas.
-    pub fn has_tile_of(&self, other: &Canvas, row: u8, column: u8) -> bool
-        requires row_first { 1 ≤ row }
-        requires row_last { row ≤ window_rows }
-        requires column_first { 1 ≤ column }
-        requires column_last { column ≤ window_columns }
-        ensures { IsTrue result ↔ tile_of self.now.pixels row column ≡ tile_of other.now.pixels row column }
-    {
-        let left = TILE_WIDTH * (usize::from(column) - 1);
-        let top = TILE_HEIGHT * (usize::from(row) - 1);
-        for j in 0..TILE_HEIGHT {
-            if !self
-                .window
-                .has_line_of(&other.window, WINDOW_WIDTH * (top + j) + left)
-            {
-                return false;
-            }
+        let start = TILE_HEIGHT * WINDOW_WIDTH * (usize::from(row) - 1);
+        let equal = self.window.equal_columns(&other.window, start);
+        let mut shared = [false; WINDOW_COLUMNS];
+        for i in 0..WINDOW_COLUMNS {
+            shared[i] = are_six_equal(&equal, TILE_WIDTH * i);
         }
-        true
+        shared
     }
 
     /// The colour number of a pixel of the window, `x` below 288 from the left and `y` below 192 from the top.
@@ -278,4 +268,18 @@ impl Canvas {
     {
         self.border
     }
+}
+
+// Whether six columns of pixels from one on are marked.
+#[inline]
+fn are_six_equal(equal: &[bool; WINDOW_WIDTH], first: usize) -> bool
+    requires { first + tile_width ≤ window_width }
+    ensures { result ≡ true
+        ↔ ((i : ℕ) → i < tile_width → slice_index_or equal.now (first + i) false ≡ true) }
+{
+    let mut all = true;
+    for i in 0..TILE_WIDTH {
+        all &= equal[first + i];
+    }
+    all
 }

@@ -1,10 +1,10 @@
 // The pixels of a window.
-ghost use Rattle.std.specs.Prelude.{◌≡◌, ◌<◌, ◌≤◌, ◌+◌, ◌-◌, ◌*◌, ◌==◌, ◌&&◌, if◌then◌else◌, ℕ, List, length, slice_index, IfOk, IsTrue, ◌↔◌};
+ghost use Rattle.std.specs.Prelude.{◌≡◌, ◌<◌, ◌≤◌, ◌+◌, ◌-◌, ◌*◌, ◌==◌, ◌&&◌, if◌then◌else◌, ℕ, List, length, slice_index, slice_index_or, true, false, IfOk, ◌↔◌};
 ghost use Rattle.picture_script.specs.Script.{is_within};
-ghost use Rattle.picture_script.specs.Board.{pixel_of, ArePixelsOf, AreWindowPixels, AreColours};
-ghost use Rattle.cdg_instructions.specs.Sizes.{colour_count, tile_width, window_height, window_pixels, window_width};
+ghost use Rattle.picture_script.specs.Board.{pixel_of, ArePixelsOf, AreWindowPixels, AreColours, IsSameColumn};
+ghost use Rattle.cdg_instructions.specs.Sizes.{colour_count, tile_height, tile_width, window_height, window_pixels, window_width};
 
-use cdg_instructions::{TILE_WIDTH, WINDOW_PIXELS, WINDOW_WIDTH};
+use cdg_instructions::{TILE_HEIGHT, TILE_WIDTH, WINDOW_PIXELS, WINDOW_WIDTH};
 use std::alloc::{AllocError, Global};
 use std::marker::Model;
 
@@ -41,41 +41,23 @@ impl Window {
         self.pixels[WINDOW_WIDTH * y + x]
     }
 
-    /// Whether the pixels from a place on, row by row, are those of another window.
-    pub(crate) fn has_part_of(&self, other: &Window, start: usize, count: usize) -> bool
-        requires { start + count ≤ window_pixels }
-        ensures { IsTrue result
-            ↔ ((i : ℕ) → start ≤ i → i < start + count → slice_index self.now i ≡ slice_index other.now i) }
+    /// Which columns of twelve pixels, from a row of tiles on, are those of another window.
+    pub(crate) fn equal_columns(&self, other: &Window, start: usize) -> [bool; WINDOW_WIDTH]
+        requires { start + tile_height * window_width ≤ window_pixels }
+        ensures { (x : ℕ) → x < window_width → slice_index_or result x false ≡ true
+            ↔ IsSameColumn self.now other.now (start + x) }
     {
-        self.pixels[start..start + count] == other.pixels[start..start + count]
-    }
-
-    /// Whether six pixels from a place on are those of another window. Four of them are compared at once, and of the last
-    /// four two once more.
-    #[inline]
-    pub(crate) fn has_line_of(&self, other: &Window, start: usize) -> bool
-        requires { start + tile_width ≤ window_pixels }
-        ensures { IsTrue result
-            ↔ ((i : ℕ) → start ≤ i → i < start + tile_width
-            → slice_index self.now i ≡ slice_index other.now i) }
-    {
-        self.four(start) == other.four(start) && self.four(start + 2) == other.four(start + 2)
-    }
-
-    // Four pixels from a place on as one number.
-    #[inline]
-    fn four(&self, start: usize) -> u32
-        requires { start + 4 ≤ window_pixels }
-        ensures value { result ≡ slice_index self.now start + 256 * (slice_index self.now (start + 1)
-            + 256 * (slice_index self.now (start + 2) + 256 * slice_index self.now (start + 3))) }
-        ensures bytes { (i : ℕ) → slice_index self.now i < 256 }
-    {
-        u32::from_le_bytes([
-            self.pixels[start],
-            self.pixels[start + 1],
-            self.pixels[start + 2],
-            self.pixels[start + 3],
-        ])
+        let mut equal = [true; WINDOW_WIDTH];
+        for j in 0..TILE_HEIGHT {
+            let line = start + WINDOW_WIDTH * j;
+            let end = line + WINDOW_WIDTH;
+            compare_line(
+                &self.pixels[line..end],
+                &other.pixels[line..end],
+                &mut equal,
+            );
+        }
+        equal
     }
 
     /// Reads six pixels of a row. All are read before one is put, so that several are moved at once.
@@ -147,5 +129,18 @@ impl Window {
     {
         let start = WINDOW_WIDTH * y + x;
         self.pixels[start..start + colours.len()].copy_from_slice(colours);
+    }
+}
+
+// Keeps the marks of the pixels that are the same in two lines. It looks at all of them, so that many are compared at
+// once.
+fn compare_line(line: &[u8], other: &[u8], equal: &mut [bool; WINDOW_WIDTH])
+    requires line { length line.now ≡ window_width }
+    requires other { length other.now ≡ window_width }
+    ensures { (x : ℕ) → x < window_width → slice_index_or equal.new x false ≡ true
+        ↔ (slice_index_or equal.old x false ≡ true) × (slice_index line.now x ≡ slice_index other.now x) }
+{
+    for x in 0..WINDOW_WIDTH {
+        equal[x] &= line[x] == other[x];
     }
 }

@@ -1,1 +1,2 @@
+mod PairBytes
 mod Rows

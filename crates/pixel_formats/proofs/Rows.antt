@@ -10,7 +10,9 @@ use borrow.Rule.Slice.PartMut.{put_mid}
 use lib.Lanes.{put_chunk}
 use Rattle.cdg_screen.specs.Standing.{Standing, screen_pixel}
 use Rattle.cdg_screen.proofs.WholeRows.{else_before, else_behind, length-part, piece_put, then_within}
-use Rattle.pixel_formats.specs.Formats.{pixel_bytes, pixel_size, shown_bytes, AreLineBytes}
+use Rattle.live_player.specs.declared.part.ScreenPart.{ScreenPart}
+use Rattle.live_player.specs.Parts.{ShowsPart}
+use Rattle.pixel_formats.specs.Formats.{pixel_bytes, pixel_size, shown_bytes, AreLineBytes, ShowsPixels}
 use Rattle.pixel_formats.specs.declared.format.PixelFormat.{PixelFormat}
 use Rattle.pixel_formats.specs.declared.format.PixelFormat.TheVariants.{Indexed, Rgb, Rgba, Bgra, RgbaLevels, BgraLevels, Rgb565}
 
@@ -34,22 +36,24 @@ from_there at n a b from = grind (arith, nat_tests)
 before_there : (at n a b : ℕ) → n < at → (if nat_le at n then a else b) ≡ b
 before_there at n a b lt = grind (arith, nat_tests)
 
--- four bytes that were written to a place as a vector, up to their end
-pub four_put : (line four : List ℕ) (at n : ℕ) → at + 4 ≤ length line → length four ≡ 4 → n < at + 4
-    → get_or (put_mid at (at + 4 - at) line (put_chunk 0 (take (at + 4 - at) (drop at line)) four)) n 0
-    ≡ (if nat_le at n then get_or four (n - at) 0 else get_or line n 0)
-four_put line four at n fits size lt =
-    let room : length (take (at + 4 - at) (drop at line)) ≡ at + 4 - at =
-    length-part line at (at + 4 - at) (omega (arith, fits)) in
-    let whole : put_chunk 0 (take (at + 4 - at) (drop at line)) four ≡ four =
-    put_chunk_whole (take (at + 4 - at) (drop at line)) four (omega (arith, room, size)) in
-    ap (λ ys. get_or (put_mid at (at + 4 - at) line ys) n 0) whole
-    ∙ piece_put at (at + 4 - at) line four n (omega (arith, fits, size)) (omega (arith, size))
+-- so many bytes that were written to a place as a vector, up to their end
+pub bytes_put : (count : ℕ) (line bytes : List ℕ) (at n : ℕ) → at + count ≤ length line → length bytes ≡ count
+    → n < at + count
+    → get_or (put_mid at (at + count - at) line (put_chunk 0 (take (at + count - at) (drop at line)) bytes)) n
+    0
+    ≡ (if nat_le at n then get_or bytes (n - at) 0 else get_or line n 0)
+bytes_put count line bytes at n fits size lt =
+    let room : length (take (at + count - at) (drop at line)) ≡ at + count - at =
+    length-part line at (at + count - at) (omega (arith, fits)) in
+    let whole : put_chunk 0 (take (at + count - at) (drop at line)) bytes ≡ bytes =
+    put_chunk_whole (take (at + count - at) (drop at line)) bytes (omega (arith, room, size)) in
+    ap (λ ys. get_or (put_mid at (at + count - at) line ys) n 0) whole
+    ∙ piece_put at (at + count - at) line bytes n (omega (arith, fits, size)) (omega (arith, size))
     ∙ elim (cases_lt n at) [
       | inl early ↦
-          else_before at (at + length four) n _ _ early ∙ sym (before_there at n _ _ early)
+          else_before at (at + length bytes) n _ _ early ∙ sym (before_there at n _ _ early)
       | inr from ↦
-          then_within at (at + length four) n _ _ from (omega (arith, lt, size))
+          then_within at (at + length bytes) n _ _ from (omega (arith, lt, size))
           ∙ sym (from_there at n _ _ from)
     ]
 
@@ -166,6 +170,24 @@ shown_number format now x y number k indexed is lt =
     is
     ∙ ap (λ n. get_or (shown_bytes Indexed now x y) n 0) (sym first)
     ∙ ap (λ f. get_or (shown_bytes f now x y) k 0) (sym indexed)
+
+-- a part that is numbers alone
+pub part_shows : (format : PixelFormat) (now : Standing) (part : ScreenPart) (stride : ℕ) (old new : List ℕ)
+    → format ≡ Indexed
+    → ShowsPart now part stride old new
+    → ShowsPixels format now part stride old new
+part_shows format now part stride old new indexed shows =
+    let size : pixel_size format ≡ 1 = ap pixel_size indexed in
+    let long : pixel_size format * part.width ≡ 1 * part.width = ap (λ s. s * part.width) size in
+    record {
+      pixels = λ i j k i_lt j_lt k_lt.
+          let place : j * stride + (pixel_size format * i + k) ≡ j * stride + i =
+          ap (λ s. j * stride + (s * i + k)) size ∙ omega (arith, k_lt, size) in
+          ap (λ n. get_or new n 0) place
+          ∙ shows.pixels i j i_lt j_lt
+          ∙ shown_number format now (part.left + i) (part.top + j) _ k indexed refl k_lt;
+      others = λ n out. shows.others n (λ i j i_lt j_lt. out i j (omega (arith, i_lt, long)) j_lt);
+    }
 
 -- ---- a row of a part
 

@@ -47,6 +47,19 @@ abbrev pub AreFirstBytes : ℕ → ℕ → List ℕ → List (List ℕ) → List
 AreFirstBytes size count pixels table line = (i k : ℕ) → i < count → k < size
     → slice_index line (size * i + k) ≡ slice_index (slice_index_or table (slice_index pixels i) []) k
 
+-- a table of the bytes of each two pixels: those of colours p and q at place p + 16 q
+pub record ArePairs (size : ℕ) (table pairs : List (List ℕ)) : Type 0 where
+  pub sizes : (n : ℕ) → n < 256 → length (slice_index_or pairs n []) ≡ 8
+  pub bytes : (n : ℕ) → n < 256
+      → AreFirstBytes size 2 (n % 16 ∷ n / 16 ∷ []) table (slice_index_or pairs n [])
+
+-- the first pairs of pixels, so many bytes for each pixel, one after the other, by a table of the bytes of each two
+abbrev pub AreFirstPairs : ℕ → ℕ → List ℕ → List (List ℕ) → List ℕ → Type 0
+AreFirstPairs size count pixels pairs line =
+    let number = λ (i : ℕ). slice_index pixels (2 * i) + 16 * slice_index pixels (2 * i + 1) in
+    (i k : ℕ) → i < count → k < 2 * size
+    → slice_index line (2 * size * i + k) ≡ slice_index (slice_index_or pairs (number i) []) k
+
 -- all pixels
 abbrev pub AreLineBytes : ℕ → List ℕ → List (List ℕ) → List ℕ → Type 0
 AreLineBytes size pixels table line = AreFirstBytes size (length pixels) pixels table line

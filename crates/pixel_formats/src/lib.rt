@@ -3,6 +3,7 @@
 
 mod format;
 mod line;
+mod pairs;
 mod table;
 mod writing;
 

@@ -1,82 +1,115 @@
 // Rows of pixels as bytes.
-ghost use Rattle.std.specs.Prelude.{◌≡◌, ◌<◌, ◌≤◌, ◌+◌, ◌-◌, ◌*◌, nat_le, if◌then◌else◌, ℕ, [], length, slice_index, slice_index_or};
-ghost use Rattle.pixel_formats.specs.Formats.{AreFirstBytes, AreLineBytes};
+ghost use Rattle.std.specs.Prelude.{◌≡◌, ◌<◌, ◌≤◌, ◌+◌, ◌-◌, ◌*◌, nat_le, if◌then◌else◌, ℕ, [], IfSome, length, slice_index, slice_index_or};
+ghost use Rattle.pixel_formats.specs.Formats.{AreFirstBytes, AreLineBytes, ArePairs};
 
+use crate::pairs::{PAIRS, write_pairs};
 use cdg_instructions::COLOURS;
 use std::simd::prelude::*;
 
-// How many pixels a round of a loop writes, without a test between them.
-const ROUND: usize = 8;
-
 /// Writes two bytes for each pixel.
-pub(crate) fn write_twos(pixels: &[u8], table: &[[u8; 4]; COLOURS], line: &mut [u8])
+pub(crate) fn write_twos(
+    pixels: &[u8],
+    table: &[[u8; 4]; COLOURS],
+    pairs: Option<&[[u8; 8]; PAIRS]>,
+    line: &mut [u8],
+)
     requires size { length line.old ≡ 2 * length pixels.now }
     requires numbers { (i : ℕ) → i < length pixels.now → slice_index pixels.now i < 16 }
     requires entries { (p : ℕ) → p < 16 → length (slice_index_or table.now p []) ≡ 4 }
+    requires pairs { IfSome pairs (λ pairs. ArePairs 2 table.now pairs.now) }
     ensures { AreLineBytes 2 pixels.now table.now line.new }
 {
     if pixels.is_empty() {
         return;
     }
     let last = pixels.len() - 1;
-    write_first(2, last, pixels, table, line);
+    write_first(
+        2,
+        last.saturating_sub(1) / 2,
+        last,
+        pixels,
+        table,
+        pairs,
+        line,
+    );
     let last_colour = usize::from(pixels[last]);
     put_two(line, 2 * last, &table[last_colour]);
 }
 
 /// Writes three bytes for each pixel.
-pub(crate) fn write_threes(pixels: &[u8], table: &[[u8; 4]; COLOURS], line: &mut [u8])
+pub(crate) fn write_threes(
+    pixels: &[u8],
+    table: &[[u8; 4]; COLOURS],
+    pairs: Option<&[[u8; 8]; PAIRS]>,
+    line: &mut [u8],
+)
     requires size { length line.old ≡ 3 * length pixels.now }
     requires numbers { (i : ℕ) → i < length pixels.now → slice_index pixels.now i < 16 }
     requires entries { (p : ℕ) → p < 16 → length (slice_index_or table.now p []) ≡ 4 }
+    requires pairs { IfSome pairs (λ pairs. ArePairs 3 table.now pairs.now) }
     ensures { AreLineBytes 3 pixels.now table.now line.new }
 {
     if pixels.is_empty() {
         return;
     }
     let last = pixels.len() - 1;
-    write_first(3, last, pixels, table, line);
+    write_first(3, last / 2, last, pixels, table, pairs, line);
     let last_colour = usize::from(pixels[last]);
     put_three(line, 3 * last, &table[last_colour]);
 }
 
 /// Writes four bytes for each pixel.
-pub(crate) fn write_fours(pixels: &[u8], table: &[[u8; 4]; COLOURS], line: &mut [u8])
+pub(crate) fn write_fours(
+    pixels: &[u8],
+    table: &[[u8; 4]; COLOURS],
+    pairs: Option<&[[u8; 8]; PAIRS]>,
+    line: &mut [u8],
+)
     requires size { length line.old ≡ 4 * length pixels.now }
     requires numbers { (i : ℕ) → i < length pixels.now → slice_index pixels.now i < 16 }
     requires entries { (p : ℕ) → p < 16 → length (slice_index_or table.now p []) ≡ 4 }
+    requires pairs { IfSome pairs (λ pairs. ArePairs 4 table.now pairs.now) }
     ensures { AreLineBytes 4 pixels.now table.now line.new }
 {
-    write_first(4, pixels.len(), pixels, table, line);
+    let count = pixels.len();
+    write_first(4, count / 2, count, pixels, table, pairs, line);
 }
 
-// Writes so many bytes for each of the first pixels. It is inlined, so that the size is known.
+// Writes so many bytes for each of the first pixels, some of them two at a time if there is a table of pairs. It is
+// inlined, so that the size is known.
 #[inline(always)]
 fn write_first(
     size: usize,
+    paired: usize,
     count: usize,
     pixels: &[u8],
     table: &[[u8; 4]; COLOURS],
+    pairs: Option<&[[u8; 8]; PAIRS]>,
     line: &mut [u8],
 )
     requires size { size ≤ 4 }
+    requires paired { 2 * paired ≤ count }
     requires count { count ≤ length pixels.now }
     requires room { size * count + 4 ≤ length line.old + size }
+    requires pair_room { (i : ℕ) → i < paired → 2 * size * i + 8 ≤ length line.old }
     requires numbers { (i : ℕ) → i < length pixels.now → slice_index pixels.now i < 16 }
     requires entries { (p : ℕ) → p < 16 → length (slice_index_or table.now p []) ≡ 4 }
+    requires pairs { IfSome pairs (λ pairs. ArePairs size table.now pairs.now) }
     ensures { AreFirstBytes size count pixels.now table.now line.new }
 {
-    let rounds = count / ROUND;
-    for r in 0..rounds {
-        write_more(size, ROUND * r, ROUND, pixels, table, line);
+    match pairs {
+        Some(pairs) => {
+            write_pairs(size, paired, pixels, pairs, line);
+            write_more(size, 2 * paired, count - 2 * paired, pixels, table, line);
+        }
+        None => write_more(size, 0, count, pixels, table, line),
     }
-    write_more(size, ROUND * rounds, count % ROUND, pixels, table, line);
 }
 
-// Writes so many bytes for each of some pixels, behind those of the pixels before them. Four are written at once, of
-// which the next pixel writes over what is more than its size.
+/// Writes so many bytes for each of some pixels, behind those of the pixels before them. Four are written at once, of
+/// which the next pixel writes over what is more than its size.
 #[inline(always)]
-fn write_more(
+pub(crate) fn write_more(
     size: usize,
     from: usize,
     count: usize,

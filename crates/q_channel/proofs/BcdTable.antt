@@ -5,7 +5,7 @@ use Rattle.std.proofs.lemmas.Bool.{and_parts, eqb-true, le-leb}
 use Rattle.bit_lists.proofs.Tests.{all_below, all_below-at}
 use Rattle.q_channel.specs.QFrame.{is_bcd_within}
 use Rattle.q_channel.specs.Kinds.{bcd_value}
-use Rattle.q_channel.specs.declared.bcd_table.TheConstants.{NUMBERS}
+use Rattle.q_channel.specs.declared.program.TheConstants.{NUMBERS}
 use Rattle.q_channel.proofs.Ranges.{bool_cases}
 
 has_number : ℕ → Bool

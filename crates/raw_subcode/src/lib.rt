@@ -7,7 +7,6 @@ mod lane_table;
 mod lanes;
 mod laws;
 mod packs;
-mod planar;
 mod rows;
 mod sizes;
 

@@ -35,6 +35,18 @@ pub fn correct(received: &Word) -> Option<Fixed>
             wrong,
         });
     }
+    correct_by_sums(received)
+}
+
+/// The same by the sums of the word alone, where the idle pack is seen not to be near.
+pub fn correct_by_sums(received: &Word) -> Option<Fixed>
+    ensures reads { MatchOption result
+        ((w : List ℕ) → ¬ Reads received.now w)
+        (λ fixed. Reads received.now fixed.pack × (fixed.wrong ≡ differences received.now fixed.pack)) }
+    ensures word { IsWord received.now }
+{
+    // For the clause `word`.
+    words_have_24_symbols(received);
     let syndromes = Syndromes::of(received);
     if let Some(pack) = Pack::check_syndromes(received, syndromes) {
         return Some(Fixed { pack, wrong: 0 });

@@ -48,7 +48,6 @@ impl Pack {
         }
     }
 
-    /// A word that is a codeword.
     #[inline]
     pub(crate) fn of(word: Word) -> Pack
         requires { IsCodeword word }
@@ -135,7 +134,6 @@ impl LastFour {
         }
     }
 
-    // The polynomial times a number.
     #[inline]
     fn times(self, factor: Sym) -> LastFour
         ensures { (j : ℕ) → value_at j result ≡ product (value_at j self) factor }
@@ -148,7 +146,6 @@ impl LastFour {
         }
     }
 
-    // The sum of two polynomials.
     #[inline]
     fn add(self, other: LastFour) -> LastFour
         ensures { (j : ℕ) → value_at j result ≡ bit_xor (value_at j self) (value_at j other) }

@@ -145,7 +145,6 @@ fn joined(low: [u8; 8], middle: [u8; 8], high: [u8; 8]) -> [u8; SYMBOLS]
     bytes
 }
 
-// Puts eight bytes at a place.
 #[inline]
 fn put_eight(bytes: &mut [u8; SYMBOLS], at: usize, eight: [u8; 8])
     requires { at ≤ 16 }

@@ -67,7 +67,6 @@ impl Gather {
         ensures empty { IfOk result (λ g. g ≡ []) }
     {
         // Nothing is taken of it: the seven slots have their place in the gatherer.
-        let _ = alloc;
         Ok(Gather::new())
     }
 
@@ -454,7 +453,6 @@ fn symbol(
     }
 }
 
-// Four words of zeros.
 #[inline]
 fn idle_words() -> ArrayVec<Word, SLOTS_A_BLOCK>
     ensures { result.items ≡ replicate slots_a_block idle_pack }

@@ -18,7 +18,7 @@ use Rattle.rw_interleave.specs.Texts.{cdg_bytes, entry_bytes}
 use Rattle.rw_merge.proofs.Slots.{program_is}
 use Rattle.rw_mend.specs.Choice.{IsMending, IsMendedBy, voice_of_reading}
 use Rattle.rw_mend.specs.Drops.{AreVoices, IsDropped}
-use Rattle.rw_mend.specs.Laws.{CountsAlone, IsAgreedWord, given_text, voice_bytes}
+use Rattle.rw_mend.specs.Laws.{CountsAlone, IsAgreedWord, IsCleanBeside, given_text, voice_bytes}
 use Rattle.rw_mend.specs.Many.{AreAllMendedInto, programs_of, words_in_each}
 use Rattle.rw_mend.specs.Streams.{AreMended, IsMendedInto, is_mended_by, mended_bytes, mended_text, way_by, way_of, ways_of}
 use Rattle.rw_mend.specs.Tallies.{source_byte}
@@ -39,7 +39,7 @@ use Rattle.rw_mend.proofs.Damaged.{IsOrIdle, near_given, unread_or_not, written}
 use Rattle.rw_mend.proofs.Givens.{is_word, reading-word}
 use Rattle.rw_mend.proofs.Heaps.{part_whole, parts_length}
 use Rattle.rw_mend.proofs.Hearing.{lost_is, silent_is}
-use Rattle.rw_mend.proofs.Kept.{each_text, flat_joined, graphics_are, said_kept}
+use Rattle.rw_mend.proofs.Kept.{clean_text, each_text, flat_joined, graphics_are, said_kept}
 use Rattle.rw_mend.proofs.Once.{best_counts}
 
 -- ---- A reading by itself.
@@ -210,7 +210,7 @@ agreed_way voices None is = absurd is
 agreed_way voices (Some mended) is =
     ap (λ s. is_mended_by Together (Some (way_by s voices mended.pack))) is
 
-ways_at : (said : List (List Voice)) (found : List (Option Mended)) (n : ℕ) → n < length said
+pub ways_at : (said : List (List Voice)) (found : List (Option Mended)) (n : ℕ) → n < length said
     → n < length found → (n < length (ways_of said found))
     × (get_or (ways_of said found) n None ≡ way_of (get_or said n []) (get_or found n None))
 ways_at [] found n lt lt' = absurd (omega (arith, lt))
@@ -280,6 +280,51 @@ converted_many count lead_in r readings old new old_sources new_sources tallies 
     written (mended_text done.found) (cdg_bytes found) new old
     (text_alone words programs r done.said done.found is done.mended
     (not_agreed_byte words done.found done.mended.count (sym done.tallies_are.agreed ∙ none))
+    ∙ ap (λ n. given_text (whole_packs (n / 96 - lead_in)) programs r) (sym size)
+    ∙ given_converted lead_in r programs bytes found (ap (λ n. n % 96) size ∙ whole)
+    (get_or-map (program_of lead_in) all r [] [] inside) recovered)
+    done.text
+
+-- ---- A reading without a wrong symbol.
+
+pub clean_two : (lead_in r : ℕ) (first second old new : List ℕ) (counts : MendCounts)
+    (found : List (Option (List ℕ))) → length first % 96 ≡ 0 → length second ≡ length first
+    → IsCleanBeside (whole_packs (length first / 96 - lead_in))
+    (program_of lead_in first ∷ program_of lead_in second ∷ []) r
+    → IsMendedInto lead_in first second old new counts
+    → IsRecovered Raw (program_symbols Raw (get_or (first ∷ second ∷ []) r []) lead_in) found
+    → new ≡ cdg_bytes found ++ drop (length (cdg_bytes found)) old
+clean_two lead_in r first second old new counts found whole same is done recovered =
+    let words : ℕ = whole_packs (length first / 96 - lead_in) in
+    let readings : List (List ℕ) = first ∷ second ∷ [] in
+    let programs : List (List ℕ) = map (program_of lead_in) readings in
+    let bytes : List ℕ = get_or readings r [] in
+    let size : length bytes ≡ length first = one_of_two first second r is.within same in
+    written (mended_text done.found) (cdg_bytes found) new old
+    (clean_text words programs r done.said done.found is done.mended
+    ∙ ap (λ n. given_text (whole_packs (n / 96 - lead_in)) programs r) (sym size)
+    ∙ given_converted lead_in r programs bytes found (ap (λ n. n % 96) size ∙ whole)
+    (get_or-map (program_of lead_in) readings r [] [] is.within) recovered)
+    done.text
+
+pub clean_many : (count lead_in r : ℕ) (readings old new old_sources new_sources : List ℕ)
+    (tallies : Tallies) (found : List (Option (List ℕ))) → (length readings / count) % 96 ≡ 0
+    → IsCleanBeside (words_in_each count lead_in readings) (programs_of count lead_in readings) r
+    → AreAllMendedInto count lead_in readings old new old_sources new_sources tallies
+    → IsRecovered Raw
+    (program_symbols Raw (get_or (parts count (length readings / count) readings) r []) lead_in) found
+    → new ≡ cdg_bytes found ++ drop (length (cdg_bytes found)) old
+clean_many count lead_in r readings old new old_sources new_sources tallies found whole is done recovered =
+    let each : ℕ = length readings / count in
+    let words : ℕ = words_in_each count lead_in readings in
+    let all : List (List ℕ) = parts count each readings in
+    let programs : List (List ℕ) = map (program_of lead_in) all in
+    let bytes : List ℕ = get_or all r [] in
+    let inside : r < length all = omega (arith, is.within, length-map all (program_of lead_in)) in
+    let size : length bytes ≡ each =
+    part_whole count readings r (omega (arith, inside, parts_length count each readings)) in
+    written (mended_text done.found) (cdg_bytes found) new old
+    (clean_text words programs r done.said done.found is done.mended
     ∙ ap (λ n. given_text (whole_packs (n / 96 - lead_in)) programs r) (sym size)
     ∙ given_converted lead_in r programs bytes found (ap (λ n. n % 96) size ∙ whole)
     (get_or-map (program_of lead_in) all r [] [] inside) recovered)

@@ -6,6 +6,7 @@ pub mod Coming
 pub mod Converted
 pub mod Counting
 pub mod Damaged
+pub mod Exchanged
 pub mod Givens
 pub mod Heaps
 pub mod Hearing

@@ -74,21 +74,21 @@ count_reordered p xs ys is = sym (sum_by-IsPermutation (λ x. if p x then 1 else
 
 -- ---- What is said, as a function of a reading and of all readings.
 
-near_by : ℕ → ℕ → Bool
+pub near_by : ℕ → ℕ → Bool
 near_by n m = nat_le n (m + 7) && nat_le m (n + 7)
 
-abbrev busy : List (List ℕ) → ℕ → Bool
+abbrev pub busy : List (List ℕ) → ℕ → Bool
 busy programs m = list_any (λ program. is_clean_graphics (voice_of (reading_at program m))) programs
 
-abbrev drops_by : List (List ℕ) → List ℕ → ℕ → ℕ → Bool
+abbrev pub drops_by : List (List ℕ) → List ℕ → ℕ → ℕ → Bool
 drops_by programs program n m =
     near_by n m && (is_idle_voice (voice_of (reading_at program m)) && busy programs m)
 
-abbrev left_out : ℕ → List (List ℕ) → ℕ → List ℕ → Bool
+abbrev pub left_out : ℕ → List (List ℕ) → ℕ → List ℕ → Bool
 left_out words programs n program = is_idle_voice (voice_of (reading_at program n))
     && list_any (drops_by programs program n) (below words)
 
-abbrev says : ℕ → List (List ℕ) → ℕ → List ℕ → Voice
+abbrev pub says : ℕ → List (List ℕ) → ℕ → List ℕ → Voice
 says words programs n program =
     if left_out words programs n program then Silent else voice_of (reading_at program n)
 
@@ -181,7 +181,7 @@ says_is words programs n r voice (inr (kept, given)) =
       | inr stays ↦ given ∙ sym (ap (λ b. if b then Silent else given_at programs r n) stays)
     ]
 
-voices_are : (words : ℕ) (programs : List (List ℕ)) (n : ℕ) (voices : List Voice)
+pub voices_are : (words : ℕ) (programs : List (List ℕ)) (n : ℕ) (voices : List Voice)
     → AreVoices words programs n voices → voices ≡ map (says words programs n) programs
 voices_are words programs n voices are =
     ext_get_or Silent voices (map (says words programs n) programs)
@@ -200,7 +200,7 @@ left_same words programs others n is program =
     (any_same (drops_by others program n) (drops_by programs program n) (below words) (λ m.
     ap (λ b. near_by n m && (is_idle_voice (voice_of (reading_at program m)) && b)) (graphics m)))
 
-says_same : (words : ℕ) (programs others : List (List ℕ)) (n : ℕ) → IsPermutation programs others
+pub says_same : (words : ℕ) (programs others : List (List ℕ)) (n : ℕ) → IsPermutation programs others
     → (program : List ℕ) → says words others n program ≡ says words programs n program
 says_same words programs others n is program =
     ap (λ b. if b then Silent else voice_of (reading_at program n))
@@ -218,7 +218,7 @@ said_reordered words programs others n voices voices' is are are' =
 
 -- ---- What is best.
 
-votes_same : (vs ws : List Voice) (pack : List ℕ) → IsPermutation vs ws → votes vs pack ≡ votes ws pack
+pub votes_same : (vs ws : List Voice) (pack : List ℕ) → IsPermutation vs ws → votes vs pack ≡ votes ws pack
 votes_same vs ws pack is = count_reordered (is_of pack) vs ws is
 
 stands_same : (vs ws : List Voice) (pack : List ℕ) (d : ℕ) → IsPermutation vs ws → (voice : Voice)
@@ -583,7 +583,7 @@ same_word vs ws (Some mended) (Some another) is codewords codewords' one two =
 
 -- ---- Whole streams.
 
-said_codewords : (words : ℕ) (programs : List (List ℕ)) (n : ℕ) (voices : List Voice)
+pub said_codewords : (words : ℕ) (programs : List (List ℕ)) (n : ℕ) (voices : List Voice)
     → AreVoices words programs n voices → AreCodewords voices
 said_codewords words programs n voices are r pack doubts lt near =
     let given = counted words programs n r (voice_of_reading voices r) pack doubts
@@ -659,7 +659,7 @@ reordered_text words programs others said said' found found' is mended mended' =
 
 -- ---- What is counted.
 
-count_mapped : {X : Type 0} (p : X → Bool) (xs : List X) → count_by p xs ≡ count_by (λ b. b) (map p xs)
+pub count_mapped : {X : Type 0} (p : X → Bool) (xs : List X) → count_by p xs ≡ count_by (λ b. b) (map p xs)
 count_mapped p [] = refl
 count_mapped p (x ∷ xs) =
     sum_by-cons (λ y. if p y then 1 else 0) x xs

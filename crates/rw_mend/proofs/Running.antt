@@ -105,7 +105,7 @@ counted_more counts more voices f n counted said found said_size size are =
     subst (λ l. AreCounts l more) (sym (ways_more said found voices f (said_size ∙ sym size)))
     (counted (ways_of said found) are)
 
-ways_length : (said : List (List Voice)) (found : List (Option Mended)) → length said ≡ length found
+pub ways_length : (said : List (List Voice)) (found : List (Option Mended)) → length said ≡ length found
     → length (ways_of said found) ≡ length found
 ways_length [] [] same = refl
 ways_length [] (g ∷ found) same = absurd (omega (arith, same))

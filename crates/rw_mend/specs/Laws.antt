@@ -13,6 +13,7 @@ use Rattle.rw_mend.specs.Words.{given_at}
 use Rattle.rw_mend.specs.declared.choice.Mended.{Mended}
 use Rattle.rw_mend.specs.declared.choice.WordSource.{WordSource}
 use Rattle.rw_mend.specs.declared.choice.WordSource.TheVariants.{Reading, Agreed}
+use Rattle.rw_mend.specs.declared.streams.MendCounts.{MendCounts}
 use Rattle.rw_mend.specs.declared.voices.Voice.{Voice}
 use Rattle.rw_mend.specs.declared.voices.Voice.TheVariants.{Near}
 
@@ -89,3 +90,11 @@ IsSameFind programs others n (Some one) (Some other) = (one.pack ≡ other.pack)
     × IsSameSource programs others n one.source other.source
 IsSameFind programs others n None None = ⊤
 IsSameFind programs others n one other = ⊥
+
+-- What is counted of the first reading is counted of the second, and the other way round; all else is as it was.
+pub record AreExchanged (counts others : MendCounts) : Type 0 where
+  pub both : others.both ≡ counts.both
+  pub of_first : others.of_first ≡ counts.of_second
+  pub of_second : others.of_second ≡ counts.of_first
+  pub agreed : others.agreed ≡ counts.agreed
+  pub none : others.none ≡ counts.none

@@ -12,7 +12,7 @@ ghost use Rattle.rw_interleave.specs.Texts.{cdg_bytes};
 ghost use Rattle.rw_merge.specs.Readings.{IsDamagedTwice};
 ghost use Rattle.rw_mend.specs.Choice.{IsMending, voice_of_reading};
 ghost use Rattle.rw_mend.specs.Drops.{IsDropCount};
-ghost use Rattle.rw_mend.specs.Laws.{AllGive, AreDamagedReadings, AreEnough, CountsAlone, IsAgreedWord, IsCleanBeside, IsSameFind, given_text, voice_bytes};
+ghost use Rattle.rw_mend.specs.Laws.{AllGive, AreDamagedReadings, AreEnough, AreExchanged, CountsAlone, IsAgreedWord, IsCleanBeside, IsSameFind, given_text, voice_bytes};
 ghost use Rattle.rw_mend.specs.Many.{AreAllMendedInto, programs_of, words_in_each};
 ghost use Rattle.rw_mend.specs.Streams.{AreMended, IsMendedInto, mended_bytes, mended_text};
 ghost use Rattle.rw_mend.specs.Words.{given_at, program_of};
@@ -33,12 +33,27 @@ pub fn a_clean_codeword_is_mended()
 {}
 
 /// A law: a reading without a wrong symbol comes out whole, as if it were alone, beside any readings which, where no
-/// symbol of a word of theirs is wrong, give the same codeword or the idle pack: noise, scratches, no channels R to W.
+/// symbol of a word of theirs is wrong, give the same codeword or the idle pack: noise, scratches, no channels R to W. So
+/// the calls write what a conversion writes of it.
 pub fn a_clean_reading_comes_out()
-    ensures { (words r : ℕ) (programs : List (List ℕ)) (said : List (List Voice))
+    ensures words { (words r : ℕ) (programs : List (List ℕ)) (said : List (List Voice))
         (found : List (Option Mended))
         → IsCleanBeside words programs r → AreMended words programs said found
         → mended_text found ≡ given_text words programs r }
+    ensures two { (lead_in r : ℕ) (first second old new : List ℕ) (counts : MendCounts)
+        (found : List (Option (List ℕ))) → length first % block_bytes ≡ 0 → length second ≡ length first
+        → IsCleanBeside (whole_packs (length first / block_bytes - lead_in))
+        (program_of lead_in first ∷ program_of lead_in second ∷ []) r
+        → IsMendedInto lead_in first second old new counts
+        → IsRecovered Raw (program_symbols Raw (slice_index_or (first ∷ second ∷ []) r []) lead_in) found
+        → new ≡ cdg_bytes found ++ drop (length (cdg_bytes found)) old }
+    ensures many { (count lead_in r : ℕ) (readings old new old_sources new_sources : List ℕ)
+        (tallies : Tallies) (found : List (Option (List ℕ))) → (length readings / count) % block_bytes ≡ 0
+        → IsCleanBeside (words_in_each count lead_in readings) (programs_of count lead_in readings) r
+        → AreAllMendedInto count lead_in readings old new old_sources new_sources tallies
+        → IsRecovered Raw (program_symbols Raw
+        (slice_index_or (parts count (length readings / count) readings) r []) lead_in) found
+        → new ≡ cdg_bytes found ++ drop (length (cdg_bytes found)) old }
 {}
 
 /// A law: for the voices of a word one codeword at most is mended, of one source; so it is for each word of readings.
@@ -126,7 +141,8 @@ pub fn a_reading_that_counts_alone_is_converted()
 
 /// A law: another order of the readings changes nothing but which of them is named where several give the same. So the
 /// calls write the same, and count as many words that are agreed, and that have no codeword; and what each reading gives
-/// counts for nothing as often.
+/// counts for nothing as often. Where two readings change places, so do the counts of what each gives alone, and as many
+/// words are given by both.
 pub fn the_order_of_readings_changes_names_alone()
     ensures words { (words : ℕ) (programs others : List (List ℕ)) (said saying : List (List Voice))
         (found other : List (Option Mended)) → IsPermutation programs others
@@ -144,6 +160,10 @@ pub fn the_order_of_readings_changes_names_alone()
         → AreAllMendedInto count lead_in readings old new old_sources sources told
         → AreAllMendedInto count lead_in others old turned old_sources named retold
         → (turned ≡ new) × (retold.agreed ≡ told.agreed) × (retold.none ≡ told.none) }
+    ensures two { (lead_in : ℕ) (first second old new turned : List ℕ) (counts others : MendCounts)
+        → length second ≡ length first → IsMendedInto lead_in first second old new counts
+        → IsMendedInto lead_in second first old turned others
+        → (turned ≡ new) × AreExchanged counts others }
     ensures dropped { (words : ℕ) (programs others : List (List ℕ)) (r k count again : ℕ)
         → IsPermutation programs others → slice_index_or programs r [] ≡ slice_index_or others k []
         → IsDropCount words programs r words count → IsDropCount words others k words again

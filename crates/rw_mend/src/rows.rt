@@ -164,7 +164,8 @@ fn hear_beside(
     }
 }
 
-// Hears what one reading gives, beside what another gives.
+// Hears what one reading gives, beside what another gives. It stands in line, so that what it hears waits in registers.
+#[inline(always)]
 fn hear_one(other: &Voice, program: &[u8], n: usize, trail: &mut Trail, voice: &mut Voice)
     requires within { block_bytes * ((n + 7) / 4) + block_bytes ≤ length program.now }
     requires trail { 0 < n → IsTrail program.now (n - 1) trail.old }

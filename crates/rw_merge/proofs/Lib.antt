@@ -10,4 +10,3 @@ pub mod Faults
 pub mod Stops
 pub mod Working
 pub mod Restoring
-pub mod Rooms

@@ -1,203 +1,372 @@
 -- How a pair of blocks is read, and how the end of both inputs is found, exit by exit.
-use Rattle.std.proofs.Common.{◌≡◌, ◌≢◌, ◌⊎◌, ℕ, ◌<◌, ◌≤◌, Bool, true, false, List, [], ◌∷◌, length, take, refl, ap, inl, inr, arith}
-use Rattle.std.specs.Prelude.{Option, Result, Ok, Err}
+use Rattle.std.proofs.Common.{◌≡◌, ◌≢◌, ◌⊎◌, ◌∙◌, ℕ, ◌<◌, ◌≤◌, ◌/◌, Bool, true, false, List, [], ◌∷◌, length, take, refl, ap, subst, inl, inr, arith}
+use Rattle.std.specs.Prelude.{IfOk, OnErr, Option, Result, Ok, Err}
 use Rattle.std.specs.Io.KnownBytes.{Consumes, IsAtEnd}
 use Rattle.std.proofs.KnownBytes.{Consumes-nil}
-use Rattle.std.proofs.lemmas.List.{length-take}
+use Rattle.std.proofs.lemmas.Bool.{cases_lt}
+use Rattle.std.proofs.lemmas.List.{length-take, take_all}
+use Rattle.cdg_io.specs.Causes.{Count, FillsRoom, HasCause, TellsEnd, counted_up}
+use Rattle.cdg_io.specs.Change.{Change, change, from_to}
 use Rattle.cdg_io.specs.Moves.{ConsumesBelow}
-use Rattle.rw_merge.specs.Steps.{IsEndRead, IsHalfRead, IsPairRead, taken_of}
+use Rattle.cdg_io.specs.Pump.{RoseBy}
+use Rattle.rw_merge.specs.Merging.{ReadInput, ToldUnlessAhead, read_input}
+use Rattle.rw_merge.specs.Steps.{AsksFor, IsHalfRead, ReadsNoMore, ReadsPair}
 use Rattle.rw_merge.specs.declared.merge.MergeStop.{MergeStop}
 use Rattle.rw_merge.specs.declared.merge.MergeStop.TheVariants.{FirstFault, SecondFault, TooLong, Torn, SecondTorn, Unequal}
 
--- so many bytes were filled into a buffer of this size
-pub record IsFilled (size : ℕ) (left left' : Option (List ℕ)) (n : ℕ) (buf : List ℕ) : Type 0 where
-  pub size_is : length buf ≡ size
-  pub within : n ≤ length buf
-  pub taken : Consumes left left' (take n buf)
-  pub end : n < length buf → IsAtEnd left'
+-- an input that is not read
+abbrev pub unread : Option (List ℕ) → Count → Count → ReadInput
+unread left ends fills =
+    record { left = from_to left left; ends = from_to ends ends; fills = from_to fills fills }
 
-size_taken : (n : ℕ) (buf : List ℕ) → n ≤ length buf → length (take n buf) ≡ n
-size_taken n buf within = omega (arith, length-take n buf)
+-- what `fill` says of a source, which was not read before
+pub asks_as : {S E : Type 0} (left : S → Option (List ℕ)) (ends fills : S → Count) (faults : S → ℕ)
+    (before same after : S) (result : Result ℕ E) (size : ℕ) (old room : List ℕ) → same ≡ before
+    → length old ≡ size → length room ≡ size → IfOk result (λ n. n ≤ length room)
+    → IfOk result (λ n. Consumes (left same) (left after) (take n room))
+    → IfOk result (λ n. n < length room → IsAtEnd (left after))
+    → OnErr result (ConsumesBelow (left same) (left after) (length room))
+    → HasCause (faults same) (faults after) result
+    → TellsEnd (length old) (ends same) (ends after) result
+    → FillsRoom (length old) (fills same) (fills after) result
+    → AsksFor size (read_input left ends fills before after) (change faults before after) result room
+asks_as left ends fills faults before same after result size old room is old_is room_is within took end part
+    cause told filled =
+    let asks : AsksFor size (read_input left ends fills same after) (change faults same after) result room =
+    record {
+      size_is = room_is;
+      within = subst (λ k. IfOk result (λ n. n ≤ k)) room_is within;
+      took = took;
+      end = subst (λ k. IfOk result (λ n. n < k → IsAtEnd (left after))) room_is end;
+      part = subst (λ k. OnErr result (ConsumesBelow (left same) (left after) k)) room_is part;
+      cause = cause;
+      told = subst (λ k. TellsEnd k (ends same) (ends after) result) old_is told;
+      filled = subst (λ k. FillsRoom k (fills same) (fills after) result) old_is filled;
+    } in
+    subst (λ s. AsksFor size (read_input left ends fills s after) (change faults s after) result room) is asks
 
-none_taken : (n : ℕ) (buf : List ℕ) → n ≡ 0 → take n buf ≡ []
-none_taken n buf none = ap (λ k. take k buf) none
+none_taken : (n : ℕ) (room : List ℕ) → n ≡ 0 → take n room ≡ []
+none_taken n room none = ap (λ k. take k room) none
 
 pub is_none : (n : ℕ) → n ≤ 0 → n ≡ 0
 is_none n le = omega arith
-
--- ---- A pair of blocks.
-
-abbrev pub IsPair : ℕ → Result Bool MergeStop → (left left' other other' : Option (List ℕ)) (one two : List ℕ)
-    → Type 0
-IsPair block result left left' other other' one two =
-    (xs ys : List ℕ) × Consumes left left' xs × Consumes other other' ys
-    × IsPairRead block result (taken_of xs left') (taken_of ys other')
-    × (result ≡ Ok true → (xs ≡ one) × (ys ≡ two))
 
 -- a whole block was taken, or nothing at the end
 abbrev pub IsWholeOrNone : ℕ → Type 0
 IsWholeOrNone n = (n ≡ 0) ⊎ (96 ≤ n)
 
+-- no read was filled by fewer bytes than it asked for
+none_filled : (k : ℕ) (before now : Count) → k ≡ 0 → now ≡ before → RoseBy k before now
+none_filled k before now none same = (λ _. same, λ some. absurd (omega (arith, some, none)))
+
+-- and one by all of them
+one_filled : (k : ℕ) (before now : Count) → k ≡ 1 → now ≡ counted_up 1 before → RoseBy k before now
+one_filled k before now one rose = (
+  λ none. absurd (omega (arith, none, one)),
+  λ _. rose ∙ ap (λ (j : ℕ). counted_up j before) (omega (arith, one)),
+)
+
+module _ {E : Type 0} {size n : ℕ} {input : ReadInput} {faults : Change ℕ} {room : List ℕ}
+    (a : AsksFor {E = E} size input faults (Ok n) room) where
+  size_taken : length (take n room) ≡ n
+  size_taken = omega (arith, length-take n room, a.within, a.size_is)
+
+  filled : (k : ℕ) → (n < size → k ≡ 0) → (size ≤ n → k ≡ 1)
+      → RoseBy k input.fills.before input.fills.after
+  filled k none one =
+      elim (cases_lt n size) [
+        | inl short ↦ none_filled k _ _ (none short) (a.filled.short short)
+        | inr full ↦ one_filled k _ _ (one full) (a.filled.full full)
+      ]
+
+  -- nothing was taken at the end
+  unless_ahead_none : n ≡ 0 → 0 < size → (m : ℕ) → ToldUnlessAhead (length (take n room)) m input.ends
+  unless_ahead_none none some m = (
+    λ most. a.told.ended (omega (arith, none, some)),
+    λ less. absurd (omega (arith, less, none, size_taken)),
+  )
+
+module _ {E : Type 0} {n : ℕ} {input : ReadInput} {faults : Change ℕ} {room : List ℕ}
+    (a : AsksFor {E = E} 96 input faults (Ok n) room) where
+  block_filled : RoseBy (length (take n room) / 96) input.fills.before input.fills.after
+  block_filled =
+      filled a _ (λ short. omega (arith, short, size_taken a))
+      (λ full. omega (arith, full, size_taken a, a.within))
+
+  half_read : IsWholeOrNone n → IsHalfRead input.left.after (take n room)
+  half_read (inl none) = inr (none_taken n room none, a.end (omega (arith, none)))
+  half_read (inr whole) = inl (omega (arith, whole, a.within, size_taken a))
+
+  -- less than a block was taken of the other input
+  unless_ahead : IsWholeOrNone n → (m : ℕ) → m < 96 → ToldUnlessAhead (length (take n room)) m input.ends
+  unless_ahead (inl none) m short = unless_ahead_none a none (omega arith) m
+  unless_ahead (inr whole) m short =
+      (λ most. absurd (omega (arith, most, whole, short, size_taken a)), λ less. a.told.goes_on whole)
+
+module _ {E : Type 0} {n : ℕ} {input : ReadInput} {faults : Change ℕ} {room : List ℕ}
+    (a : AsksFor {E = E} 1 input faults (Ok n) room) where
+  byte_filled : RoseBy (length (take n room)) input.fills.before input.fills.after
+  byte_filled =
+      filled a _ (λ short. omega (arith, short, size_taken a))
+      (λ full. omega (arith, full, size_taken a, a.within))
+
 stops_no_pair : (stop : MergeStop) (A : Type 0) → ◌≡◌ {A = Result Bool MergeStop} (Err stop) (Ok true) → A
 stops_no_pair stop A same = absurd (cc)
 
-half_read : (left left' : Option (List ℕ)) (n : ℕ) (buf : List ℕ) → IsFilled 96 left left' n buf
-    → IsWholeOrNone n
-    → IsHalfRead left' (take n buf)
-half_read left left' n buf f (inl none) = inr (none_taken n buf none, f.end (omega (arith, f.size_is)))
-half_read left left' n buf f (inr whole) = inl (omega (arith, f.size_is, f.within, size_taken n buf f.within))
+-- ---- A pair of blocks.
 
-pub first_failed : (block : ℕ) (left left' other : Option (List ℕ)) (one two : List ℕ) → length one ≡ 96
-    → ConsumesBelow left left' (length one)
-    → IsPair block (Err FirstFault) left left' other other one two
-first_failed block left left' other one two size (taken, below, consumed) =
-    (taken, [], consumed, Consumes-nil other, (omega arith, refl), stops_no_pair FirstFault _)
+module _ {E : Type 0} (block : ℕ) {first : ReadInput} {f : Change ℕ} {one : List ℕ} (other : List ℕ) where
+  pub first_failed : (left : Option (List ℕ)) (m d : Count) (e : E) → AsksFor 96 first f (Err e) one
+      → ReadsPair block (Err FirstFault) one other first (unread left m d)
+  first_failed left m d e a =
+      let (taken, below, took) = a.part in
+      record {
+        taken = taken;
+        other_taken = [];
+        took = took;
+        other_took = Consumes-nil left;
+        said = ((below, refl), stops_no_pair FirstFault _);
+        ended = (a.told.failed, refl);
+        filled = none_filled _ _ _ (omega (arith, below)) a.filled.failed;
+        other_filled = none_filled _ _ _ (omega arith) refl;
+      }
 
-pub first_torn : (block : ℕ) (left left' other : Option (List ℕ)) (n : ℕ) (one two : List ℕ)
-    → IsFilled 96 left left' n one → 0 < n → n < 96
-    → IsPair block (Err (Torn block)) left left' other other one two
-first_torn block left left' other n one two f some part =
-    let size = size_taken n one f.within in (
-      take n one,
-      [],
-      f.taken,
-      Consumes-nil other,
-      (refl, omega arith, omega arith, refl, f.end (omega (arith, f.size_is))),
+  pub first_torn : (left : Option (List ℕ)) (m d : Count) (n : ℕ) → AsksFor {E = E} 96 first f (Ok n) one
+      → 0 < n → n < 96 → ReadsPair block (Err (Torn block)) one other first (unread left m d)
+  first_torn left m d n a some part = record {
+    taken = take n one;
+    other_taken = [];
+    took = a.took;
+    other_took = Consumes-nil left;
+    said = (
+      (refl, omega (arith, some, size_taken a), omega (arith, part, size_taken a), refl, a.end part),
       stops_no_pair (Torn block) _,
-    )
+    );
+    ended = (a.told.ended part, refl);
+    filled = block_filled a;
+    other_filled = none_filled _ _ _ (omega arith) refl;
+  }
 
-pub second_failed : (block : ℕ) (left left' other other' : Option (List ℕ)) (n : ℕ) (one two : List ℕ)
-    → IsFilled 96 left left' n one → IsWholeOrNone n → length two ≡ 96
-    → ConsumesBelow other other' (length two)
-    → IsPair block (Err SecondFault) left left' other other' one two
-second_failed block left left' other other' n one two f first size (taken, below, consumed) = (
-  take n one,
-  taken,
-  f.taken,
-  consumed,
-  (half_read left left' n one f first, omega arith),
-  stops_no_pair SecondFault _,
-)
+module _ {E : Type 0} (block : ℕ) {first second : ReadInput} {f s : Change ℕ} {one other : List ℕ} {n : ℕ}
+    (a : AsksFor {E = E} 96 first f (Ok n) one) where
+  pub second_failed : (e : E) → IsWholeOrNone n → AsksFor 96 second s (Err e) other
+      → ReadsPair block (Err SecondFault) one other first second
+  second_failed e half b =
+      let (taken, below, took) = b.part in
+      record {
+        taken = take n one;
+        other_taken = taken;
+        took = a.took;
+        other_took = took;
+        said = ((half_read a half, below), stops_no_pair SecondFault _);
+        ended = (unless_ahead a half (length taken) below, b.told.failed);
+        filled = block_filled a;
+        other_filled = none_filled _ _ _ (omega (arith, below)) b.filled.failed;
+      }
 
-pub second_torn : (block : ℕ) (left left' other other' : Option (List ℕ)) (n m : ℕ) (one two : List ℕ)
-    → IsFilled 96 left left' n one → IsWholeOrNone n → IsFilled 96 other other' m two → 0 < m → m < 96
-    → IsPair block (Err (SecondTorn block)) left left' other other' one two
-second_torn block left left' other other' n m one two f first s some part =
-    let size = size_taken m two s.within in (
-      take n one,
-      take m two,
-      f.taken,
-      s.taken,
-      (refl, half_read left left' n one f first, omega arith, omega arith, s.end (omega (arith, s.size_is))),
+  pub second_torn : (m : ℕ) → IsWholeOrNone n → AsksFor {E = E} 96 second s (Ok m) other → 0 < m → m < 96
+      → ReadsPair block (Err (SecondTorn block)) one other first second
+  second_torn m half b some part = record {
+    taken = take n one;
+    other_taken = take m other;
+    took = a.took;
+    other_took = b.took;
+    said = (
+      (
+        refl,
+        half_read a half,
+        omega (arith, some, size_taken b),
+        omega (arith, part, size_taken b),
+        b.end part,
+      ),
       stops_no_pair (SecondTorn block) _,
-    )
+    );
+    ended =
+        (unless_ahead a half (length (take m other)) (omega (arith, part, size_taken b)), b.told.ended part);
+    filled = block_filled a;
+    other_filled = block_filled b;
+  }
 
-pub one_has_more : (block : ℕ) (left left' other other' : Option (List ℕ)) (n m : ℕ) (one two : List ℕ)
-    → IsFilled 96 left left' n one → IsWholeOrNone n → IsFilled 96 other other' m two → IsWholeOrNone m
-    → n ≢ m
-    → IsPair block (Err (Unequal block)) left left' other other' one two
-one_has_more block left left' other other' n m one two f (inl none) s (inl none') differ =
-    absurd (differ (omega arith))
-one_has_more block left left' other other' n m one two f (inl none) s (inr whole) differ =
-    let size = size_taken m two s.within in (
-      take n one,
-      take m two,
-      f.taken,
-      s.taken,
+  pub one_has_more : (m : ℕ) → IsWholeOrNone n → AsksFor {E = E} 96 second s (Ok m) other → IsWholeOrNone m
+      → n ≢ m → ReadsPair block (Err (Unequal block)) one other first second
+  one_has_more m (inl none) b (inl none') differ = absurd (differ (omega (arith, none, none')))
+  one_has_more m (inl none) b (inr whole) differ = record {
+    taken = take n one;
+    other_taken = take m other;
+    took = a.took;
+    other_took = b.took;
+    said = (
       (
         refl,
-        inr (none_taken n one none, omega (arith, s.within, s.size_is), f.end (omega (arith, f.size_is))),
+        inr (
+          none_taken n one none,
+          omega (arith, whole, b.within, size_taken b),
+          a.end (omega (arith, none)),
+        ),
       ),
       stops_no_pair (Unequal block) _,
-    )
-one_has_more block left left' other other' n m one two f (inr whole) s (inl none) differ =
-    let size = size_taken n one f.within in (
-      take n one,
-      take m two,
-      f.taken,
-      s.taken,
+    );
+    ended = inl (
+      omega (arith, none, whole, size_taken a, size_taken b),
+      a.told.ended (omega (arith, none)),
+      b.told.goes_on whole,
+    );
+    filled = block_filled a;
+    other_filled = block_filled b;
+  }
+  one_has_more m (inr whole) b (inl none) differ = record {
+    taken = take n one;
+    other_taken = take m other;
+    took = a.took;
+    other_took = b.took;
+    said = (
       (
         refl,
-        inl (omega (arith, f.within, f.size_is), none_taken m two none, s.end (omega (arith, s.size_is))),
+        inl (
+          omega (arith, whole, a.within, size_taken a),
+          none_taken m other none,
+          b.end (omega (arith, none)),
+        ),
       ),
       stops_no_pair (Unequal block) _,
-    )
-one_has_more block left left' other other' n m one two f (inr whole) s (inr whole') differ =
-    absurd (differ (omega (arith, f.within, f.size_is, s.within, s.size_is)))
+    );
+    ended = inr (
+      omega (arith, none, whole, size_taken a, size_taken b),
+      a.told.goes_on whole,
+      b.told.ended (omega (arith, none)),
+    );
+    filled = block_filled a;
+    other_filled = block_filled b;
+  }
+  one_has_more m (inr whole) b (inr whole') differ =
+      absurd (differ (omega (arith, a.within, b.within, whole, whole')))
 
-pub both_at_end : (block : ℕ) (left left' other other' : Option (List ℕ)) (n m : ℕ) (one two : List ℕ)
-    → IsFilled 96 left left' n one → n ≡ 0 → IsFilled 96 other other' m two → n ≡ m
-    → IsPair block (Ok false) left left' other other' one two
-both_at_end block left left' other other' n m one two f none s same =
-    let none' : m ≡ 0 = omega arith in (
-      take n one,
-      take m two,
-      f.taken,
-      s.taken,
+  pub both_at_end : (m : ℕ) → n ≡ 0 → AsksFor {E = E} 96 second s (Ok m) other → m ≡ 0
+      → ReadsPair block (Ok false) one other first second
+  both_at_end m none b none' = record {
+    taken = take n one;
+    other_taken = take m other;
+    took = a.took;
+    other_took = b.took;
+    said = (
       (
         none_taken n one none,
-        none_taken m two none',
-        f.end (omega (arith, f.size_is)),
-        s.end (omega (arith, s.size_is)),
+        none_taken m other none',
+        a.end (omega (arith, none)),
+        b.end (omega (arith, none')),
       ),
       λ e. absurd (cc),
-    )
+    );
+    ended = (a.told.ended (omega (arith, none)), b.told.ended (omega (arith, none')));
+    filled = block_filled a;
+    other_filled = block_filled b;
+  }
+
+  pub both_whole : (m : ℕ) → 96 ≤ n → AsksFor {E = E} 96 second s (Ok m) other → 96 ≤ m
+      → ReadsPair block (Ok true) one other first second
+  both_whole m whole b whole' = record {
+    taken = take n one;
+    other_taken = take m other;
+    took = a.took;
+    other_took = b.took;
+    said = (
+      (omega (arith, whole, a.within, size_taken a), omega (arith, whole', b.within, size_taken b)),
+      λ same. (
+        take_all n one (omega (arith, whole, a.size_is)),
+        take_all m other (omega (arith, whole', b.size_is)),
+      ),
+    );
+    ended = (a.told.goes_on whole, b.told.goes_on whole');
+    filled = block_filled a;
+    other_filled = block_filled b;
+  }
 
 -- ---- The end of both.
-
-abbrev pub IsEnd : Result (Unit {0}) MergeStop → (left left' other other' : Option (List ℕ)) → Type 0
-IsEnd result left left' other other' = (xs ys : List ℕ) × Consumes left left' xs × Consumes other other' ys
-    × IsEndRead result (taken_of xs left') (taken_of ys other')
 
 nothing : (bytes : List ℕ) → length bytes < 1 → bytes ≡ []
 nothing [] short = refl
 nothing (b ∷ bytes) short = absurd (omega (arith, short))
 
-one_byte : (left left' : Option (List ℕ)) (n : ℕ) (buf : List ℕ) → IsFilled 1 left left' n buf → n ≢ 0
-    → length (take n buf) ≡ 1
-one_byte left left' n buf f some = omega (arith, size_taken n buf f.within, f.within, f.size_is)
+module _ {E : Type 0} {first : ReadInput} {f : Change ℕ} {byte : List ℕ} where
+  pub end_of_first_failed : (left : Option (List ℕ)) (m d : Count) (e : E)
+      → AsksFor 1 first f (Err e) byte → ReadsNoMore (Err FirstFault) first (unread left m d)
+  end_of_first_failed left m d e a =
+      let (taken, below, took) = a.part in
+      record {
+        taken = taken;
+        other_taken = [];
+        took = took;
+        other_took = Consumes-nil left;
+        said = (nothing taken below, refl);
+        ended = (a.told.failed, refl);
+        filled = none_filled _ _ _ (omega (arith, below)) a.filled.failed;
+        other_filled = none_filled _ _ _ refl refl;
+      }
 
-pub first_goes_on : (left left' other : Option (List ℕ)) (n : ℕ) (buf : List ℕ) → IsFilled 1 left left' n buf
-    → n ≢ 0
-    → IsEnd (Err TooLong) left left' other other
-first_goes_on left left' other n buf f some =
-    (take n buf, [], f.taken, Consumes-nil other, inl (one_byte left left' n buf f some, refl))
+  pub first_goes_on : (left : Option (List ℕ)) (m d : Count) (n : ℕ)
+      → AsksFor {E = E} 1 first f (Ok n) byte → n ≢ 0 → ReadsNoMore (Err TooLong) first (unread left m d)
+  first_goes_on left m d n a some = record {
+    taken = take n byte;
+    other_taken = [];
+    took = a.took;
+    other_took = Consumes-nil left;
+    said = inl (omega (arith, some, a.within, size_taken a), refl);
+    ended = (
+      (
+        λ none. absurd (omega (arith, none, some, size_taken a)),
+        λ less. a.told.goes_on (omega (arith, some)),
+      ),
+      refl,
+    );
+    filled = byte_filled a;
+    other_filled = none_filled _ _ _ refl refl;
+  }
 
-pub end_of_first_failed : (left left' other : Option (List ℕ)) (buf : List ℕ) → length buf ≡ 1
-    → ConsumesBelow left left' (length buf)
-    → IsEnd (Err FirstFault) left left' other other
-end_of_first_failed left left' other buf size (taken, below, consumed) =
-    (taken, [], consumed, Consumes-nil other, (nothing taken (omega arith), refl))
+module _ {E : Type 0} {first second : ReadInput} {f s : Change ℕ} {byte rest : List ℕ} {n : ℕ}
+    (a : AsksFor {E = E} 1 first f (Ok n) byte) (none : n ≡ 0) where
+  pub no_byte_follows : (m : ℕ) → AsksFor {E = E} 1 second s (Ok m) rest → m ≡ 0
+      → ReadsNoMore (Ok tt) first second
+  no_byte_follows m b none' = record {
+    taken = take n byte;
+    other_taken = take m rest;
+    took = a.took;
+    other_took = b.took;
+    said = (
+      none_taken n byte none,
+      none_taken m rest none',
+      a.end (omega (arith, none)),
+      b.end (omega (arith, none')),
+    );
+    ended = (a.told.ended (omega (arith, none)), b.told.ended (omega (arith, none')));
+    filled = byte_filled a;
+    other_filled = byte_filled b;
+  }
 
-pub no_byte_follows : (left left' other other' : Option (List ℕ)) (n m : ℕ) (buf rest : List ℕ)
-    → IsFilled 1 left left' n buf → n ≡ 0 → IsFilled 1 other other' m rest → m ≡ 0
-    → IsEnd (Ok tt) left left' other other'
-no_byte_follows left left' other other' n m buf rest f none s none' = (
-  take n buf,
-  take m rest,
-  f.taken,
-  s.taken,
-  (
-    none_taken n buf none,
-    none_taken m rest none',
-    f.end (omega (arith, f.size_is)),
-    s.end (omega (arith, s.size_is)),
-  ),
-)
+  pub second_goes_on : (m : ℕ) → AsksFor {E = E} 1 second s (Ok m) rest → m ≢ 0
+      → ReadsNoMore (Err TooLong) first second
+  second_goes_on m b some = record {
+    taken = take n byte;
+    other_taken = take m rest;
+    took = a.took;
+    other_took = b.took;
+    said = inr (none_taken n byte none, omega (arith, some, b.within, size_taken b));
+    ended =
+        (unless_ahead_none a none (omega arith) (length (take m rest)), b.told.goes_on (omega (arith, some)));
+    filled = byte_filled a;
+    other_filled = byte_filled b;
+  }
 
-pub second_goes_on : (left left' other other' : Option (List ℕ)) (n m : ℕ) (buf rest : List ℕ)
-    → IsFilled 1 left left' n buf → n ≡ 0 → IsFilled 1 other other' m rest → m ≢ 0
-    → IsEnd (Err TooLong) left left' other other'
-second_goes_on left left' other other' n m buf rest f none s some = (
-  take n buf,
-  take m rest,
-  f.taken,
-  s.taken,
-  inr (none_taken n buf none, one_byte other other' m rest s some),
-)
-
-pub end_of_second_failed : (left left' other other' : Option (List ℕ)) (n : ℕ) (buf rest : List ℕ)
-    → IsFilled 1 left left' n buf → n ≡ 0 → length rest ≡ 1 → ConsumesBelow other other' (length rest)
-    → IsEnd (Err SecondFault) left left' other other'
-end_of_second_failed left left' other other' n buf rest f none size (taken, below, consumed) =
-    (take n buf, taken, f.taken, consumed, (none_taken n buf none, nothing taken (omega arith)))
+  pub end_of_second_failed : (e : E) → AsksFor 1 second s (Err e) rest
+      → ReadsNoMore (Err SecondFault) first second
+  end_of_second_failed e b =
+      let (taken, below, took) = b.part in
+      record {
+        taken = take n byte;
+        other_taken = taken;
+        took = a.took;
+        other_took = took;
+        said = (none_taken n byte none, nothing taken below);
+        ended = (unless_ahead_none a none (omega arith) (length taken), b.told.failed);
+        filled = byte_filled a;
+        other_filled = none_filled _ _ _ (omega (arith, below)) b.filled.failed;
+      }

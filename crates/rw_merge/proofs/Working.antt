@@ -309,7 +309,7 @@ short_pair blocks left other (Unequal n) us vs read =
       }
     ]
 
-short_end : (left other : Option (List ℕ)) (stop : MergeStop) (us vs : List ℕ)
+pub short_end : (left other : Option (List ℕ)) (stop : MergeStop) (us vs : List ℕ)
     → IsEndRead (Err stop) (taken_of us left) (taken_of vs other)
     → (length us ≤ 1) × (length vs ≤ 1) × (stop ≢ WriteFault)
 short_end left other FirstFault us vs read =
@@ -340,83 +340,69 @@ whole_turns blocks a b left us vs a_is b_is half short =
 
 pub pair_turns : (blocks a b : ℕ) (left other : Option (List ℕ)) (stop : MergeStop) (us vs : List ℕ)
     → a ≡ blocks * 96 + length us → b ≡ blocks * 96 + length vs
-    → IsPairRead blocks (Err stop) (taken_of us left) (taken_of vs other)
+    → blocks < most_units → IsPairRead blocks (Err stop) (taken_of us left) (taken_of vs other)
     → TakesInTurn (Err stop) a b
-pair_turns blocks a b left other FirstFault us vs a_is b_is read =
-    omega (arith, a_is, b_is, read.0, ap length read.1)
-pair_turns blocks a b left other SecondFault us vs a_is b_is read =
-    whole_turns blocks a b left us vs a_is b_is read.0 read.1
-pair_turns blocks a b left other WriteFault us vs a_is b_is read = tt
-pair_turns blocks a b left other TooLong us vs a_is b_is read = tt
-pair_turns blocks a b left other (Torn n) us vs a_is b_is read =
+pair_turns blocks a b left other FirstFault us vs a_is b_is lt read =
+    (omega (arith, a_is, b_is, read.0, ap length read.1), omega (arith, a_is, read.0, lt))
+pair_turns blocks a b left other SecondFault us vs a_is b_is lt read =
+    let turns = whole_turns blocks a b left us vs a_is b_is read.0 read.1 in
+    (turns.0, turns.1, omega (arith, b_is, read.1, lt))
+pair_turns blocks a b left other WriteFault us vs a_is b_is lt read = tt
+pair_turns blocks a b left other TooLong us vs a_is b_is lt read = tt
+pair_turns blocks a b left other (Torn n) us vs a_is b_is lt read =
     omega (arith, a_is, b_is, read.2, ap length read.3)
-pair_turns blocks a b left other (SecondTorn n) us vs a_is b_is read =
+pair_turns blocks a b left other (SecondTorn n) us vs a_is b_is lt read =
     whole_turns blocks a b left us vs a_is b_is read.1 read.3
-pair_turns blocks a b left other (Unequal n) us vs a_is b_is read = tt
+pair_turns blocks a b left other (Unequal n) us vs a_is b_is lt read = tt
 
 pub end_turns : (blocks a b : ℕ) (left other : Option (List ℕ)) (stop : MergeStop) (us vs : List ℕ)
     → a ≡ blocks * 96 + length us → b ≡ blocks * 96 + length vs
-    → IsEndRead (Err stop) (taken_of us left) (taken_of vs other)
+    → blocks ≡ most_units → IsEndRead (Err stop) (taken_of us left) (taken_of vs other)
     → TakesInTurn (Err stop) a b
-end_turns blocks a b left other FirstFault us vs a_is b_is read =
-    omega (arith, a_is, b_is, ap length read.0, ap length read.1)
-end_turns blocks a b left other SecondFault us vs a_is b_is read = (
+end_turns blocks a b left other FirstFault us vs a_is b_is all read = (
+  omega (arith, a_is, b_is, ap length read.0, ap length read.1),
+  omega (arith, a_is, ap length read.0, all),
+)
+end_turns blocks a b left other SecondFault us vs a_is b_is all read = (
   omega (arith, a_is, ap length read.0),
   omega (arith, a_is, b_is, ap length read.0, ap length read.1),
+  omega (arith, b_is, ap length read.1, all),
 )
-end_turns blocks a b left other WriteFault us vs a_is b_is read = tt
-end_turns blocks a b left other TooLong us vs a_is b_is read = tt
-end_turns blocks a b left other (Torn n) us vs a_is b_is read = absurd read
-end_turns blocks a b left other (SecondTorn n) us vs a_is b_is read = absurd read
-end_turns blocks a b left other (Unequal n) us vs a_is b_is read = tt
+end_turns blocks a b left other WriteFault us vs a_is b_is all read = tt
+end_turns blocks a b left other TooLong us vs a_is b_is all read = tt
+end_turns blocks a b left other (Torn n) us vs a_is b_is all read = absurd read
+end_turns blocks a b left other (SecondTorn n) us vs a_is b_is all read = absurd read
+end_turns blocks a b left other (Unequal n) us vs a_is b_is all read = tt
 
 pub pair_stops : (lead_in blocks : ℕ) (left left' left'' other other' other'' held held' : Option (List ℕ))
     (w v : List (List ℕ)) (bad : ℕ) (xs ys us vs : List ℕ) (stop : MergeStop)
-    → Works lead_in blocks left left' other other' held held' w v bad xs ys → Consumes left' left'' us
-    → Consumes other' other'' vs → IsPairRead blocks (Err stop) (taken_of us left'') (taken_of vs other'')
-    → blocks < most_units
-    → (xs' ys' : List ℕ)
-    × Consumes left left'' xs'
-    × Consumes other other'' ys'
-    × Merges lead_in (from_to held held') (Err stop) xs' ys'
+    → Works lead_in blocks left left' other other' held held' w v bad xs ys
+    → IsPairRead blocks (Err stop) (taken_of us left'') (taken_of vs other'') → blocks < most_units
+    → Merges lead_in (from_to held held') (Err stop) (xs ++ us) (ys ++ vs)
 pair_stops lead_in blocks left left' left'' other other' other'' held held' w v bad xs ys us vs stop works
-    first second read lt =
-    let is = short_pair blocks left'' other'' stop us vs read in (
-      xs ++ us,
-      ys ++ vs,
-      Consumes-trans left left' left'' xs us works.first_taken first,
-      Consumes-trans other other' other'' ys vs works.second_taken second,
-      stops lead_in blocks left left' other other' held held' w v bad xs ys us vs (Err stop) works is.first
-          is.second is.short (omega (arith, is.first, lt)) (omega (arith, is.second, lt))
-          (λ e. is.is_other (let same : stop ≡ WriteFault = cc in same))
-          (λ a b a_is b_is. pair_answer lead_in blocks a b left'' other'' stop us vs
-          (taken_exactly a _ left'' a_is) (taken_exactly b _ other'' b_is) lt read)
-          (λ a b a_is b_is. pair_turns blocks a b left'' other'' stop us vs a_is b_is read) tt,
-    )
+    read lt =
+    let is = short_pair blocks left'' other'' stop us vs read in
+    stops lead_in blocks left left' other other' held held' w v bad xs ys us vs (Err stop) works is.first
+    is.second is.short (omega (arith, is.first, lt)) (omega (arith, is.second, lt))
+    (λ e. is.is_other (let same : stop ≡ WriteFault = cc in same))
+    (λ a b a_is b_is. pair_answer lead_in blocks a b left'' other'' stop us vs
+    (taken_exactly a _ left'' a_is) (taken_exactly b _ other'' b_is) lt read)
+    (λ a b a_is b_is. pair_turns blocks a b left'' other'' stop us vs a_is b_is lt read) tt
 
 pub end_stops : (lead_in blocks : ℕ) (left left' left'' other other' other'' held held' : Option (List ℕ))
     (w v : List (List ℕ)) (bad : ℕ) (xs ys us vs : List ℕ) (stop : MergeStop)
-    → Works lead_in blocks left left' other other' held held' w v bad xs ys → Consumes left' left'' us
-    → Consumes other' other'' vs → IsEndRead (Err stop) (taken_of us left'') (taken_of vs other'')
-    → blocks ≡ most_units
-    → (xs' ys' : List ℕ)
-    × Consumes left left'' xs'
-    × Consumes other other'' ys'
-    × Merges lead_in (from_to held held') (Err stop) xs' ys'
+    → Works lead_in blocks left left' other other' held held' w v bad xs ys
+    → IsEndRead (Err stop) (taken_of us left'') (taken_of vs other'') → blocks ≡ most_units
+    → Merges lead_in (from_to held held') (Err stop) (xs ++ us) (ys ++ vs)
 end_stops lead_in blocks left left' left'' other other' other'' held held' w v bad xs ys us vs stop works
-    first second read all =
-    let (one, two, is_other) = short_end left'' other'' stop us vs read in (
-      xs ++ us,
-      ys ++ vs,
-      Consumes-trans left left' left'' xs us works.first_taken first,
-      Consumes-trans other other' other'' ys vs works.second_taken second,
-      stops lead_in blocks left left' other other' held held' w v bad xs ys us vs (Err stop) works
-          (omega (arith, one)) (omega (arith, two)) (inl (omega (arith, one))) (omega (arith, one, all))
-          (omega (arith, two, all)) (λ e. is_other (let same : stop ≡ WriteFault = cc in same))
-          (λ a b a_is b_is. end_answer lead_in blocks a b left'' other'' stop us vs
-          (taken_exactly a _ left'' a_is) (taken_exactly b _ other'' b_is) all read)
-          (λ a b a_is b_is. end_turns blocks a b left'' other'' stop us vs a_is b_is read) tt,
-    )
+    read all =
+    let (one, two, is_other) = short_end left'' other'' stop us vs read in
+    stops lead_in blocks left left' other other' held held' w v bad xs ys us vs (Err stop) works
+    (omega (arith, one)) (omega (arith, two)) (inl (omega (arith, one))) (omega (arith, one, all))
+    (omega (arith, two, all)) (λ e. is_other (let same : stop ≡ WriteFault = cc in same))
+    (λ a b a_is b_is. end_answer lead_in blocks a b left'' other'' stop us vs
+    (taken_exactly a _ left'' a_is) (taken_exactly b _ other'' b_is) all read)
+    (λ a b a_is b_is. end_turns blocks a b left'' other'' stop us vs a_is b_is all read) tt
 
 -- The answer of both whole inputs.
 pub pair_of_whole : (lead_in blocks : ℕ) (left left' left'' other other' other'' held held' : Option (List ℕ))
@@ -468,25 +454,6 @@ both_of_whole lead_in blocks total answered left left' left'' other other' other
       omega (arith, one, none),
       total_is ∙ omega (arith, one, none),
     ))
-
-pub both_end : (lead_in blocks total : ℕ)
-    (left left' left'' other other' other'' held held' : Option (List ℕ)) (w v : List (List ℕ)) (bad : ℕ)
-    (xs ys us vs : List ℕ)
-    → Works lead_in blocks left left' other other' held held' w v bad xs ys → Consumes left' left'' us
-    → Consumes other' other'' vs → us ≡ [] → vs ≡ [] → blocks ≤ most_units → total ≡ blocks - lead_in
-    → (xs' ys' : List ℕ)
-    × Consumes left left'' xs'
-    × Consumes other other'' ys'
-    × Merges lead_in (from_to held held') (Ok (record { blocks = total; bad = bad })) xs' ys'
-both_end lead_in blocks total left left' left'' other other' other'' held held' w v bad xs ys us vs works
-    first second u_is v_is le total_is = (
-      xs ++ us,
-      ys ++ vs,
-      Consumes-trans left left' left'' xs us works.first_taken first,
-      Consumes-trans other other' other'' ys vs works.second_taken second,
-      ends lead_in blocks total left left' other other' held held' w v bad xs ys us vs works u_is v_is le
-          total_is,
-    )
 
 -- What is found for a pair of program blocks, and its text.
 pub record IsPairFound (w v : List (List ℕ)) (us vs : List ℕ) (w' v' : List (List ℕ)) (text : List ℕ)
@@ -542,17 +509,14 @@ works_skipped lead_in blocks left left' left'' other other' other'' held held' w
 
 -- A write failed within the text of the last pair.
 pub write_stops : (lead_in blocks : ℕ)
-    (left left' left'' other other' other'' held held' held'' : Option (List ℕ)) (w v w' v' : List (List ℕ))
+    (left left' other other' held held' held'' : Option (List ℕ)) (w v w' v' : List (List ℕ))
     (bad more : ℕ) (xs ys us vs text : List ℕ)
-    → Works lead_in blocks left left' other other' held held' w v bad xs ys → Consumes left' left'' us
-    → Consumes other' other'' vs → length us ≡ 96 → length vs ≡ 96 → lead_in ≤ blocks → blocks < most_units
+    → Works lead_in blocks left left' other other' held held' w v bad xs ys → length us ≡ 96 → length vs ≡ 96
+    → lead_in ≤ blocks → blocks < most_units
     → IsPairFound w v us vs w' v' text more → AppendsPrefix held' held'' text
-    → (xs' ys' : List ℕ)
-    × Consumes left left'' xs'
-    × Consumes other other'' ys'
-    × Merges lead_in (from_to held held'') (Err WriteFault) xs' ys'
-write_stops lead_in blocks left left' left'' other other' other'' held held' held'' w v w' v' bad more xs ys
-    us vs text works first second u_size v_size le lt pair put =
+    → Merges lead_in (from_to held held'') (Err WriteFault) (xs ++ us) (ys ++ vs)
+write_stops lead_in blocks left left' other other' held held' held'' w v w' v' bad more xs ys us vs text works
+    u_size v_size le lt pair put =
     let f = works.is_found in
     let next =
     found_more lead_in blocks xs ys us vs w v w' v' works.found pair.found f le u_size v_size
@@ -562,38 +526,33 @@ write_stops lead_in blocks left left' left'' other other' other'' held held' hel
     let grown : high ≡ low ++ text =
     text-append works.found pair.found ∙ ap (λ l. low ++ l) (sym pair.text_is) in
     let whole =
-    found_text lead_in (blocks + 1) (xs ++ us) (ys ++ vs) [] [] w' v' (works.found ++ pair.found) next in (
-      xs ++ us,
-      ys ++ vs,
-      Consumes-trans left left' left'' xs us works.first_taken first,
-      Consumes-trans other other' other'' ys vs works.second_taken second,
-      record {
-        in_step = (
-          omega (arith, next.first_size, next.second_size),
-          omega (arith, next.first_size, next.second_size),
-        );
-        within = (omega (arith, next.first_size, lt), omega (arith, next.second_size, lt));
-        turns = tt;
-        answer = tt;
-        done = tt;
-        put = λ e. absurd (e refl);
-        in_turn = λ e. (
-          blocks,
-          lt,
-          next.first_size,
-          next.second_size,
-          (
-            low,
-            high,
-            found_text lead_in blocks xs ys us vs w v works.found f,
-            subst₂ (λ (a b : List ℕ). GivesMergedText (blocks + 1) lead_in a b high) (append-nil (xs ++ us))
-                (append-nil (ys ++ vs)) whole,
-            between held held'' low text high put.0 grown
-                (Appends-trans held held' held'' low (take put.0 text) works.put put.2),
-          ),
-        );
-      },
-    )
+    found_text lead_in (blocks + 1) (xs ++ us) (ys ++ vs) [] [] w' v' (works.found ++ pair.found) next in
+    record {
+      in_step = (
+        omega (arith, next.first_size, next.second_size),
+        omega (arith, next.first_size, next.second_size),
+      );
+      within = (omega (arith, next.first_size, lt), omega (arith, next.second_size, lt));
+      turns = tt;
+      answer = tt;
+      done = tt;
+      put = λ e. absurd (e refl);
+      in_turn = λ e. (
+        blocks,
+        lt,
+        next.first_size,
+        next.second_size,
+        (
+          low,
+          high,
+          found_text lead_in blocks xs ys us vs w v works.found f,
+          subst₂ (λ (a b : List ℕ). GivesMergedText (blocks + 1) lead_in a b high) (append-nil (xs ++ us))
+              (append-nil (ys ++ vs)) whole,
+          between held held'' low text high put.0 grown
+              (Appends-trans held held' held'' low (take put.0 text) works.put put.2),
+        ),
+      );
+    }
 
 -- what the code finds for the blocks that it read
 pub pair_found : (w v : List (List ℕ)) (one other us vs : List ℕ) (w' v' w'' v'' : List (List ℕ))

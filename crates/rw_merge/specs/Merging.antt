@@ -2,7 +2,7 @@
 use Rattle.std.specs.Prelude.{◌≡◌, ◌≢◌, ◌⊎◌, ℕ, ◌+◌, ◌-◌, ◌*◌, ◌/◌, ◌%◌, ◌<◌, ◌≤◌, ⊤, min, List, length, take, slice_index_or, Option, None, Result, Ok, Err, IfOk}
 use Rattle.std.specs.Io.KnownBytes.{Appends, Consumes, IsAtEnd}
 use Rattle.cdg_io.specs.Causes.{Count, RoseOnce}
-use Rattle.cdg_io.specs.Change.{Bytes, Change, Input}
+use Rattle.cdg_io.specs.Change.{Bytes, Change, change}
 use Rattle.cdg_io.specs.Moves.{AppendsBetween}
 use Rattle.cdg_io.specs.Pump.{RoseBy}
 use Rattle.raw_subcode.specs.Channels.{program_symbols}
@@ -61,11 +61,14 @@ IsAnswer lead_in (Err WriteFault) first second = ⊤
 
 -- How much was taken of two inputs where no whole block came of one of them, as it had none or a read of it
 -- failed. If this was the first, as many whole blocks were taken of the second; if it was the second, whole
--- blocks were taken of the first, and of the second less than a block beyond them.
+-- blocks were taken of the first, and of the second less than a block beyond them. A read that failed came before any
+-- byte past the most blocks.
 abbrev pub TakesInTurn : Result Merged MergeStop → ℕ → ℕ → Type 0
-TakesInTurn (Err FirstFault) first second = second ≡ first / block_bytes * block_bytes
+TakesInTurn (Err FirstFault) first second = (second ≡ first / block_bytes * block_bytes)
+    × (first ≤ most_units * block_bytes)
 TakesInTurn (Err (Torn block)) first second = second ≡ first / block_bytes * block_bytes
 TakesInTurn (Err SecondFault) first second = (first % block_bytes ≡ 0) × (second < first + block_bytes)
+    × (second ≤ most_units * block_bytes)
 TakesInTurn (Err (SecondTorn block)) first second = (first % block_bytes ≡ 0)
     × (second < first + block_bytes)
 TakesInTurn result first second = ⊤
@@ -94,10 +97,6 @@ pub record Merges (lead_in : ℕ) (held : Change Bytes) (result : Result Merged 
       × GivesMergedText (n + 1) lead_in first second high
       × AppendsBetween held.before held.after low high)
 
--- The end of an input was told once, or not.
-abbrev pub RoseAtMost : Count → Count → Type 0
-RoseAtMost before now = (now ≡ before) ⊎ RoseOnce before now
-
 -- The first input is at its end, where the answer says so.
 abbrev pub FirstIsAtEnd : Result Merged MergeStop → Option (List ℕ) → Type 0
 FirstIsAtEnd (Ok merged) left = IsAtEnd left
@@ -111,66 +110,64 @@ EndsSecond (Err (SecondTorn block)) left = IsAtEnd left
 EndsSecond (Err stop) left = ⊤
 
 -- The end of an input was told once,
-abbrev pub EndIsTold : Input → Type 0
-EndIsTold input = RoseOnce input.ends.before input.ends.after
+abbrev pub Told : Change Count → Type 0
+Told ends = RoseOnce ends.before ends.after
 
 -- or was not told.
-abbrev pub EndIsUntold : Input → Type 0
-EndIsUntold input = input.ends.after ≡ input.ends.before
+abbrev pub Untold : Change Count → Type 0
+Untold ends = ends.after ≡ ends.before
 
--- Of two inputs that are read in turn: the end of this one was told once where no more bytes of it were taken than of
--- the other, and else not.
-pub record EndsUnlessAhead (input other : Input) : Type 0 where
-  pub taken : List ℕ
-  pub other_taken : List ℕ
-  pub took : Consumes input.left.before input.left.after taken
-  pub other_took : Consumes other.left.before other.left.after other_taken
-  pub ended : length taken ≤ length other_taken → EndIsTold input
-  pub ahead : length other_taken < length taken → EndIsUntold input
+-- Of two inputs, of which so many bytes were taken in turn: the end of this one was told once where no more of it were
+-- taken than of the other, and else not.
+abbrev pub ToldUnlessAhead : ℕ → ℕ → Change Count → Type 0
+ToldUnlessAhead bytes other_bytes ends = (bytes ≤ other_bytes → Told ends)
+    × (other_bytes < bytes → Untold ends)
 
--- Of the two, the end of that one was told once of which fewer bytes were taken, and that of the other not.
-pub record EndsShorter (first second : Input) : Type 0 where
+-- How often the ends of two readings were told where a merge stopped after so many bytes of each. A block of the first
+-- is asked for and then one of the second, and of neither once its end is told.
+abbrev pub EndsAtStop : MergeStop → ℕ → ℕ → Change Count → Change Count → Type 0
+EndsAtStop (Torn block) one other first second = Told first × Untold second
+EndsAtStop (SecondTorn block) one other first second = ToldUnlessAhead one other first × Told second
+EndsAtStop (Unequal blocks) one other first second = ((one < other) × Told first × Untold second)
+    ⊎ ((other < one) × Untold first × Told second)
+EndsAtStop TooLong one other first second = ToldUnlessAhead one other first × Untold second
+EndsAtStop SecondFault one other first second = ToldUnlessAhead one other first × Untold second
+EndsAtStop FirstFault one other first second = Untold first × Untold second
+EndsAtStop WriteFault one other first second = Untold first × Untold second
+
+-- And where it is done both ends were told.
+abbrev pub EndsBoth : {A : Type 0} → Result A MergeStop → ℕ → ℕ → Change Count → Change Count → Type 0
+EndsBoth (Ok done) one other first second = Told first × Told second
+EndsBoth (Err stop) one other first second = EndsAtStop stop one other first second
+
+-- how many reads are filled by so many bytes: one by each whole block, and one by the byte past the most
+abbrev pub full_reads : ℕ → ℕ
+full_reads bytes = bytes / block_bytes + (bytes - most_units * block_bytes)
+
+-- an input that is read: its bytes, how often its end was told, and how often a read gave all that it had room for
+pub record ReadInput : Type 0 where
+  pub left : Change Bytes
+  pub ends : Change Count
+  pub fills : Change Count
+
+-- what is seen of it
+abbrev pub read_input : {S : Type 0} → (S → Bytes) → (S → Count) → (S → Count) → S → S → ReadInput
+read_input left ends fills before after = record {
+  left = change left before after;
+  ends = change ends before after;
+  fills = change fills before after;
+}
+
+-- Of two inputs these bytes were taken, of which the first holds; of so many bytes of each the second says how often the
+-- ends were told, and the third how many reads were filled.
+pub record ReadsBoth (holds : List ℕ → List ℕ → Type 0)
+    (ends : ℕ → ℕ → Change Count → Change Count → Type 0) (reads : ℕ → ℕ)
+    (first second : ReadInput) : Type 0 where
   pub taken : List ℕ
   pub other_taken : List ℕ
   pub took : Consumes first.left.before first.left.after taken
   pub other_took : Consumes second.left.before second.left.after other_taken
-  pub one : ((length taken < length other_taken) × EndIsTold first × EndIsUntold second)
-      ⊎ ((length other_taken < length taken) × EndIsUntold first × EndIsTold second)
-
--- How often the ends of two readings were told where a merge stopped. A block of the first is asked for and then one
--- of the second, and of neither once its end is told.
-abbrev pub EndsAtStop : MergeStop → Input → Input → Type 0
-EndsAtStop (Torn block) first second = EndIsTold first × EndIsUntold second
-EndsAtStop (SecondTorn block) first second = EndsUnlessAhead first second × EndIsTold second
-EndsAtStop (Unequal blocks) first second = EndsShorter first second
-EndsAtStop TooLong first second = EndsUnlessAhead first second × EndIsUntold second
-EndsAtStop SecondFault first second = EndsUnlessAhead first second × EndIsUntold second
-EndsAtStop FirstFault first second = EndIsUntold first × EndIsUntold second
-EndsAtStop WriteFault first second = EndIsUntold first × EndIsUntold second
-
--- And where it is done both ends were told.
-abbrev pub EndsBoth : Result Merged MergeStop → Input → Input → Type 0
-EndsBoth (Ok merged) first second = EndIsTold first × EndIsTold second
-EndsBoth (Err stop) first second = EndsAtStop stop first second
-
--- A count rose by so many or by one more.
-abbrev pub RoseByAbout : ℕ → Count → Count → Type 0
-RoseByAbout n before now = RoseBy n before now ⊎ RoseBy (n + 1) before now
-
--- One read of the first input filled each whole block, and one the byte past the most.
-abbrev pub FillsFirst : ℕ → Result Merged MergeStop → Count → Count → Type 0
-FillsFirst lead_in (Ok merged) before now = (n : ℕ) × (merged.blocks ≡ n - lead_in) × RoseBy n before now
-FillsFirst lead_in (Err (Torn block)) before now = RoseBy block before now
-FillsFirst lead_in (Err (SecondTorn block)) before now = RoseByAbout block before now
-FillsFirst lead_in (Err (Unequal blocks)) before now = RoseByAbout blocks before now
-FillsFirst lead_in (Err TooLong) before now = RoseByAbout most_units before now
-FillsFirst lead_in (Err fault) before now = (n : ℕ) × (n ≤ most_units) × RoseBy n before now
-
--- And so it is with the second.
-abbrev pub FillsSecond : ℕ → Result Merged MergeStop → Count → Count → Type 0
-FillsSecond lead_in (Ok merged) before now = (n : ℕ) × (merged.blocks ≡ n - lead_in) × RoseBy n before now
-FillsSecond lead_in (Err (Torn block)) before now = RoseBy block before now
-FillsSecond lead_in (Err (SecondTorn block)) before now = RoseBy block before now
-FillsSecond lead_in (Err (Unequal blocks)) before now = RoseByAbout blocks before now
-FillsSecond lead_in (Err TooLong) before now = RoseByAbout most_units before now
-FillsSecond lead_in (Err fault) before now = (n : ℕ) × (n ≤ most_units) × RoseBy n before now
+  pub said : holds taken other_taken
+  pub ended : ends (length taken) (length other_taken) first.ends second.ends
+  pub filled : RoseBy (reads (length taken)) first.fills.before first.fills.after
+  pub other_filled : RoseBy (reads (length other_taken)) second.fills.before second.fills.after

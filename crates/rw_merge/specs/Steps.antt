@@ -1,14 +1,15 @@
 -- The steps of a merge: what is found for the words that come with slots, and how a pair of blocks is read.
-use Rattle.std.specs.Prelude.{◌≡◌, ◌⊎◌, ℕ, ◌<◌, ◌≤◌, ⊤, Bool, true, false, List, [], ◌∷◌, length, map, Option, Result, Ok, Err}
-use Rattle.std.specs.Io.KnownBytes.{IsAtEnd}
+use Rattle.std.specs.Prelude.{◌≡◌, ◌⊎◌, ◌/◌, ℕ, ◌<◌, ◌≤◌, ⊤, Bool, true, false, IfOk, List, [], ◌∷◌, OnErr, length, map, take, Option, Result, Ok, Err}
+use Rattle.std.specs.Io.KnownBytes.{Consumes, IsAtEnd}
 use Rattle.bit_lists.specs.Counting.{parts}
 use Rattle.raw_subcode.specs.Channels.{symbols_of}
 use Rattle.rw_interleave.specs.Gathering.{gather_next, gather_gives}
 use Rattle.cdg_io.specs.Run.{run_state, run_gives}
 use Rattle.rw_merge.specs.Agreement.{IsAgreement}
-use Rattle.cdg_io.specs.Causes.{Count, Rose, RoseOnce}
-use Rattle.cdg_io.specs.Change.{Change, Input}
-use Rattle.rw_merge.specs.Merging.{EndsAtStop, EndIsTold, EndIsUntold, RoseAtMost}
+use Rattle.cdg_io.specs.Causes.{Count, FillsRoom, HasCause, Rose, TellsEnd}
+use Rattle.cdg_io.specs.Change.{Change}
+use Rattle.cdg_io.specs.Moves.{ConsumesBelow}
+use Rattle.rw_merge.specs.Merging.{EndsAtStop, EndsBoth, ReadInput, ReadsBoth, Told, Untold}
 use Rattle.rw_merge.specs.declared.merge.Merged.{Merged}
 use Rattle.rw_merge.specs.declared.merge.MergeStop.{MergeStop}
 use Rattle.rw_merge.specs.declared.merge.MergeStop.TheVariants.{FirstFault, SecondFault, WriteFault, TooLong, Torn, SecondTorn, Unequal}
@@ -74,16 +75,36 @@ IsEndRead (Err FirstFault) first second = (first.bytes ≡ []) × (second.bytes 
 IsEndRead (Err SecondFault) first second = (first.bytes ≡ []) × (second.bytes ≡ [])
 IsEndRead (Err stop) first second = ⊥
 
--- How often the ends of both inputs were told by then,
-abbrev pub EndsOfPair : Result Bool MergeStop → Input → Input → Type 0
-EndsOfPair (Ok true) first second = EndIsUntold first × EndIsUntold second
-EndsOfPair (Ok false) first second = EndIsTold first × EndIsTold second
-EndsOfPair (Err stop) first second = EndsAtStop stop first second
+-- How often the ends of both inputs were told by then.
+abbrev pub EndsOfPair : Result Bool MergeStop → ℕ → ℕ → Change Count → Change Count → Type 0
+EndsOfPair (Ok true) one other first second = Untold first × Untold second
+EndsOfPair (Ok false) one other first second = Told first × Told second
+EndsOfPair (Err stop) one other first second = EndsAtStop stop one other first second
 
--- and where nothing more may follow
-abbrev pub EndsAfter : Result (Unit {0}) MergeStop → Input → Input → Type 0
-EndsAfter (Ok done) first second = EndIsTold first × EndIsTold second
-EndsAfter (Err stop) first second = EndsAtStop stop first second
+-- A pair of blocks was asked for after so many: what was read, and where both are whole, that these are the blocks.
+abbrev pub ReadsPair : ℕ → Result Bool MergeStop → List ℕ → List ℕ → ReadInput → ReadInput → Type 0
+ReadsPair block result one other first second = ReadsBoth
+    (λ xs ys. IsPairRead block result (taken_of xs first.left.after) (taken_of ys second.left.after)
+    × (result ≡ Ok true → (xs ≡ one) × (ys ≡ other)))
+    (EndsOfPair result) (λ bytes. bytes / block_bytes) first second
+
+-- A byte of each was asked for, where nothing more may follow.
+abbrev pub ReadsNoMore : Result (Unit {0}) MergeStop → ReadInput → ReadInput → Type 0
+ReadsNoMore result first second = ReadsBoth
+    (λ xs ys. IsEndRead result (taken_of xs first.left.after) (taken_of ys second.left.after))
+    (EndsBoth result) (λ bytes. bytes) first second
+
+-- So many bytes of an input were asked for: these came, the last of it where they are fewer, or a read failed.
+pub record AsksFor {E : Type 0} (size : ℕ) (input : ReadInput) (faults : Change ℕ) (result : Result ℕ E)
+    (room : List ℕ) : Type 0 where
+  pub size_is : length room ≡ size
+  pub within : IfOk result (λ n. n ≤ size)
+  pub took : IfOk result (λ n. Consumes input.left.before input.left.after (take n room))
+  pub end : IfOk result (λ n. n < size → IsAtEnd input.left.after)
+  pub part : OnErr result (ConsumesBelow input.left.before input.left.after size)
+  pub cause : HasCause faults.before faults.after result
+  pub told : TellsEnd size input.ends.before input.ends.after result
+  pub filled : FillsRoom size input.fills.before input.fills.after result
 
 -- A count of faults rose,
 abbrev pub Rises : Change ℕ → Type 0
@@ -106,23 +127,3 @@ CountsFaults (Err FirstFault) first second out = Rises first × Stays second × 
 CountsFaults (Err SecondFault) first second out = Stays first × Rises second × Stays out
 CountsFaults (Err WriteFault) first second out = Stays first × Stays second × Rises out
 CountsFaults result first second out = Stays first × Stays second × Stays out
-
--- How often a read filled the block that it was given, where a pair of blocks is looked for: of the first input,
-abbrev pub FillsFirstOfPair : Result Bool MergeStop → Count → Count → Type 0
-FillsFirstOfPair (Ok true) before now = RoseOnce before now
-FillsFirstOfPair (Ok false) before now = now ≡ before
-FillsFirstOfPair (Err (Torn n)) before now = now ≡ before
-FillsFirstOfPair (Err FirstFault) before now = now ≡ before
-FillsFirstOfPair (Err stop) before now = RoseAtMost before now
-
--- and of the second
-abbrev pub FillsSecondOfPair : Result Bool MergeStop → Count → Count → Type 0
-FillsSecondOfPair (Ok true) before now = RoseOnce before now
-FillsSecondOfPair (Ok false) before now = now ≡ before
-FillsSecondOfPair (Err (Unequal n)) before now = RoseAtMost before now
-FillsSecondOfPair (Err stop) before now = now ≡ before
-
--- The same of either, where nothing more may follow: one byte is asked for.
-abbrev pub FillsAfter : Result (Unit {0}) MergeStop → Count → Count → Type 0
-FillsAfter (Err TooLong) before now = RoseAtMost before now
-FillsAfter result before now = now ≡ before

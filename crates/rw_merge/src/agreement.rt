@@ -7,7 +7,7 @@ ghost use Rattle.rw_merge.specs.Agreement.{IsAgreed};
 use crate::counting::{differing, doubts};
 use crate::elimination::{WordSums, solved};
 use crate::places::wrong_places;
-use rw_code::{Pack, Word, correct};
+use rw_code::{Pack, Word, correct, correct_by_sums};
 
 // The most that may stand against an agreed codeword.
 const MOST_DOUBTS: u8 = 4;
@@ -33,13 +33,13 @@ pub fn agree(a: &Word, b: &Word) -> Option<Pack>
     if apart > 0 {
         return agree_apart(a, b);
     }
-    let Some(fixed) = correct(a) else {
+    // The readings are equal, and the idle pack is not near.
+    let Some(fixed) = correct_by_sums(a) else {
         return None;
     };
     Some(fixed.pack)
 }
 
-// Whether the idle pack is agreed.
 #[inline]
 fn is_idle_agreed(a: &Word, b: &Word) -> bool
     ensures agreed { result ≡ true → IsAgreed a.now b.now idle_pack }

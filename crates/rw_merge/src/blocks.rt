@@ -1,8 +1,10 @@
 // The next block of an input.
-ghost use Rattle.std.specs.Prelude.{◌≡◌, ◌≤◌, ◌<◌, IfOk, None, OnErr, length, take};
-ghost use Rattle.std.specs.Io.KnownBytes.{Consumes, IsAtEnd, Keeps};
-ghost use Rattle.cdg_io.specs.Causes.{FillsRoom, HasCause, TellsEnd};
-ghost use Rattle.cdg_io.specs.Moves.{ConsumesBelow};
+ghost use Rattle.std.specs.Prelude.{◌≡◌, List, None, ℕ};
+ghost use Rattle.std.specs.Io.KnownBytes.{Keeps};
+ghost use Rattle.cdg_io.specs.Change.{change};
+ghost use Rattle.raw_subcode.specs.Sizes.{block_bytes};
+ghost use Rattle.rw_merge.specs.Merging.{read_input};
+ghost use Rattle.rw_merge.specs.Steps.{AsksFor};
 
 use cdg_io::{Failed, Piece, Sink, Source, Stage, fill};
 use raw_subcode::BLOCK_BYTES;
@@ -39,14 +41,8 @@ pub(crate) fn next_block<S: Source, K: Sink>(
     block: &mut [u8; BLOCK_BYTES],
     out: &mut K,
 ) -> Result<usize, Failed>
-    ensures within { IfOk result (λ n. n ≤ length block.new) }
-    ensures ok { IfOk result (λ n. Consumes (S.left source.old) (S.left source.new) (take n block.new)) }
-    ensures end { IfOk result (λ n. n < length block.new → IsAtEnd (S.left source.new)) }
-    ensures part { OnErr result (ConsumesBelow (S.left source.old) (S.left source.new) (length block.new)) }
-    ensures cause { HasCause (S.faults source.old) (S.faults source.new) result }
-    ensures told { TellsEnd (length block.old) (S.ends source.old) (S.ends source.new) result }
-    ensures room { FillsRoom (length block.old) (S.fills source.old) (S.fills source.new) result }
-    ensures size { length block.new ≡ length block.old }
+    ensures asks { AsksFor block_bytes (read_input S.left S.ends S.fills source.old source.new)
+        (change S.faults source.old source.new) result block.new }
     ensures keeps { Keeps (K.held out.old) (K.held out.new) }
     ensures no_write_fault { K.faults out.new ≡ K.faults out.old }
 {
@@ -58,4 +54,15 @@ pub(crate) fn next_block<S: Source, K: Sink>(
     }
     out.pass_waiting();
     fill(source, block)
+}
+
+/// Reads a byte, as `fill` does.
+///
+/// # Errors
+/// `Failed` where a read failed.
+pub(crate) fn next_byte<S: Source>(source: &mut S) -> Result<usize, Failed>
+    ensures { (byte : List ℕ) × AsksFor 1 (read_input S.left S.ends S.fills source.old source.new)
+        (change S.faults source.old source.new) result byte }
+{
+    fill(source, &mut [0; 1])
 }

@@ -95,7 +95,6 @@ fn plus(word: &Word, i: usize, error: Sym) -> Word
     word.with(i, word.get(i).add(error))
 }
 
-// The sum of a word at j.
 fn sum(word: &Word, j: u32) -> Sym
     requires { IsWord word.now }
     ensures { result ≡ weighted_sum j word.now }

@@ -1,14 +1,13 @@
 // Two readings of one stream, block by block in turn.
 ghost use Rattle.std.specs.Prelude.{◌≡◌, ◌≢◌, ◌≤◌, ◌<◌, ◌+◌, [], List, ℕ, Err, length, IsErrOf, IsOk, IfOk, IfSome, replicate, true};
 ghost use Rattle.std.specs.List.{concat};
-ghost use Rattle.std.specs.Io.KnownBytes.{Consumes};
 ghost use Rattle.std.specs.declared.option.Option.{Option};
 ghost use Rattle.disc_time.specs.Counts.{most_lead_in};
 ghost use Rattle.cdg_io.specs.Causes.{TellsFault};
-ghost use Rattle.cdg_io.specs.Change.{change, input};
+ghost use Rattle.cdg_io.specs.Change.{change};
 ghost use Rattle.rw_interleave.specs.Stream.{bad_count};
 ghost use Rattle.rw_interleave.specs.Texts.{cdg_bytes};
-ghost use Rattle.rw_merge.specs.Merging.{EndsBoth, EndsSecond, FillsFirst, FillsSecond, FirstIsAtEnd, IsAnswer, IsMergedText, Merges};
+ghost use Rattle.rw_merge.specs.Merging.{EndsBoth, EndsSecond, FirstIsAtEnd, IsAnswer, IsMergedText, Merges, ReadsBoth, full_reads, read_input};
 ghost use Rattle.rw_merge.specs.Readings.{IsDamagedTwice, IsReadTwice, MergeRestores};
 ghost use Rattle.rw_merge.specs.Steps.{AreAgreements, CountsFaults, leading_slots, window_after, words_after};
 ghost use Rattle.raw_subcode.specs.Sizes.{slots_a_block};
@@ -119,9 +118,9 @@ impl Merger {
         out: &mut K,
     ) -> Result<Merged, MergeStop>
         requires { lead_in ≤ most_lead_in }
-        ensures merges { (xs ys : List ℕ) × Consumes (S.left first.old) (S.left first.new) xs
-            × Consumes (T.left second.old) (T.left second.new) ys
-            × Merges lead_in (change K.held out.old out.new) result xs ys }
+        ensures merges { ReadsBoth (Merges lead_in (change K.held out.old out.new) result) (EndsBoth result)
+            full_reads (read_input S.left S.ends S.fills first.old first.new)
+            (read_input T.left T.ends T.fills second.old second.new) }
         // Every pack comes back where both readings together have enough of each word.
         ensures restores { IfSome (S.left first.old) (λ xs. IfSome (T.left second.old) (λ ys.
             (blocks : ℕ) (packs : List (List ℕ)) → IsReadTwice lead_in blocks packs xs ys
@@ -135,10 +134,6 @@ impl Merger {
             IsAnswer lead_in result (length xs) (length ys))) }
         ensures first_end { FirstIsAtEnd result (S.left first.new) }
         ensures second_end { EndsSecond result (T.left second.new) }
-        ensures told { EndsBoth result (input S.left S.ends first.old first.new)
-            (input T.left T.ends second.old second.new) }
-        ensures first_rooms { FillsFirst lead_in result (S.fills first.old) (S.fills first.new) }
-        ensures second_rooms { FillsSecond lead_in result (T.fills second.old) (T.fills second.new) }
         ensures first_fault { TellsFault MergeStop.FirstFault
             (S.faults first.old) (S.faults first.new) result }
         ensures second_fault { TellsFault MergeStop.SecondFault
@@ -163,16 +158,12 @@ impl Merger {
         requires lead_in { lead_in ≤ most_lead_in }
         requires first { self.old.first ≡ [] }
         requires second { self.old.second ≡ [] }
-        ensures merges { (xs ys : List ℕ) × Consumes (S.left first.old) (S.left first.new) xs
-            × Consumes (T.left second.old) (T.left second.new) ys
-            × Merges lead_in (change K.held out.old out.new) result xs ys }
+        ensures merges { ReadsBoth (Merges lead_in (change K.held out.old out.new) result) (EndsBoth result)
+            full_reads (read_input S.left S.ends S.fills first.old first.new)
+            (read_input T.left T.ends T.fills second.old second.new) }
         ensures answer { IfSome (S.left first.old) (λ xs. IfSome (T.left second.old) (λ ys.
             IsAnswer lead_in result (length xs) (length ys))) }
-        ensures ends { FirstIsAtEnd result (S.left first.new) × EndsSecond result (T.left second.new)
-            × EndsBoth result (input S.left S.ends first.old first.new)
-            (input T.left T.ends second.old second.new) }
-        ensures rooms { FillsFirst lead_in result (S.fills first.old) (S.fills first.new)
-            × FillsSecond lead_in result (T.fills second.old) (T.fills second.new) }
+        ensures ends { FirstIsAtEnd result (S.left first.new) × EndsSecond result (T.left second.new) }
         ensures faults { CountsFaults result (change S.faults first.old first.new)
             (change T.faults second.old second.new) (change K.faults out.old out.new) }
     {

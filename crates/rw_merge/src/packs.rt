@@ -20,7 +20,6 @@ pub(crate) struct Packs {
 }
 
 impl Packs {
-    /// No packs.
     pub(crate) fn new() -> Packs {
         Packs {
             bytes: Piece::new(),

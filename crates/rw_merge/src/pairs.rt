@@ -1,12 +1,13 @@
 // Pairs of blocks, one of each input, in turn.
-ghost use Rattle.std.specs.Prelude.{◌≡◌, List, ℕ, Ok, true};
-ghost use Rattle.std.specs.Io.KnownBytes.{Consumes, Keeps};
-ghost use Rattle.cdg_io.specs.Change.{change, input};
-ghost use Rattle.rw_merge.specs.Steps.{CountsReadFaults, EndsAfter, EndsOfPair, FillsAfter, FillsFirstOfPair, FillsSecondOfPair, IsEndRead, IsPairRead, taken_of};
+ghost use Rattle.std.specs.Prelude.{◌≡◌};
+ghost use Rattle.std.specs.Io.KnownBytes.{Keeps};
+ghost use Rattle.cdg_io.specs.Change.{change};
+ghost use Rattle.rw_merge.specs.Merging.{read_input};
+ghost use Rattle.rw_merge.specs.Steps.{CountsReadFaults, ReadsNoMore, ReadsPair};
 
-use crate::blocks::next_block;
+use crate::blocks::{next_block, next_byte};
 use crate::merge::MergeStop;
-use cdg_io::{Failed, Sink, Source, fill};
+use cdg_io::{Failed, Sink, Source};
 use raw_subcode::BLOCK_BYTES;
 
 /// Reads a block of the first input, and then one of the second; before a read the output passes on what waits. False where both inputs are at their end.
@@ -21,16 +22,11 @@ pub(crate) fn next_pair<S: Source, T: Source, K: Sink>(
     block: u32,
     out: &mut K,
 ) -> Result<bool, MergeStop>
-    ensures pair { (xs ys : List ℕ) × Consumes (S.left first.old) (S.left first.new) xs
-        × Consumes (T.left second.old) (T.left second.new) ys
-        × IsPairRead block result (taken_of xs (S.left first.new)) (taken_of ys (T.left second.new))
-        × (result ≡ Ok true → (xs ≡ one.new) × (ys ≡ other.new)) }
+    ensures pair { ReadsPair block result one.new other.new
+        (read_input S.left S.ends S.fills first.old first.new)
+        (read_input T.left T.ends T.fills second.old second.new) }
     ensures faults { CountsReadFaults result (change S.faults first.old first.new)
         (change T.faults second.old second.new) }
-    ensures told { EndsOfPair result (input S.left S.ends first.old first.new)
-        (input T.left T.ends second.old second.new) }
-    ensures rooms { FillsFirstOfPair result (S.fills first.old) (S.fills first.new)
-        × FillsSecondOfPair result (T.fills second.old) (T.fills second.new) }
     ensures keeps { Keeps (K.held out.old) (K.held out.new) }
     ensures no_write_fault { K.faults out.new ≡ K.faults out.old }
 {
@@ -65,22 +61,17 @@ pub(crate) fn nothing_follows<S: Source, T: Source>(
     first: &mut S,
     second: &mut T,
 ) -> Result<(), MergeStop>
-    ensures end { (xs ys : List ℕ) × Consumes (S.left first.old) (S.left first.new) xs
-        × Consumes (T.left second.old) (T.left second.new) ys
-        × IsEndRead result (taken_of xs (S.left first.new)) (taken_of ys (T.left second.new)) }
+    ensures end { ReadsNoMore result (read_input S.left S.ends S.fills first.old first.new)
+        (read_input T.left T.ends T.fills second.old second.new) }
     ensures faults { CountsReadFaults result (change S.faults first.old first.new)
         (change T.faults second.old second.new) }
-    ensures told { EndsAfter result (input S.left S.ends first.old first.new)
-        (input T.left T.ends second.old second.new) }
-    ensures rooms { FillsAfter result (S.fills first.old) (S.fills first.new)
-        × FillsAfter result (T.fills second.old) (T.fills second.new) }
 {
-    match fill(first, &mut [0; 1]) {
+    match next_byte(first) {
         Ok(0) => {}
         Ok(_) => return Err(MergeStop::TooLong),
         Err(Failed) => return Err(MergeStop::FirstFault),
     }
-    match fill(second, &mut [0; 1]) {
+    match next_byte(second) {
         Ok(0) => Ok(()),
         Ok(_) => Err(MergeStop::TooLong),
         Err(Failed) => Err(MergeStop::SecondFault),

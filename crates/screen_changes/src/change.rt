@@ -1,8 +1,10 @@
 // What of the screen may change.
-ghost use Rattle.std.specs.Prelude.{◌≡◌};
-ghost use Rattle.screen_changes.specs.Changes.{touched_change, join, no_change, rectangle, tile_change};
+ghost use Rattle.std.specs.Prelude.{◌≡◌, List};
+ghost use Rattle.screen_changes.specs.Changes.{touched_change, join, no_change, rectangle, tile_change, changes_on, KeepsUntold};
+ghost use Rattle.cdg_instructions.specs.declared.instr.Instr.{Instr};
+ghost use Rattle.cdg_screen.specs.Standing.{IsWholeStanding, Standing, standing_after};
 
-use cdg_screen::Touched;
+use cdg_screen::{Touched, untouched_stays};
 
 /// A rectangle of the screen, in which pixels may change, and whether colours of the table or levels may. It holds no
 /// pixel where `left` is 300.
@@ -106,4 +108,12 @@ fn rectangle(left: u32, top: u32, right: u32, bottom: u32) -> ScreenChange
     } else {
         ScreenChange::none()
     }
+}
+
+/// A law: by instructions that are carried out on what stands, nothing of the screen changes but what is told of them.
+pub fn untold_stays()
+    ensures { (now : Standing) (instrs : List Instr) → IsWholeStanding now
+        → KeepsUntold (changes_on now instrs) now (standing_after now instrs) }
+{
+    untouched_stays();
 }

@@ -8,8 +8,7 @@ ghost use Rattle.live_player.specs.Lives.{Given, HasPlayed, instruction_of, stan
 ghost use Rattle.live_player.specs.Lives.Given.{Drawn, Fed};
 ghost use Rattle.screen_changes.specs.Changes.{changes_on, sees, watch_from, AreDrawnFor, KeepsUntold};
 
-use crate::change::ScreenChange;
-use crate::keeping::untold_stays;
+use crate::change::{ScreenChange, untold_stays};
 use crate::watch::Watch;
 use live_player::LivePlayer;
 use raw_subcode::BLOCK_BYTES;

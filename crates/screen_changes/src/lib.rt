@@ -3,9 +3,7 @@
 
 mod change;
 mod feeding;
-mod keeping;
 mod watch;
 
-pub use change::{ScreenChange, touched_change};
+pub use change::{ScreenChange, touched_change, untold_stays};
 pub use feeding::{draw_all, feed_all, pack_change};
-pub use keeping::untold_stays;

@@ -31,7 +31,6 @@ impl Model for BlockOfWords {
 }
 
 impl BlockOfWords {
-    // Four idle packs.
     #[inline]
     fn idle() -> BlockOfWords
         ensures { result.items ≡ replicate slots_a_block idle_pack }
@@ -54,7 +53,6 @@ impl BlockOfWords {
         self.words.as_ref()
     }
 
-    /// The words themselves.
     pub fn into_words(self) -> ArrayVec<Word, SLOTS_A_BLOCK>
         ensures { result ≡ self }
     {
@@ -173,7 +171,6 @@ fn slots(block: &[u8; BLOCK_BYTES]) -> ArrayVec<Word, SLOTS_A_BLOCK>
     ])
 }
 
-// A slot of a block.
 fn slot(block: &[u8; BLOCK_BYTES], i: usize) -> Word
     requires { i < slots_a_block }
     ensures { result ≡ slot_of block.now i }
@@ -183,7 +180,6 @@ fn slot(block: &[u8; BLOCK_BYTES], i: usize) -> Word
     Word::new(&bytes)
 }
 
-/// Whether a word is the idle pack.
 #[inline]
 pub(crate) fn is_idle(word: &Word) -> bool
     ensures { result ≡ true → (word.now ≡ idle_pack) × IsCodeword word.now }

@@ -85,7 +85,6 @@ impl Checker {
         }
     }
 
-    // Writes what was counted of so many blocks.
     fn write_counts<K: Sink>(
         &self,
         lead_in: u32,
@@ -150,7 +149,6 @@ fn lines(lead_in: u32, form: Form, blocks: u32, counting: &Counting) -> Lines
     text
 }
 
-// How many words so many blocks hold.
 fn words_in(form: Form, blocks: u32) -> u32
     requires { blocks ≤ most_units }
     ensures { result ≡ word_count form blocks }
@@ -161,7 +159,6 @@ fn words_in(form: Form, blocks: u32) -> u32
     }
 }
 
-// A name and a count.
 #[tactic(auto, unfolding(crate::specs::Check::count_line))]
 fn push_count(text: &mut Lines, name: &str, count: u32)
     requires name { length name.now ≤ 8 }
@@ -187,7 +184,6 @@ fn push_stream(text: &mut Lines, lead_in: u32, program: u32, packs: u32)
     push_count(text, "packs", packs);
 }
 
-// The lines on wrong symbols.
 fn push_wrong(text: &mut Lines, counts: &WordCounts)
     requires { length text.old.bytes ≤ 60 }
     ensures text { text.new.bytes ≡ text.old.bytes
@@ -213,7 +209,6 @@ fn push_kinds(text: &mut Lines, counts: &WordCounts)
     push_count(text, "foreign", counts.foreign);
 }
 
-// The lines on frames.
 fn push_frames(text: &mut Lines, frames: &FrameCounts)
     requires { length text.old.bytes ≤ 220 }
     ensures text { text.new.bytes ≡ text.old.bytes ++ frame_count_lines frames.now.good frames.now.bad }

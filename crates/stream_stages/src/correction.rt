@@ -11,7 +11,7 @@ use crate::block_words::{BlockOfWords, are_near_idle, idle_is_codeword};
 use arrayvec::ArrayVec;
 use cdg_io::{Piece, Stage};
 use raw_subcode::{BLOCK_BYTES, SLOTS_A_BLOCK, SYMBOLS_A_SLOT};
-use rw_code::{Word, correct};
+use rw_code::{Word, correct_by_sums};
 
 /// Gives the bytes of the corrected packs, and counts the words with no codeword near.
 #[derive(Clone, Copy, Debug, PartialEq, Eq)]
@@ -68,7 +68,7 @@ impl Correction {
         ensures size { length result ≡ symbols_a_slot }
         ensures bad { self.new.bad ≡ bad_next self.old.bad word.now }
     {
-        match correct(word) {
+        match correct_by_sums(word) {
             Some(fixed) => fixed.pack.word().bytes(),
             None => {
                 self.bad = self.bad.saturating_add(1);

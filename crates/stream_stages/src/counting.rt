@@ -14,7 +14,7 @@ use arrayvec::ArrayVec;
 use cdg_io::{Piece, Stage, Then};
 use q_channel::is_frame;
 use raw_subcode::{BLOCK_BYTES, Block, Form, SLOTS_A_BLOCK};
-use rw_code::{Fixed, Word, correct};
+use rw_code::{Fixed, Word, correct_by_sums};
 
 // The most wrong symbols of a word that are corrected.
 const MOST_WRONG: u8 = 2;
@@ -100,7 +100,6 @@ struct NearIdle {
 }
 
 impl NearIdle {
-    // None of them.
     #[inline]
     fn none() -> NearIdle
         ensures { result ≡ record { clean = 0; one = 0; two = 0 } }
@@ -146,7 +145,6 @@ impl WordCounts {
         self.count_near(near);
     }
 
-    // Counts words for which the idle pack is found.
     fn count_near(&mut self, near: NearIdle)
         requires { near.clean + near.one + near.two < 2 ^ 32 }
         ensures { self.new ≡ with_near self.old near }
@@ -157,7 +155,6 @@ impl WordCounts {
         self.idle = self.idle.saturating_add(near.clean + near.one + near.two);
     }
 
-    // Counts the words that come with a block.
     #[inline]
     fn count_block(&mut self, words: &BlockOfWords)
         ensures { self.new ≡ counts_next self.old words.now }
@@ -170,17 +167,16 @@ impl WordCounts {
         }
     }
 
-    // Counts a word by what its correction finds.
+    // Counts a word by what its correction finds, where the idle pack is not near.
     fn count_corrected(&mut self, word: &Word)
         ensures { self.new ≡ count_next self.old word.now }
     {
-        match correct(word) {
+        match correct_by_sums(word) {
             Some(fixed) => self.count_fixed(&fixed, word),
             None => self.count_bad(word),
         }
     }
 
-    // Counts an idle word.
     fn count_idle(&mut self)
         ensures { self.new ≡ record self.old {
           clean = tick true self.old.clean;
@@ -191,7 +187,6 @@ impl WordCounts {
         tick(&mut self.idle, true);
     }
 
-    // Counts four idle words.
     fn count_four_idle(&mut self)
         requires { IsCodeword idle_pack }
         ensures { self.new ≡ count_after self.old (replicate slots_a_block idle_pack) }
@@ -212,7 +207,6 @@ impl WordCounts {
         self.count_kind(symbols.get(0).value(), symbols.get(1).value());
     }
 
-    // Counts a word by the number of its wrong symbols.
     #[inline]
     fn count_wrong(&mut self, wrong: u8)
         ensures { self.new ≡ wrong_counted self.old wrong }

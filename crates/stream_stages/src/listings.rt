@@ -121,7 +121,6 @@ impl TextLister {
         }
     }
 
-    // Writes the texts of the packs that were read.
     fn write_texts<K: Sink>(
         &self,
         alloc: Global,

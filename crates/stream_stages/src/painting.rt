@@ -28,7 +28,6 @@ pub struct Painting {
 }
 
 impl Painting {
-    // Draws the words of a block.
     #[inline]
     fn draw_block(&mut self, words: &BlockOfWords)
         ensures { self.new ≡ painting_next self.old words.now }
@@ -41,7 +40,6 @@ impl Painting {
         }
     }
 
-    // Draws the words of a block, one by one.
     #[inline(never)]
     fn draw_each(&mut self, words: &ArrayVec<Word, SLOTS_A_BLOCK>)
         ensures { self.new ≡ painting_next self.old words.now }
@@ -97,7 +95,6 @@ fn draw_corrected(screen: &mut PlainScreen, bad: &mut u32, word: &Word)
     }
 }
 
-// Carries out the instruction of a pack.
 fn carry_out(pack: &Pack, screen: &mut PlainScreen)
     ensures { seen screen.new ≡ standing_after (seen screen.old) (meaning pack.now ∷ []) }
 {

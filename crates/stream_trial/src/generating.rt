@@ -1,6 +1,7 @@
 // The script and the sheet of a trial, read from their texts.
 ghost use Rattle.std.specs.Prelude.{◌≡◌, ◌≤◌, IfOk, IfErr};
-ghost use Rattle.cdg_workload.specs.Script.{most_generated};
+ghost use Rattle.cdg_io.specs.Causes.{HasCause};
+ghost use Rattle.cdg_workload.specs.Script.{generated_script, most_generated};
 ghost use Rattle.cdg_workload.specs.Generated.{generated_drawings};
 ghost use Rattle.stream_trial.specs.TrialSheet.{trial_sheet};
 ghost use Rattle.stream_trial.specs.declared.stops.TrialStop.TheVariants.{NoMemory};
@@ -11,7 +12,8 @@ use cdg_io::{Failed, MemSink};
 use cdg_workload::{generated_scripts_are_read, generated_scripts_are_short, write_script};
 use cue_sheet::{CueStop, Sheet};
 use picture_script::{Script, ScriptStop};
-use std::alloc::Global;
+use std::alloc::{AllocError, Global};
+use subcode_author::NoMemoryCount;
 
 // The most bytes of the lines of colours in a generated script.
 const COLOURS_BYTES: usize = 230;
@@ -26,36 +28,63 @@ const SHEET: &[u8] = b"\
     INDEX 01 00:00:00\n";
 
 /// The generated script of a seed.
-pub(crate) fn parse_script(alloc: Global, seed: u64, pictures: u32) -> Result<Script, TrialStop>
+pub(crate) fn parse_script(
+    alloc: Global,
+    lacks: &mut NoMemoryCount,
+    seed: u64,
+    pictures: u32,
+) -> Result<Script, TrialStop>
     requires { (1 ≤ pictures) × (pictures ≤ most_generated) }
     ensures script { IfOk result (λ script. script ≡ generated_drawings seed pictures) }
     ensures err { IfErr result (λ stop. stop ≡ NoMemory) }
+    ensures counted { HasCause lacks.old lacks.new result }
 {
-    // For the grammar, which refuses no generated script, and for the room of its text.
+    // For the grammar, which refuses no generated script, and for the length of its text.
     generated_scripts_are_read();
     generated_scripts_are_short();
-    let room = COLOURS_BYTES + PICTURE_BYTES * pictures as usize;
-    let mut text = MemSink::new(alloc, room, Vec::new(alloc), Vec::new(alloc))?;
-    if write_script(seed, pictures, &mut text) == Err(Failed) {
-        return Err(TrialStop::NoMemory);
-    }
+    let text = write_text(alloc, seed, pictures);
+    lacks.note_answer(&text);
+    let text = text?;
     match Script::parse(alloc, text.bytes()) {
         Ok(script) => Ok(script),
-        Err(ScriptStop::NoMemory) => Err(TrialStop::NoMemory),
+        Err(ScriptStop::NoMemory) => {
+            lacks.note(&AllocError);
+            Err(TrialStop::NoMemory)
+        }
         Err(ScriptStop::Fault { .. }) => unreachable!(),
     }
 }
 
+// The text of the generated script of a seed, in room for the longest one.
+fn write_text(alloc: Global, seed: u64, pictures: u32) -> Result<MemSink, AllocError>
+    requires { (1 ≤ pictures) × (pictures ≤ most_generated) }
+    ensures { IfOk result (λ text. text.held ≡ generated_script seed pictures) }
+{
+    let room = COLOURS_BYTES + PICTURE_BYTES * pictures as usize;
+    let mut text = MemSink::new(alloc, room, Vec::new(alloc), Vec::new(alloc))?;
+    match write_script(seed, pictures, &mut text) {
+        Ok(()) => Ok(text),
+        Err(Failed) => {
+            drop(text);
+            Err(AllocError)
+        }
+    }
+}
+
 /// The sheet with one track.
-pub(crate) fn parse_sheet(alloc: Global) -> Result<Sheet, TrialStop>
+pub(crate) fn parse_sheet(alloc: Global, lacks: &mut NoMemoryCount) -> Result<Sheet, TrialStop>
     ensures sheet { IfOk result (λ sheet. sheet ≡ trial_sheet) }
     ensures err { IfErr result (λ stop. stop ≡ NoMemory) }
+    ensures counted { HasCause lacks.old lacks.new result }
 {
     // For the grammar, which does not refuse the sheet.
     trial_sheet_is_read();
     match Sheet::parse(alloc, SHEET) {
         Ok(sheet) => Ok(sheet),
-        Err(CueStop::NoMemory) => Err(TrialStop::NoMemory),
+        Err(CueStop::NoMemory) => {
+            lacks.note(&AllocError);
+            Err(TrialStop::NoMemory)
+        }
         Err(CueStop::Fault { .. }) => unreachable!(),
     }
 }

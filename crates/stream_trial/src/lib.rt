@@ -8,7 +8,6 @@ mod gallery;
 mod generating;
 mod history;
 mod lines;
-mod memory;
 mod needs;
 mod replay;
 mod run;
@@ -20,7 +19,6 @@ mod stops;
 mod streams;
 mod trying;
 
-pub use memory::TrialMemory;
 pub use schedules::{generated_scripts_are_authored, generated_scripts_are_ready};
 pub use scratches::{scratched_streams_are_recovered, scratched_words_are_near};
 pub use sheet::trial_sheet_is_read;

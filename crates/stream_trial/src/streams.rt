@@ -1,8 +1,10 @@
 // The stream of a trial, played as it is written.
 ghost use Rattle.std.specs.Prelude.{◌≡◌, ◌≤◌, ℕ, List, [], OnOk, IfOk, IfErr};
+ghost use Rattle.cdg_io.specs.Causes.{HasCause};
 ghost use Rattle.cdg_workload.specs.Script.{most_generated};
 ghost use Rattle.cdg_workload.specs.Scratches.{scratched};
 ghost use Rattle.cdg_workload.specs.Generated.{generated_drawings};
+ghost use Rattle.pack_schedule.specs.Survey.{IsSurvey, IsWithin};
 ghost use Rattle.raw_subcode.specs.Channels.{program_symbols};
 ghost use Rattle.raw_subcode.specs.declared.form.Form.TheVariants.{Raw};
 ghost use Rattle.stream_trial.specs.TrialSheet.{trial_sheet};
@@ -18,60 +20,94 @@ use crate::sizes::count_audio;
 use crate::stops::TrialStop;
 use crate::trial_sheet_is_read;
 use cdg_workload::{scratches_are_bursts, scratches_are_damage};
+use pack_schedule::Survey;
 use picture_script::Script;
-use std::alloc::Global;
-use subcode_author::{AuthorStop, author_stream};
+use std::alloc::{AllocError, Global};
+use subcode_author::{AuthorStop, NoMemoryCount, author_planned};
 
-/// Writes the stream of the script of a seed, and plays each of its blocks, with scratches of the same seed, as soon as
-/// it is written.
+/// Writes the stream of the script of a seed, whose changes are planned, and plays each of its blocks, with scratches of
+/// the same seed, as soon as it is written.
 pub(crate) fn play_stream(
     alloc: Global,
+    lacks: &mut NoMemoryCount,
     script: &Script,
+    planned: Survey,
     seed: u64,
     pictures: u32,
 ) -> Result<Found, TrialStop>
     requires few { pictures ≤ most_generated }
     requires script { script.now ≡ generated_drawings seed pictures }
+    requires planned { IsSurvey script.now planned }
+    requires within { IsWithin script.now (trial_blocks pictures) }
     ensures played { IfOk result (λ found. (bytes : List ℕ) × (packs : List (List ℕ))
         × IsWrittenStream (disc_of trial_sheet script.now 0 (trial_audio pictures)) bytes packs
         × IsPlayedOut script.now (trial_blocks pictures) (program_symbols Raw bytes 0)
         (program_symbols Raw (scratched 0 seed bytes) 0) found) }
     ensures err { IfErr result (λ stop. stop ≡ NoMemory) }
+    ensures counted { HasCause lacks.old lacks.new result }
 {
     // For what scratches leave of the stream, and the sheet that it is written with.
     scratches_are_bursts();
     scratches_are_damage();
     trial_sheet_is_read();
-    let mut run = TrialRun::start(alloc, script, seed, pictures)?;
-    write_stream(alloc, script, pictures, &mut run)?;
+    let mut run = start_run(alloc, lacks, script, seed, pictures)?;
+    write_stream(alloc, lacks, script, planned, pictures, &mut run)?;
     Ok(run.found())
+}
+
+// A run before the first byte.
+fn start_run<'a>(
+    alloc: Global,
+    lacks: &mut NoMemoryCount,
+    script: &'a Script,
+    seed: u64,
+    pictures: u32,
+) -> Result<TrialRun<'a>, AllocError>
+    requires { script.now ≡ generated_drawings seed pictures }
+    ensures of { IfOk result (λ run. (run.seed ≡ seed) × (run.pictures ≡ pictures)) }
+    ensures nothing { IfOk result (λ run. run.history.bytes ≡ []) }
+    ensures counted { HasCause lacks.old lacks.new result }
+{
+    let run = TrialRun::start(alloc, script, seed, pictures);
+    lacks.note_answer(&run);
+    run
 }
 
 // Writes the stream of the sheet with one track and of a generated script, with no lead-in, to a run that has begun.
 fn write_stream(
     alloc: Global,
+    lacks: &mut NoMemoryCount,
     script: &Script,
+    planned: Survey,
     pictures: u32,
     run: &mut TrialRun<'_>,
 ) -> Result<(), TrialStop>
     requires few { pictures ≤ most_generated }
     requires script { (seed : ℕ) × (script.now ≡ generated_drawings seed pictures) }
+    requires planned { IsSurvey script.now planned }
+    requires within { IsWithin script.now (trial_blocks pictures) }
     requires begun { run.old.history.bytes ≡ [] }
     ensures stream { OnOk result ((packs : List (List ℕ))
         × IsWrittenStream (disc_of trial_sheet script.now 0 (trial_audio pictures)) run.new.history.bytes
         packs) }
     ensures of { OnOk result ((run.new.seed ≡ run.old.seed) × (run.new.pictures ≡ run.old.pictures)) }
     ensures err { IfErr result (λ stop. stop ≡ NoMemory) }
+    ensures counted { HasCause lacks.old lacks.new result }
 {
     // For the author, which refuses neither the sheet nor the script.
     trial_sheet_is_read();
-    let sheet = parse_sheet(alloc)?;
-    let written = author_stream(alloc, &sheet, script, 0, count_audio(pictures), run);
+    let sheet = parse_sheet(alloc, lacks)?;
+    let audio = count_audio(pictures);
+    let written = author_planned(alloc, lacks, &sheet, script, planned, 0, audio, run);
     drop(sheet);
     match written {
         Ok(()) => Ok(()),
-        // A run takes more blocks than the stream has.
-        Err(AuthorStop::NoMemory | AuthorStop::WriteFault) => Err(TrialStop::NoMemory),
+        Err(AuthorStop::NoMemory) => Err(TrialStop::NoMemory),
+        // A run takes more blocks than the stream has: past its limit there would be no place for them.
+        Err(AuthorStop::WriteFault) => {
+            lacks.note(&AllocError);
+            Err(TrialStop::NoMemory)
+        }
         Err(_) => unreachable!(),
     }
 }

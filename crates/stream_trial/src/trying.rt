@@ -8,14 +8,18 @@ ghost use Rattle.stream_trial.specs.Trial.{IsTrial};
 ghost use Rattle.stream_trial.specs.Told.{told};
 ghost use Rattle.stream_trial.specs.declared.stops.TrialStop.TheVariants.{NoMemory};
 
+use crate::generating::parse_script;
 use crate::lines::Report;
-use crate::memory::TrialMemory;
+use crate::needs::{count_changes, plan_changes};
 use crate::sizes::count_blocks;
 use crate::stops::TrialStop;
+use crate::streams::play_stream;
 use crate::trial_sheet_is_read;
 use cdg_io::{Failed, Sink, put_all};
 use cdg_workload::{generated_scripts_are_read, generated_scripts_have_times};
 use rw_interleave::whole_packs;
+use std::alloc::Global;
+use subcode_author::NoMemoryCount;
 
 /// Writes the stream of the generated script of a seed, scratches it with the same seed, corrects and plays it, and
 /// compares the screen with each picture when it is ready. Then writes nine lines: `seed`, `pictures`, `blocks`,
@@ -28,7 +32,8 @@ use rw_interleave::whole_packs;
 ///
 /// `NoMemory` before anything is written. After `WriteFault` a prefix of the lines was written.
 pub fn trial<K: Sink>(
-    memory: &mut TrialMemory,
+    alloc: Global,
+    lacks: &mut NoMemoryCount,
     seed: u64,
     pictures: u32,
     out: &mut K,
@@ -48,9 +53,9 @@ pub fn trial<K: Sink>(
     // Memory ran out, and nothing was written.
     ensures untouched { result ≡ Err TrialStop.NoMemory → out.new ≡ out.old }
     // A call that asks for memory said so, and no other call did.
-    ensures wants { TellsFault TrialStop.NoMemory memory.old memory.new result }
+    ensures wants { TellsFault TrialStop.NoMemory lacks.old lacks.new result }
 {
-    let report = make_report(memory, seed, pictures)?;
+    let report = make_report(alloc, lacks, seed, pictures)?;
     let lines = report.lines();
     match put_all(out, lines.as_str().as_bytes()) {
         Ok(()) => Ok(()),
@@ -59,20 +64,26 @@ pub fn trial<K: Sink>(
 }
 
 // What the lines of a trial say.
-fn make_report(memory: &mut TrialMemory, seed: u64, pictures: u32) -> Result<Report, TrialStop>
+fn make_report(
+    alloc: Global,
+    lacks: &mut NoMemoryCount,
+    seed: u64,
+    pictures: u32,
+) -> Result<Report, TrialStop>
     requires { (1 ≤ pictures) × (pictures ≤ most_generated) }
     ensures report { IfOk result (λ report. IsTrial seed pictures (told report)) }
     ensures err { IfErr result (λ stop. stop ≡ NoMemory) }
-    ensures counted { HasCause memory.old memory.new result }
+    ensures counted { HasCause lacks.old lacks.new result }
 {
     // For what the text of the script and of the sheet says.
     generated_scripts_are_read();
     generated_scripts_have_times();
     trial_sheet_is_read();
-    let script = memory.script(seed, pictures)?;
+    let script = parse_script(alloc, lacks, seed, pictures)?;
     let blocks = count_blocks(pictures);
-    let changes = memory.changes(&script, blocks)?;
-    let found = memory.found(&script, seed, pictures)?;
+    let planned = plan_changes(alloc, lacks, &script, blocks)?;
+    let changes = count_changes(&script, &planned);
+    let found = play_stream(alloc, lacks, &script, planned, seed, pictures)?;
     Ok(Report {
         seed,
         pictures: u64::from(pictures),

@@ -1,13 +1,13 @@
 -- What a stop of the pictures is for the whole.
 use Rattle.cue_sheet.specs.CueSheet.{CueSheet}
-use Rattle.std.proofs.Common.{◌≡◌, ℕ, ◌<◌, List, subst}
+use Rattle.std.proofs.Common.{◌≡◌, ◌⊎◌, inl, inr, ℕ, ◌<◌, List, subst, sym}
 use Rattle.picture_script.specs.Script.{Drawing, picture_pixel}
 use Rattle.pack_schedule.specs.Schedule.{IsLate}
 use Rattle.pack_schedule.specs.Shown.{AreColoursInRange, AreTimesInOrder}
 use Rattle.pack_schedule.specs.Brings.{CannotBeReady}
-use Rattle.subcode_author.specs.AuthorAnswer.{HoldsPictures, HasRoom, IsPictureStop, IsAuthorStop}
+use Rattle.subcode_author.specs.AuthorAnswer.{HoldsPictures, HasRoom, IsAccepted, IsPictureStop, IsAuthorStop}
 use Rattle.subcode_author.specs.declared.stops.AuthorStop.{AuthorStop}
-use Rattle.subcode_author.specs.declared.stops.AuthorStop.TheVariants.{Late, NoMemory}
+use Rattle.subcode_author.specs.declared.stops.AuthorStop.TheVariants.{Late, NoMemory, WriteFault}
 
 pub picture_stop : (sheet : CueSheet) (script : List Drawing) (lead_in audio : ℕ) (stop : AuthorStop)
     → HoldsPictures sheet script audio → HasRoom sheet lead_in
@@ -15,6 +15,15 @@ pub picture_stop : (sheet : CueSheet) (script : List Drawing) (lead_in audio : �
 picture_stop sheet script lead_in audio (Late picture need free) disc room late = (disc, room, late)
 picture_stop sheet script lead_in audio NoMemory disc room none = (disc, room)
 picture_stop sheet script lead_in audio stop disc room none = absurd none
+
+-- a disc whose pictures are planned is refused no more
+pub written_stop : (sheet : CueSheet) (script : List Drawing) (lead_in audio : ℕ) (stop : AuthorStop)
+    → IsAccepted sheet script lead_in audio → (stop ≡ NoMemory) ⊎ (stop ≡ WriteFault)
+    → IsAuthorStop sheet script lead_in audio stop
+written_stop sheet script lead_in audio stop accepted (inl is) =
+    subst (IsAuthorStop sheet script lead_in audio) (sym is) (accepted.disc, accepted.room)
+written_stop sheet script lead_in audio stop accepted (inr is) =
+    subst (IsAuthorStop sheet script lead_in audio) (sym is) accepted
 
 -- a late picture cannot be ready
 abbrev pub LateCannotBeReady : Type 0

@@ -3,10 +3,8 @@ use Rattle.toc_model.specs.declared.layout.LayoutStop.{LayoutStop}
 use Rattle.toc_model.specs.declared.layout.LayoutStop.TheVariants.{LengthShort as layout_short, DiscTooLong as layout_long, NoMemory as layout_memory}
 use Rattle.stream_writer.specs.declared.stops.LeadInStop.{LeadInStop}
 use Rattle.stream_writer.specs.declared.stops.LeadInStop.TheVariants.{TextTooLong as text_long, LeadInShort as lead_in_short}
-use Rattle.pack_schedule.specs.declared.stops.Stop.{Stop}
-use Rattle.pack_schedule.specs.declared.stops.Stop.TheVariants.{PastEnd as past, Late as late, NoMemory as plan_memory}
 use Rattle.subcode_author.specs.declared.stops.AuthorStop.{AuthorStop}
-use Rattle.subcode_author.specs.declared.stops.AuthorStop.TheVariants.{LengthShort, DiscTooLong, PastEnd, TextTooLong, LeadInShort, Late, NoMemory}
+use Rattle.subcode_author.specs.declared.stops.AuthorStop.TheVariants.{LengthShort, DiscTooLong, TextTooLong, LeadInShort, NoMemory}
 
 -- the stop of the whole for a stop of the layout
 abbrev pub author_stop_of_layout : LayoutStop → AuthorStop
@@ -18,9 +16,3 @@ author_stop_of_layout layout_memory = NoMemory
 abbrev pub author_stop_of_lead_in : LeadInStop → AuthorStop
 author_stop_of_lead_in (text_long packs) = TextTooLong packs
 author_stop_of_lead_in (lead_in_short need) = LeadInShort need
-
--- the stop of the whole for a stop of the pictures
-abbrev pub of_schedule : Stop → AuthorStop
-of_schedule (past blocks) = PastEnd blocks
-of_schedule (late picture need free) = Late picture need free
-of_schedule plan_memory = NoMemory

@@ -1,27 +1,28 @@
 // Writing the stream of a sheet and a script.
-ghost use Rattle.std.specs.Prelude.{◌≡◌, ◌≢◌, ◌<◌, ◌≤◌, List, ℕ, IfErr, OnOk, Err};
+ghost use Rattle.std.specs.Prelude.{◌≡◌, ◌≢◌, ◌<◌, ◌≤◌, ◌⊎◌, List, ℕ, IfErr, OnOk, Err};
 ghost use Rattle.disc_time.specs.Counts.{most_lead_in, most_program};
 ghost use Rattle.std.specs.Io.KnownBytes.{Appends};
 ghost use Rattle.cdg_io.specs.Causes.{TellsFault};
 ghost use Rattle.picture_script.specs.Script.{pictures};
 ghost use Rattle.pack_schedule.specs.Brings.{CannotBeReady, IsChange};
 ghost use Rattle.pack_schedule.specs.PlannedChange.{planned_change};
+ghost use Rattle.pack_schedule.specs.Survey.{IsSurvey, IsWithin};
+ghost use Rattle.toc_model.specs.Places.{program_blocks};
 ghost use Rattle.subcode_author.specs.Authored.{IsWrittenStream, disc_of};
-ghost use Rattle.subcode_author.specs.AuthorAnswer.{IsAccepted, IsAuthorStop};
+ghost use Rattle.subcode_author.specs.AuthorAnswer.{HasRoom, HoldsPictures, IsAccepted, IsAuthorStop};
 ghost use Rattle.subcode_author.specs.Given.{PutsScriptPart};
 
-use crate::parts::start_weaver;
+use crate::no_memory::NoMemoryCount;
+use crate::parts::{plan_script, take_layout, take_spread, take_texts, weave};
 use crate::plans::accept_disc;
 use crate::scheduled::Scheduled;
 use crate::stops::AuthorStop;
 use cdg_io::Sink;
 use cue_sheet::Sheet;
-use pack_schedule::{needs_are_fewest, packs_are_a_schedule};
+use pack_schedule::{Survey, needs_are_fewest, packs_are_a_schedule};
 use picture_script::Script;
-use rw_interleave::Spread;
 use std::alloc::Global;
-use stream_writer::{pack_texts, write_stream};
-use toc_model::Layout;
+use stream_writer::write_stream;
 
 /// Writes the subcode of a disc with a lead-in of so many blocks and an audio of so many blocks: the lead-in with the
 /// table of contents and the texts, and the program with the frames of the sheet and the pictures of the script.
@@ -69,15 +70,102 @@ pub fn author_stream<K: Sink>(
         × PutsScriptPart (disc_of sheet.now script.now lead_in length) (K.held out.old) (K.held out.new) n
         packs }
 {
-    packs_are_a_schedule();
+    let mut lacks = NoMemoryCount::none();
+    author_counted(alloc, &mut lacks, sheet, script, lead_in, length, out)
+}
+
+/// The same with a count of the answers that said that no memory was found: `NoMemory` comes only if one did.
+pub fn author_counted<K: Sink>(
+    alloc: Global,
+    lacks: &mut NoMemoryCount,
+    sheet: &Sheet,
+    script: &Script,
+    lead_in: u32,
+    length: u32,
+    out: &mut K,
+) -> Result<(), AuthorStop>
+    requires lead_in { lead_in ≤ most_lead_in }
+    requires length { length ≤ most_program }
+    // The authored stream with the planned changes was written.
+    ensures authored { OnOk result ((bytes : List ℕ) × (packs : List (List ℕ))
+        × IsWrittenStream (disc_of sheet.now script.now lead_in length) bytes packs
+        × Appends (K.held out.old) (K.held out.new) bytes) }
+    ensures accepted { OnOk result (IsAccepted sheet.now script.now lead_in length) }
+    // What is sent for each picture is a change for it: no list without scrolls that brings it is shorter.
+    ensures fewest { OnOk result ((k : ℕ) → k < pictures script.now
+        → IsChange script.now k (planned_change script.now k)) }
+
+    // Why none was written, and then nothing was.
+    ensures stop { IfErr result (IsAuthorStop sheet.now script.now lead_in length) }
+    ensures untouched { IfErr result (λ stop. stop ≢ AuthorStop.WriteFault → out.new ≡ out.old) }
+
+    // A late picture cannot be ready, whatever instructions without scrolls are sent.
+    ensures late { (picture need free : ℕ) → result ≡ Err (AuthorStop.Late picture need free)
+        → CannotBeReady script.now picture need free }
+
+    // A write failed, and a prefix of the lead-in and of program blocks with packs of the script was written.
+    ensures write_fault { TellsFault AuthorStop.WriteFault
+        (K.faults out.old) (K.faults out.new) result }
+    ensures part { result ≡ Err AuthorStop.WriteFault → (n : ℕ) × (packs : List (List ℕ))
+        × PutsScriptPart (disc_of sheet.now script.now lead_in length) (K.held out.old) (K.held out.new) n
+        packs }
+    // A call that asks for memory said that none was found, and no other call did.
+    ensures wants { TellsFault AuthorStop.NoMemory lacks.old lacks.new result }
+{
+    // For the proof alone: a late picture cannot be ready.
     needs_are_fewest();
-    // What holds of every script: its pictures are in order, and have sixteen colours.
     script.times_rise_and_colours_are_in_range();
     let blocks = accept_disc(sheet, script, lead_in, length)?;
-    let layout = Layout::of_sheet(alloc, sheet, length)?;
-    let texts = pack_texts(alloc, sheet, lead_in)?;
-    let mut spread = Spread::start(alloc)?;
-    let weaver = start_weaver(alloc, script, blocks)?;
+    let planned = plan_script(alloc, lacks, script, blocks)?;
+    author_planned(alloc, lacks, sheet, script, planned, lead_in, length, out)
+}
+
+/// Writes the subcode of a disc as `author_stream` does, where it has room for everything and the changes of its pictures
+/// have been planned.
+///
+/// # Errors
+///
+/// `NoMemory` before anything is written. After `WriteFault` a prefix of the stream was written, as after `author_stream`.
+pub fn author_planned<K: Sink>(
+    alloc: Global,
+    lacks: &mut NoMemoryCount,
+    sheet: &Sheet,
+    script: &Script,
+    planned: Survey,
+    lead_in: u32,
+    length: u32,
+    out: &mut K,
+) -> Result<(), AuthorStop>
+    requires lead_in { lead_in ≤ most_lead_in }
+    requires disc { HoldsPictures sheet.now script.now length }
+    requires room { HasRoom sheet.now lead_in }
+    requires within { IsWithin script.now (program_blocks sheet.now length) }
+    requires planned { IsSurvey script.now planned }
+    // The authored stream with the planned changes was written.
+    ensures authored { OnOk result ((bytes : List ℕ) × (packs : List (List ℕ))
+        × IsWrittenStream (disc_of sheet.now script.now lead_in length) bytes packs
+        × Appends (K.held out.old) (K.held out.new) bytes) }
+
+    // Why none was written: memory ran out, and then nothing was written, or a write failed.
+    ensures stop { IfErr result (λ stop. (stop ≡ AuthorStop.NoMemory) ⊎ (stop ≡ AuthorStop.WriteFault)) }
+    ensures untouched { IfErr result (λ stop. stop ≢ AuthorStop.WriteFault → out.new ≡ out.old) }
+
+    // A write failed, and a prefix of the lead-in and of program blocks with packs of the script was written.
+    ensures write_fault { TellsFault AuthorStop.WriteFault
+        (K.faults out.old) (K.faults out.new) result }
+    ensures part { result ≡ Err AuthorStop.WriteFault → (n : ℕ) × (packs : List (List ℕ))
+        × PutsScriptPart (disc_of sheet.now script.now lead_in length) (K.held out.old) (K.held out.new) n
+        packs }
+    // A call that asks for memory said that none was found, and no other call did.
+    ensures wants { TellsFault AuthorStop.NoMemory lacks.old lacks.new result }
+{
+    packs_are_a_schedule();
+    // What holds of every script: its pictures are in order, and have sixteen colours.
+    script.times_rise_and_colours_are_in_range();
+    let layout = take_layout(alloc, lacks, sheet, length)?;
+    let texts = take_texts(alloc, lacks, sheet, lead_in)?;
+    let mut spread = take_spread(alloc, lacks)?;
+    let weaver = weave(alloc, lacks, script, planned)?;
     let mut source = Scheduled { weaver };
     write_stream(&layout, &texts, lead_in, &mut source, &mut spread, out)?;
     Ok(())

@@ -3,6 +3,7 @@
 
 mod answer_laws;
 mod author;
+mod no_memory;
 mod parts;
 mod plans;
 mod scheduled;
@@ -10,7 +11,8 @@ mod stops;
 mod stream_laws;
 
 pub use answer_laws::each_disc_has_one_answer;
-pub use author::author_stream;
+pub use author::{author_counted, author_planned, author_stream};
+pub use no_memory::NoMemoryCount;
 pub use plans::{accept_disc, plans_tell_what_an_author_tells};
 pub use stops::AuthorStop;
 pub use stream_laws::{

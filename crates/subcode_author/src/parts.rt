@@ -1,17 +1,22 @@
-// What is judged before memory is asked, and the weaver, which plans in memory.
-ghost use Rattle.std.specs.Prelude.{◌≡◌, ◌<◌, ◌≤◌, List, IfOk, IfErr, OnOk};
+// What is judged before memory is asked, and what is made in memory, with a count of the answers that there was none.
+ghost use Rattle.std.specs.Prelude.{◌≡◌, ◌<◌, ◌≤◌, [], IfOk, IfErr, OnOk};
+ghost use Rattle.cdg_io.specs.Causes.{HasCause, TellsFault};
 ghost use Rattle.disc_time.specs.Counts.{most_program, time_count};
-ghost use Rattle.toc_model.specs.Places.{program_blocks};
-ghost use Rattle.pack_schedule.specs.Survey.{IsPastEnd, IsSurvey, IsWithin};
-ghost use Rattle.pack_schedule.specs.declared.surveys.told.PlannedChange.{PlannedChange};
+ghost use Rattle.toc_model.specs.Places.{audio_need, layout_of, program_blocks};
+ghost use Rattle.pack_schedule.specs.Survey.{IsRoomFor, IsPastEnd, IsSurvey, IsWithin};
+ghost use Rattle.stream_writer.specs.Needs.{HasRoom, text_packs};
 ghost use Rattle.subcode_author.specs.AuthorAnswer.{HoldsPictures, IsDiscStop, IsPictureStop};
 
+use crate::no_memory::NoMemoryCount;
 use crate::stops::AuthorStop;
+use cdtext_packs::TextPack;
 use cue_sheet::Sheet;
-use pack_schedule::{Weaver, is_past_end, survey};
+use pack_schedule::{Survey, SurveyRoom, Weaver, is_past_end, survey_in};
 use picture_script::Script;
-use std::alloc::Global;
-use toc_model::count_blocks;
+use rw_interleave::Spread;
+use std::alloc::{AllocError, Global};
+use stream_writer::pack_texts;
+use toc_model::{Layout, count_blocks};
 
 /// The number of program blocks of a sheet, in which no picture is held past the end.
 pub(crate) fn held_blocks(sheet: &Sheet, script: &Script, length: u32) -> Result<u32, AuthorStop>
@@ -27,21 +32,97 @@ pub(crate) fn held_blocks(sheet: &Sheet, script: &Script, length: u32) -> Result
     Ok(blocks)
 }
 
-/// The weaver of a script whose pictures are all ready in time.
-pub(crate) fn start_weaver<'a>(
+/// The layout of a sheet.
+pub(crate) fn take_layout(
     alloc: Global,
-    script: &'a Script,
+    lacks: &mut NoMemoryCount,
+    sheet: &Sheet,
+    length: u32,
+) -> Result<Layout, AllocError>
+    requires need { audio_need sheet.now ≤ length }
+    requires fits { program_blocks sheet.now length ≤ most_program }
+    ensures layout { IfOk result (λ layout. layout ≡ layout_of sheet.now length) }
+    ensures counted { HasCause lacks.old lacks.new result }
+{
+    let layout = Layout::of_sheet(alloc, sheet, length);
+    lacks.note_answer(&layout);
+    layout
+}
+
+/// The text packs of a sheet, for which the lead-in has room.
+pub(crate) fn take_texts(
+    alloc: Global,
+    lacks: &mut NoMemoryCount,
+    sheet: &Sheet,
+    lead_in: u32,
+) -> Result<Vec<TextPack>, AllocError>
+    requires { HasRoom sheet.now lead_in }
+    ensures texts { IfOk result (λ packs. 0 < lead_in → packs.items ≡ text_packs sheet.now) }
+    ensures none { lead_in ≡ 0 → IfOk result (λ packs. packs.items ≡ []) }
+    ensures counted { HasCause lacks.old lacks.new result }
+{
+    let texts = pack_texts(alloc, sheet, lead_in);
+    lacks.note_answer(&texts);
+    texts
+}
+
+/// What spreads packs over slots, before the first one.
+pub(crate) fn take_spread(alloc: Global, lacks: &mut NoMemoryCount) -> Result<Spread, AllocError>
+    ensures empty { IfOk result (λ spread. spread ≡ []) }
+    ensures counted { HasCause lacks.old lacks.new result }
+{
+    let spread = Spread::start(alloc);
+    lacks.note_answer(&spread);
+    spread
+}
+
+/// The planned changes of a script whose pictures are all ready in time.
+pub(crate) fn plan_script(
+    alloc: Global,
+    lacks: &mut NoMemoryCount,
+    script: &Script,
     blocks: u32,
-) -> Result<Weaver<'a>, AuthorStop>
+) -> Result<Survey, AuthorStop>
     requires blocks { blocks < time_count }
     requires end { ¬ IsPastEnd script.now blocks }
+    ensures within { OnOk result (IsWithin script.now blocks) }
+    ensures planned { IfOk result (IsSurvey script.now) }
+    ensures err { IfErr result (IsPictureStop script.now) }
+    // A late picture is never answered by want of memory.
+    ensures wants { TellsFault AuthorStop.NoMemory lacks.old lacks.new result }
+{
+    let room = take_room(alloc, lacks, script.pictures())?;
+    let planned = survey_in(room, script, blocks)?;
+    Ok(planned)
+}
+
+// The memory of a survey of so many pictures.
+fn take_room(
+    alloc: Global,
+    lacks: &mut NoMemoryCount,
+    pictures: u32,
+) -> Result<SurveyRoom, AllocError>
+    ensures room { IfOk result (IsRoomFor pictures) }
+    ensures counted { HasCause lacks.old lacks.new result }
+{
+    let room = SurveyRoom::start(alloc, pictures);
+    lacks.note_answer(&room);
+    room
+}
+
+/// The weaver of the planned changes of a script.
+pub(crate) fn weave<'a>(
+    alloc: Global,
+    lacks: &mut NoMemoryCount,
+    script: &'a Script,
+    planned: Survey,
+) -> Result<Weaver<'a>, AllocError>
+    requires { IsSurvey script.now planned }
     ensures script { IfOk result (λ w. w.script ≡ script.now) }
     ensures given { IfOk result (λ w. w.given ≡ 0) }
-    ensures within { OnOk result (IsWithin script.now blocks) }
-    ensures planned { OnOk result ((planned : List PlannedChange) × IsSurvey script.now planned) }
-    ensures err { IfErr result (IsPictureStop script.now) }
+    ensures counted { HasCause lacks.old lacks.new result }
 {
-    let planned = survey(alloc, script, blocks)?;
-    let weaver = Weaver::start(alloc, script, planned)?;
-    Ok(weaver)
+    let weaver = Weaver::start(alloc, script, planned);
+    lacks.note_answer(&weaver);
+    weaver
 }

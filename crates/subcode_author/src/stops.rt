@@ -2,7 +2,7 @@
 ghost use Rattle.std.specs.Prelude.{◌≡◌};
 
 use cdg_io::Failed;
-use pack_schedule::Stop;
+use pack_schedule::LatePicture;
 use std::alloc::AllocError;
 use stream_writer::LeadInStop;
 use toc_model::LayoutStop;
@@ -55,24 +55,16 @@ impl From<LeadInStop> for AuthorStop {
     }
 }
 
-impl From<Stop> for AuthorStop {
-    ghost use Rattle.subcode_author.specs.Stops.{of_schedule};
+impl From<LatePicture> for AuthorStop {
+    ghost use Rattle.subcode_author.specs.declared.stops.AuthorStop.TheVariants.{Late};
 
-    ghost from_gives = { λ stop e. e ≡ of_schedule stop };
+    ghost from_gives = { λ late e. e ≡ Late late.picture late.need late.free };
 
-    fn from(stop: Stop) -> AuthorStop {
-        match stop {
-            Stop::PastEnd { blocks } => AuthorStop::PastEnd { blocks },
-            Stop::Late {
-                picture,
-                need,
-                free,
-            } => AuthorStop::Late {
-                picture,
-                need,
-                free,
-            },
-            Stop::NoMemory => AuthorStop::NoMemory,
+    fn from(late: LatePicture) -> AuthorStop {
+        AuthorStop::Late {
+            picture: late.picture,
+            need: late.need,
+            free: late.free,
         }
     }
 }

@@ -4,4 +4,4 @@
 mod check;
 
 pub use bit_lists::bursts_fail_the_check;
-pub use check::{check_behind, crc16, register_of};
+pub use check::crc16;

@@ -6,7 +6,7 @@ ghost use Rattle.pack_schedule.specs.Weights.{AreWeights};
 ghost use Rattle.pack_schedule.specs.Change.{most_change, most_tile_steps, settings};
 ghost use Rattle.pack_schedule.specs.PlannedChange.{tile_steps, planned_length, preferred, chosen_start};
 
-use crate::change::same_tiles::{is_same_picture, same_rows};
+use crate::change::same_tiles::{are_undrawn, is_same_picture, same_tiles};
 use crate::change::settings::count_settings;
 use crate::change::tiles::{TileCounts, count_tiles};
 use crate::change::weights::Weighed;
@@ -112,7 +112,14 @@ pub(crate) fn choose_start(
     ensures few { result.need ≤ most_change }
 {
     let beside = count_settings(script, k, before, now);
-    let same = same_rows(script, k, before, now);
+    let drawn = script.drawn_rows(k);
+    if k > 0 && are_undrawn(&drawn) {
+        return Choice {
+            preset: None,
+            need: beside,
+        };
+    }
+    let same = same_tiles(script, k, &drawn, before, now);
     if k > 0 && is_same_picture(&same, before, now) {
         return Choice {
             preset: None,

@@ -7,14 +7,14 @@ ghost use Rattle.picture_script.specs.Board.{IsPicture, tile_of};
 ghost use Rattle.picture_script.specs.Script.{picture_tile};
 ghost use Rattle.pack_schedule.specs.Change.{most_tile_steps, tiles_before, IsStart};
 ghost use Rattle.pack_schedule.specs.PlannedChange.{planned_tiles, tile_steps};
-ghost use Rattle.pack_schedule.specs.SameTiles.{AreSameRows};
+ghost use Rattle.pack_schedule.specs.SameTiles.{AreToldTiles};
 ghost use Rattle.pack_schedule.specs.Weights.{AreWeights, IsWeighed};
 
 use crate::change::list::ChangeList;
-use crate::change::same_tiles::{is_same_tile, same_rows};
+use crate::change::same_tiles::{ToldTiles, is_same_tile, same_tiles};
 use crate::change::weights::{Weighed, weigh_tile};
 use arrayvec::ArrayVec;
-use cdg_instructions::{COLOURS, Instr, PIXELS, Tile, WINDOW_COLUMNS, WINDOW_ROWS, WINDOW_TILES};
+use cdg_instructions::{COLOURS, Instr, PIXELS, Tile, WINDOW_COLUMNS, WINDOW_TILES};
 use picture_script::{Canvas, Script};
 use tile_author::{MOST_STEPS, light_plan, plan};
 
@@ -59,10 +59,10 @@ pub(crate) fn count_tiles(
     k: u32,
     before: &Canvas,
     now: &Canvas,
-    same: &[bool; WINDOW_ROWS],
+    same: &ToldTiles,
     weights: &mut [Weighed; WINDOW_TILES],
 ) -> TileCounts
-    requires same { AreSameRows before.now.pixels now.now.pixels same.now }
+    requires same { AreToldTiles before.now.pixels now.now.pixels same.now }
     requires now { IsPicture script.now k now.now }
     requires before { 0 < k → IsPicture script.now (k - 1) before.now }
     requires weights { 0 < k → AreWeights script.now (k - 1) weights.old }
@@ -100,7 +100,8 @@ impl ChangeList {
         requires start { IsStart k preset }
         ensures { self.new ≡ self.old ++ planned_tiles script.now k preset }
     {
-        let same = same_rows(script, k, before, now);
+        let drawn = script.drawn_rows(k);
+        let same = same_tiles(script, k, &drawn, before, now);
         for i in 0..WINDOW_TILES {
             let row = (i / WINDOW_COLUMNS) as u8 + 1;
             let column = (i % WINDOW_COLUMNS) as u8 + 1;

@@ -6,11 +6,11 @@ ghost use Rattle.tile_author.specs.Sizes.{most_steps};
 ghost use Rattle.tile_author.specs.Plan.{steps, weight};
 ghost use Rattle.picture_script.specs.Script.{picture_tile};
 ghost use Rattle.picture_script.specs.Board.{IsPicture};
-ghost use Rattle.pack_schedule.specs.SameTiles.{AreSameRows};
+ghost use Rattle.pack_schedule.specs.SameTiles.{AreToldTiles};
 ghost use Rattle.pack_schedule.specs.Weights.{IsWeighed, IsWeighedAt, not_weighed};
 
-use crate::change::same_tiles::is_same_tile;
-use cdg_instructions::{PIXELS, Tile, WINDOW_COLUMNS, WINDOW_ROWS, WINDOW_TILES};
+use crate::change::same_tiles::{ToldTiles, is_same_tile};
+use cdg_instructions::{PIXELS, Tile, WINDOW_COLUMNS, WINDOW_TILES};
 use picture_script::{Canvas, Script};
 use tile_author::{light_tiles_take_one, plans_are_shortest, steps_of_weight, weight};
 
@@ -60,10 +60,10 @@ pub(crate) fn weigh_tile(
     i: usize,
     before: &Canvas,
     now: &Canvas,
-    same: &[bool; WINDOW_ROWS],
+    same: &ToldTiles,
 ) -> u32
     requires place { i < window_tiles }
-    requires same { AreSameRows before.now.pixels now.now.pixels same.now }
+    requires same { AreToldTiles before.now.pixels now.now.pixels same.now }
     requires now { IsPicture script.now k now.now }
     requires before { 0 < k → IsPicture script.now (k - 1) before.now }
     requires kept { 0 < k → IsWeighedAt script.now (k - 1) i weights.old }

@@ -1,17 +1,10 @@
-use Rattle.cdg_io.specs.Change.{input}
 use Rattle.cdg_cmd.specs.declared.status.Which.TheVariants.{Second}
 use Rattle.cdg_cmd.specs.declared.status.Status.TheVariants.{NoMemory, ReadFault}
-use Rattle.cdg_cmd.proofs.TextReads.{no_script, same_stop, second_ends}
-use Rattle.cdg_cmd.proofs.Wants as wants
+use Rattle.cdg_cmd.proofs.TextReads.{no_script, same_stop}
 use Rattle.cdg_cmd.proofs.making.read_script.Goals as goal
 
 pub returns-in-Err-clause-err : goal.returns-in-Err-clause-err
 returns-in-Err-clause-err g c = no_script _ _ c.in-Err.ensures.err
-
-pub returns-in-Err-clause-once : goal.returns-in-Err-clause-once
-returns-in-Err-clause-once g c =
-    second_ends (input g.S.Source.left g.S.Source.ends c.args.second.now c.read_text.new.source) _
-    c.in-Err.ensures.err c.in-Err.ensures.taken c.in-Err.ensures.once
 
 pub returns-in-Err-clause-fault : goal.returns-in-Err-clause-fault
 returns-in-Err-clause-fault g c = same_stop (ReadFault Second) _ _ _ c.in-Err.ensures.fault

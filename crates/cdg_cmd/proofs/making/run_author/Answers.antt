@@ -1,8 +1,8 @@
 use Rattle.std.proofs.Common.{refl, ◌∙◌}
 use Rattle.std.proofs.KnownBytes.{Appends-nil}
-use Rattle.cdg_io.specs.Change.{input}
 use Rattle.cdg_cmd.specs.Authors.{StopsAtScript, Answers}
-use Rattle.cdg_cmd.proofs.AuthorTold.{script_read, script_stopped, sheet_read, sheet_stopped, told_at_script, told_at_sheet, told_of_both}
+use Rattle.cdg_cmd.specs.Ends.{AfterBoth, AtSecond, AtSheet}
+use Rattle.cdg_cmd.proofs.AuthorTold.{told_at_script, told_at_sheet, told_of_both}
 use Rattle.cdg_cmd.proofs.Wants as wants
 use Rattle.cdg_cmd.proofs.making.run_author.Goals as goal
 
@@ -26,32 +26,23 @@ returns-clause-faults g c =
 pub returns-in-Err-clause-faults : goal.returns-in-Err-clause-faults
 returns-in-Err-clause-faults g c = told_at_sheet _ _ _ _ _ _ c.in-Err.ensures.err c.in-Err.ensures.fault
 
-pub returns-in-Err-clause-second_ended : goal.returns-in-Err-clause-second_ended
-returns-in-Err-clause-second_ended g c =
-    sheet_stopped _ _ (input g.T.Source.left g.T.Source.ends c.args.second.now c.args.second.now)
-    refl refl c.in-Err.ensures.err
+pub returns-in-Err-clause-ended : goal.returns-in-Err-clause-ended
+returns-in-Err-clause-ended g c = AtSheet c.in-Err.ensures.err c.in-Err.ensures.once refl refl
 
 pub returns-in-Err-read_script-clause-faults : goal.returns-in-Err-read_script-clause-faults
 returns-in-Err-read_script-clause-faults g c =
     told_at_script c.in-Ok.sheet _ _ _ _ _ _ _ c.in-Err-read_script.ensures.err c.in-Ok.ensures.fault
     c.in-Err-read_script.ensures.fault
 
-pub returns-in-Err-read_script-clause-first_ended : goal.returns-in-Err-read_script-clause-first_ended
-returns-in-Err-read_script-clause-first_ended g c =
-    script_stopped (input g.S.Source.left g.S.Source.ends c.args.first.now c.read_sheet.new.first)
-    c.in-Ok.sheet _ _ c.in-Err-read_script.ensures.err c.in-Ok.ensures.ok c.in-Ok.ensures.told
+pub returns-in-Err-read_script-clause-ended : goal.returns-in-Err-read_script-clause-ended
+returns-in-Err-read_script-clause-ended g c =
+    AtSecond c.in-Ok.sheet c.in-Ok.ensures.ok c.in-Ok.ensures.told c.in-Err-read_script.ensures.err
+    c.in-Err-read_script.ensures.taken c.in-Err-read_script.ensures.once
 
-pub returns-clause-first_ended : goal.returns-clause-first_ended
-returns-clause-first_ended g c =
-    sheet_read c.author.result _
-    (input g.S.Source.left g.S.Source.ends c.args.first.now c.read_sheet.new.first) c.author_status.ensures
-    c.in-Ok.ensures.told
-
-pub returns-clause-second_ended : goal.returns-clause-second_ended
-returns-clause-second_ended g c =
-    script_read c.author.result _
-    (input g.T.Source.left g.T.Source.ends c.args.second.now c.read_script.new.second)
-    c.author_status.ensures c.in-Ok-read_script.ensures.ok.0 c.in-Ok-read_script.ensures.told
+pub returns-clause-ended : goal.returns-clause-ended
+returns-clause-ended g c =
+    AfterBoth c.in-Ok.ensures.told c.in-Ok-read_script.ensures.ok.0 c.in-Ok-read_script.ensures.told
+    c.author.result c.author_status.ensures
 
 pub returns-in-Err-clause-wants : goal.returns-in-Err-clause-wants
 returns-in-Err-clause-wants g c = wants.stopped _ _ _ c.in-Err.ensures.wants

@@ -1,10 +1,11 @@
 use Rattle.std.proofs.Common.{refl, sym, subst, ◌∙◌}
 use Rattle.std.proofs.KnownBytes.{Appends-nil}
-use Rattle.cdg_io.specs.Change.{change, input}
+use Rattle.cdg_io.specs.Change.{change}
+use Rattle.cdg_cmd.specs.Ends.{AfterBoth, AtSecond, AtSheet}
 use Rattle.cdg_cmd.specs.Presses.{Presses, ReadsFile, RefusesFile}
-use Rattle.cdg_cmd.proofs.AuthorTold.{sheet_stopped, told_at_sheet}
-use Rattle.cdg_cmd.proofs.PressTold.{file_read, file_stopped, sheet_read, told_at_file, told_of_both}
-use Rattle.cdg_cmd.proofs.TextReads.{no_file, second_ends}
+use Rattle.cdg_cmd.proofs.AuthorTold.{told_at_sheet}
+use Rattle.cdg_cmd.proofs.PressTold.{told_at_file, told_of_both}
+use Rattle.cdg_cmd.proofs.TextReads.{no_file}
 use Rattle.cdg_cmd.proofs.Wants as wants
 use Rattle.cdg_cmd.proofs.making.run_press.Goals as goal
 
@@ -38,10 +39,8 @@ returns-clause-faults g c =
 pub returns-in-Err-clause-faults : goal.returns-in-Err-clause-faults
 returns-in-Err-clause-faults g c = told_at_sheet _ _ _ _ _ _ c.in-Err.ensures.err c.in-Err.ensures.fault
 
-pub returns-in-Err-clause-second_ended : goal.returns-in-Err-clause-second_ended
-returns-in-Err-clause-second_ended g c =
-    sheet_stopped _ _ (input g.T.Source.left g.T.Source.ends c.args.second.now c.args.second.now)
-    refl refl c.in-Err.ensures.err
+pub returns-in-Err-clause-ended : goal.returns-in-Err-clause-ended
+returns-in-Err-clause-ended g c = AtSheet c.in-Err.ensures.err c.in-Err.ensures.once refl refl
 
 pub returns-in-Err-read_text-clause-faults : goal.returns-in-Err-read_text-clause-faults
 returns-in-Err-read_text-clause-faults g c =
@@ -49,27 +48,16 @@ returns-in-Err-read_text-clause-faults g c =
     c.in-Ok.ensures.fault
     c.in-Err-read_text.ensures.fault
 
-pub returns-in-Err-read_text-clause-first_ended : goal.returns-in-Err-read_text-clause-first_ended
-returns-in-Err-read_text-clause-first_ended g c =
-    file_stopped (input g.S.Source.left g.S.Source.ends c.args.first.now c.read_sheet.new.first) c.in-Ok.sheet
-    _ _ (no_file _ _ c.in-Err-read_text.ensures.err) c.in-Ok.ensures.ok c.in-Ok.ensures.told
+pub returns-in-Err-read_text-clause-ended : goal.returns-in-Err-read_text-clause-ended
+returns-in-Err-read_text-clause-ended g c =
+    AtSecond c.in-Ok.sheet c.in-Ok.ensures.ok c.in-Ok.ensures.told
+    (no_file _ _ c.in-Err-read_text.ensures.err)
+    c.in-Err-read_text.ensures.taken c.in-Err-read_text.ensures.once
 
-pub returns-clause-first_ended : goal.returns-clause-first_ended
-returns-clause-first_ended g c =
-    sheet_read c.press.result _
-    (input g.S.Source.left g.S.Source.ends c.args.first.now c.read_sheet.new.first) c.press_status.ensures
-    c.in-Ok.ensures.told
-
-pub returns-clause-second_ended : goal.returns-clause-second_ended
-returns-clause-second_ended g c =
-    file_read c.press.result _
-    (input g.T.Source.left g.T.Source.ends c.args.second.now c.read_text.new.source)
-    c.press_status.ensures c.in-Ok-read_text.ensures.end c.in-Ok-read_text.ensures.told
-
-pub returns-in-Err-read_text-clause-second_ended : goal.returns-in-Err-read_text-clause-second_ended
-returns-in-Err-read_text-clause-second_ended g c =
-    second_ends (input g.T.Source.left g.T.Source.ends c.args.second.now c.read_text.new.source) _
-    c.in-Err-read_text.ensures.err c.in-Err-read_text.ensures.taken c.in-Err-read_text.ensures.once
+pub returns-clause-ended : goal.returns-clause-ended
+returns-clause-ended g c =
+    AfterBoth c.in-Ok.ensures.told c.in-Ok-read_text.ensures.end c.in-Ok-read_text.ensures.told
+    c.press.result c.press_status.ensures
 
 pub returns-in-Err-clause-wants : goal.returns-in-Err-clause-wants
 returns-in-Err-clause-wants g c = wants.stopped _ _ _ c.in-Err.ensures.wants

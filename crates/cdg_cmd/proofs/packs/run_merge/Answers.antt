@@ -1,19 +1,17 @@
-use Rattle.cdg_io.specs.Change.{input}
-use Rattle.cdg_cmd.proofs.MergeTold.{ended, never_memory, never_usage, told}
+use Rattle.cdg_cmd.proofs.MergeTold.{never_memory, never_usage, told}
 use Rattle.cdg_cmd.proofs.packs.run_merge.Goals as goal
 
 pub returns-clause-does : goal.returns-clause-does
 returns-clause-does g c =
     let done = c.run.ensures in
-    let (xs, ys, first, second, merges) = done.merges in
     record {
       answer = c.run.result;
       status_is = c.merge_status.ensures;
-      taken = xs;
-      other_taken = ys;
-      first = first;
-      second = second;
-      put = merges;
+      taken = done.merges.taken;
+      other_taken = done.merges.other_taken;
+      first = done.merges.took;
+      second = done.merges.other_took;
+      put = done.merges.said;
       first_end = done.first_end;
       second_end = done.second_end;
       exactly = done.answer;
@@ -32,6 +30,13 @@ returns-clause-faults g c =
 
 pub returns-clause-ended : goal.returns-clause-ended
 returns-clause-ended g c =
-    ended c.run.result _ (input g.S.Source.left g.S.Source.ends c.args.first.now c.run.new.first)
-    (input g.T.Source.left g.T.Source.ends c.args.second.now c.run.new.second) c.merge_status.ensures
-    c.run.ensures.told
+    let all = c.run.ensures.merges in
+    record {
+      answer = c.run.result;
+      status_is = c.merge_status.ensures;
+      taken = all.taken;
+      other_taken = all.other_taken;
+      took = all.took;
+      other_took = all.other_took;
+      ended = all.ended;
+    }

@@ -1,6 +1,6 @@
 use Rattle.std.proofs.Common.{ap}
 use Rattle.cdg_io.specs.Change.{input}
-use Rattle.cdg_cmd.proofs.ResumeTold.{first_ended, never_memory, reads_second, second_ended, told, untouched}
+use Rattle.cdg_cmd.proofs.ResumeTold.{never_memory, reads_second, told, untouched}
 use Rattle.cdg_cmd.proofs.Wants as wants
 use Rattle.cdg_cmd.proofs.packs.run_resume.Goals as goal
 
@@ -31,18 +31,18 @@ returns-in-Ok-clause-second g c =
     reads_second _ _ c.args.at first c.resume.new.self.file c.resume.result done.rest_untouched done.accepted
     done.reads.taken done.reads.end done.reads.told
 
-pub returns-in-Ok-clause-first_ended : goal.returns-in-Ok-clause-first_ended
-returns-in-Ok-clause-first_ended g c =
+pub returns-in-Ok-clause-ended : goal.returns-in-Ok-clause-ended
+returns-in-Ok-clause-ended g c = λ found.
     let done = c.resume.ensures in
-    first_ended c.args.at (input g.S.Source.left g.S.Source.ends c.args.first.now c.resume.new.saved)
-    c.resume.new.self.file c.resume.result _ c.resume_status.ensures done.accepted done.reads.told
-    done.reads.goes_on done.reads.not_told
-
-pub returns-in-Ok-clause-second_ended : goal.returns-in-Ok-clause-second_ended
-returns-in-Ok-clause-second_ended g c =
-    let done = c.resume.ensures in
-    second_ended c.resume.result _ (input g.T.Source.left g.T.Source.ends c.args.second.now c.resume.new.rest)
-    c.resume_status.ensures (λ refused. ap g.T.Source.ends (done.rest_untouched refused)) done.rest_told
+    record {
+      answer = c.resume.result;
+      status_is = c.resume_status.ensures;
+      file = c.resume.new.self.file;
+      accepted = done.accepted;
+      reads = done.reads;
+      unread = λ refused. ap g.T.Source.ends (done.rest_untouched refused);
+      ended = done.rest_told;
+    }
 
 pub returns-in-Ok-clause-faults : goal.returns-in-Ok-clause-faults
 returns-in-Ok-clause-faults g c =

@@ -1,6 +1,5 @@
-use Rattle.cdg_io.specs.Change.{input}
 use Rattle.cdg_cmd.proofs.Pumped.{never_memory, told_one}
-use Rattle.cdg_cmd.proofs.SaveTold.{ended_first, untouched}
+use Rattle.cdg_cmd.proofs.SaveTold.{untouched}
 use Rattle.cdg_cmd.proofs.Wants as wants
 use Rattle.cdg_cmd.proofs.packs.run_save.Goals as goal
 
@@ -28,9 +27,8 @@ returns-in-Ok-clause-faults g c =
     told_one c.save.result _ _ _ _ _ c.pump_status.ensures saved.read_fault saved.write_fault
 
 pub returns-in-Ok-clause-ended : goal.returns-in-Ok-clause-ended
-returns-in-Ok-clause-ended g c =
-    ended_first c.save.result _ (input g.S.Source.left g.S.Source.ends c.args.source.now c.save.new.source)
-    c.pump_status.ensures c.save.ensures.ended
+returns-in-Ok-clause-ended g c = λ found.
+    record { answer = c.save.result; status_is = c.pump_status.ensures; ended = c.save.ensures.ended }
 
 pub returns-in-Ok-clause-wants : goal.returns-in-Ok-clause-wants
 returns-in-Ok-clause-wants g c =

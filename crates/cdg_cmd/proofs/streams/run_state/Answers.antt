@@ -1,5 +1,4 @@
-use Rattle.cdg_io.specs.Change.{input}
-use Rattle.cdg_cmd.proofs.Played.{ended_first, shown_never_memory, told_one, untouched}
+use Rattle.cdg_cmd.proofs.Played.{shown_never_memory, told_one, untouched}
 use Rattle.cdg_cmd.proofs.Wants as wants
 use Rattle.cdg_cmd.proofs.streams.run_state.Goals as goal
 
@@ -28,10 +27,8 @@ returns-in-Ok-clause-faults g c =
     told_one c.state_at.result _ _ _ _ _ c.play_status.ensures c.state_at.ensures.faults
 
 pub returns-in-Ok-clause-ended : goal.returns-in-Ok-clause-ended
-returns-in-Ok-clause-ended g c =
-    ended_first c.state_at.result _
-    (input g.S.Source.left g.S.Source.ends c.args.source.now c.state_at.new.source)
-    c.play_status.ensures c.state_at.ensures.stops c.state_at.ensures.ended
+returns-in-Ok-clause-ended g c = λ found.
+    record { answer = c.state_at.result; status_is = c.play_status.ensures; ended = c.state_at.ensures.ended }
 
 pub returns-in-Ok-clause-wants : goal.returns-in-Ok-clause-wants
 returns-in-Ok-clause-wants g c =

@@ -1,6 +1,5 @@
-use Rattle.std.proofs.Common.{inr}
-use Rattle.cdg_io.specs.Change.{input}
-use Rattle.cdg_cmd.proofs.Played.{ended_listed, lacks_memory, told_one, untouched}
+use Rattle.std.proofs.Common.{inl, inr, refl}
+use Rattle.cdg_cmd.proofs.Played.{lacks_memory, told_one, untouched}
 use Rattle.cdg_cmd.proofs.Wants as wants
 use Rattle.cdg_cmd.proofs.streams.run_text.Goals as goal
 
@@ -26,9 +25,14 @@ returns-in-Ok-clause-faults g c =
 pub returns-in-Ok-clause-ended : goal.returns-in-Ok-clause-ended
 returns-in-Ok-clause-ended g c =
     let played = c.list_texts.ensures in
-    ended_listed c.list_texts.result _
-    (input g.S.Source.left g.S.Source.ends c.args.source.now c.list_texts.new.source)
-    c.play_status.ensures played.ended played.lists.1.plays.ended
+    inr (
+      record { answer = c.list_texts.result; status_is = c.play_status.ensures; ended = played.ended },
+      λ none. (lacks_memory c.list_texts.result _ c.args.form c.args.lead_in _ _ c.play_status.ensures
+          played.lists.1.plays.ended played.answer.1 none).0,
+    )
+
+pub returns-in-Err-clause-ended : goal.returns-in-Err-clause-ended
+returns-in-Err-clause-ended g c = inl (refl, refl, refl)
 
 pub returns-in-Ok-clause-lacks : goal.returns-in-Ok-clause-lacks
 returns-in-Ok-clause-lacks g c = λ none.

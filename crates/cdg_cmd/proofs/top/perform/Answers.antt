@@ -15,7 +15,7 @@ returns-in-Convert-clause-performs g c =
       memory = wants_none done.memory;
       does = λ found. done.does;
       lacks = λ none. absurd (done.memory none);
-      ends = (done.ended, refl);
+      ends = λ found. (done.ended, refl);
     })
 
 pub returns-in-Q-clause-performs : goal.returns-in-Q-clause-performs
@@ -26,7 +26,7 @@ returns-in-Q-clause-performs g c =
       memory = wants_none done.memory;
       does = λ found. done.does;
       lacks = λ none. absurd (done.memory none);
-      ends = (done.ended, refl);
+      ends = λ found. (done.ended, refl);
     })
 
 pub returns-in-Planar-clause-performs : goal.returns-in-Planar-clause-performs
@@ -37,7 +37,7 @@ returns-in-Planar-clause-performs g c =
       memory = wants_none done.memory;
       does = λ found. done.does;
       lacks = λ none. absurd (done.memory none);
-      ends = (done.ended, refl);
+      ends = λ found. (done.ended, refl);
     })
 
 pub returns-in-Raw-clause-performs : goal.returns-in-Raw-clause-performs
@@ -48,7 +48,7 @@ returns-in-Raw-clause-performs g c =
       memory = wants_none done.memory;
       does = λ found. done.does;
       lacks = λ none. absurd (done.memory none);
-      ends = (done.ended, refl);
+      ends = λ found. (done.ended, refl);
     })
 
 pub returns-in-Scratch-clause-performs : goal.returns-in-Scratch-clause-performs
@@ -59,7 +59,7 @@ returns-in-Scratch-clause-performs g c =
       memory = wants_none done.memory;
       does = λ found. done.does;
       lacks = λ none. absurd (done.memory none);
-      ends = (done.ended, refl);
+      ends = λ found. (done.ended, refl);
     })
 
 pub returns-in-Check-clause-performs : goal.returns-in-Check-clause-performs
@@ -70,7 +70,7 @@ returns-in-Check-clause-performs g c =
       memory = wants_none done.memory;
       does = λ found. done.does;
       lacks = λ none. absurd (done.memory none);
-      ends = (done.ended, refl);
+      ends = λ found. (done.ended, refl);
     })
 
 pub returns-in-Screen-clause-performs : goal.returns-in-Screen-clause-performs
@@ -82,7 +82,7 @@ returns-in-Screen-clause-performs g c =
           (λ none. ((done.no_memory none).0, refl, (done.no_memory none).1));
       does = done.does;
       lacks = λ none. tt;
-      ends = (done.ended, refl);
+      ends = λ found. (done.ended (found tt), refl);
     })
 
 pub returns-in-State-clause-performs : goal.returns-in-State-clause-performs
@@ -94,7 +94,7 @@ returns-in-State-clause-performs g c =
           (λ none. ((done.no_memory none).0, refl, (done.no_memory none).1));
       does = done.does;
       lacks = λ none. tt;
-      ends = (done.ended, refl);
+      ends = λ found. (done.ended (found tt), refl);
     })
 
 pub returns-in-Save-clause-performs : goal.returns-in-Save-clause-performs
@@ -106,7 +106,7 @@ returns-in-Save-clause-performs g c =
           (λ none. ((done.no_memory none).0, refl, (done.no_memory none).1));
       does = done.does;
       lacks = λ none. tt;
-      ends = (done.ended, refl);
+      ends = λ found. (done.ended (found tt), refl);
     })
 
 pub returns-in-Thin-clause-performs : goal.returns-in-Thin-clause-performs
@@ -118,7 +118,7 @@ returns-in-Thin-clause-performs g c =
           (λ none. ((done.no_memory none).0, refl, (done.no_memory none).1));
       does = done.does;
       lacks = λ none. tt;
-      ends = (done.ended, refl);
+      ends = λ found. (done.ended (found tt), refl);
     })
 
 pub returns-in-Text-clause-performs : goal.returns-in-Text-clause-performs
@@ -129,7 +129,7 @@ returns-in-Text-clause-performs g c =
       memory = wants_later (λ takes. takes) (λ first. first) (λ none. done.untouched (wrote_nothing none));
       does = done.does;
       lacks = done.lacks;
-      ends = (done.ended, refl);
+      ends = λ found. (done.ended, refl);
     })
 
 pub returns-in-Author-clause-performs : goal.returns-in-Author-clause-performs
@@ -145,7 +145,7 @@ returns-in-Author-clause-performs g c =
           (λ none. done.untouched (not_done (wrote_nothing none)) (not_cut (wrote_nothing none)));
       does = λ found. done.does;
       lacks = λ none. subst (AuthorsWith c.in-Author.lead_in c.in-Author.length _) none done.does;
-      ends = (done.first_ended, done.second_ended);
+      ends = λ found. done.ended;
     })
 
 pub returns-in-Press-clause-performs : goal.returns-in-Press-clause-performs
@@ -161,7 +161,7 @@ returns-in-Press-clause-performs g c =
           (λ none. done.untouched (not_done (wrote_nothing none)) (not_cut (wrote_nothing none)));
       does = λ found. done.does;
       lacks = λ none. subst (PressesWith c.in-Press.lead_in c.in-Press.length _) none done.does;
-      ends = (done.first_ended, done.second_ended);
+      ends = λ found. done.ended;
     })
 
 pub returns-in-Resume-clause-performs : goal.returns-in-Resume-clause-performs
@@ -172,7 +172,7 @@ returns-in-Resume-clause-performs g c =
       memory = wants_first (λ takes. takes) done.no_memory;
       does = done.does;
       lacks = λ none. tt;
-      ends = (done.first_ended, done.second_ended);
+      ends = λ found. done.ended (found tt);
     })
 
 pub returns-in-Merge-clause-performs : goal.returns-in-Merge-clause-performs
@@ -183,7 +183,7 @@ returns-in-Merge-clause-performs g c =
       memory = wants_none done.memory;
       does = λ found. done.does;
       lacks = λ none. absurd (done.memory none);
-      ends = done.ended;
+      ends = λ found. done.ended;
     })
 
 pub returns-in-Gen-clause-performs : goal.returns-in-Gen-clause-performs
@@ -194,7 +194,7 @@ returns-in-Gen-clause-performs g c =
       memory = wants_none (not_lacking _ done.never);
       does = λ found. done.does;
       lacks = λ none. absurd (not_lacking _ done.never none);
-      ends = (refl, refl);
+      ends = λ found. (refl, refl);
     })
 
 pub returns-in-Trial-clause-performs : goal.returns-in-Trial-clause-performs
@@ -209,7 +209,7 @@ returns-in-Trial-clause-performs g c =
       memory = wants_first (λ takes. takes) (λ none. (refl, refl, done.no_memory none));
       does = done.does;
       lacks = λ none. tt;
-      ends = (refl, refl);
+      ends = λ found. (refl, refl);
     })
 
 pub returns-in-Convert-clause-faults : goal.returns-in-Convert-clause-faults

@@ -16,3 +16,9 @@ returns-then-eq c =
     let copied : c.copy_from_slice.new.self ≡ c.args.pack.now = search rules in
     zeros_made_good (symbols_of c.args.pack.now)
     (sym (ap symbols_of copied) ∙ sym c.new-word.ensures ∙ sym c.bytes.ensures.same ∙ zeros)
+
+pub returns-then-zeros : goal.returns-then-zeros
+returns-then-zeros c =
+    let zeros : c.copy_from_slice.new.self ≡ idle_pack = search rules in
+    let copied : c.copy_from_slice.new.self ≡ c.args.pack.now = search rules in
+    zeros_made_good (symbols_of c.args.pack.now) (sym (ap symbols_of copied) ∙ ap symbols_of zeros)

@@ -1,20 +1,17 @@
 use Rattle.cdg_screen.specs.Memory.{seen}
-use Rattle.std.proofs.Common.{◌≡◌, ◌+◌, ◌-◌, ◌*◌, ◌<◌, ◌≤◌, ◌∙◌, ℕ, length, take, drop, arith}
+use Rattle.std.proofs.Common.{◌≡◌, ◌+◌, ◌-◌, ◌*◌, ◌≤◌, ◌∙◌, ℕ, length, take, drop, arith}
 use borrow.Rule.Slice.PartMut.{put_mid}
 use Rattle.cdg_screen.proofs.WholeRows.{length-part, piece_put}
 use Rattle.live_player.proofs.Pictures.{part_others, part_pixels}
 use Rattle.live_player.proofs.looking.part_of_screen.Goals as goal
 
-pub write_columns-requires-clause-width : goal.write_columns-requires-clause-width
-write_columns-requires-clause-width c =
+pub write_line-requires-clause-size : goal.write_line-requires-clause-size
+write_line-requires-clause-size c =
     let part = c.args.part.now in
     let at = c.args.stride * c.loop-j.j in
-    omega (
-      arith,
-      c.requires.part.0,
-      length-part c.loop-j.pixels at (at + part.width - at)
-          (omega (arith, c.requires.room c.loop-j.j c.loop-j-test.true, c.loop-j.auto.pixels)),
-    )
+    length-part c.loop-j.pixels at (at + part.width - at)
+    (omega (arith, c.requires.room c.loop-j.j c.loop-j-test.true, c.loop-j.auto.pixels))
+    ∙ omega arith
 
 pub loop-j-preserved : goal.loop-j-preserved
 loop-j-preserved c =
@@ -22,14 +19,13 @@ loop-j-preserved c =
     let part = c.args.part.now in
     let j = c.loop-j.j in
     let at = c.args.stride * j in
-    let line = c.write_columns.new.columns in
+    let line = c.write_line.new.line in
     let room : at + part.width ≤ length c.loop-j.pixels =
     omega (arith, c.requires.room j c.loop-j-test.true, c.loop-j.auto.pixels) in
     let given : length (take (at + part.width - at) (drop at c.loop-j.pixels)) ≡ at + part.width - at =
     length-part c.loop-j.pixels at (at + part.width - at) (omega (arith, room)) in
-    let size : length line ≡ part.width = c.write_columns.auto.columns ∙ given ∙ omega arith in
-    let shown =
-    λ (i : ℕ) (lt : i < part.width). c.write_columns.ensures.pixels i (omega (arith, lt, given)) in
+    let size : length line ≡ part.width = c.write_line.auto.line ∙ given ∙ omega arith in
+    let shown = c.write_line.ensures in
     let new = put_mid at (at + part.width - at) c.loop-j.pixels line in
     let written =
     λ (n : ℕ). piece_put at (at + part.width - at) c.loop-j.pixels line n (omega (arith, size, room))

@@ -1,9 +1,9 @@
-use Rattle.std.proofs.Common.{◌≡◌, ◌+◌, ◌-◌, refl, sym, subst, arith}
+use Rattle.std.proofs.Common.{◌≡◌, ◌≤◌, ◌+◌, ◌-◌, refl, sym, subst, arith}
 use Rattle.std.proofs.lemmas.Result.{err_from_is_err_and}
 use Rattle.picture_script.specs.Script.{pictures}
 use Rattle.pack_schedule.specs.Weights.{AreWeights}
-use Rattle.pack_schedule.specs.Survey.{ArePlanned, IsStop}
-use Rattle.pack_schedule.proofs.SurveyLaws.{NeedsAreFewest, is_late, is_within, none_planned, one_planned, stands_before, stands_next, stands_now}
+use Rattle.pack_schedule.specs.Survey.{ArePlanned, IsLatePicture}
+use Rattle.pack_schedule.proofs.SurveyLaws.{NeedsAreFewest, is_late, none_planned, one_planned, stands_before, stands_next, stands_now}
 use Rattle.pack_schedule.proofs.surveys.survey_on.Goals as goal
 
 pub loop-k-preserved : goal.loop-k-preserved
@@ -11,45 +11,44 @@ loop-k-preserved c =
     let script = c.args.script.now in
     let k = c.loop-k.k in
     let change = c.in_ok-change.ensures in (
-      one_planned script k c.loop-k.planned.items c.push.new.self.items c.in_ok-change.change
-          c.loop-k.invariant.0 change.planned c.in_ok-push.ensures.items,
+      one_planned script k c.loop-k.planned.items c.push_reserved.new.self.items c.in_ok-change.change
+          c.loop-k.invariant.0 change.planned c.push_reserved.ensures.items,
       stands_next script k c.draw_like.new.self c.draw_like.ensures.at c.draw_like.ensures.picture,
       change.now,
       (λ pos. let here : k ≡ k + 1 - 1 = omega arith in
           subst (λ n. AreWeights script n c.plan_in_time.new.weights) here change.weights),
+      omega (arith, c.push_reserved.ensures.len, c.loop-k.invariant.4),
+      subst (λ n. pictures script ≤ n) (sym c.push_reserved.ensures.capacity) c.loop-k.invariant.5,
     )
 
-pub returns-in_err-change-clause-err : goal.returns-in_err-change-clause-err
-returns-in_err-change-clause-err c =
+pub returns-in_err-change-clause-late : goal.returns-in_err-change-clause-late
+returns-in_err-change-clause-late c =
     let n = c.needs_are_fewest.ensures in
     let needs : NeedsAreFewest = record { change = n.change; planned = n.planned; late = n.late } in
     let script = c.args.script.now in
     let known = c.pictures-pictures.ensures in
     let told = c.in_err-change.ensures.late in
-    let stop : IsStop script c.args.blocks c.in_err-change.field-0.0 =
-    subst (IsStop script c.args.blocks) (sym told.0) (
-      is_within script c.args.blocks (record { held = known.held; later = known.later }) c.requires.end,
-      is_late needs script c.loop-k.k _ _ c.loop-k.planned.items
-          (record { border = known.borders; colour = known.colours }) known.pixels
-          (omega (arith, known.value))
-          c.loop-k.invariant.0 refl refl told.1,
-    ) in
+    let stop : IsLatePicture script c.in_err-change.field-0.0 =
+    subst (IsLatePicture script) (sym told.0) (is_late needs script c.loop-k.k _ _ c.loop-k.planned.items
+    (record { border = known.borders; colour = known.colours }) known.pixels
+    (omega (arith, known.value))
+    c.loop-k.invariant.0 refl refl told.1) in
     let p = err_from_is_err_and c.from_residual.result c.from_residual.ensures.1 in
     rw (p.1, p.2) stop
 
-pub returns-clause-within : goal.returns-clause-within
-returns-clause-within c =
-    let known = c.pictures-pictures.ensures in
-    is_within c.args.script.now c.args.blocks (record { held = known.held; later = known.later })
-    c.requires.end
-
 pub loop-k-init : goal.loop-k-init
 loop-k-init c = (
-  none_planned c.args.script.now c.new-planned.result.items c.new-planned.ensures.items,
+  none_planned c.args.script.now c.args.planned.now.items c.requires.none.0,
   c.requires.before,
   c.requires.now,
-  λ pos. absurd (omega (arith, pos)),
+  (λ pos. absurd (omega (arith, pos))),
+  c.requires.none.1,
+  c.requires.room,
 )
+
+pub push_reserved-requires : goal.push_reserved-requires
+push_reserved-requires c =
+    omega (arith, c.loop-k.invariant.4, c.loop-k.invariant.5, c.pictures-pictures.ensures.value)
 
 pub plan_in_time-requires-clause-before : goal.plan_in_time-requires-clause-before
 plan_in_time-requires-clause-before c = c.loop-k.invariant.1.drawn
@@ -67,11 +66,6 @@ draw_like-requires-clause-there_at c =
 pub draw_like-requires-clause-before : goal.draw_like-requires-clause-before
 draw_like-requires-clause-before c =
     stands_before c.args.script.now c.loop-k.k c.loop-k.before c.loop-k.invariant.1
-
-pub returns-in_err-push-clause-err : goal.returns-in_err-push-clause-err
-returns-in_err-push-clause-err c =
-    let p = err_from_is_err_and c.from_residual-in_err-push.result c.from_residual-in_err-push.ensures.1 in
-    rw (p.1, p.2) tt
 
 pub returns-clause-planned : goal.returns-clause-planned
 returns-clause-planned c =

@@ -1,4 +1,6 @@
-use Rattle.std.proofs.Common.{◌<◌, ◌-◌}
+use Rattle.std.proofs.Common.{◌≡◌, ◌<◌, ◌≤◌, ◌-◌}
+use Rattle.std.specs.Prelude.{vec_capacity, vec_len}
+use Rattle.picture_script.specs.Script.{pictures}
 use Rattle.pack_schedule.specs.Weights.{AreWeights}
 use Rattle.pack_schedule.specs.Survey.{ArePlanned}
 use Rattle.pack_schedule.specs.Weaving.{Stands}
@@ -10,3 +12,5 @@ invariant-loop-k l =
     × Stands l.script l.k l.before
     × Stands l.script l.k l.now
     × (0 < l.k → AreWeights l.script (l.k - 1) l.weights)
+    × (vec_len l.planned ≡ l.k)
+    × (pictures l.script ≤ vec_capacity l.planned)

@@ -1,48 +1,18 @@
-use Rattle.std.proofs.Common.{◌≡◌, ◌+◌, ◌-◌, ◌*◌, ◌≤◌, ◌∙◌, ℕ, length, get_or, ap, arith}
-use Rattle.pixel_formats.specs.Formats.{pixel_size, shown_bytes}
+use Rattle.std.proofs.Common.{◌*◌, ap, arith}
 use Rattle.cdg_screen.specs.Memory.{seen}
-use borrow.Rule.Slice.PartMut.{put_mid}
-use Rattle.cdg_screen.proofs.WholeRows.{piece_put}
-use Rattle.pixel_formats.proofs.Rows.{part_long, row_others, row_pixels}
+use Rattle.pixel_formats.specs.Formats.{pixel_size}
+use Rattle.pixel_formats.proofs.Rows.{part_shows}
 use Rattle.pixel_formats.proofs.writing.write_pixels.Goals as goal
 
-pub write_row-requires-clause-size : goal.write_row-requires-clause-size
-write_row-requires-clause-size c =
-    let count_is : c.size.result * c.args.part.now.width ≡ pixel_size c.args.format * c.args.part.now.width =
-    ap (λ s. s * c.args.part.now.width) c.size.ensures.size in
-    part_long c.loop-j.out (c.args.stride * c.loop-j.j) (c.size.result * c.args.part.now.width) _
-    (omega (arith, c.requires.room c.loop-j.j c.loop-j-test.true, count_is, c.loop-j.auto.out)) count_is
+pub part_of_screen-requires-clause-apart : goal.part_of_screen-requires-clause-apart
+part_of_screen-requires-clause-apart c =
+    omega (arith, c.requires.apart, ap (λ f. pixel_size f * c.args.part.now.width) c.in-Indexed.is)
 
-pub loop-j-preserved : goal.loop-j-preserved
-loop-j-preserved c =
-    let now = seen c.args.screen.now in
-    let part = c.args.part.now in
-    let format = c.args.format in
-    let size = pixel_size format in
-    let at = c.args.stride * c.loop-j.j in
-    let line = c.write_row.new.line in
-    let count = c.size.result * part.width in
-    let count_is : count ≡ size * part.width = ap (λ s. s * part.width) c.size.ensures.size in
-    let room : at + count ≤ length c.loop-j.out =
-    omega (arith, c.requires.room c.loop-j.j c.loop-j-test.true, count_is, c.loop-j.auto.out) in
-    let long : length line ≡ size * part.width =
-    c.write_row.auto.line ∙ part_long c.loop-j.out at count (size * part.width) room count_is in
-    let byte = λ (i m k : ℕ). get_or (shown_bytes format now (part.left + i) (part.top + m)) k 0 in
-    let written =
-    λ (n : ℕ). piece_put at (at + count - at) c.loop-j.out line n (omega (arith, long, room, count_is))
-    (omega (arith, long, count_is)) in
-    let new = put_mid at (at + count - at) c.loop-j.out line in
-    record {
-      pixels =
-          row_pixels byte line c.loop-j.out new c.args.out.now size part.width c.args.stride c.loop-j.j long
-          c.requires.apart c.write_row.ensures written c.loop-j.invariant.pixels;
-      others =
-          row_others byte line c.loop-j.out new c.args.out.now size part.width c.args.stride c.loop-j.j long
-          c.requires.apart c.write_row.ensures written c.loop-j.invariant.others;
-    }
+pub part_of_screen-requires-clause-room : goal.part_of_screen-requires-clause-room
+part_of_screen-requires-clause-room c j lt =
+    omega (arith, c.requires.room j lt, ap (λ f. pixel_size f * c.args.part.now.width) c.in-Indexed.is)
 
-pub returns : goal.returns
-returns c = record {
-  pixels = λ i j k i_lt j_lt k_lt. c.loop-j.invariant.pixels i j k i_lt (omega (arith, j_lt)) k_lt;
-  others = λ n out. c.loop-j.invariant.others n (λ i j i_lt j_lt. out i j i_lt (omega (arith, j_lt)));
-}
+pub returns-in-Indexed : goal.returns-in-Indexed
+returns-in-Indexed c =
+    part_shows c.args.format (seen c.args.screen.now) c.args.part.now c.args.stride c.args.out.now
+    c.part_of_screen.new.pixels c.in-Indexed.is c.part_of_screen.ensures

@@ -1,8 +1,5 @@
-use Rattle.rw_code.proofs.Errors.{itself, idle_near}
+use Rattle.rw_code.proofs.Errors.{idle_near}
 use Rattle.rw_code.proofs.correction.correct.Goals as goal
-
-pub returns-in-Some-clause-reads : goal.returns-in-Some-clause-reads
-returns-in-Some-clause-reads c = itself _ _ c.in-Some.ensures.0 c.in-Some.ensures.1
 
 pub returns-then-wrong-le2-clause-reads : goal.returns-then-wrong-le2-clause-reads
 returns-then-wrong-le2-clause-reads c =

@@ -1,4 +1,4 @@
-use Rattle.std.proofs.Common.{◌≡◌, ◌==◌, ◌%◌, ℕ, sym, ◌∙◌}
+use Rattle.std.proofs.Common.{◌==◌, ◌%◌, ℕ, sym, ◌∙◌}
 use Rattle.std.proofs.lemmas.List.Folds.{list_all-map}
 use Rattle.rw_mend.proofs.cover.is_blank.Goals as goal
 

@@ -1,3 +1,4 @@
+use Rattle.rw_mend.proofs.Exchanged.{exchanged_two, same_two}
 use Rattle.rw_mend.proofs.Reordered.{drops_reordered, reordered, reordered_many, reordered_text}
 use Rattle.rw_mend.proofs.laws.the_order_of_readings_changes_names_alone.Goals as goal
 
@@ -16,3 +17,9 @@ returns-clause-many c count lead_in readings others old new turned old_sources s
 pub returns-clause-dropped : goal.returns-clause-dropped
 returns-clause-dropped c words programs others r k count again =
     drops_reordered words programs others r k count again
+
+pub returns-clause-two : goal.returns-clause-two
+returns-clause-two c lead_in first second old new turned counts others same done done' = (
+  same_two lead_in first second old new turned counts others same done done',
+  exchanged_two lead_in first second old new old turned counts others same done done',
+)

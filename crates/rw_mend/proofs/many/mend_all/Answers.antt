@@ -1,4 +1,4 @@
-use Rattle.std.proofs.Common.{◌≡◌, ◌<◌, ◌+◌, ◌∙◌, subst, sym, refl, arith, take}
+use Rattle.std.proofs.Common.{◌≡◌, ◌<◌, ◌+◌, ◌∙◌, subst, sym, refl, arith}
 use Rattle.rw_mend.specs.Drops.{AreVoices}
 use Rattle.rw_mend.specs.Readings.{programs_in}
 use Rattle.rw_mend.specs.Steps.{AreTold, IsMendedTo}

@@ -1,4 +1,4 @@
-use Rattle.std.proofs.Common.{◌≡◌, sym, ◌∙◌, ap, ap₂}
+use Rattle.std.proofs.Common.{◌∙◌, ap}
 use Rattle.rw_mend.specs.declared.voices.Voice.TheVariants.{Near}
 use Rattle.rw_mend.proofs.Hearing.{partly_idle, silent_is, whole_idle}
 use Rattle.rw_mend.proofs.voices.hear_blank.Goals as goal

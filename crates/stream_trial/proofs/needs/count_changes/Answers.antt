@@ -28,11 +28,11 @@ all_needs script k sum last so_far = so_far
 
 pub loop-k-preserved : goal.loop-k-preserved
 loop-k-preserved c = record {
-  sum = one_need c.args.script.now c.in-Ok.planned c.loop-k.k c.loop-k.sum c.from-sum.result
-      c.in-Ok.ensures.planned (omega arith) c.loop-k.invariant.sum (c.from-sum.ensures ∙ c.need.ensures);
+  sum = one_need c.args.script.now c.args.planned.now c.loop-k.k c.loop-k.sum c.from-sum.result
+      c.requires (omega arith) c.loop-k.invariant.sum (c.from-sum.ensures ∙ c.need.ensures);
   small = omega (arith, c.loop-k.invariant.small, c.from-sum.ensures, c.need.type_inv);
 }
 
-pub returns-clause-sum : goal.returns-clause-sum
-returns-clause-sum c =
+pub returns : goal.returns
+returns c =
     all_needs c.args.script.now c.loop-k.k c.loop-k.sum (omega arith) c.loop-k.invariant.sum

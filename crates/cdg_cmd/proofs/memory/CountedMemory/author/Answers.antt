@@ -3,13 +3,13 @@ use Rattle.cdg_cmd.proofs.memory.CountedMemory.author.Goals as goal
 
 pub returns-clause-put : goal.returns-clause-put
 returns-clause-put g c =
-    put_for g.K.Sink.held c.args.out.now c.author_stream-authored.new.out c.args.sheet.now
+    put_for g.K.Sink.held c.args.out.now c.author_counted.new.out c.args.sheet.now
     c.args.script.now
-    c.args.lead_in c.args.length c.author_stream-authored.result
-    c.author_stream-authored.ensures.authored c.author_stream-authored.ensures.accepted
-    c.author_stream-authored.ensures.stop
-    c.author_stream-authored.ensures.untouched
-    (λ fault accepted. let (n, packs, put) = c.author_stream-authored.ensures.part fault in
+    c.args.lead_in c.args.length c.author_counted.result
+    c.author_counted.ensures.authored c.author_counted.ensures.accepted
+    c.author_counted.ensures.stop
+    c.author_counted.ensures.untouched
+    (λ fault accepted. let (n, packs, put) = c.author_counted.ensures.part fault in
     c.accepted_scripts_have_streams.ensures.part c.args.sheet.now c.args.script.now c.args.lead_in
     c.args.length n packs _ _ c.tracks_are_in_order.ensures
     (record {

@@ -6,14 +6,14 @@ use Rattle.cdtext_packs.proofs.EmptyBlocks.{empty_offered}
 use Rattle.cdtext_packs.proofs.lead_in_texts.LeadInTextsStage.feed.Goals as goal
 use Rattle.std.proofs.lemmas.Bool.{cond-false, ne_eqb}
 
-pub returns-then-is_empty-clause-next : goal.returns-then-is_empty-clause-next
+pub returns-then-is_idle-clause-next : goal.returns-then-is_idle-clause-next
 unfolding text_next
-returns-then-is_empty-clause-next c =
+returns-then-is_idle-clause-next c =
     let s : LeadInTexts = c.args.self.now in
     let block = c.args.block.now in
     let begun : LeadInTexts = record s { left = s.left - 1 } in
-    c.count_empty.ensures
-    ∙ empty_offered begun block (c.is_empty.ensures c.if-is_empty.true)
+    c.count_idle.ensures
+    ∙ empty_offered begun block (c.is_idle.ensures c.if-is_idle.true)
     ∙ sym (cond-false (eqb s.left 0) s
     (offered (offered (offered (offered begun (pack_at block 0)) (pack_at block 1)) (pack_at block 2))
     (pack_at block 3))

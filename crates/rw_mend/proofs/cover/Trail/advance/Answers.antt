@@ -1,4 +1,4 @@
-use Rattle.std.proofs.Common.{◌≡◌, ◌+◌, ◌/◌, ℕ, sym, ap, ◌∙◌, arith}
+use Rattle.std.proofs.Common.{◌≡◌, ◌+◌, ◌/◌, ℕ, ap, ◌∙◌, arith}
 use Rattle.rw_mend.specs.Words.{block_at, is_blank_block, is_empty_block}
 use Rattle.rw_mend.proofs.cover.Trail.advance.Goals as goal
 

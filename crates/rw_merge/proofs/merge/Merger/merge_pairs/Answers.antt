@@ -1,15 +1,13 @@
-use Rattle.std.proofs.Common.{◌≡◌, ◌+◌, ℕ, ◌++◌, [], length, sym, ap, ◌∙◌, refl, subst, arith}
+use Rattle.std.proofs.Common.{◌≡◌, ◌*◌, ◌++◌, [], length, length-append, sym, ap, ◌∙◌, refl, subst, arith}
 use Rattle.std.specs.Prelude.{Bool}
 use Rattle.std.specs.Io.KnownBytes.{Appends}
-use Rattle.cdg_io.specs.Pump.{RoseBy}
-use Rattle.cdg_io.proofs.PumpSteps.{no_more, one_more}
+use Rattle.std.proofs.KnownBytes.{Consumes-trans}
 use Rattle.raw_subcode.specs.Sizes.{most_units}
-use Rattle.rw_merge.proofs.Rooms.{first_filled, first_filled_after, second_filled, second_filled_after}
 use Rattle.cdg_io.proofs.Stops.{later_since, rose_once_since, rose_since}
 use Rattle.rw_merge.proofs.Faults.{counted_last}
-use Rattle.rw_merge.proofs.Ends.{stop_since}
+use Rattle.rw_merge.proofs.Ends.{block_more, blocks_filled, byte_filled_after, stop_since}
 use Rattle.rw_merge.proofs.Stops.{first_at_end, first_at_end_after, second_at_end, second_at_end_after, write_answer}
-use Rattle.rw_merge.proofs.Working.{works_kept, both_end, both_of_whole, end_of_whole, end_stops, pair_found, pair_of_whole, pair_stops, skipped_as, works_more, works_none, write_stops}
+use Rattle.rw_merge.proofs.Working.{works_kept, both_of_whole, end_of_whole, end_stops, ends, pair_found, pair_of_whole, pair_stops, short_end, short_pair, skipped_as, works_more, works_none, write_stops}
 use Rattle.rw_merge.proofs.merge.Merger.merge_pairs.Goals as goal
 use Rattle.rw_merge.proofs.merge.Merger.merge_pairs.Goals.{then-block-lead_in+in-Ok, else-block-lead_in}
 
@@ -28,100 +26,208 @@ loop-block-init g c = record {
 
 pub returns-in-Ok-false-clause-merges : goal.returns-in-Ok-false-clause-merges
 returns-in-Ok-false-clause-merges g c =
-    let (xs, ys, worked) = c.loop-block.invariant.works in
+    let before = c.loop-block.invariant in
+    let (xs, ys, worked) = before.works in
     let works = works_kept _ _ _ _ _ _ _ _ _ _ _ _ _ _ worked c.in-Ok-false.ensures.keeps in
-    let (us, vs, first, second, read, whole) = rw c.in-Ok-false.field-0-test at c.in-Ok-false.ensures.pair in
-    both_end c.args.lead_in c.loop-block.block _ _ _ _ _ _ _ _ _ _ _ _ xs ys us vs works first second read.0
-    read.1 (omega (arith, c.loop-block-test.true)) c.saturating_sub.ensures
+    let sizes = works.is_found in
+    let pair = rw c.in-Ok-false.field-0-test at c.in-Ok-false.ensures.pair in
+    let (none, none', end, end') = pair.said.0 in
+    record {
+      taken = xs ++ pair.taken;
+      other_taken = ys ++ pair.other_taken;
+      took = Consumes-trans _ _ _ xs pair.taken works.first_taken pair.took;
+      other_took = Consumes-trans _ _ _ ys pair.other_taken works.second_taken pair.other_took;
+      said =
+          ends c.args.lead_in c.loop-block.block _ _ _ _ _ _ _ _ _ _ xs ys _ _ works none none'
+          (omega (arith, c.loop-block-test.true)) c.saturating_sub.ensures;
+      ended = (
+        rose_once_since before.first_told pair.ended.0,
+        rose_once_since before.second_told pair.ended.1,
+      );
+      filled =
+          blocks_filled c.loop-block.block xs _ _ _ _ sizes.first_size (omega (arith, ap length none))
+          c.loop-block-test.true before.first_rooms pair.filled;
+      other_filled =
+          blocks_filled c.loop-block.block ys _ _ _ _ sizes.second_size (omega (arith, ap length none'))
+          c.loop-block-test.true before.second_rooms pair.other_filled;
+    }
 
 pub returns-in-Ok-false-clause-answer : goal.returns-in-Ok-false-clause-answer
 returns-in-Ok-false-clause-answer g c =
     let (xs, ys, worked) = c.loop-block.invariant.works in
     let works = works_kept _ _ _ _ _ _ _ _ _ _ _ _ _ _ worked c.in-Ok-false.ensures.keeps in
-    let (us, vs, first, second, read, whole) = rw c.in-Ok-false.field-0-test at c.in-Ok-false.ensures.pair in
-    both_of_whole c.args.lead_in c.loop-block.block _ c.loop-block.bad _ _ _ _ _ _ _ _ _ _ _ xs ys us vs works
-    first second read.0 read.1 read.2 read.3 (omega (arith, c.loop-block-test.true)) c.saturating_sub.ensures
+    let pair = rw c.in-Ok-false.field-0-test at c.in-Ok-false.ensures.pair in
+    let read = pair.said.0 in
+    both_of_whole c.args.lead_in c.loop-block.block _ c.loop-block.bad _ _ _ _ _ _ _ _ _ _ _ xs ys _ _ works
+    pair.took pair.other_took read.0 read.1 read.2 read.3 (omega (arith, c.loop-block-test.true))
+    c.saturating_sub.ensures
 
 pub returns-in-Err-clause-merges : goal.returns-in-Err-clause-merges
 returns-in-Err-clause-merges g c =
-    let (xs, ys, worked) = c.loop-block.invariant.works in
+    let before = c.loop-block.invariant in
+    let (xs, ys, worked) = before.works in
     let works = works_kept _ _ _ _ _ _ _ _ _ _ _ _ _ _ worked c.in-Err.ensures.keeps in
-    let (us, vs, first, second, read, whole) = c.in-Err.ensures.pair in
-    pair_stops c.args.lead_in c.loop-block.block _ _ _ _ _ _ _ _ _ _ _ xs ys us vs c.in-Err.stop works first
-    second read c.loop-block-test.true
+    let sizes = works.is_found in
+    let pair = c.in-Err.ensures.pair in
+    let short = short_pair c.loop-block.block _ _ c.in-Err.stop _ _ pair.said.0 in
+    record {
+      taken = xs ++ pair.taken;
+      other_taken = ys ++ pair.other_taken;
+      took = Consumes-trans _ _ _ xs pair.taken works.first_taken pair.took;
+      other_took = Consumes-trans _ _ _ ys pair.other_taken works.second_taken pair.other_took;
+      said =
+          pair_stops c.args.lead_in c.loop-block.block _ _ _ _ _ _ _ _ _ _ _ xs ys _ _ c.in-Err.stop works
+          pair.said.0 c.loop-block-test.true;
+      ended =
+          stop_since _ _ _ _ _ _ before.first_told before.second_told (c.loop-block.block * 96) _ _ _ _
+          (omega (arith, length-append xs pair.taken, sizes.first_size))
+          (omega (arith, length-append ys pair.other_taken, sizes.second_size)) c.in-Err.stop pair.ended;
+      filled =
+          blocks_filled c.loop-block.block xs _ _ _ _ sizes.first_size short.first
+          c.loop-block-test.true before.first_rooms pair.filled;
+      other_filled =
+          blocks_filled c.loop-block.block ys _ _ _ _ sizes.second_size short.second
+          c.loop-block-test.true before.second_rooms pair.other_filled;
+    }
 
 pub returns-in-Err-clause-answer : goal.returns-in-Err-clause-answer
 returns-in-Err-clause-answer g c =
     let (xs, ys, worked) = c.loop-block.invariant.works in
     let works = works_kept _ _ _ _ _ _ _ _ _ _ _ _ _ _ worked c.in-Err.ensures.keeps in
-    let (us, vs, first, second, read, whole) = c.in-Err.ensures.pair in
-    pair_of_whole c.args.lead_in c.loop-block.block _ _ _ _ _ _ _ _ _ _ _ xs ys us vs c.in-Err.stop works
-    first second read c.loop-block-test.true
+    let pair = c.in-Err.ensures.pair in
+    pair_of_whole c.args.lead_in c.loop-block.block _ _ _ _ _ _ _ _ _ _ _ xs ys _ _ c.in-Err.stop works
+    pair.took pair.other_took pair.said.0 c.loop-block-test.true
 
 pub returns-in-Ok-nothing_follows-clause-merges : goal.returns-in-Ok-nothing_follows-clause-merges
 returns-in-Ok-nothing_follows-clause-merges g c =
-    let (xs, ys, worked) = c.loop-block.invariant.works in
+    let before = c.loop-block.invariant in
+    let (xs, ys, worked) = before.works in
     let works = works_kept _ _ _ _ _ _ _ _ _ _ _ _ _ _ worked c.pass_waiting.ensures.bytes in
-    let (us, vs, first, second, read) = c.in-Ok-nothing_follows.ensures.end in
-    both_end c.args.lead_in c.loop-block.block _ _ _ _ _ _ _ _ _ _ _ _ xs ys us vs works first second read.0
-    read.1 (omega (arith, c.loop-block.auto.block-end))
-    (omega (arith, c.loop-block.auto.block-end, c.loop-block-test.false))
+    let sizes = works.is_found in
+    let pair = c.in-Ok-nothing_follows.ensures.end in
+    let (none, none', end, end') = pair.said in
+    let all : c.loop-block.block ≡ most_units =
+    omega (arith, c.loop-block.auto.block-end, c.loop-block-test.false) in
+    record {
+      taken = xs ++ pair.taken;
+      other_taken = ys ++ pair.other_taken;
+      took = Consumes-trans _ _ _ xs pair.taken works.first_taken pair.took;
+      other_took = Consumes-trans _ _ _ ys pair.other_taken works.second_taken pair.other_took;
+      said =
+          ends c.args.lead_in c.loop-block.block _ _ _ _ _ _ _ _ _ _ xs ys _ _ works none none'
+          (omega (arith, c.loop-block.auto.block-end)) (omega (arith, all));
+      ended = (
+        rose_once_since before.first_told pair.ended.0,
+        rose_once_since before.second_told pair.ended.1,
+      );
+      filled =
+          byte_filled_after c.loop-block.block xs _ _ _ _ sizes.first_size (omega (arith, ap length none)) all
+          before.first_rooms pair.filled;
+      other_filled =
+          byte_filled_after c.loop-block.block ys _ _ _ _ sizes.second_size (omega (arith, ap length none'))
+          all
+          before.second_rooms pair.other_filled;
+    }
 
 pub returns-in-Ok-nothing_follows-clause-answer : goal.returns-in-Ok-nothing_follows-clause-answer
 returns-in-Ok-nothing_follows-clause-answer g c =
     let (xs, ys, worked) = c.loop-block.invariant.works in
     let works = works_kept _ _ _ _ _ _ _ _ _ _ _ _ _ _ worked c.pass_waiting.ensures.bytes in
-    let (us, vs, first, second, read) = c.in-Ok-nothing_follows.ensures.end in
-    both_of_whole c.args.lead_in c.loop-block.block _ c.loop-block.bad _ _ _ _ _ _ _ _ _ _ _ xs ys us vs works
-    first second read.0 read.1 read.2 read.3 (omega (arith, c.loop-block.auto.block-end))
+    let pair = c.in-Ok-nothing_follows.ensures.end in
+    let read = pair.said in
+    both_of_whole c.args.lead_in c.loop-block.block _ c.loop-block.bad _ _ _ _ _ _ _ _ _ _ _ xs ys _ _ works
+    pair.took pair.other_took read.0 read.1 read.2 read.3 (omega (arith, c.loop-block.auto.block-end))
     (omega (arith, c.loop-block.auto.block-end, c.loop-block-test.false))
 
 pub returns-in-Err-nothing_follows-clause-merges : goal.returns-in-Err-nothing_follows-clause-merges
 returns-in-Err-nothing_follows-clause-merges g c =
-    let (xs, ys, worked) = c.loop-block.invariant.works in
+    let before = c.loop-block.invariant in
+    let (xs, ys, worked) = before.works in
     let works = works_kept _ _ _ _ _ _ _ _ _ _ _ _ _ _ worked c.pass_waiting.ensures.bytes in
-    let (us, vs, first, second, read) = c.in-Err-nothing_follows.ensures.end in
-    end_stops c.args.lead_in c.loop-block.block _ _ _ _ _ _ _ _ _ _ _ xs ys us vs
-    c.in-Err-nothing_follows.stop works first second read
-    (omega (arith, c.loop-block.auto.block-end, c.loop-block-test.false))
+    let sizes = works.is_found in
+    let pair = c.in-Err-nothing_follows.ensures.end in
+    let short = short_end _ _ c.in-Err-nothing_follows.stop _ _ pair.said in
+    let all : c.loop-block.block ≡ most_units =
+    omega (arith, c.loop-block.auto.block-end, c.loop-block-test.false) in
+    record {
+      taken = xs ++ pair.taken;
+      other_taken = ys ++ pair.other_taken;
+      took = Consumes-trans _ _ _ xs pair.taken works.first_taken pair.took;
+      other_took = Consumes-trans _ _ _ ys pair.other_taken works.second_taken pair.other_took;
+      said =
+          end_stops c.args.lead_in c.loop-block.block _ _ _ _ _ _ _ _ _ _ _ xs ys _ _
+          c.in-Err-nothing_follows.stop works pair.said all;
+      ended =
+          stop_since _ _ _ _ _ _ before.first_told before.second_told (c.loop-block.block * 96) _ _ _ _
+          (omega (arith, length-append xs pair.taken, sizes.first_size))
+          (omega (arith, length-append ys pair.other_taken, sizes.second_size))
+          c.in-Err-nothing_follows.stop pair.ended;
+      filled =
+          byte_filled_after c.loop-block.block xs _ _ _ _ sizes.first_size short.0 all
+          before.first_rooms pair.filled;
+      other_filled =
+          byte_filled_after c.loop-block.block ys _ _ _ _ sizes.second_size short.1 all
+          before.second_rooms pair.other_filled;
+    }
 
 pub returns-in-Err-nothing_follows-clause-answer : goal.returns-in-Err-nothing_follows-clause-answer
 returns-in-Err-nothing_follows-clause-answer g c =
     let (xs, ys, worked) = c.loop-block.invariant.works in
     let works = works_kept _ _ _ _ _ _ _ _ _ _ _ _ _ _ worked c.pass_waiting.ensures.bytes in
-    let (us, vs, first, second, read) = c.in-Err-nothing_follows.ensures.end in
-    end_of_whole c.args.lead_in c.loop-block.block _ _ _ _ _ _ _ _ _ _ _ xs ys us vs
-    c.in-Err-nothing_follows.stop works first second read
+    let pair = c.in-Err-nothing_follows.ensures.end in
+    let read = pair.said in
+    end_of_whole c.args.lead_in c.loop-block.block _ _ _ _ _ _ _ _ _ _ _ xs ys _ _
+    c.in-Err-nothing_follows.stop works pair.took pair.other_took read
     (omega (arith, c.loop-block.auto.block-end, c.loop-block-test.false))
 
 pub returns-in-Err-put_all-clause-merges : goal.returns-in-Err-put_all-clause-merges
 returns-in-Err-put_all-clause-merges g c =
-    let (xs, ys, worked) = c.loop-block.invariant.works in
+    let before = c.loop-block.invariant in
+    let (xs, ys, worked) = before.works in
     let works = works_kept _ _ _ _ _ _ _ _ _ _ _ _ _ _ worked c.in-Ok-true.ensures.keeps in
-    let (us, vs, first, second, read, whole) = rw c.in-Ok-true.field-0-test at c.in-Ok-true.ensures.pair in
-    let (u_is, v_is) = whole refl in
-    let pair =
-    pair_found c.loop-block.self.first c.loop-block.self.second c.next_pair.new.one c.next_pair.new.other us
-    vs _ _ c.merge.new.self.first c.merge.new.self.second c.merge.new.packs.bytes c.bytes.result.now
+    let sizes = works.is_found in
+    let pair = rw c.in-Ok-true.field-0-test at c.in-Ok-true.ensures.pair in
+    let (u_is, v_is) = pair.said.1 refl in
+    let (u_size, v_size) = pair.said.0 in
+    let found =
+    pair_found c.loop-block.self.first c.loop-block.self.second c.next_pair.new.one c.next_pair.new.other _
+    _ _ _ c.merge.new.self.first c.merge.new.self.second c.merge.new.packs.bytes c.bytes.result.now
     c.merge.new.packs.bad u_is v_is refl refl c.bytes.ensures.bytes
     c.merge.ensures.first c.merge.ensures.second c.merge.ensures.packs in
-    write_stops c.args.lead_in c.loop-block.block _ _ _ _ _ _ _ _ _ _ _ _ _ _ _ xs ys us vs _ works first
-    second read.0 read.1 c.if-block-lead_in.true c.loop-block-test.true pair c.in-Err-put_all.ensures.part
+    record {
+      taken = xs ++ pair.taken;
+      other_taken = ys ++ pair.other_taken;
+      took = Consumes-trans _ _ _ xs pair.taken works.first_taken pair.took;
+      other_took = Consumes-trans _ _ _ ys pair.other_taken works.second_taken pair.other_took;
+      said =
+          write_stops c.args.lead_in c.loop-block.block _ _ _ _ _ _ _ _ _ _ _ _ _ xs ys _ _ _ works u_size
+          v_size c.if-block-lead_in.true c.loop-block-test.true found c.in-Err-put_all.ensures.part;
+      ended = (pair.ended.0 ∙ before.first_told, pair.ended.1 ∙ before.second_told);
+      filled =
+          blocks_filled c.loop-block.block xs _ _ _ _ sizes.first_size (omega (arith, u_size))
+          c.loop-block-test.true before.first_rooms pair.filled;
+      other_filled =
+          blocks_filled c.loop-block.block ys _ _ _ _ sizes.second_size (omega (arith, v_size))
+          c.loop-block-test.true before.second_rooms pair.other_filled;
+    }
 
 pub loop-block-preserved : goal.loop-block-preserved
 loop-block-preserved g c =
     let before = c.loop-block.invariant in
     let (xs, ys, worked) = before.works in
     let works = works_kept _ _ _ _ _ _ _ _ _ _ _ _ _ _ worked c.in-Ok-true.ensures.keeps in
-    let (us, vs, first, second, read, whole) = rw c.in-Ok-true.field-0-test at c.in-Ok-true.ensures.pair in
+    let pair = rw c.in-Ok-true.field-0-test at c.in-Ok-true.ensures.pair in
+    let us = pair.taken in
+    let vs = pair.other_taken in
+    let (read, whole) = pair.said in
     let (u_is, v_is) = whole refl in
-    let told = rw c.in-Ok-true.field-0-test at c.in-Ok-true.ensures.told in
-    let rooms = rw c.in-Ok-true.field-0-test at c.in-Ok-true.ensures.rooms in
+    let first_rooms = block_more c.loop-block.block us _ _ _ read.0 before.first_rooms pair.filled in
+    let second_rooms = block_more c.loop-block.block vs _ _ _ read.1 before.second_rooms pair.other_filled in
     elim c.if-block-lead_in.branch [
       | then-block-lead_in+in-Ok w ↦
           let first_is = ap (λ s. s.first) w.self-is in
           let second_is = ap (λ s. s.second) w.self-is in
-          let pair =
+          let found =
           pair_found c.loop-block.self.first c.loop-block.self.second c.next_pair.new.one
           c.next_pair.new.other us vs _ _ c.if-block-lead_in.self.first c.if-block-lead_in.self.second
           w.merge.new.packs.bytes w.bytes.result.now w.merge.new.packs.bad u_is v_is first_is second_is
@@ -137,7 +243,8 @@ loop-block-preserved g c =
               xs ++ us,
               ys ++ vs,
               works_more c.args.lead_in c.loop-block.block _ _ _ _ _ _ _ _ _ _ _ _ _ _ _ xs ys us vs _ works
-                  first second read.0 read.1 w.if-block-lead_in.true pair put c.if-block-lead_in.bad w.bad-is,
+                  pair.took pair.other_took read.0 read.1 w.if-block-lead_in.true found put
+                  c.if-block-lead_in.bad w.bad-is,
             );
             no_first_fault = c.in-Ok-true.ensures.faults.0 ∙ before.no_first_fault;
             no_second_fault = c.in-Ok-true.ensures.faults.1 ∙ before.no_second_fault;
@@ -145,10 +252,10 @@ loop-block-preserved g c =
                 ap g.K.Sink.faults w.out-is
                 ∙ w.in-Ok.ensures.cause.same
                 ∙ (c.in-Ok-true.ensures.no_write_fault ∙ before.no_write_fault);
-            first_told = told.0 ∙ before.first_told;
-            second_told = told.1 ∙ before.second_told;
-            first_rooms = one_more _ _ _ _ before.first_rooms rooms.0;
-            second_rooms = one_more _ _ _ _ before.second_rooms rooms.1;
+            first_told = pair.ended.0 ∙ before.first_told;
+            second_told = pair.ended.1 ∙ before.second_told;
+            first_rooms = first_rooms;
+            second_rooms = second_rooms;
           }
       | else-block-lead_in w ↦
           let held = ap g.K.Sink.held w.out-is in
@@ -158,17 +265,18 @@ loop-block-preserved g c =
             works = (
               xs ++ us,
               ys ++ vs,
-              skipped_as c.args.lead_in c.loop-block.block _ _ _ _ _ _ _ _ _ _ _ _ _ xs ys us vs works first
-                  second read.0 read.1 w.if-block-lead_in.false held w.self-is w.bad-is,
+              skipped_as c.args.lead_in c.loop-block.block _ _ _ _ _ _ _ _ _ _ _ _ _ xs ys us vs works
+                  pair.took
+                  pair.other_took read.0 read.1 w.if-block-lead_in.false held w.self-is w.bad-is,
             );
             no_first_fault = c.in-Ok-true.ensures.faults.0 ∙ before.no_first_fault;
             no_second_fault = c.in-Ok-true.ensures.faults.1 ∙ before.no_second_fault;
             no_write_fault =
                 ap g.K.Sink.faults w.out-is ∙ (c.in-Ok-true.ensures.no_write_fault ∙ before.no_write_fault);
-            first_told = told.0 ∙ before.first_told;
-            second_told = told.1 ∙ before.second_told;
-            first_rooms = one_more _ _ _ _ before.first_rooms rooms.0;
-            second_rooms = one_more _ _ _ _ before.second_rooms rooms.1;
+            first_told = pair.ended.0 ∙ before.first_told;
+            second_told = pair.ended.1 ∙ before.second_told;
+            first_rooms = first_rooms;
+            second_rooms = second_rooms;
           }
     ]
 
@@ -182,15 +290,8 @@ returns-in-Ok-false-clause-faults g c =
 
 pub returns-in-Ok-false-clause-ends : goal.returns-in-Ok-false-clause-ends
 returns-in-Ok-false-clause-ends g c =
-    let (us, vs, first, second, read, whole) = rw c.in-Ok-false.field-0-test at c.in-Ok-false.ensures.pair in
-    let told = rw c.in-Ok-false.field-0-test at c.in-Ok-false.ensures.told in (
-      read.2,
-      read.3,
-      (
-        rose_once_since c.loop-block.invariant.first_told told.0,
-        rose_once_since c.loop-block.invariant.second_told told.1,
-      ),
-    )
+    let pair = rw c.in-Ok-false.field-0-test at c.in-Ok-false.ensures.pair in
+    (pair.said.0.2, pair.said.0.3)
 
 pub returns-in-Err-clause-faults : goal.returns-in-Err-clause-faults
 returns-in-Err-clause-faults g c =
@@ -200,15 +301,9 @@ returns-in-Err-clause-faults g c =
 
 pub returns-in-Err-clause-ends : goal.returns-in-Err-clause-ends
 returns-in-Err-clause-ends g c =
-    let before = c.loop-block.invariant in
-    let (xs, ys, worked) = before.works in
-    let works = works_kept _ _ _ _ _ _ _ _ _ _ _ _ _ _ worked c.in-Err.ensures.keeps in
-    let (us, vs, first, second, read, whole) = c.in-Err.ensures.pair in (
-      first_at_end c.loop-block.block _ _ c.in-Err.stop us read,
-      second_at_end c.loop-block.block _ _ c.in-Err.stop vs read,
-      stop_since _ _ _ _ _ _ _ _ _ _ _ _ xs ys works.first_taken works.second_taken
-          (works.is_found.first_size ∙ sym works.is_found.second_size) before.first_told before.second_told
-          c.in-Err.stop c.in-Err.ensures.told,
+    let read = c.in-Err.ensures.pair.said.0 in (
+      first_at_end c.loop-block.block _ _ c.in-Err.stop _ read,
+      second_at_end c.loop-block.block _ _ c.in-Err.stop _ read,
     )
 
 pub returns-in-Ok-nothing_follows-clause-faults : goal.returns-in-Ok-nothing_follows-clause-faults
@@ -221,15 +316,8 @@ returns-in-Ok-nothing_follows-clause-faults g c =
 
 pub returns-in-Ok-nothing_follows-clause-ends : goal.returns-in-Ok-nothing_follows-clause-ends
 returns-in-Ok-nothing_follows-clause-ends g c =
-    let (us, vs, first, second, read) = c.in-Ok-nothing_follows.ensures.end in
-    let told = c.in-Ok-nothing_follows.ensures.told in (
-      read.2,
-      read.3,
-      (
-        rose_once_since c.loop-block.invariant.first_told told.0,
-        rose_once_since c.loop-block.invariant.second_told told.1,
-      ),
-    )
+    let read = c.in-Ok-nothing_follows.ensures.end.said in
+    (read.2, read.3)
 
 pub returns-in-Err-nothing_follows-clause-faults : goal.returns-in-Err-nothing_follows-clause-faults
 returns-in-Err-nothing_follows-clause-faults g c =
@@ -240,15 +328,9 @@ returns-in-Err-nothing_follows-clause-faults g c =
 
 pub returns-in-Err-nothing_follows-clause-ends : goal.returns-in-Err-nothing_follows-clause-ends
 returns-in-Err-nothing_follows-clause-ends g c =
-    let before = c.loop-block.invariant in
-    let (xs, ys, worked) = before.works in
-    let works = works_kept _ _ _ _ _ _ _ _ _ _ _ _ _ _ worked c.pass_waiting.ensures.bytes in
-    let (us, vs, first, second, read) = c.in-Err-nothing_follows.ensures.end in (
+    let read = c.in-Err-nothing_follows.ensures.end.said in (
       first_at_end_after _ _ _ c.in-Err-nothing_follows.stop read,
       second_at_end_after _ _ _ c.in-Err-nothing_follows.stop read,
-      stop_since _ _ _ _ _ _ _ _ _ _ _ _ xs ys works.first_taken works.second_taken
-          (works.is_found.first_size ∙ sym works.is_found.second_size) before.first_told before.second_told
-          c.in-Err-nothing_follows.stop c.in-Err-nothing_follows.ensures.told,
     )
 
 pub returns-in-Err-put_all-clause-faults : goal.returns-in-Err-put_all-clause-faults
@@ -264,73 +346,10 @@ returns-in-Err-put_all-clause-faults g c =
     )
 
 pub returns-in-Err-put_all-clause-ends : goal.returns-in-Err-put_all-clause-ends
-returns-in-Err-put_all-clause-ends g c =
-    let told = rw c.in-Ok-true.field-0-test at c.in-Ok-true.ensures.told in
-    (tt, tt, (told.0 ∙ c.loop-block.invariant.first_told, told.1 ∙ c.loop-block.invariant.second_told))
+returns-in-Err-put_all-clause-ends g c = (tt, tt)
 
 pub returns-in-Err-put_all-clause-answer : goal.returns-in-Err-put_all-clause-answer
 returns-in-Err-put_all-clause-answer g c = write_answer c.args.lead_in _ _
 
 pub merge-requires : goal.merge-requires
 merge-requires g c = c.loop-block.invariant.same
-
-pub returns-in-Ok-false-clause-rooms : goal.returns-in-Ok-false-clause-rooms
-returns-in-Ok-false-clause-rooms g c =
-    let rooms = rw c.in-Ok-false.field-0-test at c.in-Ok-false.ensures.rooms in
-    let before = c.loop-block.invariant in (
-      (c.loop-block.block, c.saturating_sub.ensures, no_more _ _ _ _ before.first_rooms rooms.0),
-      (c.loop-block.block, c.saturating_sub.ensures, no_more _ _ _ _ before.second_rooms rooms.1),
-    )
-
-pub returns-in-Err-clause-rooms : goal.returns-in-Err-clause-rooms
-returns-in-Err-clause-rooms g c =
-    let (us, vs, first, second, read, whole) = c.in-Err.ensures.pair in
-    let before = c.loop-block.invariant in (
-      first_filled c.args.lead_in c.loop-block.block _ _ _ _ _ c.in-Err.stop c.loop-block-test.true read
-          before.first_rooms c.in-Err.ensures.rooms.0,
-      second_filled c.args.lead_in c.loop-block.block _ _ _ _ _ c.in-Err.stop c.loop-block-test.true read
-          before.second_rooms c.in-Err.ensures.rooms.1,
-    )
-
-pub returns-in-Ok-nothing_follows-clause-rooms : goal.returns-in-Ok-nothing_follows-clause-rooms
-returns-in-Ok-nothing_follows-clause-rooms g c =
-    let rooms = c.in-Ok-nothing_follows.ensures.rooms in
-    let before = c.loop-block.invariant in
-    let all : c.loop-block.block ≡ 1000000 =
-    omega (arith, c.loop-block.auto.block-end, c.loop-block-test.false) in (
-      (c.loop-block.block, omega (arith, all), no_more _ _ _ _ before.first_rooms rooms.0),
-      (c.loop-block.block, omega (arith, all), no_more _ _ _ _ before.second_rooms rooms.1),
-    )
-
-pub returns-in-Err-nothing_follows-clause-rooms : goal.returns-in-Err-nothing_follows-clause-rooms
-returns-in-Err-nothing_follows-clause-rooms g c =
-    let (us, vs, first, second, read) = c.in-Err-nothing_follows.ensures.end in
-    let rooms = c.in-Err-nothing_follows.ensures.rooms in
-    let before = c.loop-block.invariant in
-    let all : c.loop-block.block ≡ most_units =
-    omega (arith, c.loop-block.auto.block-end, c.loop-block-test.false) in (
-      first_filled_after c.args.lead_in _ _ _ _ _ c.in-Err-nothing_follows.stop read
-          (subst
-          (λ (n : ℕ). RoseBy n (g.S.Source.fills c.args.first.now) (g.S.Source.fills c.loop-block.first))
-          all before.first_rooms) rooms.0,
-      second_filled_after c.args.lead_in _ _ _ _ _ c.in-Err-nothing_follows.stop read
-          (subst
-          (λ (n : ℕ). RoseBy n (g.T.Source.fills c.args.second.now) (g.T.Source.fills c.loop-block.second))
-          all before.second_rooms) rooms.1,
-    )
-
-pub returns-in-Err-put_all-clause-rooms : goal.returns-in-Err-put_all-clause-rooms
-returns-in-Err-put_all-clause-rooms g c =
-    let rooms = rw c.in-Ok-true.field-0-test at c.in-Ok-true.ensures.rooms in
-    let before = c.loop-block.invariant in (
-      (
-        c.loop-block.block + 1,
-        omega (arith, c.loop-block-test.true),
-        one_more _ _ _ _ before.first_rooms rooms.0,
-      ),
-      (
-        c.loop-block.block + 1,
-        omega (arith, c.loop-block-test.true),
-        one_more _ _ _ _ before.second_rooms rooms.1,
-      ),
-    )

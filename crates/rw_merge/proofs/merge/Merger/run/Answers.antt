@@ -5,32 +5,23 @@ use Rattle.rw_merge.proofs.merge.Merger.run.Goals as goal
 pub returns-clause-restores : goal.returns-clause-restores
 returns-clause-restores g c =
     let done = c.merge_pairs.ensures in
-    let (xs, ys, first, second, merges) = done.merges in
-    restored c.two_readings_give_packs.ensures.text c.args.lead_in _ _ _ _ _ _ c.merge_pairs.result xs ys
-    first second merges done.ends.0 done.ends.1 done.answer
+    let all = done.merges in
+    restored c.two_readings_give_packs.ensures.text c.args.lead_in _ _ _ _ _ _ c.merge_pairs.result all.taken
+    all.other_taken all.took all.other_took all.said done.ends.0 done.ends.1 done.answer
 
 pub returns-clause-repairs : goal.returns-clause-repairs
 returns-clause-repairs g c =
     let done = c.merge_pairs.ensures in
-    let (xs, ys, first, second, merges) = done.merges in
+    let all = done.merges in
     repaired c.two_readings_give_packs.ensures.damage c.args.lead_in _ _ _ _ c.merge_pairs.result
-    (restored c.two_readings_give_packs.ensures.text c.args.lead_in _ _ _ _ _ _ c.merge_pairs.result xs ys
-    first second merges done.ends.0 done.ends.1 done.answer)
+    (restored c.two_readings_give_packs.ensures.text c.args.lead_in _ _ _ _ _ _ c.merge_pairs.result all.taken
+    all.other_taken all.took all.other_took all.said done.ends.0 done.ends.1 done.answer)
 
 pub returns-clause-first_end : goal.returns-clause-first_end
 returns-clause-first_end g c = c.merge_pairs.ensures.ends.0
 
 pub returns-clause-second_end : goal.returns-clause-second_end
 returns-clause-second_end g c = c.merge_pairs.ensures.ends.1
-
-pub returns-clause-told : goal.returns-clause-told
-returns-clause-told g c = c.merge_pairs.ensures.ends.2
-
-pub returns-clause-first_rooms : goal.returns-clause-first_rooms
-returns-clause-first_rooms g c = c.merge_pairs.ensures.rooms.0
-
-pub returns-clause-second_rooms : goal.returns-clause-second_rooms
-returns-clause-second_rooms g c = c.merge_pairs.ensures.rooms.1
 
 pub returns-clause-first_fault : goal.returns-clause-first_fault
 returns-clause-first_fault g c = record {

@@ -7,17 +7,17 @@ pub returns-in-Some-clause-bytes : goal.returns-in-Some-clause-bytes
 returns-in-Some-clause-bytes c =
     c.bytes.ensures.same
     ∙ c.word.ensures.same
-    ∙ ap entry_bytes (found_some c.args.word.now _ c.correct.ensures.word c.in-Some.ensures.reads.0)
+    ∙ ap entry_bytes (found_some c.args.word.now _ c.correct_by_sums.ensures.word c.in-Some.ensures.reads.0)
 
 pub returns-in-Some-clause-bad : goal.returns-in-Some-clause-bad
 returns-in-Some-clause-bad c =
-    bad_some _ _ _ (found_some c.args.word.now _ c.correct.ensures.word c.in-Some.ensures.reads.0)
+    bad_some _ _ _ (found_some c.args.word.now _ c.correct_by_sums.ensures.word c.in-Some.ensures.reads.0)
 
 pub returns-in-None-clause-bytes : goal.returns-in-None-clause-bytes
 returns-in-None-clause-bytes c =
-    ap entry_bytes (found_none c.args.word.now c.correct.ensures.word c.in-None.ensures.reads)
+    ap entry_bytes (found_none c.args.word.now c.correct_by_sums.ensures.word c.in-None.ensures.reads)
 
 pub returns-in-None-clause-bad : goal.returns-in-None-clause-bad
 returns-in-None-clause-bad c =
     c.saturating_add-self.ensures
-    ∙ bad_none _ _ (found_none c.args.word.now c.correct.ensures.word c.in-None.ensures.reads)
+    ∙ bad_none _ _ (found_none c.args.word.now c.correct_by_sums.ensures.word c.in-None.ensures.reads)

@@ -7,10 +7,10 @@ pub returns-in-Some : goal.returns-in-Some
 returns-in-Some c =
     c.count_fixed.ensures
     ∙ ap (count_found c.args.self.now c.args.word.now)
-    (found_some c.args.word.now _ c.correct.ensures.word c.in-Some.ensures.reads.0)
+    (found_some c.args.word.now _ c.correct_by_sums.ensures.word c.in-Some.ensures.reads.0)
 
 pub returns-in-None : goal.returns-in-None
 returns-in-None c =
     c.count_bad.ensures
     ∙ ap (count_found c.args.self.now c.args.word.now)
-    (found_none c.args.word.now c.correct.ensures.word c.in-None.ensures.reads)
+    (found_none c.args.word.now c.correct_by_sums.ensures.word c.in-None.ensures.reads)

@@ -1,5 +1,0 @@
-use Rattle.cdtext_packs.proofs.Damaged.{noticed}
-use Rattle.cdtext_packs.proofs.copy_laws.bursts_are_noticed.Goals as goal
-
-pub returns : goal.returns
-returns c = noticed

@@ -1,0 +1,13 @@
+use Rattle.std.proofs.Common.{[], ◌∷◌, refl}
+use Rattle.rw_merge.proofs.PairReads.{asks_as}
+use Rattle.rw_merge.proofs.blocks.next_byte.Goals as goal
+
+pub returns : goal.returns
+returns g c =
+    let done = c.fill.ensures in (
+      c.fill.new.buf,
+      asks_as g.S.Source.left g.S.Source.ends g.S.Source.fills g.S.Source.faults _ _ _ c.fill.result 1
+          (0 ∷ [])
+          c.fill.new.buf refl refl c.fill.auto.buf done.within done.ok done.end done.part done.cause done.told
+          done.room,
+    )

@@ -1,0 +1,80 @@
+use Rattle.std.proofs.Common.{◌≡◌, ℕ, ◌<◌, ◌≤◌, List, ap, refl, sym, subst, ◌∙◌}
+use Rattle.cue_sheet.specs.CueSheet.{CueSheet}
+use Rattle.toc_model.specs.Places.{DiscLayout, layout_of, program_blocks}
+use Rattle.picture_script.specs.Script.{Drawing, pictures, ready_time, hold_time, picture_pixel}
+use Rattle.pack_schedule.specs.Shown.{AreColoursInRange}
+use Rattle.pack_schedule.specs.Survey.{IsSurvey, IsWithin}
+use Rattle.pack_schedule.specs.declared.surveys.told.PlannedChange.{PlannedChange}
+use Rattle.subcode_author.proofs.Schedules.{authored, cut_idle, part_of, IsPlannedScript}
+use Rattle.subcode_author.proofs.author.author_planned.Goals as goal
+
+pub take_layout-requires-clause-need : goal.take_layout-requires-clause-need
+take_layout-requires-clause-need g c = c.requires.disc.0.0
+
+pub take_layout-requires-clause-fits : goal.take_layout-requires-clause-fits
+take_layout-requires-clause-fits g c = c.requires.disc.0.1
+
+known_script : (script : List Drawing) (blocks blocks' : ℕ) → blocks ≡ blocks' → IsWithin script blocks
+    → ((planned : List PlannedChange) × IsSurvey script planned)
+    → ((k : ℕ) → k < pictures script → ready_time script k ≤ hold_time script k) → AreColoursInRange script
+    → ((k x y : ℕ) → picture_pixel script k x y < 16)
+    → IsPlannedScript script blocks'
+known_script script blocks blocks' same within planned held ranges pixels = record {
+  within = subst (IsWithin script) same within;
+  survey = planned.0;
+  surveyed = planned.1;
+  held = held;
+  ranges = ranges;
+  pixels = pixels;
+}
+
+few_blocks : (sheet : CueSheet) (audio : ℕ) (layout : DiscLayout) → layout ≡ layout_of sheet audio
+    → program_blocks sheet audio ≤ 449999 → layout.blocks ≤ 449999
+few_blocks sheet audio layout is few = subst (λ (l : DiscLayout). l.blocks ≤ 449999) (sym is) few
+
+same_blocks : (sheet : CueSheet) (audio : ℕ) (layout : DiscLayout) → layout ≡ layout_of sheet audio
+    → program_blocks sheet audio ≡ layout.blocks
+same_blocks sheet audio layout is = sym (ap (λ (l : DiscLayout). l.blocks) is)
+
+pub write_stream-requires-clause-cut : goal.write_stream-requires-clause-cut
+write_stream-requires-clause-cut g c =
+    let known = c.times_rise_and_colours_are_in_range.ensures in
+    cut_idle c.args.script.now c.in_ok-weaver.weaver c.in_ok-layout.layout.blocks
+    (few_blocks c.args.sheet.now c.args.length c.in_ok-layout.layout c.in_ok-layout.ensures.layout
+    c.requires.disc.0.1)
+    (record { script_is = c.in_ok-weaver.ensures.script; given_is = c.in_ok-weaver.ensures.given })
+    (known_script c.args.script.now (program_blocks c.args.sheet.now c.args.length)
+    c.in_ok-layout.layout.blocks
+    (same_blocks c.args.sheet.now c.args.length c.in_ok-layout.layout
+    c.in_ok-layout.ensures.layout) c.requires.within
+    (c.args.planned, c.requires.planned)
+    known.held (record { border = known.borders; colour = known.colours }) known.pixels)
+
+pub returns-in_err-write_stream-clause-part : goal.returns-in_err-write_stream-clause-part
+returns-in_err-write_stream-clause-part g c = λ failed.
+    part_of c.args.sheet.now c.args.script.now c.in_ok-weaver.weaver c.in_ok-layout.layout c.deref.result.now
+    c.args.lead_in c.args.length
+    (g.K.Sink.held c.args.out.now) (g.K.Sink.held c.write_stream.new.out)
+    c.in_ok-layout.ensures.layout
+    (few_blocks c.args.sheet.now c.args.length c.in_ok-layout.layout c.in_ok-layout.ensures.layout
+    c.requires.disc.0.1)
+    (record { script_is = c.in_ok-weaver.ensures.script; given_is = c.in_ok-weaver.ensures.given })
+    (λ some. c.deref.ensures.value ∙ c.in_ok-texts.ensures.texts some)
+    (let part = c.in_err-write_stream.ensures.part in (part.0, part.1, part.2))
+
+pub returns-clause-authored : goal.returns-clause-authored
+returns-clause-authored g c =
+    let known = c.times_rise_and_colours_are_in_range.ensures in
+    authored c.packs_are_a_schedule.ensures.schedule c.args.sheet.now c.args.script.now c.in_ok-weaver.weaver
+    c.in_ok-layout.layout c.deref.result.now c.args.lead_in c.args.length
+    (g.K.Sink.held c.args.out.now) (g.K.Sink.held c.write_stream.new.out)
+    c.in_ok-layout.ensures.layout
+    (few_blocks c.args.sheet.now c.args.length c.in_ok-layout.layout c.in_ok-layout.ensures.layout
+    c.requires.disc.0.1)
+    (record { script_is = c.in_ok-weaver.ensures.script; given_is = c.in_ok-weaver.ensures.given })
+    (λ some. c.deref.ensures.value ∙ c.in_ok-texts.ensures.texts some)
+    c.requires.room
+    (known_script c.args.script.now (program_blocks c.args.sheet.now c.args.length) _ refl c.requires.within
+    (c.args.planned, c.requires.planned)
+    known.held (record { border = known.borders; colour = known.colours }) known.pixels)
+    c.in_ok-write_stream.ensures.ok
