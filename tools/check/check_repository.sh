@@ -85,6 +85,7 @@ try tools/check/check_abi.py || complain "tools/check/abi.txt does not list what
 try tests/library/compare_examples.sh || complain "an example of a player does not show what the program shows"
 [ ! -e lib/libribjasper.so.0 ] || try tests/peers/compare_mending.py --cases 300 || complain "readings are mended otherwise than the rule says"
 try tests/library/test_small_stack.sh || complain "a call takes more of the stack than it should"
+try tools/check/check_stack.py || complain "the program may take more of the stack than it should"
 tools/check/check_forgotten.sh || complain "memory may be forgotten"
 
 # What comes through a slow pipe goes out before more is waited for.

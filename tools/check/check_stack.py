@@ -1,0 +1,57 @@
+#!/usr/bin/env python3
+"""Compares the stack that the program takes at most with a limit, right after the gate: check_stack.py [--most BYTES]
+
+No clause can say how deep a stack gets. The kit's own compiler reckons it from the frames of all functions that can be called
+within one another, and prints a `+` behind the number if one of them may call itself. This builds the program by that
+compiler over the libraries that the gate has proved, and fails if the number is above the limit or has a `+`."""
+from __future__ import annotations
+
+import argparse
+import re
+import site
+import subprocess
+import sys
+import tempfile
+from pathlib import Path
+
+TOP = Path(__file__).resolve().parents[2]
+site.addsitedir(str(TOP / "tools" / "build"))
+from build_over_gate import NOT_THERE  # noqa: E402
+
+# The program takes 411,936 bytes by this reckoning; a page that is touched beyond it is a reason to look.
+MOST = 450_000
+
+
+def reckoned(said: str) -> tuple[int, bool] | None:
+    """The bytes that a build reports of the stack, and whether a function may call itself."""
+    found = re.search(r"\bstack-bytes=(\d+)(\+?)", said)
+    return (int(found[1]), found[2] == "+") if found else None
+
+
+def main() -> int:
+    parser = argparse.ArgumentParser(description="Compares the stack that the program takes at most with a limit.")
+    parser.add_argument("--most", type=int, default=MOST, help=f"the limit in bytes (default: {MOST})")
+    most: int = parser.parse_args().most
+    with tempfile.TemporaryDirectory(prefix="ribjasper-stack-") as room:
+        build = [str(TOP / "tools" / "build" / "build_over_gate.py"), "ribjasper", "--program", f"{room}/ribjasper"]
+        ran = subprocess.run(build, capture_output=True, text=True)
+    if ran.returncode == NOT_THERE:
+        print("check_stack: skipped, since the gate has not just left what the program stands on")
+        return 0
+    found = reckoned(ran.stdout + ran.stderr)
+    if ran.returncode or found is None:
+        print(f"check_stack: the program was not built: {(ran.stdout + ran.stderr)[-600:]}", file=sys.stderr)
+        return 1
+    size, calls_itself = found
+    if calls_itself:
+        print("check_stack: a function may call itself, so no limit of the stack holds", file=sys.stderr)
+    if size > most:
+        print(f"check_stack: the program may take {size} bytes of a stack, over {most}", file=sys.stderr)
+    if calls_itself or size > most:
+        return 1
+    print(f"check_stack: the program takes at most {size} bytes of a stack, and no function calls itself")
+    return 0
+
+
+if __name__ == "__main__":
+    sys.exit(main())
