@@ -1,9 +1,9 @@
 #!/usr/bin/env python3
 """Compares the stack that the program takes at most with a limit, right after the gate: check_stack.py [--most BYTES]
 
-No clause can say how deep a stack gets. The kit's own compiler reckons it from the frames of all functions that can be called
-within one another, and prints a `+` behind the number if one of them may call itself. This builds the program by that
-compiler over the libraries that the gate has proved, and fails if the number is above the limit or has a `+`."""
+No clause can say how deep a stack gets. The kit's own compiler reports the most that a call of `main` takes, functions in C
+left out, with a `+` behind the number if a function may call itself. This builds the program by that compiler over the
+libraries that the gate has proved, and fails if the number is above the limit or has a `+`."""
 from __future__ import annotations
 
 import argparse
@@ -18,7 +18,7 @@ TOP = Path(__file__).resolve().parents[2]
 site.addsitedir(str(TOP / "tools" / "build"))
 from build_over_gate import NOT_THERE  # noqa: E402
 
-# The program takes 411,936 bytes by this reckoning; a page that is touched beyond it is a reason to look.
+# The program takes 411,936 bytes by this report.
 MOST = 450_000
 
 
