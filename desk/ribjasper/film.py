@@ -18,6 +18,8 @@ from .words import Commands, number_in
 # A picture that stands so long, in seconds, has a place on a page of stills.
 STANDS = 0.2
 MOST_STILLS = 1_000
+# What x264 leaves out: frames between two others, and a long search for what moved. Pictures of tiles change where they stand.
+PLAIN_SEARCH = "bframes=0:me=dia:subme=1:trellis=0"
 # A still in pixels, the line below it, and what is between them.
 STILL_WIDTH, STILL_HEIGHT, LABEL, BETWEEN = WIDTH // 2, HEIGHT // 2, 14, 8
 
@@ -56,7 +58,7 @@ def film_words(arguments: argparse.Namespace, out: str) -> list[str]:
     """The call of ffmpeg, which reads frames from its standard input."""
     size, scale = f"{WIDTH}x{HEIGHT}", arguments.scale
     coding = (["-c:v", "libx264rgb", "-qp", "0"] if arguments.lossless
-              else ["-preset", "veryfast", "-crf", "16", "-pix_fmt", "yuv420p"])
+              else ["-preset", "veryfast", "-x264-params", PLAIN_SEARCH, "-crf", "16", "-pix_fmt", "yuv420p"])
     sound = ["-i", os.fspath(arguments.audio), "-map", "0:v", "-map", "1:a"] if arguments.audio else []
     frames = ["-f", "rawvideo", "-pix_fmt", "rgb24", "-s", size, "-r", str(arguments.rate), "-i", "pipe:0"]
     larger = ["-vf", f"scale=iw*{scale}:ih*{scale}:flags=neighbor"]

@@ -1,12 +1,17 @@
 #!/bin/sh
 # A stranger's way through README.md, from its first line to its last: a fresh clone of what is committed here, a clean
 # environment, and every block as it stands, with `make demo`, `make` and `make library`. Prints how long each of these took.
-# By hand, before a release: it proves everything anew.
+# By hand, before a release: it proves everything anew. With --kept it takes along what was proved in this checkout.
 cd "$(dirname "$0")/../.." || exit 1
 work=$(mktemp -d)
 trap 'rm -rf "$work"' EXIT
 mkdir "$work/home"
 git clone -q . "$work/ribjasper" || exit 1
+if [ "$1" = --kept ]; then
+    for kept in crates/*/out; do
+        cp -a "$kept" "$work/ribjasper/$kept" || exit 1
+    done
+fi
 cd "$work/ribjasper" || exit 1
 
 # The first block, which is of no language, and then those of the shell.
