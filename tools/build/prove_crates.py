@@ -214,8 +214,16 @@ def lanes() -> int:
     """As many checks at a time as JOBS says, or as there are processors and memory for."""
     if os.environ.get("JOBS", "").isdigit():
         return max(1, int(os.environ["JOBS"]))
-    free = os.sysconf("SC_AVPHYS_PAGES") * os.sysconf("SC_PAGE_SIZE")
-    return max(1, min(len(os.sched_getaffinity(0)), int(free / BYTES)))
+    return max(1, min(len(os.sched_getaffinity(0)), available() // BYTES))
+
+
+def available() -> int:
+    """How many bytes of memory can be had, those that hold files for reading once more among them."""
+    for line in pathlib.Path("/proc/meminfo").read_text().splitlines():
+        name, _, amount = line.partition(":")
+        if name == "MemAvailable":
+            return 1024 * int(amount.split()[0])
+    return os.sysconf("SC_AVPHYS_PAGES") * os.sysconf("SC_PAGE_SIZE")
 
 
 def alone() -> IO[bytes]:
