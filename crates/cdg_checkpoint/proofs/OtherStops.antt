@@ -45,7 +45,8 @@ long_no_read stop is = λ e. (cc)
 pub told_by : (stop other : PumpStop) (before now : Count) → pump_stopped stop ≡ Err other
     → TellsEndOf (Err stop) before now
     → TellsEndOf (Err other) before now
-told_by stop other before now is told = subst (λ (r : Result Pumped PumpStop). TellsEndOf r before now) is told
+told_by stop other before now is told =
+    subst (λ (r : Result Pumped PumpStop). TellsEndOf r before now) is told
 
 -- ---- The answer by the length of the rest, where a fault was met or the rest is too long.
 

@@ -172,7 +172,9 @@ pub returns-in-Torn-clause-fault : goal.returns-in-Torn-clause-fault
 returns-in-Torn-clause-fault g c = record {
   later = c.in-Err.ensures.reads.read_fault.later;
   rose = λ e. absurd (torn_no_second _ e);
-  same = λ other. c.in-Err.ensures.reads.read_fault.same (torn_no_read c.in-Err.stop c.in-Torn.unit c.in-Torn.is);
+  same =
+      λ other.
+      c.in-Err.ensures.reads.read_fault.same (torn_no_read c.in-Err.stop c.in-Torn.unit c.in-Torn.is);
 }
 
 pub returns-in-Torn-clause-ended : goal.returns-in-Torn-clause-ended

@@ -33,7 +33,8 @@ returns-in-Err-clause-answer g c =
 pub returns-in-Ok-clause-faults : goal.returns-in-Ok-clause-faults
 returns-in-Ok-clause-faults g c =
     let cause = c.write_counts.ensures.cause in
-    counts_told _ _ _ _ c.in-Ok.ensures.reads.read_fault.later cause.later c.in-Ok.pumped c.write_counts.result _
+    counts_told _ _ _ _ c.in-Ok.ensures.reads.read_fault.later cause.later c.in-Ok.pumped
+    c.write_counts.result _
     c.in-Ok.ensures.reads.read_fault.same cause c.write_counts.ensures.part
 
 pub returns-in-Err-clause-faults : goal.returns-in-Err-clause-faults
@@ -48,4 +49,5 @@ returns-in-Err-clause-stops g c = stops_played c.in-Err.stop c.play_stop.result 
 pub returns-in-Err-clause-ended : goal.returns-in-Err-clause-ended
 returns-in-Err-clause-ended g c =
     let (taken, w) = c.in-Err.ensures.watches in
-    ends_unread c.in-Err.stop c.play_stop.result _ _ c.play_stop.ensures w.no_write c.in-Err.ensures.reads.ended
+    ends_unread c.in-Err.stop c.play_stop.result _ _ c.play_stop.ensures w.no_write
+    c.in-Err.ensures.reads.ended

@@ -25,7 +25,8 @@ returns-in-Ok-clause-answer g c =
 pub returns-in-Ok-clause-faults : goal.returns-in-Ok-clause-faults
 returns-in-Ok-clause-faults g c =
     let wrote = c.write_texts.ensures in
-    texts_told _ _ _ _ c.in-Ok.ensures.reads.read_fault.later wrote.write_fault.later c.watch.new.stages.blocks _
+    texts_told _ _ _ _ c.in-Ok.ensures.reads.read_fault.later wrote.write_fault.later
+    c.watch.new.stages.blocks _
     (g.K.Sink.held c.args.out.now) (g.K.Sink.held c.write_texts.new.out) c.in-Ok.pumped c.write_texts.result
     wrote.writes c.in-Ok.ensures.reads.read_fault.same wrote.write_fault.rose wrote.write_fault.same
 
@@ -52,7 +53,8 @@ returns-in-Err-clause-stops g c = stops_unread c.in-Err.stop c.play_stop.result 
 pub returns-in-Err-clause-ended : goal.returns-in-Err-clause-ended
 returns-in-Err-clause-ended g c =
     let (taken, w) = c.in-Err.ensures.watches in
-    ends_unread c.in-Err.stop c.play_stop.result _ _ c.play_stop.ensures w.no_write c.in-Err.ensures.reads.ended
+    ends_unread c.in-Err.stop c.play_stop.result _ _ c.play_stop.ensures w.no_write
+    c.in-Err.ensures.reads.ended
 
 pub returns-in-Err-clause-lists : goal.returns-in-Err-clause-lists
 returns-in-Err-clause-lists g c =
