@@ -398,7 +398,7 @@ called lead_in time bytes rest file taken pumped (Err FirstFault) left' out firs
 called lead_in time bytes rest file taken pumped (Err SecondFault) left' out first saved reached no_write
     answer r =
     stopped lead_in time bytes rest file taken pumped left' out first saved reached r.taken_from r.within
-    play.ReadFault (λ e. cc) (r.stopped SecondFault refl (λ e. cc)) (λ late. absurd (late tt))
+    play.ReadFault (λ e. cc) (r.stopped SecondFault refl (λ e. cc)) (λ late. absurd (late refl))
     (λ blocks e. (cc))
 called lead_in time bytes rest file taken pumped (Err WriteFault) left' out first saved reached no_write
     answer r =
@@ -417,7 +417,7 @@ called lead_in time bytes rest file taken pumped (Err (Torn block)) left' out fi
 called lead_in time bytes rest file taken pumped (Err TooLong) left' out first saved reached no_write answer
     r =
     stopped lead_in time bytes rest file taken pumped left' out first saved reached r.taken_from r.within
-    play.TooLong (λ e. cc) (r.stopped TooLong refl (λ e. cc)) (λ late. absurd (late tt)) (λ blocks e. (cc))
+    play.TooLong (λ e. cc) (r.stopped TooLong refl (λ e. cc)) (λ late. absurd (late refl)) (λ blocks e. (cc))
 called lead_in time bytes rest file taken pumped (Err (PastEnd blocks)) left' out first saved reached no_write
     answer r =
     stopped lead_in time bytes rest file taken pumped left' out first saved reached r.taken_from r.within

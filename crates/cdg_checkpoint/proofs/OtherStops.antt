@@ -1,7 +1,7 @@
 -- Which answer is no other one, and what still holds of a file that is kept.
 use Rattle.std.proofs.Common.{◌≡◌, ◌≢◌, ℕ, ◌*◌, ◌<◌, ◌≤◌, List, length, sym, subst, ap, arith, ◌⊎◌, inl, inr}
 use Rattle.std.specs.Prelude.{Option, Some, None, Result, Ok, Err, IfSome, IsOk, IsErr, nat_lt, ◌==◌, ◌%◌, ◌/◌}
-use Rattle.cdg_io.specs.Causes.{Count, RoseOnce}
+use Rattle.cdg_io.specs.Causes.{Count}
 use Rattle.cdg_io.specs.Change.{Input, Passed}
 use Rattle.cdg_io.specs.Pump.{IsUnlessFault, TellsEndOf, answer_of}
 use Rattle.cdg_io.specs.declared.pumping.Pumped.{Pumped}
@@ -41,20 +41,12 @@ torn_no_read stop unit is = λ e. (cc)
 pub long_no_read : (stop : PumpStop) → stop ≡ pump_stop.TooLong → pump_stopped stop ≢ Err pump_stop.ReadFault
 long_no_read stop is = λ e. (cc)
 
-pub read_told : (stop : PumpStop) (before now : Count) → pump_stopped stop ≡ Err pump_stop.ReadFault
+-- how the end was told by a stop that is known
+pub told_by : (stop other : PumpStop) (before now : Count) → pump_stopped stop ≡ Err other
     → TellsEndOf (Err stop) before now
-    → now ≡ before
-read_told stop before now is told = subst (λ (r : Result Pumped PumpStop). TellsEndOf r before now) is told
-
-pub torn_told : (stop : PumpStop) (unit : ℕ) (before now : Count) → stop ≡ pump_stop.Torn unit
-    → TellsEndOf (Err stop) before now
-    → RoseOnce before now
-torn_told stop unit before now is told = subst (λ st. TellsEndOf (Err st) before now) is told
-
-pub long_told : (stop : PumpStop) (before now : Count) → stop ≡ pump_stop.TooLong
-    → TellsEndOf (Err stop) before now
-    → now ≡ before
-long_told stop before now is told = subst (λ st. TellsEndOf (Err st) before now) is told
+    → TellsEndOf (Err other) before now
+told_by stop other before now is told =
+    subst (λ (r : Result Pumped PumpStop). TellsEndOf r before now) is told
 
 -- ---- The answer by the length of the rest, where a fault was met or the rest is too long.
 

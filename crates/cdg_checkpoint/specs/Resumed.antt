@@ -1,8 +1,9 @@
 -- Playing that goes on from a checkpoint, and a stream that is cut in two there.
-use Rattle.std.specs.Prelude.{◌≡◌, ◌≢◌, ℕ, ◌+◌, ◌-◌, ◌*◌, ◌/◌, ◌%◌, ◌<◌, ◌≤◌, ⊤, List, [], ◌++◌, length, map, nat_lt, if◌then◌else◌, take, drop, min, slice_index_or, Option, None, Result, Ok, Err, IfOk}
+use Rattle.std.specs.Prelude.{◌≡◌, ◌≢◌, ℕ, ◌+◌, ◌-◌, ◌*◌, ◌/◌, ◌%◌, ◌<◌, ◌≤◌, ⊤, Bool, true, false, List, [], ◌++◌, length, map, nat_lt, if◌then◌else◌, take, drop, min, slice_index_or, Option, None, Result, Ok, Err, IfOk}
 use Rattle.std.specs.List.{range_with_len}
 use Rattle.std.specs.Io.KnownBytes.{Appends, Consumes, IsAtEnd}
 use Rattle.cdg_io.specs.Causes.{Count, RoseOnce}
+use Rattle.cdg_io.specs.Reads.{ToldUnless}
 use Rattle.cdg_io.specs.Change.{Bytes, Change, Input, Passed}
 use Rattle.cdg_io.specs.Moves.{AppendsPrefix, ConsumesBelow}
 use Rattle.rw_code.specs.Finding.{IsFinding}
@@ -119,13 +120,16 @@ pub record GoesOn (to : TimeAfter) (left : Change Bytes) (now : Standing)
   pub past_end : (blocks : ℕ) → result ≡ Err (PastEnd blocks)
       → IsAtEnd left.after × (blocks ≡ blocks_after to.checkpoint taken) × (blocks < to.time)
 
--- The count of told ends rose where the rest was read to its end, and nowhere else.
+-- whether a stop comes before the end of the rest
+abbrev pub is_before_rest_end : ResumeStop → Bool
+is_before_rest_end (Torn block) = false
+is_before_rest_end (PastEnd blocks) = false
+is_before_rest_end WriteFault = false
+is_before_rest_end stop = true
+
+-- how the end of the rest is told
 abbrev pub EndsAsResumed : Result Resumed ResumeStop → Count → Count → Type 0
-EndsAsResumed (Ok resumed) before now = RoseOnce before now
-EndsAsResumed (Err (Torn block)) before now = RoseOnce before now
-EndsAsResumed (Err (PastEnd blocks)) before now = RoseOnce before now
-EndsAsResumed (Err WriteFault) before now = RoseOnce before now
-EndsAsResumed (Err stop) before now = now ≡ before
+EndsAsResumed = ToldUnless is_before_rest_end
 
 -- what is answered after so many program blocks
 abbrev pub reached : ℕ → ℕ → ℕ → Result Resumed ResumeStop

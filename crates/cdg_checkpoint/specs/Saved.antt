@@ -1,13 +1,14 @@
 -- The checkpoint of a stream.
-use Rattle.std.specs.Prelude.{◌≡◌, ℕ, ◌-◌, ◌/◌, ⊤, List, ◌++◌, length, drop, replicate, min, Option, Result, Ok, Err}
+use Rattle.std.specs.Prelude.{◌≡◌, ℕ, ◌-◌, ◌/◌, Bool, true, false, IsTrue, List, ◌++◌, length, drop, replicate, min, Option, Result, Ok, Err}
 use Rattle.cdg_io.specs.Streams.{WholeReading, WritesAtEnd}
-use Rattle.cdg_io.specs.Causes.{Count, RoseOnce}
+use Rattle.cdg_io.specs.Causes.{Count}
+use Rattle.cdg_io.specs.Reads.{ToldUnless}
 use Rattle.std.specs.Io.KnownBytes.{Appends}
 use Rattle.cdg_io.specs.Change.{Bytes, Change, Passed}
 use Rattle.cdg_io.specs.Moves.{AppendsPrefix}
 use Rattle.cdg_io.specs.declared.pumping.Pumped.{Pumped}
 use Rattle.cdg_io.specs.declared.pumping.PumpStop.{PumpStop}
-use Rattle.cdg_io.specs.declared.pumping.PumpStop.TheVariants.{ReadFault, WriteFault, Torn, TooLong}
+use Rattle.cdg_io.specs.declared.pumping.PumpStop.TheVariants.{ReadFault, WriteFault, TooLong}
 use Rattle.raw_subcode.specs.Channels.{program_symbols}
 use Rattle.raw_subcode.specs.Sizes.{block_bytes, most_units}
 use Rattle.raw_subcode.specs.declared.form.Form.TheVariants.{Raw}
@@ -42,17 +43,17 @@ pub record IsSaved (lead_in : ℕ) (bytes : List ℕ) (pumped : Pumped) (text : 
   pub is : IsCheckpointOf bytes lead_in checkpoint
   pub text_is : text ≡ file_of checkpoint
 
--- it comes before the end of the input
-abbrev pub IsBeforeEnd : PumpStop → Type 0
-IsBeforeEnd ReadFault = ⊤
-IsBeforeEnd TooLong = ⊤
-IsBeforeEnd stop = ⊥
+-- whether a stop comes before the end of the input
+abbrev pub is_before_end : PumpStop → Bool
+is_before_end ReadFault = true
+is_before_end TooLong = true
+is_before_end stop = false
 
 -- how a call reads that writes the file of a checkpoint
 abbrev pub saving : ℕ → WholeReading Pumped PumpStop
 saving lead_in = record {
   cut = record { size = block_bytes; limit = most_units };
-  is_early = IsBeforeEnd;
+  is_early = λ stop. IsTrue (is_before_end stop);
   write_fault = WriteFault;
   gives = IsSaved lead_in;
 }
@@ -70,10 +71,6 @@ KeepsFile lead_in taken held file (Err WriteFault) = (pumped : Pumped)
     × IsSaved lead_in taken pumped file.after × AppendsPrefix held.before held.after file.after
 KeepsFile lead_in taken held file (Err stop) = file.after ≡ file.before
 
--- The count of told ends rose where the input was read to its end, and nowhere else.
+-- how the end of the input is told
 abbrev pub EndsAsSaved : Result Pumped PumpStop → Count → Count → Type 0
-EndsAsSaved (Ok pumped) before now = RoseOnce before now
-EndsAsSaved (Err (Torn unit)) before now = RoseOnce before now
-EndsAsSaved (Err WriteFault) before now = RoseOnce before now
-EndsAsSaved (Err TooLong) before now = now ≡ before
-EndsAsSaved (Err ReadFault) before now = now ≡ before
+EndsAsSaved = ToldUnless is_before_end

@@ -1,8 +1,7 @@
 // A stage at work on the blocks of a whole input, of which nothing is written.
-ghost use Rattle.std.specs.Prelude.{◌≡◌, ◌≢◌, ◌≤◌, List, ℕ, length, IfSome, IsErrOf, Err};
-ghost use Rattle.cdg_io.specs.Causes.{TellsFault};
+ghost use Rattle.std.specs.Prelude.{◌≡◌, ◌≤◌, List, ℕ};
 ghost use Rattle.cdg_io.specs.Change.{fed};
-ghost use Rattle.cdg_io.specs.Pump.{IsUnlessFault, TellsEndOf, answer_of};
+ghost use Rattle.cdg_io.specs.Reads.{ReadsUnits, telling};
 ghost use Rattle.raw_subcode.specs.Sizes.{block_bytes};
 ghost use Rattle.cdg_checkpoint.specs.Tracked.{TracksBlocks};
 
@@ -19,12 +18,8 @@ pub(crate) fn watch<S: Source, G: Stage<Item = [u8; BLOCK_BYTES], Out = Piece>>(
     ensures watches { (taken : List ℕ)
         × TracksBlocks limit G.next (fed S.left (source.old, stage.old) (source.new, stage.new))
         result taken }
-    // Where nothing failed, the answer is that of the whole input's length.
-    ensures answer { IfSome (S.left source.old)
-        (λ all. IsUnlessFault result (answer_of block_bytes limit (length all))) }
-    ensures read_fault { TellsFault PumpStop.ReadFault
-        (S.faults source.old) (S.faults source.new) result }
-    ensures ended { TellsEndOf result (S.ends source.old) (S.ends source.new) }
+    ensures reads { ReadsUnits (telling S.left S.faults S.ends S.fills) block_bytes limit source.old
+        source.new result }
 {
     pump(source, limit, stage, &mut SteadySink::new())
 }
@@ -38,11 +33,8 @@ pub(crate) fn watch_some<S: Source, G: Stage<Item = [u8; BLOCK_BYTES], Out = Pie
     ensures watches { (taken : List ℕ)
         × TracksBlocks limit G.next (fed S.left (source.old, stage.old) (source.new, stage.new))
         result taken }
-    ensures answer { IfSome (S.left source.old)
-        (λ all. IsUnlessFault result (answer_of block_bytes limit (length all))) }
-    ensures read_fault { TellsFault PumpStop.ReadFault
-        (S.faults source.old) (S.faults source.new) result }
-    ensures ended { TellsEndOf result (S.ends source.old) (S.ends source.new) }
+    ensures reads { ReadsUnits (telling S.left S.faults S.ends S.fills) block_bytes limit source.old
+        source.new result }
 {
     if limit > 0 {
         return watch(limit, source, stage);

@@ -154,7 +154,7 @@ lacking (Err (play.Text (fault.Missing seq))) form lead_in left left' ended list
 lacking (Err (play.Text fault.NoSize)) form lead_in left left' ended listed none = absurd (cc)
 lacking (Err (play.Text (fault.Malformed seq byte))) form lead_in left left' ended listed none = absurd (cc)
 lacking (Err (play.Text fault.NoMemory)) form lead_in left left' ended listed none =
-    (ended (play.Text fault.NoMemory) refl (λ early. early), texts_if_known form lead_in left listed)
+    (ended (play.Text fault.NoMemory) refl (λ early. cc), texts_if_known form lead_in left listed)
 
 pub lacks_memory : (answer : Result Played PlayStop) (status : Status) (form : Form) (lead_in : ℕ)
     (left left' : Bytes) → status ≡ play_status answer

@@ -2,12 +2,12 @@
 use Rattle.std.proofs.Common.{◌≡◌, ℕ, ◌+◌, ◌-◌, ◌^◌, ◌<◌, ◌≤◌, min, inl, inr, None, Some, List, ◌++◌, length, take, sym, ap, ◌∙◌, subst, arith, le_refl, append-nil, length-append, Result, Ok, Err}
 use Rattle.std.specs.Prelude.{IsErr, IsErrAnd, OnErr, OnOk, IfOk, IfSome}
 use Rattle.std.specs.declared.option.Option.{Option}
-use borrow.Rule.Slice.PartMut.{put_mid, post_of}
+use borrow.Rule.Slice.PartMut.{put_mid}
 use Rattle.std.proofs.lemmas.Bool.{cases_lt}
 use Rattle.std.proofs.lemmas.Slice.{take-put_mid_below}
 use Rattle.std.specs.Io.KnownBytes.{Consumes, IsAtEnd}
 use Rattle.std.proofs.KnownBytes.{Consumes-trans}
-use Rattle.cdg_io.specs.Causes.{Count, FillsRoom, HasCause, Rose, RoseOnce, TellsEnd}
+use Rattle.cdg_io.specs.Causes.{Count, FillsRoom, HasCause, Rose, RoseOnce, TellsEnd, TellsFault}
 
 -- ---- faults
 
@@ -76,6 +76,11 @@ later_since same later = omega (arith, same, later)
 pub later_if_same : {before now : ℕ} → now ≡ before → before ≤ now
 later_if_same same = omega (arith, same)
 
+-- the answer is not this fault, and none was counted
+pub no_fault : {T E : Type 0} {fault : E} {before now : ℕ} {result : Result T E}
+    → (result ≡ Err fault → Rose before now) → now ≡ before → TellsFault fault before now result
+no_fault other same = record { later = later_if_same same; rose = other; same = λ _. same }
+
 -- ---- bytes
 
 -- a read of nothing takes no more
@@ -92,13 +97,6 @@ pub Consumes-still_in : (a b c : Option (List ℕ)) (at k n : ℕ) (xs ys : List
 Consumes-still_in a b c at k n xs ys within zero p q =
     subst (Consumes a c) (sym (take-put_mid_below at k xs ys at (le_refl at) within))
     (Consumes-still a b c (take at xs) ys n zero p q)
-
--- what was taken is shorter than what is written at its end
-pub shorter : (at k : ℕ) (xs ys : List ℕ) → 0 < length ys → length (take at xs) < length (put_mid at k xs ys)
-shorter at k xs ys some =
-    let whole : length (put_mid at k xs ys) ≡ length (take at xs) + length (ys ++ post_of at k xs) =
-    length-append (take at xs) (ys ++ post_of at k xs) in
-    omega (arith, whole, length-append ys (post_of at k xs), some)
 
 -- all was taken
 pub Consumes-all : (a b : Option (List ℕ)) (bs : List ℕ) → Consumes a b bs → IsAtEnd b

@@ -4,7 +4,8 @@ ghost use Rattle.std.specs.List.{concat};
 ghost use Rattle.cdg_instructions.specs.Instruction.{InRange};
 ghost use Rattle.cdg_io.specs.Causes.{TellsFault};
 ghost use Rattle.cdg_io.specs.Change.{change, passed};
-ghost use Rattle.cdg_io.specs.Pump.{FillsUnits, IsUnlessFault, TellsEndOf, answer_of, units_of};
+ghost use Rattle.cdg_io.specs.Pump.{units_of};
+ghost use Rattle.cdg_io.specs.Reads.{ReadsUnits, telling};
 ghost use Rattle.cdg_io.specs.Run.{run_state, run_gives};
 ghost use Rattle.cdg_screen.specs.Standing.{blank, standing_after};
 ghost use Rattle.raw_subcode.specs.Sizes.{symbols_a_slot};
@@ -72,13 +73,8 @@ impl Thinner {
         // thin form.
         ensures whole { IfSome (S.left source.old)
             (λ all. ThinsAll all (change K.held out.old out.new) result) }
-        // Where nothing failed, the answer is that of the whole input's length.
-        ensures answer { IfSome (S.left source.old)
-            (λ all. IsUnlessFault result (answer_of symbols_a_slot most_file_packs (length all))) }
-        ensures read_fault { TellsFault PumpStop.ReadFault
-            (S.faults source.old) (S.faults source.new) result }
-        ensures ended { TellsEndOf result (S.ends source.old) (S.ends source.new) }
-        ensures rooms { FillsUnits most_file_packs result (S.fills source.old) (S.fills source.new) }
+        ensures reads { ReadsUnits (telling S.left S.faults S.ends S.fills) symbols_a_slot most_file_packs
+            source.old source.new result }
         ensures write_fault { TellsFault PumpStop.WriteFault
             (K.faults out.old) (K.faults out.new) result }
     {

@@ -5,7 +5,8 @@ ghost use Rattle.disc_time.specs.Counts.{most_lead_in};
 ghost use Rattle.raw_subcode.specs.Sizes.{block_bytes, most_units};
 ghost use Rattle.cdg_io.specs.Causes.{TellsFault};
 ghost use Rattle.cdg_io.specs.Change.{passed};
-ghost use Rattle.cdg_io.specs.Pump.{FillsUnits, IsUnlessFault, TellsEndOf, answer_of, units_of};
+ghost use Rattle.cdg_io.specs.Pump.{units_of};
+ghost use Rattle.cdg_io.specs.Reads.{ReadsUnits, telling};
 ghost use Rattle.cdg_io.specs.Run.{run_state, run_gives};
 ghost use Rattle.cdg_io.specs.Streams.{Streams};
 ghost use Rattle.raw_subcode.specs.Channels.{symbols_of, program_symbols};
@@ -133,13 +134,8 @@ pub fn scratch<S: Source, K: Sink>(
     requires { lead_in ≤ most_lead_in }
     ensures scratches { (taken : List ℕ) × Streams (scratching lead_in seed)
         (passed S.left K.held (source.old, out.old) (source.new, out.new)) result taken }
-    // Where nothing failed, the answer is that of the whole input's length.
-    ensures answer { IfSome (S.left source.old)
-        (λ all. IsUnlessFault result (answer_of block_bytes most_units (length all))) }
-    ensures read_fault { TellsFault PumpStop.ReadFault
-        (S.faults source.old) (S.faults source.new) result }
-    ensures ended { TellsEndOf result (S.ends source.old) (S.ends source.new) }
-    ensures rooms { FillsUnits most_units result (S.fills source.old) (S.fills source.new) }
+    ensures reads { ReadsUnits (telling S.left S.faults S.ends S.fills) block_bytes most_units source.old
+        source.new result }
     ensures write_fault { TellsFault PumpStop.WriteFault (K.faults out.old) (K.faults out.new) result }
 {
     let mut scratches = Scratches::start(lead_in, seed);

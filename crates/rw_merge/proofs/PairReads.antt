@@ -1,14 +1,15 @@
 -- How a pair of blocks is read, and how the end of both inputs is found, exit by exit.
 use Rattle.std.proofs.Common.{◌≡◌, ◌≢◌, ◌⊎◌, ◌∙◌, ℕ, ◌<◌, ◌≤◌, ◌/◌, Bool, true, false, List, [], ◌∷◌, length, take, refl, ap, subst, inl, inr, arith}
-use Rattle.std.specs.Prelude.{IfOk, OnErr, Option, Result, Ok, Err}
+use Rattle.std.specs.Prelude.{IfOk, Option, Result, Ok, Err}
 use Rattle.std.specs.Io.KnownBytes.{Consumes, IsAtEnd}
 use Rattle.std.proofs.KnownBytes.{Consumes-nil}
 use Rattle.std.proofs.lemmas.Bool.{cases_lt}
 use Rattle.std.proofs.lemmas.List.{length-take, take_all}
-use Rattle.cdg_io.specs.Causes.{Count, FillsRoom, HasCause, TellsEnd, counted_up}
+use Rattle.cdg_io.specs.Causes.{Count, counted_up}
 use Rattle.cdg_io.specs.Change.{Change, change, from_to}
-use Rattle.cdg_io.specs.Moves.{ConsumesBelow}
 use Rattle.cdg_io.specs.Pump.{RoseBy}
+use Rattle.cdg_io.specs.Reads.{telling}
+use Rattle.cdg_io.specs.Whole.{ReadsUpTo}
 use Rattle.rw_merge.specs.Merging.{ReadInput, ToldUnlessAhead, read_input}
 use Rattle.rw_merge.specs.Steps.{AsksFor, IsHalfRead, ReadsNoMore, ReadsPair}
 use Rattle.rw_merge.specs.declared.merge.MergeStop.{MergeStop}
@@ -22,26 +23,24 @@ unread left ends fills =
 -- what `fill` says of a source, which was not read before
 pub asks_as : {S E : Type 0} (left : S → Option (List ℕ)) (ends fills : S → Count) (faults : S → ℕ)
     (before same after : S) (result : Result ℕ E) (size : ℕ) (old room : List ℕ) → same ≡ before
-    → length old ≡ size → length room ≡ size → IfOk result (λ n. n ≤ length room)
+    → length old ≡ size → length room ≡ size
     → IfOk result (λ n. Consumes (left same) (left after) (take n room))
     → IfOk result (λ n. n < length room → IsAtEnd (left after))
-    → OnErr result (ConsumesBelow (left same) (left after) (length room))
-    → HasCause (faults same) (faults after) result
-    → TellsEnd (length old) (ends same) (ends after) result
-    → FillsRoom (length old) (fills same) (fills after) result
+    → ReadsUpTo (telling left faults ends fills) (length old) same after result
     → AsksFor size (read_input left ends fills before after) (change faults before after) result room
-asks_as left ends fills faults before same after result size old room is old_is room_is within took end part
-    cause told filled =
+asks_as left ends fills faults before same after result size old room is old_is room_is took end reads =
+    let read : ReadsUpTo (telling left faults ends fills) size same after result =
+    subst (λ k. ReadsUpTo (telling left faults ends fills) k same after result) old_is reads in
     let asks : AsksFor size (read_input left ends fills same after) (change faults same after) result room =
     record {
       size_is = room_is;
-      within = subst (λ k. IfOk result (λ n. n ≤ k)) room_is within;
+      within = read.within;
       took = took;
       end = subst (λ k. IfOk result (λ n. n < k → IsAtEnd (left after))) room_is end;
-      part = subst (λ k. OnErr result (ConsumesBelow (left same) (left after) k)) room_is part;
-      cause = cause;
-      told = subst (λ k. TellsEnd k (ends same) (ends after) result) old_is told;
-      filled = subst (λ k. FillsRoom k (fills same) (fills after) result) old_is filled;
+      part = read.part;
+      cause = read.cause;
+      told = read.told;
+      filled = read.room;
     } in
     subst (λ s. AsksFor size (read_input left ends fills s after) (change faults s after) result room) is asks
 

@@ -210,7 +210,7 @@ module _ {S : Type 0} (writes : List ℕ → List ℕ → ℕ → Type 0) (form 
     within = w.within;
     done = tt;
     stopped = λ other e not. subst (λ (h : Option (List ℕ)). Appends held h []) (sym same) (Appends-nil held);
-    ended = λ stop e not. let told : ReadFault ≡ stop = cc in absurd (not (subst IsEarly told tt));
+    ended = λ stop e not. let told : ReadFault ≡ stop = cc in absurd (not (subst IsEarly told refl));
     cut = λ e. (cc);
   }
   stopped_early pump_stop.WriteFault same w = absurd (w.no_write refl)
@@ -227,7 +227,7 @@ module _ {S : Type 0} (writes : List ℕ → List ℕ → ℕ → Type 0) (form 
     within = w.within;
     done = tt;
     stopped = λ other e not. subst (λ (h : Option (List ℕ)). Appends held h []) (sym same) (Appends-nil held);
-    ended = λ stop e not. let told : TooLong ≡ stop = cc in absurd (not (subst IsEarly told tt));
+    ended = λ stop e not. let told : TooLong ≡ stop = cc in absurd (not (subst IsEarly told refl));
     cut = λ e. (cc);
   }
 

@@ -189,7 +189,7 @@ module _ (form : Form) (lead_in time : ℕ) (left left' : Option (List ℕ)) (ta
     taken_from = w.taken_from;
     within = w.within;
     done = tt;
-    ended = λ stop e not. let same : ReadFault ≡ stop = cc in absurd (not (subst IsEarly same tt));
+    ended = λ stop e not. let same : ReadFault ≡ stop = cc in absurd (not (subst IsEarly same refl));
     past_end = λ blocks e. (cc);
     no_write = λ e. (cc);
   }
@@ -206,7 +206,7 @@ module _ (form : Form) (lead_in time : ℕ) (left left' : Option (List ℕ)) (ta
     taken_from = w.taken_from;
     within = w.within;
     done = tt;
-    ended = λ stop e not. let same : TooLong ≡ stop = cc in absurd (not (subst IsEarly same tt));
+    ended = λ stop e not. let same : TooLong ≡ stop = cc in absurd (not (subst IsEarly same refl));
     past_end = λ blocks e. (cc);
     no_write = λ e. (cc);
   }

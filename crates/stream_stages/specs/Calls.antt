@@ -2,8 +2,9 @@
 --
 -- `writes bytes text bad` says of some bytes, whole units and maybe a rest of a unit, which text is written for the
 -- units, and how many words or frames are bad.
-use Rattle.std.specs.Prelude.{◌≡◌, ◌≢◌, ℕ, ◌-◌, ◌*◌, ◌/◌, ◌%◌, ◌<◌, ◌≤◌, ⊤, List, length, Result, Ok, Err}
-use Rattle.cdg_io.specs.Causes.{Count, RoseOnce}
+use Rattle.std.specs.Prelude.{◌≡◌, ◌≢◌, ℕ, ◌-◌, ◌*◌, ◌/◌, ◌%◌, ◌<◌, ◌≤◌, ⊤, Bool, true, false, IsTrue, List, length, Result, Ok, Err}
+use Rattle.cdg_io.specs.Causes.{Count}
+use Rattle.cdg_io.specs.Reads.{ToldUnless}
 use Rattle.cdg_io.specs.Streams.{Reading, WholeReading}
 use Rattle.raw_subcode.specs.Channels.{unit_size}
 use Rattle.raw_subcode.specs.Sizes.{most_units}
@@ -31,11 +32,20 @@ in_turn writes form lead_in = record {
   gives = IsPlayed writes (blocks_played form lead_in);
 }
 
+-- whether a stop comes before the end of the input, in a call that writes nothing before it read all
+abbrev pub is_early : PlayStop → Bool
+is_early ReadFault = true
+is_early TooLong = true
+is_early stop = false
+
+-- the same in a call that writes while it reads
+abbrev pub is_early_in_turn : PlayStop → Bool
+is_early_in_turn WriteFault = true
+is_early_in_turn stop = is_early stop
+
 -- it comes before the end of the input
 abbrev pub IsEarly : PlayStop → Type 0
-IsEarly ReadFault = ⊤
-IsEarly TooLong = ⊤
-IsEarly stop = ⊥
+IsEarly stop = IsTrue (is_early stop)
 
 -- how a call reads that writes nothing before it read all
 abbrev pub at_end : (List ℕ → List ℕ → ℕ → Type 0) → Form → ℕ → WholeReading Played PlayStop
@@ -66,26 +76,13 @@ abbrev pub IsListStop : PlayStop → Type 0
 IsListStop (Text fault) = ⊤
 IsListStop stop = IsStreamStop stop
 
--- The count of told ends rose where the input was read to its end, and nowhere else: of a call that writes while it
--- reads,
+-- how the end of the input is told by a call that writes while it reads,
 abbrev pub EndInTurn : Result Played PlayStop → Count → Count → Type 0
-EndInTurn (Ok played) before now = RoseOnce before now
-EndInTurn (Err (Torn block)) before now = RoseOnce before now
-EndInTurn (Err (PastEnd blocks)) before now = RoseOnce before now
-EndInTurn (Err (Text fault)) before now = RoseOnce before now
-EndInTurn (Err TooLong) before now = now ≡ before
-EndInTurn (Err ReadFault) before now = now ≡ before
-EndInTurn (Err WriteFault) before now = now ≡ before
+EndInTurn = ToldUnless is_early_in_turn
 
--- and of one that writes nothing before it read all
+-- and by one that writes nothing before it read all
 abbrev pub EndFirst : Result Played PlayStop → Count → Count → Type 0
-EndFirst (Ok played) before now = RoseOnce before now
-EndFirst (Err (Torn block)) before now = RoseOnce before now
-EndFirst (Err (PastEnd blocks)) before now = RoseOnce before now
-EndFirst (Err (Text fault)) before now = RoseOnce before now
-EndFirst (Err TooLong) before now = now ≡ before
-EndFirst (Err ReadFault) before now = now ≡ before
-EndFirst (Err WriteFault) before now = RoseOnce before now
+EndFirst = ToldUnless is_early
 
 -- the answer to an input of so many bytes that is read and written without a fault
 abbrev pub IsAnsweredBy : Result Played PlayStop → ℕ → ℕ → Type 0

@@ -11,5 +11,5 @@ returns-clause-does g c =
       status_is = c.pump_status.ensures;
       taken = taken;
       did = turns IsPlanarForm planar_form planar_turn _ taken c.pump.result pumps;
-      exactly = c.pump.ensures.answer;
+      exactly = c.pump.ensures.reads.answer;
     }

@@ -13,5 +13,5 @@ returns-clause-does g c =
       did =
           turns (λ planar block. IsPlanarForm block planar) block_from_planar block_turn _ taken c.pump.result
           pumps;
-      exactly = c.pump.ensures.answer;
+      exactly = c.pump.ensures.reads.answer;
     }

@@ -10,7 +10,7 @@ returns-then-filled-SIZE-clause-feeds g c =
     let few : c.in_ok-filled.filled < g.G.UnitStage.SIZE =
     omega (arith, c.SIZE-2.ensures, c.if-filled-SIZE.true) in
     let count : length (take c.in_ok-filled.filled c.fill.new.buf) ≡ c.in_ok-filled.filled =
-    length-take-le c.in_ok-filled.filled c.fill.new.buf read.within in (
+    length-take-le c.in_ok-filled.filled c.fill.new.buf (omega (arith, room, few)) in (
       take c.in_ok-filled.filled c.fill.new.buf,
       count,
       record {
@@ -52,7 +52,7 @@ returns-clause-stays g c = tt
 
 pub returns-in_err-filled-clause-reads : goal.returns-in_err-filled-clause-reads
 returns-in_err-filled-clause-reads g c =
-    let read = c.in_err-filled.ensures in
+    let read = c.in_err-filled.ensures.reads in
     let failed = c.from_residual.ensures.0 in
     let room : length c.fill.new.buf ≡ g.G.UnitStage.SIZE = search (rules, c.SIZE.ensures) in
     let (bytes, few, took) = read.part in
@@ -74,24 +74,24 @@ returns-in_err-filled-clause-reads g c =
 
 pub returns-then-filled-SIZE-clause-reads : goal.returns-then-filled-SIZE-clause-reads
 returns-then-filled-SIZE-clause-reads g c =
-    let read = c.in_ok-filled.ensures in
+    let read = c.in_ok-filled.ensures.reads in
     record {
       within = omega (arith, c.SIZE-2.ensures, c.if-filled-SIZE.true);
       part = tt;
       cut = tt;
       cause = read.cause;
-      told = search rules;
-      room = search rules;
+      told = search (rules, read.told);
+      room = search (rules, read.room);
     }
 
 pub returns-clause-reads : goal.returns-clause-reads
 returns-clause-reads g c =
-    let read = c.in_ok-filled.ensures in
+    let read = c.in_ok-filled.ensures.reads in
     record {
       within = search rules;
       part = tt;
       cut = tt;
-      cause = search rules;
-      told = search rules;
-      room = search rules;
+      cause = record { later = read.cause.later; failed = tt; same = read.cause.same };
+      told = search (rules, read.told);
+      room = search (rules, read.room);
     }

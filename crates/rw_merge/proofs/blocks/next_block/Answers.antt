@@ -33,4 +33,4 @@ returns-clause-asks g c =
     let done = c.fill.ensures in
     asks_as g.S.Source.left g.S.Source.ends g.S.Source.fills g.S.Source.faults _ _ _ c.fill.result 96
     c.args.block.now c.fill.new.buf (c.feed_at_hand.ensures.none c.if-feed_at_hand.false).0 c.told-block
-    (c.fill.auto.buf ∙ c.told-block) done.within done.ok done.end done.part done.cause done.told done.room
+    (c.fill.auto.buf ∙ c.told-block) done.ok done.end done.reads

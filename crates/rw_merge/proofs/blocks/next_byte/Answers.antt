@@ -8,6 +8,5 @@ returns g c =
       c.fill.new.buf,
       asks_as g.S.Source.left g.S.Source.ends g.S.Source.fills g.S.Source.faults _ _ _ c.fill.result 1
           (0 ∷ [])
-          c.fill.new.buf refl refl c.fill.auto.buf done.within done.ok done.end done.part done.cause done.told
-          done.room,
+          c.fill.new.buf refl refl c.fill.auto.buf done.ok done.end done.reads,
     )

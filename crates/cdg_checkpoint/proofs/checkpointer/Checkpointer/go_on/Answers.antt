@@ -4,7 +4,7 @@ use Rattle.cdg_io.specs.declared.pumping.PumpStop.{PumpStop}
 use Rattle.cdg_checkpoint.specs.Checkpoint.{checkpoint_in}
 use Rattle.cdg_checkpoint.proofs.Reached.{brought_back, goes_on, reached_by, sound_file, torn_by}
 use Rattle.cdg_checkpoint.proofs.Stopping.{ends_as_reached, first_is_not_past, gone_on_to_stop, reached_is_not, write_is_not_past}
-use Rattle.cdg_checkpoint.proofs.OtherStops.{done_no_read, fault_by, is_read, long_by, long_no_first, long_no_read, long_no_second, long_no_write, long_told, read_told, second_is_not_past, second_no_first, second_no_write, torn_no_first, torn_no_read, torn_no_second, torn_no_write, torn_told}
+use Rattle.cdg_checkpoint.proofs.OtherStops.{done_no_read, fault_by, is_read, long_by, long_no_first, long_no_read, long_no_second, long_no_write, second_is_not_past, second_no_first, second_no_write, told_by, torn_no_first, torn_no_read, torn_no_second, torn_no_write}
 use Rattle.cdg_checkpoint.proofs.checkpointer.Checkpointer.go_on.Goals as goal
 
 abbrev error : PumpStop → Result Pumped PumpStop
@@ -55,14 +55,14 @@ returns-in-Ok-clause-answer g c =
     reached_by (checkpoint_in c.args.self.now.file) c.args.at _ _ _ _ c.in-Ok.pumped _ _
     (ap₂ (λ a b. 1000000 - (a + b)) c.counts-counts.ensures.lead_in c.counts-counts.ensures.program)
     c.counts-counts.ensures.to_come c.counts-counts.ensures.program
-    c.resumed.ensures.answer c.in-Ok.ensures.answer
+    c.resumed.ensures.answer c.in-Ok.ensures.reads.answer
 
 pub returns-in-Torn-clause-answer : goal.returns-in-Torn-clause-answer
 returns-in-Torn-clause-answer g c =
     torn_by (checkpoint_in c.args.self.now.file) c.args.at _ _ c.in-Torn.unit _ c.in-Err.stop c.in-Torn.is
     (ap₂ (λ a b. 1000000 - (a + b)) c.counts-counts.ensures.lead_in c.counts-counts.ensures.program)
     (ap₂ (λ a b. a + b) c.counts-counts.ensures.lead_in c.counts-counts.ensures.program)
-    c.in-Err.ensures.answer
+    c.in-Err.ensures.reads.answer
 
 pub returns-in-ReadFault-clause-goes_on : goal.returns-in-ReadFault-clause-goes_on
 returns-in-ReadFault-clause-goes_on g c =
@@ -96,7 +96,7 @@ returns-in-TooLong-clause-goes_on g c =
 
 pub returns-in-Ok-clause-ended : goal.returns-in-Ok-clause-ended
 returns-in-Ok-clause-ended g c =
-    ends_as_reached c.resumed.result _ c.args.at _ _ _ c.resumed.ensures.answer c.in-Ok.ensures.ended
+    ends_as_reached c.resumed.result _ c.args.at _ _ _ c.resumed.ensures.answer c.in-Ok.ensures.reads.ended
 
 pub returns-in-Ok-clause-no_write : goal.returns-in-Ok-clause-no_write
 returns-in-Ok-clause-no_write g c =
@@ -127,11 +127,11 @@ returns-in-Ok-clause-file g c = c.begin_again.ensures.file
 
 pub returns-in-Ok-clause-fault : goal.returns-in-Ok-clause-fault
 returns-in-Ok-clause-fault g c = record {
-  later = c.in-Ok.ensures.read_fault.later;
+  later = c.in-Ok.ensures.reads.read_fault.later;
   rose =
       λ e.
       absurd (reached_is_not c.resumed.result _ c.args.at _ _ c.resumed.ensures.answer second_is_not_past e);
-  same = λ other. c.in-Ok.ensures.read_fault.same (done_no_read c.in-Ok.pumped);
+  same = λ other. c.in-Ok.ensures.reads.read_fault.same (done_no_read c.in-Ok.pumped);
 }
 
 pub returns-in-Ok-clause-accepted : goal.returns-in-Ok-clause-accepted
@@ -145,15 +145,16 @@ returns-in-ReadFault-clause-file g c = c.begin_again.ensures.file
 
 pub returns-in-ReadFault-clause-fault : goal.returns-in-ReadFault-clause-fault
 returns-in-ReadFault-clause-fault g c = record {
-  later = c.in-Err.ensures.read_fault.later;
+  later = c.in-Err.ensures.reads.read_fault.later;
   rose = λ e. let (taken, w) = c.in-Err.ensures.watches in
-      c.in-Err.ensures.read_fault.rose (is_read c.in-Err.stop c.in-ReadFault.is w.no_write);
+      c.in-Err.ensures.reads.read_fault.rose (is_read c.in-Err.stop c.in-ReadFault.is w.no_write);
   same = λ other. absurd (other refl);
 }
 
 pub returns-in-ReadFault-clause-ended : goal.returns-in-ReadFault-clause-ended
 returns-in-ReadFault-clause-ended g c = let (taken, w) = c.in-Err.ensures.watches in
-    read_told c.in-Err.stop _ _ (is_read c.in-Err.stop c.in-ReadFault.is w.no_write) c.in-Err.ensures.ended
+    told_by c.in-Err.stop _ _ _ (is_read c.in-Err.stop c.in-ReadFault.is w.no_write)
+    c.in-Err.ensures.reads.ended
 
 pub returns-in-ReadFault-clause-no_write : goal.returns-in-ReadFault-clause-no_write
 returns-in-ReadFault-clause-no_write g c = second_no_write
@@ -169,14 +170,16 @@ returns-in-Torn-clause-file g c = c.begin_again.ensures.file
 
 pub returns-in-Torn-clause-fault : goal.returns-in-Torn-clause-fault
 returns-in-Torn-clause-fault g c = record {
-  later = c.in-Err.ensures.read_fault.later;
+  later = c.in-Err.ensures.reads.read_fault.later;
   rose = λ e. absurd (torn_no_second _ e);
-  same = λ other. c.in-Err.ensures.read_fault.same (torn_no_read c.in-Err.stop c.in-Torn.unit c.in-Torn.is);
+  same =
+      λ other.
+      c.in-Err.ensures.reads.read_fault.same (torn_no_read c.in-Err.stop c.in-Torn.unit c.in-Torn.is);
 }
 
 pub returns-in-Torn-clause-ended : goal.returns-in-Torn-clause-ended
 returns-in-Torn-clause-ended g c =
-    torn_told c.in-Err.stop c.in-Torn.unit _ _ c.in-Torn.is c.in-Err.ensures.ended
+    told_by c.in-Err.stop _ _ _ (ap error c.in-Torn.is) c.in-Err.ensures.reads.ended
 
 pub returns-in-Torn-clause-no_write : goal.returns-in-Torn-clause-no_write
 returns-in-Torn-clause-no_write g c = torn_no_write _
@@ -191,20 +194,21 @@ pub returns-in-TooLong-clause-answer : goal.returns-in-TooLong-clause-answer
 returns-in-TooLong-clause-answer g c =
     long_by (checkpoint_in c.args.self.now.file) c.args.at _ _ c.in-Err.stop c.in-TooLong.is
     (ap₂ (λ a b. 1000000 - (a + b)) c.counts-counts.ensures.lead_in c.counts-counts.ensures.program)
-    c.in-Err.ensures.answer
+    c.in-Err.ensures.reads.answer
 
 pub returns-in-TooLong-clause-file : goal.returns-in-TooLong-clause-file
 returns-in-TooLong-clause-file g c = c.begin_again.ensures.file
 
 pub returns-in-TooLong-clause-fault : goal.returns-in-TooLong-clause-fault
 returns-in-TooLong-clause-fault g c = record {
-  later = c.in-Err.ensures.read_fault.later;
+  later = c.in-Err.ensures.reads.read_fault.later;
   rose = λ e. absurd (long_no_second e);
-  same = λ other. c.in-Err.ensures.read_fault.same (long_no_read c.in-Err.stop c.in-TooLong.is);
+  same = λ other. c.in-Err.ensures.reads.read_fault.same (long_no_read c.in-Err.stop c.in-TooLong.is);
 }
 
 pub returns-in-TooLong-clause-ended : goal.returns-in-TooLong-clause-ended
-returns-in-TooLong-clause-ended g c = long_told c.in-Err.stop _ _ c.in-TooLong.is c.in-Err.ensures.ended
+returns-in-TooLong-clause-ended g c =
+    told_by c.in-Err.stop _ _ _ (ap error c.in-TooLong.is) c.in-Err.ensures.reads.ended
 
 pub returns-in-TooLong-clause-no_write : goal.returns-in-TooLong-clause-no_write
 returns-in-TooLong-clause-no_write g c = long_no_write

@@ -36,41 +36,41 @@ returns-in-Ok-clause-restores g c =
     let law = c.damaged_streams_give_packs.ensures in
     let (taken, converts) = returns-in-Ok-clause-converts g c in
     restores c.args.form c.args.lead_in _ _ _ _ (Ok c.played.result) taken law.text law.bad converts
-    (answered_done (unit_size c.args.form) _ c.played.result _ c.in-Ok.ensures.answer)
+    (answered_done (unit_size c.args.form) _ c.played.result _ c.in-Ok.ensures.reads.answer)
 
 pub returns-in-Err-clause-restores : goal.returns-in-Err-clause-restores
 returns-in-Err-clause-restores g c =
     let law = c.damaged_streams_give_packs.ensures in
     let (taken, converts) = returns-in-Err-clause-converts g c in
     restores c.args.form c.args.lead_in _ _ _ _ _ taken law.text law.bad converts
-    (checked_stop (unit_size c.args.form) _ _ _ c.play_stop.ensures c.in-Err.ensures.answer)
+    (checked_stop (unit_size c.args.form) _ _ _ c.play_stop.ensures c.in-Err.ensures.reads.answer)
 
 pub returns-in-Ok-clause-faults : goal.returns-in-Ok-clause-faults
 returns-in-Ok-clause-faults g c =
     let read = c.in-Ok.ensures in
-    done_told _ _ _ _ read.read_fault.later read.write_fault.later _ _ read.read_fault.same
+    done_told _ _ _ _ read.reads.read_fault.later read.write_fault.later _ _ read.reads.read_fault.same
     read.write_fault.same
 
 pub returns-in-Err-clause-faults : goal.returns-in-Err-clause-faults
 returns-in-Err-clause-faults g c =
     let read = c.in-Err.ensures in
-    stop_told _ _ _ _ read.read_fault.later read.write_fault.later _ _ c.play_stop.ensures
-    read.read_fault.rose read.read_fault.same read.write_fault.rose read.write_fault.same
+    stop_told _ _ _ _ read.reads.read_fault.later read.write_fault.later _ _ c.play_stop.ensures
+    read.reads.read_fault.rose read.reads.read_fault.same read.write_fault.rose read.write_fault.same
 
 pub returns-in-Ok-clause-answer : goal.returns-in-Ok-clause-answer
 returns-in-Ok-clause-answer g c =
-    answered_done (unit_size c.args.form) _ c.played.result _ c.in-Ok.ensures.answer
+    answered_done (unit_size c.args.form) _ c.played.result _ c.in-Ok.ensures.reads.answer
 
 pub returns-in-Ok-clause-ended : goal.returns-in-Ok-clause-ended
-returns-in-Ok-clause-ended g c = c.in-Ok.ensures.ended
+returns-in-Ok-clause-ended g c = c.in-Ok.ensures.reads.ended
 
 pub returns-in-Err-clause-answer : goal.returns-in-Err-clause-answer
 returns-in-Err-clause-answer g c =
-    checked_stop (unit_size c.args.form) _ _ _ c.play_stop.ensures c.in-Err.ensures.answer
+    checked_stop (unit_size c.args.form) _ _ _ c.play_stop.ensures c.in-Err.ensures.reads.answer
 
 pub returns-in-Err-clause-stops : goal.returns-in-Err-clause-stops
 returns-in-Err-clause-stops g c = stops_played c.in-Err.stop c.play_stop.result c.play_stop.ensures
 
 pub returns-in-Err-clause-ended : goal.returns-in-Err-clause-ended
 returns-in-Err-clause-ended g c =
-    ends_stopped c.in-Err.stop c.play_stop.result _ _ c.play_stop.ensures c.in-Err.ensures.ended
+    ends_stopped c.in-Err.stop c.play_stop.result _ _ c.play_stop.ensures c.in-Err.ensures.reads.ended

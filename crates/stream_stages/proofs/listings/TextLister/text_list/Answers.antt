@@ -20,20 +20,21 @@ returns-in-Ok-clause-answer g c =
     (lists_done c.args.form c.args.lead_in _ _ _ _ c.begin.new.self c.watch.new.stages.blocks taken
     c.in-Ok.pumped _ _ c.lead_in_packs_are_read.ensures c.requires.lead_in c.begin.ensures w
     c.saturating_sub.ensures c.write_texts.ensures.writes)
-    c.in-Ok.ensures.answer
+    c.in-Ok.ensures.reads.answer
 
 pub returns-in-Ok-clause-faults : goal.returns-in-Ok-clause-faults
 returns-in-Ok-clause-faults g c =
     let wrote = c.write_texts.ensures in
-    texts_told _ _ _ _ c.in-Ok.ensures.read_fault.later wrote.write_fault.later c.watch.new.stages.blocks _
+    texts_told _ _ _ _ c.in-Ok.ensures.reads.read_fault.later wrote.write_fault.later
+    c.watch.new.stages.blocks _
     (g.K.Sink.held c.args.out.now) (g.K.Sink.held c.write_texts.new.out) c.in-Ok.pumped c.write_texts.result
-    wrote.writes c.in-Ok.ensures.read_fault.same wrote.write_fault.rose wrote.write_fault.same
+    wrote.writes c.in-Ok.ensures.reads.read_fault.same wrote.write_fault.rose wrote.write_fault.same
 
 pub returns-in-Err-clause-faults : goal.returns-in-Err-clause-faults
 returns-in-Err-clause-faults g c =
     let (taken, w) = c.in-Err.ensures.watches in
-    unread _ _ _ c.in-Err.ensures.read_fault.later _ _ c.play_stop.ensures w.no_write
-    c.in-Err.ensures.read_fault.rose c.in-Err.ensures.read_fault.same
+    unread _ _ _ c.in-Err.ensures.reads.read_fault.later _ _ c.play_stop.ensures w.no_write
+    c.in-Err.ensures.reads.read_fault.rose c.in-Err.ensures.reads.read_fault.same
 
 pub returns-in-Ok-clause-stops : goal.returns-in-Ok-clause-stops
 returns-in-Ok-clause-stops g c =
@@ -44,7 +45,7 @@ pub returns-in-Ok-clause-ended : goal.returns-in-Ok-clause-ended
 returns-in-Ok-clause-ended g c =
     ends_texts c.watch.new.stages.blocks _ (g.K.Sink.held c.args.out.now)
     (g.K.Sink.held c.write_texts.new.out) c.write_texts.result _ _ c.write_texts.ensures.writes
-    c.in-Ok.ensures.ended
+    c.in-Ok.ensures.reads.ended
 
 pub returns-in-Err-clause-stops : goal.returns-in-Err-clause-stops
 returns-in-Err-clause-stops g c = stops_unread c.in-Err.stop c.play_stop.result c.play_stop.ensures
@@ -52,7 +53,8 @@ returns-in-Err-clause-stops g c = stops_unread c.in-Err.stop c.play_stop.result 
 pub returns-in-Err-clause-ended : goal.returns-in-Err-clause-ended
 returns-in-Err-clause-ended g c =
     let (taken, w) = c.in-Err.ensures.watches in
-    ends_unread c.in-Err.stop c.play_stop.result _ _ c.play_stop.ensures w.no_write c.in-Err.ensures.ended
+    ends_unread c.in-Err.stop c.play_stop.result _ _ c.play_stop.ensures w.no_write
+    c.in-Err.ensures.reads.ended
 
 pub returns-in-Err-clause-lists : goal.returns-in-Err-clause-lists
 returns-in-Err-clause-lists g c =
@@ -65,4 +67,4 @@ returns-in-Err-clause-lists g c =
 pub returns-in-Err-clause-answer : goal.returns-in-Err-clause-answer
 returns-in-Err-clause-answer g c =
     listed_stop c.args.form c.args.lead_in c.in-Err.stop c.play_stop.result _ c.play_stop.ensures
-    c.in-Err.ensures.answer
+    c.in-Err.ensures.reads.answer

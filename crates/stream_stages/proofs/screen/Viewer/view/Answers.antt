@@ -25,7 +25,7 @@ returns-in-Ok-clause-views g c =
 pub returns-in-Ok-clause-answer : goal.returns-in-Ok-clause-answer
 returns-in-Ok-clause-answer g c =
     shown_done c.args.lead_in c.args.at (unit_size c.args.form) _ _ _ _ c.viewed.ensures
-    c.in-Ok.ensures.answer
+    c.in-Ok.ensures.reads.answer
 
 pub returns-in-Err-clause-views : goal.returns-in-Err-clause-views
 returns-in-Err-clause-views g c =
@@ -38,7 +38,7 @@ returns-in-Err-clause-views g c =
 pub returns-in-Err-clause-answer : goal.returns-in-Err-clause-answer
 returns-in-Err-clause-answer g c =
     shown_stop c.args.lead_in c.args.at (unit_size c.args.form) _ _ _ c.play_stop.ensures
-    c.in-Err.ensures.answer
+    c.in-Err.ensures.reads.answer
 
 pub returns-in-Ok-clause-stops : goal.returns-in-Ok-clause-stops
 returns-in-Ok-clause-stops g c =
@@ -51,4 +51,5 @@ returns-in-Err-clause-stops g c = subst IsMomentStop (sym c.play_stop.ensures) (
 pub returns-in-Err-clause-ended : goal.returns-in-Err-clause-ended
 returns-in-Err-clause-ended g c =
     let (taken, w) = c.in-Err.ensures.watches in
-    ends_unread c.in-Err.stop c.play_stop.result _ _ c.play_stop.ensures w.no_write c.in-Err.ensures.ended
+    ends_unread c.in-Err.stop c.play_stop.result _ _ c.play_stop.ensures w.no_write
+    c.in-Err.ensures.reads.ended
