@@ -1,7 +1,7 @@
 -- When a fault is told: where a count of faults rose, and nowhere else.
 use Rattle.std.specs.Prelude.{◌≡◌, ◌≢◌, ◌≤◌, ⊤, ℕ}
 use Rattle.cdg_io.specs.Causes.{Rose}
-use Rattle.cdg_io.specs.Change.{Change}
+use Rattle.cdg_io.specs.Change.{Change, from_to}
 use Rattle.cdg_cmd.specs.Call.{Call}
 use Rattle.cdg_cmd.specs.declared.status.Status.{Status}
 use Rattle.cdg_cmd.specs.declared.status.Status.TheVariants.{Done, Damaged, Usage, Refused, Late, ReadFault, WriteFault, NoMemory}
@@ -12,6 +12,11 @@ pub record IsTold (fault : Status) (count : Change ℕ) (status : Status) : Type
   pub later : count.before ≤ count.after
   pub rose : status ≡ fault → Rose count.before count.after
   pub same : status ≢ fault → count.after ≡ count.before
+
+-- Want of memory is told where a call that asks for it said that none was found, and nowhere else: this count of such answers
+-- rose.
+abbrev pub TellsWant : ℕ → ℕ → Status → Type 0
+TellsWant before after status = IsTold NoMemory (from_to before after) status
 
 -- The same of both inputs and of the output.
 pub record TellsFaults (counts : Call ℕ) (status : Status) : Type 0 where

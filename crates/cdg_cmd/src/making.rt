@@ -3,10 +3,10 @@ ghost use Rattle.std.specs.Prelude.{◌≡◌, ◌≢◌, ◌≤◌, ◌<◌, �
 ghost use Rattle.disc_time.specs.Counts.{most_lead_in, time_count};
 ghost use Rattle.cdg_io.specs.Causes.{RoseOnce, TellsFault};
 ghost use Rattle.cdg_cmd.specs.Authors.{AuthorsWith, IsScriptStop, IsSheetStop, ReadsScript, ReadsSheet, TakesAtStop};
-ghost use Rattle.cdg_io.specs.Change.{change, from_to, input};
+ghost use Rattle.cdg_io.specs.Change.{change, input};
 ghost use Rattle.cdg_cmd.specs.Call.{call};
 ghost use Rattle.cdg_cmd.specs.Ends.{StopEnds, TextsEnd};
-ghost use Rattle.cdg_cmd.specs.Faults.{TellsFaults, IsTold};
+ghost use Rattle.cdg_cmd.specs.Faults.{IsTold, TellsFaults, TellsWant};
 ghost use Rattle.cdg_cmd.specs.Keeps.{MayReadSecond};
 ghost use Rattle.cdg_cmd.specs.Presses.{IsFileStop, PressesWith};
 ghost use Rattle.cdg_cmd.specs.Stops.{author_status, press_status};
@@ -86,8 +86,7 @@ pub(crate) fn run_author<S: Source, T: Source, K: Sink>(
         (first.new, second.new, out.new)) result }
     ensures ended { TextsEnd IsScriptStop author_status (input S.left S.ends first.old first.new)
         (input T.left T.ends second.old second.new) result }
-    // Memory is wanted where a call says that none was found, and nowhere else.
-    ensures wants { IsTold Status.NoMemory (from_to memory.old memory.new) result }
+    ensures wants { TellsWant memory.old memory.new result }
 {
     let sheet = match read_sheet(memory, first) {
         Ok(sheet) => sheet,
@@ -121,8 +120,7 @@ pub(crate) fn run_press<S: Source, T: Source, K: Sink>(
         (first.new, second.new, out.new)) result }
     ensures ended { TextsEnd IsFileStop press_status (input S.left S.ends first.old first.new)
         (input T.left T.ends second.old second.new) result }
-    // Memory is wanted where a call says that none was found, and nowhere else.
-    ensures wants { IsTold Status.NoMemory (from_to memory.old memory.new) result }
+    ensures wants { TellsWant memory.old memory.new result }
 {
     let sheet = match read_sheet(memory, first) {
         Ok(sheet) => sheet,
@@ -162,8 +160,7 @@ pub(crate) fn run_trial<K: Sink>(
     ensures never { (result ≡ Status.Done) ⊎ (result ≡ Status.WriteFault) ⊎ (result ≡ Status.NoMemory) }
     ensures no_memory { result ≡ Status.NoMemory → out.new ≡ out.old }
     ensures faults { IsTold Status.WriteFault (change K.faults out.old out.new) result }
-    // Memory is wanted where a call says that none was found, and nowhere else.
-    ensures wants { IsTold Status.NoMemory (from_to memory.old memory.new) result }
+    ensures wants { TellsWant memory.old memory.new result }
 {
     match memory.try_out(seed, pictures, out) {
         Ok(()) => Status::Done,

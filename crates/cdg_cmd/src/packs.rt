@@ -2,10 +2,10 @@
 ghost use Rattle.std.specs.Prelude.{◌≡◌, ◌≢◌, ◌≤◌, ◌<◌, ◌⊎◌};
 ghost use Rattle.disc_time.specs.Counts.{most_lead_in, time_count};
 ghost use Rattle.cdg_cmd.specs.Answer.{Does};
-ghost use Rattle.cdg_io.specs.Change.{change, from_to, input};
+ghost use Rattle.cdg_io.specs.Change.{change, input};
 ghost use Rattle.cdg_cmd.specs.Call.{call, one_input};
 ghost use Rattle.cdg_cmd.specs.Ends.{EndsAs, ReadingsEnd, ResumeEnds};
-ghost use Rattle.cdg_cmd.specs.Faults.{IsTold, TellsFaults, TellsOne};
+ghost use Rattle.cdg_cmd.specs.Faults.{TellsFaults, TellsOne, TellsWant};
 ghost use Rattle.cdg_cmd.specs.Keeps.{MayWrite, MayReadSecond};
 ghost use Rattle.cdg_cmd.specs.Stops.{pump_status, thin_status};
 ghost use Rattle.cdg_io.specs.Pump.{TellsEndOf};
@@ -55,8 +55,7 @@ pub(crate) fn run_thin<S: Source, K: Sink>(
         (change K.faults out.old out.new) result }
     ensures ended { result ≢ Status.NoMemory
         → EndsAs thin_status TellsEndOf (input S.left S.ends source.old source.new) result }
-    // Memory is wanted where a call says that none was found, and nowhere else.
-    ensures wants { IsTold Status.NoMemory (from_to memory.old memory.new) result }
+    ensures wants { TellsWant memory.old memory.new result }
 {
     match memory.thinner() {
         Ok(mut thinner) => thin_status(thinner.run(source, out)),
@@ -81,8 +80,7 @@ pub(crate) fn run_save<S: Source, K: Sink>(
         (change K.faults out.old out.new) result }
     ensures ended { result ≢ Status.NoMemory
         → EndsAs pump_status EndsAsSaved (input S.left S.ends source.old source.new) result }
-    // Memory is wanted where a call says that none was found, and nowhere else.
-    ensures wants { IsTold Status.NoMemory (from_to memory.old memory.new) result }
+    ensures wants { TellsWant memory.old memory.new result }
 {
     match memory.checkpointer() {
         Ok(mut checkpointer) => pump_status(checkpointer.save(lead_in, source, out)),
@@ -112,8 +110,7 @@ pub(crate) fn run_resume<S: Source, T: Source, K: Sink>(
         (first.new, second.new, out.new)) result }
     ensures ended { result ≢ Status.NoMemory → ResumeEnds at (input S.left S.ends first.old first.new)
         (input T.left T.ends second.old second.new) result }
-    // Memory is wanted where a call says that none was found, and nowhere else.
-    ensures wants { IsTold Status.NoMemory (from_to memory.old memory.new) result }
+    ensures wants { TellsWant memory.old memory.new result }
 {
     match memory.checkpointer() {
         Ok(mut checkpointer) => resume_status(checkpointer.resume(at, first, second, out)),

@@ -2,11 +2,11 @@
 ghost use Rattle.std.specs.Prelude.{◌≢◌, ◌≤◌, ◌≡◌, ◌<◌};
 ghost use Rattle.disc_time.specs.Counts.{most_lead_in, time_count};
 ghost use Rattle.cdg_cmd.specs.Answer.{Does, LacksMemory};
-ghost use Rattle.cdg_io.specs.Change.{change, from_to, input};
+ghost use Rattle.cdg_io.specs.Change.{change, input};
 ghost use Rattle.cdg_cmd.specs.Call.{one_input};
 ghost use Rattle.stream_stages.specs.Calls.{EndFirst, EndInTurn};
 ghost use Rattle.cdg_cmd.specs.Ends.{EndsAs, EndsAsListed};
-ghost use Rattle.cdg_cmd.specs.Faults.{IsTold, TellsOne};
+ghost use Rattle.cdg_cmd.specs.Faults.{TellsOne, TellsWant};
 ghost use Rattle.cdg_cmd.specs.Keeps.{MayWrite};
 ghost use Rattle.cdg_cmd.specs.Stops.{play_status};
 
@@ -96,8 +96,7 @@ pub(crate) fn run_text<S: Source, K: Sink>(
     ensures faults { TellsOne (change S.faults source.old source.new)
         (change K.faults out.old out.new) result }
     ensures ended { EndsAsListed (input S.left S.ends source.old source.new) result }
-    // Memory is wanted where a call says that none was found, and nowhere else.
-    ensures wants { IsTold Status.NoMemory (from_to memory.old memory.new) result }
+    ensures wants { TellsWant memory.old memory.new result }
 {
     match memory.lister() {
         Ok(mut lister) => {
@@ -127,8 +126,7 @@ pub(crate) fn run_screen<S: Source, K: Sink>(
         (change K.faults out.old out.new) result }
     ensures ended { result ≢ Status.NoMemory
         → EndsAs play_status EndFirst (input S.left S.ends source.old source.new) result }
-    // Memory is wanted where a call says that none was found, and nowhere else.
-    ensures wants { IsTold Status.NoMemory (from_to memory.old memory.new) result }
+    ensures wants { TellsWant memory.old memory.new result }
 {
     match memory.viewer() {
         Ok(mut viewer) => play_status(viewer.screen_at(lead_in, form, at, source, out)),
@@ -156,8 +154,7 @@ pub(crate) fn run_state<S: Source, K: Sink>(
         (change K.faults out.old out.new) result }
     ensures ended { result ≢ Status.NoMemory
         → EndsAs play_status EndFirst (input S.left S.ends source.old source.new) result }
-    // Memory is wanted where a call says that none was found, and nowhere else.
-    ensures wants { IsTold Status.NoMemory (from_to memory.old memory.new) result }
+    ensures wants { TellsWant memory.old memory.new result }
 {
     match memory.viewer() {
         Ok(mut viewer) => play_status(viewer.state_at(lead_in, form, at, source, out)),

@@ -15,11 +15,11 @@ ghost use Rattle.round_trips.specs.FrameLines.{frame_lines};
 ghost use Rattle.cdg_cmd.specs.Words.{texts};
 ghost use Rattle.cdg_cmd.specs.Splitting.{split_of};
 ghost use Rattle.cdg_cmd.specs.Spelling.{IsAllowed, Spells};
-ghost use Rattle.cdg_io.specs.Change.{change, from_to, input};
+ghost use Rattle.cdg_io.specs.Change.{change, input};
 ghost use Rattle.cdg_cmd.specs.Call.{call};
 ghost use Rattle.cdg_cmd.specs.Performs.{Performs};
 ghost use Rattle.cdg_cmd.specs.Answer.{GivesBack, GivesIfFound};
-ghost use Rattle.cdg_cmd.specs.Faults.{IsAnswered, IsTold, NoneRose, TellsFaults};
+ghost use Rattle.cdg_cmd.specs.Faults.{IsAnswered, NoneRose, TellsFaults, TellsWant};
 ghost use Rattle.cdg_cmd.specs.Told.{Tells};
 ghost use Rattle.cdg_cmd.specs.Authors.{IsScriptText, IsSheetText};
 ghost use Rattle.cdg_cmd.specs.Headline.{HavePlace, IsDamagedCopy, PutsPicture, WritesOrIsLate, written_packs};
@@ -190,8 +190,7 @@ fn answer<S: Source, T: Source, K: Sink>(
         (first.new, second.new, out.new) result }
     ensures faults { TellsFaults (call S.faults T.faults K.faults (first.old, second.old, out.old)
         (first.new, second.new, out.new)) result }
-    // Memory is wanted where a call says that none was found, and nowhere else.
-    ensures wants { IsTold Status.NoMemory (from_to memory.old memory.new) result }
+    ensures wants { TellsWant memory.old memory.new result }
 {
     match read_words(words) {
         Some(command) => perform(memory, command, first, second, out),
@@ -214,8 +213,7 @@ fn perform<S: Source, T: Source, K: Sink>(
         (first.new, second.new, out.new) result }
     ensures faults { TellsFaults (call S.faults T.faults K.faults (first.old, second.old, out.old)
         (first.new, second.new, out.new)) result }
-    // Memory is wanted where a call says that none was found, and nowhere else.
-    ensures wants { IsTold Status.NoMemory (from_to memory.old memory.new) result }
+    ensures wants { TellsWant memory.old memory.new result }
 {
     match command {
         Command::Convert { lead_in, form } => run_convert(lead_in, form, first, out),

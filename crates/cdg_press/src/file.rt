@@ -1,14 +1,30 @@
-// The packs of a file as a source.
+// The packs of a file: how many they are, and a source of them.
 ghost use Rattle.std.specs.Prelude.{◌≡◌, length, unwrap_or};
 ghost use Rattle.raw_subcode.specs.Channels.{symbols_of};
 ghost use Rattle.cdg_instructions.specs.MadeGood.{IsMadeGood};
 ghost use Rattle.rw_code.specs.Packs.{idle_pack};
 ghost use Rattle.cdg_press.specs.Pressed.{pack_bytes};
+ghost use Rattle.cdg_press.specs.Refusals.{IsCounted, IsShort};
 
-use crate::checks::PACK_BYTES;
+use crate::stops::PressStop;
 use gf64::Sym;
-use rw_code::{Pack, Word, words_have_24_symbols};
+use rw_code::{Pack, SYMBOLS, Word, words_have_24_symbols};
 use stream_writer::{PackSource, unless_idle};
+
+/// How many bytes a pack of a file has: one for each symbol.
+pub(crate) const PACK_BYTES: usize = SYMBOLS;
+
+/// The number of packs of a file.
+pub(crate) fn whole_packs_of(cdg: &[u8]) -> Result<u32, PressStop>
+    requires { IsShort cdg.now }
+    ensures { IsCounted cdg.now result }
+{
+    let packs = (cdg.len() / PACK_BYTES) as u32;
+    if cdg.len() % PACK_BYTES != 0 {
+        return Err(PressStop::PackTorn { pack: packs });
+    }
+    Ok(packs)
+}
 
 /// Gives idle packs, then the packs of a file with their parity made good, and then idle packs again.
 #[derive(Drop)]

@@ -1,7 +1,6 @@
 //! Presses a `.cdg` file into the subcode of a disc, in time with the audio of a cue sheet.
 #![tactic(auto)]
 
-mod checks;
 mod file;
 mod laws;
 mod press;

@@ -1,5 +1,5 @@
 // Pressing a file into a stream.
-ghost use Rattle.std.specs.Prelude.{◌≡◌, ◌≢◌, ◌≤◌, ◌<◌, [], List, ℕ, IfErr, IfOk, OnOk, Err};
+ghost use Rattle.std.specs.Prelude.{◌≡◌, ◌≢◌, ◌≤◌, ◌<◌, [], List, ℕ, IfErr, IfOk, OnOk, Err, MatchOption};
 ghost use Rattle.disc_time.specs.Counts.{most_lead_in, most_program};
 ghost use Rattle.std.specs.Io.KnownBytes.{Appends};
 ghost use Rattle.cdg_io.specs.Causes.{TellsFault};
@@ -9,10 +9,9 @@ ghost use Rattle.toc_model.specs.Places.{layout_of};
 ghost use Rattle.stream_writer.specs.Given.{PutsStreamPart, framing_of};
 ghost use Rattle.stream_writer.specs.Needs.{text_packs, HasLayout, HasRoom};
 ghost use Rattle.cdg_press.specs.Pressed.{file_begin, IsPackAfter, IsPressed, press_of};
-ghost use Rattle.cdg_press.specs.Refusals.{IsPressable, IsPressStop, IsShort};
+ghost use Rattle.cdg_press.specs.Refusals.{HasNoGap, IsFirstGap, IsPressable, IsPressStop, IsShort};
 
-use crate::checks::{first_gap, whole_packs_of};
-use crate::file::FileSource;
+use crate::file::{FileSource, whole_packs_of};
 use crate::laws::pressable_files_have_streams;
 use crate::stops::PressStop;
 use cdg_io::Sink;
@@ -134,4 +133,17 @@ impl Ready {
             spread: Spread::start(alloc)?,
         })
     }
+}
+
+// The number of the first track with a gap.
+fn first_gap(sheet: &Sheet) -> Option<u8>
+    ensures { MatchOption result (HasNoGap sheet.now) (IsFirstGap sheet.now) }
+{
+    let tracks = sheet.tracks();
+    for k in 0..tracks {
+        if sheet.pregap(k) > 0 || sheet.postgap(k) > 0 {
+            return Some(sheet.first() + k as u8);
+        }
+    }
+    None
 }

@@ -1,19 +1,18 @@
 -- How long the lines of the texts of packs are.
-use Rattle.std.proofs.Common.{◌≡◌, ◌≢◌, ℕ, zero, suc, ◌+◌, ◌-◌, ◌*◌, ◌^◌, ◌<◌, ◌≤◌, Bool, true, false, not, ◌&&◌, ◌==◌, if◌then◌else◌, List, [], ◌∷◌, ◌++◌, length, get_or, filter, flat_map, fold, take, drop, replicate, Some, None, Result, Ok, Err, refl, sym, ap, subst, ◌∙◌, arith, inl, inr}
+use Rattle.std.proofs.Common.{◌≡◌, ℕ, zero, suc, ◌+◌, ◌-◌, ◌*◌, ◌^◌, ◌<◌, ◌≤◌, Bool, true, false, not, ◌&&◌, ◌==◌, if◌then◌else◌, List, [], ◌∷◌, ◌++◌, length, get_or, filter, flat_map, fold, take, drop, replicate, Some, None, Result, Ok, refl, sym, subst, arith, inl, inr}
 use Rattle.std.specs.declared.option.Option.{Option}
 use Rattle.std.specs.Prelude.{◌||◌, nat_lt, nat_le, codes, decimal, slice_index, IfOk}
-use Rattle.std.specs.List.{slice_split, onto_first, filter_map}
+use Rattle.std.specs.List.{slice_split, onto_first}
 use Rattle.std.proofs.lemmas.Bool.{cases_lt}
 use Rattle.std.proofs.lemmas.Bool.Decides.{nat_tests}
 use Rattle.std.proofs.lemmas.List.{length-append, length-take}
 use Rattle.std.proofs.lemmas.List.Splits.{slice_split-cons_yes, slice_split-cons_no}
-use Rattle.bit_lists.specs.Digits.{digits, hex_digits, line_feed}
+use Rattle.bit_lists.specs.Digits.{hex_digits, line_feed}
 use Rattle.disc_time.specs.Counts.{most_tracks}
 use Rattle.cdtext_packs.specs.Packs.{first_track_place, last_number_place, last_track_place, pack_type, pack_text, text_bytes}
 use Rattle.cdtext_packs.specs.Texts.{Texts, kinds, no_texts, strings_of, text_of, is_empty}
-use Rattle.cdtext_packs.specs.TextLines.{kind_name, printed, line_head, text_line, tracks_of, kind_lines, offers_line, counted_lines}
+use Rattle.cdtext_packs.specs.TextLines.{printed, line_head, text_line, tracks_of, kind_lines, offers_line, counted_lines}
 use Rattle.cdtext_packs.specs.Reading.{all_texts, first_missing, first_short, in_order, is_zero, keeps_nothing, kind_bytes, kind_packs, kind_texts, meant, read_kinds, read_numbers, read_sized, read_sizes, read_texts, resolved, size_pack, strings_in}
-use Rattle.cdtext_packs.specs.Writing.{type_of}
 use Rattle.cdtext_packs.specs.declared.kinds.TextFault.{TextFault}
 use Rattle.cdtext_packs.specs.declared.kinds.TextKind.{TextKind}
 use Rattle.cdtext_packs.specs.declared.kinds.TextKind.TheVariants.{Title, Performer, Songwriter, Composer, Arranger, Message, Code}

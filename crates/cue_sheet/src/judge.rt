@@ -1,5 +1,5 @@
 // What the lines of a cue sheet so far say of the lines that may follow.
-ghost use Rattle.std.specs.Prelude.{◌≡◌, ◌≤◌, List, ℕ, None, length};
+ghost use Rattle.std.specs.Prelude.{◌≡◌, ◌≤◌, None, length};
 ghost use Rattle.text_lines.specs.Text.{most_text_bytes};
 
 use crate::argument::spelled;

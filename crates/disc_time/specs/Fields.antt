@@ -1,5 +1,5 @@
 -- How much the fields hold that a cue sheet gives and the Q channel carries. Code calls them by the names of
--- src/fields.rt.
+-- src/counts.rt.
 use Rattle.std.specs.Prelude.{ℕ}
 
 -- digits of a catalogue number: the thirteen of a bar code (EAN-13)

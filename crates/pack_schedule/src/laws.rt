@@ -1,17 +1,22 @@
 // Laws on the packs of a script.
-ghost use Rattle.std.specs.Prelude.{◌≡◌, ◌<◌, ◌≤◌, ℕ, false, List, length, slice_index_or};
+ghost use Rattle.std.specs.Prelude.{◌≡◌, ◌<◌, ◌≤◌, ℕ, false, List, length, slice_index_or, take};
 ghost use Rattle.rw_interleave.specs.Interleave.{whole_packs};
 ghost use Rattle.cdg_instructions.specs.Sizes.{colour_count};
 ghost use Rattle.picture_script.specs.Script.{Drawing, pictures, ready_time, hold_time, picture_pixel};
 ghost use Rattle.pack_schedule.specs.Schedule.{CanBeReady, IsLate, IsOrderedSchedule, IsSchedule};
-ghost use Rattle.pack_schedule.specs.Shown.{AreColoursInRange};
+ghost use Rattle.pack_schedule.specs.Shown.{AreColoursInRange, AreTimesInOrder, ShowsPicture};
 ghost use Rattle.pack_schedule.specs.Survey.{IsSurvey, IsWithin};
 ghost use Rattle.pack_schedule.specs.Woven.{ArePacks};
 ghost use Rattle.pack_schedule.specs.Plans.{ArePlanRows, IsFirstLate, no_row};
 ghost use Rattle.pack_schedule.specs.declared.surveys.told.PlannedChange.{PlannedChange};
 ghost use Rattle.pack_schedule.specs.declared.planner.PlanRow.{PlanRow};
+ghost use Rattle.cdg_instructions.specs.declared.instr.Instr.{Instr};
+ghost use Rattle.cdg_screen.specs.Standing.{blank, standing_after};
+ghost use Rattle.pack_schedule.specs.Meanings.{AreMeantBy};
 
 use crate::{needs_are_fewest, planned_changes_are_changes};
+use cdg_instructions::{only_one_meaning, read_of_written};
+use cdg_screen::instructions_in_turn;
 
 /// A law: the packs that a weaver gives, as many as are whole in a program of so many blocks, are a schedule, and one
 /// of changes in their fixed order.
@@ -45,3 +50,17 @@ pub fn plans_tell_what_a_survey_tells()
         → ((k : ℕ) → k < pictures script → (slice_index_or rows k no_row).late ≡ false)
         → (k : ℕ) → k < pictures script → CanBeReady script k }
 {}
+
+/// A law: from its ready time to its hold time each picture of a script stands on the screen, after the packs of a
+/// schedule that are whole at that time.
+pub fn scheduled_pictures_are_shown()
+    ensures { (script : List Drawing) (blocks : ℕ) (packs : List (List ℕ)) (k time : ℕ) (instrs : List Instr)
+        → AreTimesInOrder script → IsSchedule script blocks packs
+        → k < pictures script → ready_time script k ≤ time → time ≤ hold_time script k
+        → AreMeantBy (take (whole_packs time) packs) instrs
+        → ShowsPicture script k (standing_after blank instrs) }
+{
+    instructions_in_turn();
+    only_one_meaning();
+    read_of_written();
+}

@@ -6,7 +6,6 @@ mod change_laws;
 mod laws;
 mod length_laws;
 mod planner;
-mod screen_laws;
 mod stops;
 mod surveys;
 mod times;
@@ -15,12 +14,13 @@ mod weaver;
 pub use change_laws::{
     changes_can_be_written, changes_have_planned_lengths, planned_changes_are_changes,
 };
-pub use laws::{packs_are_a_schedule, plans_tell_what_a_survey_tells};
+pub use laws::{
+    packs_are_a_schedule, plans_tell_what_a_survey_tells, scheduled_pictures_are_shown,
+};
 pub use length_laws::{
     needs_are_fewest, ordered_changes_are_shortest, schedules_of_ordered_changes_are_schedules,
 };
 pub use planner::{PlanRow, Planner};
-pub use screen_laws::scheduled_pictures_are_shown;
 pub use stops::{LatePicture, Stop};
 pub use surveys::{PlannedChange, Survey, SurveyRoom, is_past_end, survey, survey_in};
 pub use weaver::Weaver;

@@ -12,7 +12,6 @@ ghost use Rattle.pack_schedule.specs.Survey.{nothing_planned, IsRoomFor, IsLateP
 ghost use Rattle.pack_schedule.specs.Weaving.{Stands};
 ghost use Rattle.pack_schedule.specs.Weights.{AreWeights};
 
-mod room;
 mod told;
 
 use crate::change::{NOT_WEIGHED, Weighed, choose_start};
@@ -21,8 +20,7 @@ use crate::times::{free_packs, is_in_time, start_of};
 use crate::{changes_have_planned_lengths, needs_are_fewest, planned_changes_are_changes};
 use cdg_instructions::WINDOW_TILES;
 use picture_script::{Canvas, Script};
-pub use room::SurveyRoom;
-use std::alloc::Global;
+use std::alloc::{AllocError, Global};
 pub use told::{PlannedChange, Survey};
 
 /// Plans the change of each picture, for a program of so many blocks, which are below 450,000.
@@ -194,5 +192,27 @@ pub(crate) fn plan_picture(
         start: start_of(script, k),
         need: choice.need,
         preset: choice.preset,
+    }
+}
+
+/// What a survey of so many pictures is made in: two canvases on which nothing is drawn, and room for what is planned of
+/// each picture. It is taken without a look at any of them.
+#[derive(Drop)]
+pub struct SurveyRoom {
+    pub(crate) before: Canvas,
+    pub(crate) now: Canvas,
+    pub(crate) planned: Vec<PlannedChange>,
+}
+
+impl SurveyRoom {
+    /// Room for a survey of so many pictures, where there is memory.
+    pub fn start(alloc: Global, pictures: u32) -> Result<SurveyRoom, AllocError>
+        ensures { IfOk result (IsRoomFor pictures) }
+    {
+        Ok(SurveyRoom {
+            before: Canvas::start(alloc)?,
+            now: Canvas::start(alloc)?,
+            planned: Vec::with_capacity(alloc, pictures as usize)?,
+        })
     }
 }

@@ -1,4 +1,4 @@
--- The sizes of a script. Code calls them by the names of src/sizes.rt.
+-- The sizes of a script. Code calls them by the names of src/script.rt.
 use Rattle.std.specs.Prelude.{ℕ}
 
 -- the most pictures that a script shows: more than three for each second of the longest program

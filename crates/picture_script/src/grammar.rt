@@ -10,7 +10,7 @@ ghost use Rattle.cdg_instructions.specs.Sizes.{colour_count, window_height, wind
 use crate::line::ScriptLine;
 use crate::reader::ScriptReader;
 use crate::reasons::ScriptWhy;
-use crate::sizes::MOST_PICTURES;
+use crate::script::MOST_PICTURES;
 use crate::words::{colour_words, numbers, row_words, show_words};
 use cdg_instructions::{COLOURS, WINDOW_HEIGHT, WINDOW_WIDTH};
 use text_lines::after_word;

@@ -11,12 +11,10 @@ mod reader;
 mod reasons;
 mod script;
 mod show_lines;
-mod sizes;
 mod window;
 mod words;
 
 pub use canvas::Canvas;
 pub use reasons::{ScriptStop, ScriptWhy};
-pub use script::Script;
+pub use script::{MOST_PICTURES, Script};
 pub use show_lines::{ShowLines, each_picture_has_a_line};
-pub use sizes::MOST_PICTURES;

@@ -3,6 +3,9 @@ use crate::line::{ScriptLine, Shown};
 use std::alloc::{AllocError, Global};
 use std::marker::Model;
 
+/// How many pictures a script shows at most: more than three for each second of the longest program.
+pub const MOST_PICTURES: usize = 20_000;
+
 /// The lines of a picture script, and when each of its pictures is shown.
 ///
 /// A contract sees the list of what its lines say.

@@ -1,5 +1,5 @@
 // The words of a line, read as numbers, colours, pixels and times.
-ghost use Rattle.std.specs.Prelude.{◌≡◌, ◌≢◌, ◌<◌, ◌+◌, ◌∷◌, [], length, MatchOption, Some, None, if◌then◌else◌, IfSome, All, ◌&&◌, map, true};
+ghost use Rattle.std.specs.Prelude.{◌≡◌, ◌≢◌, ◌<◌, ◌∷◌, [], length, MatchOption, Some, None, if◌then◌else◌, IfSome, All, ◌&&◌, map, true};
 ghost use Rattle.disc_time.specs.Counts.{time_count};
 ghost use Rattle.std.specs.Char.{is_ascii_hexdigit, digit_value};
 ghost use Rattle.std.specs.List.{list_all};

@@ -1,5 +1,5 @@
 -- The pixels of the screen as displays take them.
-use Rattle.std.specs.Prelude.{◌≡◌, ◌+◌, ◌-◌, ◌*◌, ◌/◌, ◌%◌, ◌<◌, ◌≤◌, ℕ, List, [], ◌∷◌, ◌++◌, reverse, length, slice_index, slice_index_or}
+use Rattle.std.specs.Prelude.{◌≡◌, ◌+◌, ◌-◌, ◌*◌, ◌/◌, ◌%◌, ◌<◌, ◌≤◌, ℕ, List, [], ◌∷◌, ◌++◌, reverse, length, take, slice_index, slice_index_or}
 use Rattle.cdg_screen.specs.Standing.{Standing, screen_pixel}
 use Rattle.cdg_screen.specs.Texts.{colour_bytes}
 use Rattle.live_player.specs.declared.part.ScreenPart.{ScreenPart}
@@ -42,6 +42,23 @@ shown_bytes format now x y =
     let number = screen_pixel now x y in
     pixel_bytes format number (slice_index now.colours number) (slice_index now.levels number)
 
+-- each of some numbers is that of a colour
+abbrev pub AreColourNumbers : List ℕ → Type 0
+AreColourNumbers pixels = (i : ℕ) → i < length pixels → slice_index pixels i < 16
+
+-- a table has four bytes for each colour
+abbrev pub HasFourBytes : List (List ℕ) → Type 0
+HasFourBytes table = (p : ℕ) → p < 16 → length (slice_index_or table p []) ≡ 4
+
+-- a table of each two pixels has eight bytes for each
+abbrev pub HasEightBytes : List (List ℕ) → Type 0
+HasEightBytes pairs = (n : ℕ) → n < 256 → length (slice_index_or pairs n []) ≡ 8
+
+-- the entries of a table begin with the bytes of the colours in a format
+abbrev pub HasColours : PixelFormat → Standing → List (List ℕ) → Type 0
+HasColours format now table = (p : ℕ) → p < 16 → take (pixel_size format) (slice_index_or table p [])
+    ≡ pixel_bytes format p (slice_index now.colours p) (slice_index now.levels p)
+
 -- the first pixels, so many bytes each, one after the other, by a table of the bytes of each colour
 abbrev pub AreFirstBytes : ℕ → ℕ → List ℕ → List (List ℕ) → List ℕ → Type 0
 AreFirstBytes size count pixels table line = (i k : ℕ) → i < count → k < size
@@ -49,7 +66,7 @@ AreFirstBytes size count pixels table line = (i k : ℕ) → i < count → k < s
 
 -- a table of the bytes of each two pixels: those of colours p and q at place p + 16 q
 pub record ArePairs (size : ℕ) (table pairs : List (List ℕ)) : Type 0 where
-  pub sizes : (n : ℕ) → n < 256 → length (slice_index_or pairs n []) ≡ 8
+  pub sizes : HasEightBytes pairs
   pub bytes : (n : ℕ) → n < 256
       → AreFirstBytes size 2 (n % 16 ∷ n / 16 ∷ []) table (slice_index_or pairs n [])
 

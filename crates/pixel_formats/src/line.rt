@@ -1,6 +1,6 @@
 // Rows of pixels as bytes.
-ghost use Rattle.std.specs.Prelude.{◌≡◌, ◌<◌, ◌≤◌, ◌+◌, ◌-◌, ◌*◌, nat_le, if◌then◌else◌, ℕ, [], IfSome, length, slice_index, slice_index_or};
-ghost use Rattle.pixel_formats.specs.Formats.{AreFirstBytes, AreLineBytes, ArePairs};
+ghost use Rattle.std.specs.Prelude.{◌≡◌, ◌<◌, ◌≤◌, ◌+◌, ◌-◌, ◌*◌, nat_le, if◌then◌else◌, ℕ, IfSome, length, slice_index};
+ghost use Rattle.pixel_formats.specs.Formats.{AreFirstBytes, AreLineBytes, ArePairs, AreColourNumbers, HasFourBytes};
 
 use crate::pairs::{PAIRS, write_pairs};
 use cdg_instructions::COLOURS;
@@ -14,8 +14,8 @@ pub(crate) fn write_twos(
     line: &mut [u8],
 )
     requires size { length line.old ≡ 2 * length pixels.now }
-    requires numbers { (i : ℕ) → i < length pixels.now → slice_index pixels.now i < 16 }
-    requires entries { (p : ℕ) → p < 16 → length (slice_index_or table.now p []) ≡ 4 }
+    requires numbers { AreColourNumbers pixels.now }
+    requires entries { HasFourBytes table.now }
     requires pairs { IfSome pairs (λ pairs. ArePairs 2 table.now pairs.now) }
     ensures { AreLineBytes 2 pixels.now table.now line.new }
 {
@@ -44,8 +44,8 @@ pub(crate) fn write_threes(
     line: &mut [u8],
 )
     requires size { length line.old ≡ 3 * length pixels.now }
-    requires numbers { (i : ℕ) → i < length pixels.now → slice_index pixels.now i < 16 }
-    requires entries { (p : ℕ) → p < 16 → length (slice_index_or table.now p []) ≡ 4 }
+    requires numbers { AreColourNumbers pixels.now }
+    requires entries { HasFourBytes table.now }
     requires pairs { IfSome pairs (λ pairs. ArePairs 3 table.now pairs.now) }
     ensures { AreLineBytes 3 pixels.now table.now line.new }
 {
@@ -66,8 +66,8 @@ pub(crate) fn write_fours(
     line: &mut [u8],
 )
     requires size { length line.old ≡ 4 * length pixels.now }
-    requires numbers { (i : ℕ) → i < length pixels.now → slice_index pixels.now i < 16 }
-    requires entries { (p : ℕ) → p < 16 → length (slice_index_or table.now p []) ≡ 4 }
+    requires numbers { AreColourNumbers pixels.now }
+    requires entries { HasFourBytes table.now }
     requires pairs { IfSome pairs (λ pairs. ArePairs 4 table.now pairs.now) }
     ensures { AreLineBytes 4 pixels.now table.now line.new }
 {
@@ -92,8 +92,8 @@ fn write_first(
     requires count { count ≤ length pixels.now }
     requires room { size * count + 4 ≤ length line.old + size }
     requires pair_room { (i : ℕ) → i < paired → 2 * size * i + 8 ≤ length line.old }
-    requires numbers { (i : ℕ) → i < length pixels.now → slice_index pixels.now i < 16 }
-    requires entries { (p : ℕ) → p < 16 → length (slice_index_or table.now p []) ≡ 4 }
+    requires numbers { AreColourNumbers pixels.now }
+    requires entries { HasFourBytes table.now }
     requires pairs { IfSome pairs (λ pairs. ArePairs size table.now pairs.now) }
     ensures { AreFirstBytes size count pixels.now table.now line.new }
 {
@@ -120,8 +120,8 @@ pub(crate) fn write_more(
     requires size { size ≤ 4 }
     requires count { from + count ≤ length pixels.now }
     requires room { size * (from + count) + 4 ≤ length line.old + size }
-    requires numbers { (i : ℕ) → i < length pixels.now → slice_index pixels.now i < 16 }
-    requires entries { (p : ℕ) → p < 16 → length (slice_index_or table.now p []) ≡ 4 }
+    requires numbers { AreColourNumbers pixels.now }
+    requires entries { HasFourBytes table.now }
     requires before { AreFirstBytes size from pixels.now table.now line.old }
     ensures { AreFirstBytes size (from + count) pixels.now table.now line.new }
 {

@@ -1,6 +1,6 @@
 // The bytes of pixels, two pixels at a time.
-ghost use Rattle.std.specs.Prelude.{◌≡◌, ◌<◌, ◌≤◌, ◌+◌, ◌-◌, ◌*◌, nat_le, if◌then◌else◌, ℕ, [], length, slice_index, slice_index_or};
-ghost use Rattle.pixel_formats.specs.Formats.{AreFirstPairs, ArePairs};
+ghost use Rattle.std.specs.Prelude.{◌≡◌, ◌<◌, ◌≤◌, ◌+◌, ◌-◌, ◌*◌, nat_le, if◌then◌else◌, ℕ, length, slice_index};
+ghost use Rattle.pixel_formats.specs.Formats.{AreFirstPairs, ArePairs, AreColourNumbers, HasFourBytes, HasEightBytes};
 
 use crate::line::write_more;
 use cdg_instructions::COLOURS;
@@ -15,7 +15,7 @@ const ROUND: usize = 4;
 /// The bytes of each two pixels, so many bytes each: those of colours p and q at place p + 16 q.
 pub(crate) fn pairs_of(size: usize, table: &[[u8; 4]; COLOURS]) -> [[u8; 8]; PAIRS]
     requires size { size ≤ 4 }
-    requires entries { (p : ℕ) → p < 16 → length (slice_index_or table.now p []) ≡ 4 }
+    requires entries { HasFourBytes table.now }
     ensures { ArePairs size table.now result }
 {
     let mut pairs = [[0; 8]; PAIRS];
@@ -38,8 +38,8 @@ pub(crate) fn write_pairs(
     requires size { size ≤ 4 }
     requires count { 2 * count ≤ length pixels.now }
     requires room { (i : ℕ) → i < count → 2 * size * i + 8 ≤ length line.old }
-    requires numbers { (i : ℕ) → i < length pixels.now → slice_index pixels.now i < 16 }
-    requires entries { (n : ℕ) → n < 256 → length (slice_index_or pairs.now n []) ≡ 8 }
+    requires numbers { AreColourNumbers pixels.now }
+    requires entries { HasEightBytes pairs.now }
     ensures { AreFirstPairs size count pixels.now pairs.now line.new }
 {
     let rounds = count / ROUND;
@@ -63,8 +63,8 @@ fn write_more_pairs(
     requires size { size ≤ 4 }
     requires count { 2 * (from + count) ≤ length pixels.now }
     requires room { (i : ℕ) → i < from + count → 2 * size * i + 8 ≤ length line.old }
-    requires numbers { (i : ℕ) → i < length pixels.now → slice_index pixels.now i < 16 }
-    requires entries { (n : ℕ) → n < 256 → length (slice_index_or pairs.now n []) ≡ 8 }
+    requires numbers { AreColourNumbers pixels.now }
+    requires entries { HasEightBytes pairs.now }
     requires before { AreFirstPairs size from pixels.now pairs.now line.old }
     ensures { AreFirstPairs size (from + count) pixels.now pairs.now line.new }
 {

@@ -1,8 +1,8 @@
 // The bytes of each colour of the table.
-ghost use Rattle.std.specs.Prelude.{◌≡◌, ◌<◌, ℕ, [], length, slice_index, slice_index_or, take};
+ghost use Rattle.std.specs.Prelude.{◌≡◌, ◌<◌, length, take};
 ghost use Rattle.cdg_instructions.specs.Sizes.{colour_values, level_values};
 ghost use Rattle.cdg_screen.specs.Memory.{seen};
-ghost use Rattle.pixel_formats.specs.Formats.{opacity, packed_colour, pixel_bytes, pixel_size};
+ghost use Rattle.pixel_formats.specs.Formats.{opacity, packed_colour, pixel_bytes, pixel_size, HasFourBytes, HasColours};
 
 use crate::format::PixelFormat;
 use cdg_instructions::COLOURS;
@@ -11,10 +11,8 @@ use cdg_screen::PlainScreen;
 /// The bytes of a pixel of each colour, those behind them zero.
 pub(crate) fn table_of(screen: &PlainScreen, format: PixelFormat) -> [[u8; 4]; COLOURS]
     ensures size { length result ≡ 16 }
-    ensures sizes { (p : ℕ) → p < 16 → length (slice_index_or result p []) ≡ 4 }
-    ensures bytes { (p : ℕ) → p < 16 → take (pixel_size format) (slice_index_or result p [])
-        ≡ pixel_bytes format p (slice_index (seen screen.now).colours p)
-        (slice_index (seen screen.now).levels p) }
+    ensures sizes { HasFourBytes result }
+    ensures bytes { HasColours format (seen screen.now) result }
 {
     // Each format has a loop of its own, which the compiler can make for it alone.
     match format {
@@ -32,10 +30,8 @@ pub(crate) fn table_of(screen: &PlainScreen, format: PixelFormat) -> [[u8; 4]; C
 #[inline(always)]
 fn entries(screen: &PlainScreen, format: PixelFormat) -> [[u8; 4]; COLOURS]
     ensures size { length result ≡ 16 }
-    ensures sizes { (p : ℕ) → p < 16 → length (slice_index_or result p []) ≡ 4 }
-    ensures bytes { (p : ℕ) → p < 16 → take (pixel_size format) (slice_index_or result p [])
-        ≡ pixel_bytes format p (slice_index (seen screen.now).colours p)
-        (slice_index (seen screen.now).levels p) }
+    ensures sizes { HasFourBytes result }
+    ensures bytes { HasColours format (seen screen.now) result }
 {
     let mut table = [[0; 4]; COLOURS];
     for p in 0..COLOURS {

@@ -1,10 +1,9 @@
 // A part of the screen in a format.
-ghost use Rattle.std.specs.Prelude.{◌≡◌, ◌≢◌, ◌<◌, ◌≤◌, ◌+◌, ◌*◌, ℕ, [], IfSome, length, slice_index, slice_index_or, take};
-ghost use Rattle.cdg_instructions.specs.Sizes.{screen_height};
+ghost use Rattle.std.specs.Prelude.{◌≡◌, ◌≢◌, ◌<◌, ◌≤◌, ◌+◌, ◌*◌, ℕ, IfSome, length, slice_index};
 ghost use Rattle.cdg_screen.specs.Memory.{seen};
 ghost use Rattle.live_player.specs.Lives.{picture_byte, picture_bytes};
 ghost use Rattle.live_player.specs.Parts.{IsOnScreen};
-ghost use Rattle.pixel_formats.specs.Formats.{pixel_bytes, pixel_size, shown_bytes, AreLineBytes, ArePairs, HasPixelRoom, ShowsPixels};
+ghost use Rattle.pixel_formats.specs.Formats.{pixel_size, shown_bytes, AreLineBytes, ArePairs, HasPixelRoom, ShowsPixels, AreColourNumbers, HasFourBytes, HasColours};
 ghost use Rattle.pixel_formats.specs.declared.format.PixelFormat.{PixelFormat};
 
 use crate::format::PixelFormat;
@@ -72,10 +71,8 @@ fn write_rows(
     requires format { format ≢ PixelFormat.Indexed }
     requires apart { pixel_size format * part.now.width ≤ stride }
     requires room { HasPixelRoom format part.now stride (length out.old) }
-    requires sizes { (p : ℕ) → p < 16 → length (slice_index_or table.now p []) ≡ 4 }
-    requires bytes { (p : ℕ) → p < 16 → take (pixel_size format) (slice_index_or table.now p [])
-        ≡ pixel_bytes format p (slice_index (seen screen.now).colours p)
-        (slice_index (seen screen.now).levels p) }
+    requires sizes { HasFourBytes table.now }
+    requires bytes { HasColours format (seen screen.now) table.now }
     requires pairs { IfSome pairs (λ pairs. ArePairs (pixel_size format) table.now pairs.now) }
     ensures { ShowsPixels format (seen screen.now) part.now stride out.old out.new }
 {
@@ -104,10 +101,8 @@ fn write_row(
     requires format { format ≢ PixelFormat.Indexed }
     requires room { length pixels.old ≡ part.now.width }
     requires size { length line.old ≡ pixel_size format * part.now.width }
-    requires sizes { (p : ℕ) → p < 16 → length (slice_index_or table.now p []) ≡ 4 }
-    requires bytes { (p : ℕ) → p < 16 → take (pixel_size format) (slice_index_or table.now p [])
-        ≡ pixel_bytes format p (slice_index (seen screen.now).colours p)
-        (slice_index (seen screen.now).levels p) }
+    requires sizes { HasFourBytes table.now }
+    requires bytes { HasColours format (seen screen.now) table.now }
     requires pairs { IfSome pairs (λ pairs. ArePairs (pixel_size format) table.now pairs.now) }
     ensures { (i k : ℕ) → i < part.now.width → k < pixel_size format
         → slice_index line.new (pixel_size format * i + k)
@@ -132,8 +127,8 @@ fn write_colours(
 )
     requires format { format ≢ PixelFormat.Indexed }
     requires size { length line.old ≡ pixel_size format * length pixels.now }
-    requires numbers { (i : ℕ) → i < length pixels.now → slice_index pixels.now i < 16 }
-    requires entries { (p : ℕ) → p < 16 → length (slice_index_or table.now p []) ≡ 4 }
+    requires numbers { AreColourNumbers pixels.now }
+    requires entries { HasFourBytes table.now }
     requires pairs { IfSome pairs (λ pairs. ArePairs (pixel_size format) table.now pairs.now) }
     ensures { AreLineBytes (pixel_size format) pixels.now table.now line.new }
 {

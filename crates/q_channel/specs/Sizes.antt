@@ -1,4 +1,4 @@
--- The sizes of a frame. Code calls them by the names of src/sizes.rt.
+-- The sizes of a frame. Code calls them by the names of src/frame.rt.
 use Rattle.std.specs.Prelude.{ℕ}
 
 -- the bits of a frame (IEC 60908): those of its fields, and their check

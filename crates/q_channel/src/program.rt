@@ -1,18 +1,18 @@
 // Frames of the program, which most blocks carry: their fields are tested without the table of ranges, and their line
 // has the digits of the frame as they stand.
-ghost use Rattle.std.specs.Prelude.{◌≡◌, ◌≤◌, ◌+◌, ◌/◌, ◌%◌, ◌++◌, ◌∷◌, [], true, None, Ok, length, take, drop, if◌then◌else◌};
+ghost use Rattle.std.specs.Prelude.{◌≡◌, ◌≤◌, ◌+◌, ◌/◌, ◌%◌, ◌++◌, ◌∷◌, [], true, None, Ok, length, take, drop};
 ghost use Rattle.bit_lists.specs.Bits.{bits_of_bytes};
 ghost use Rattle.q_channel.specs.QFrame.{field_value, is_bcd_within};
 ghost use Rattle.q_channel.specs.QLine.{q_line};
 ghost use Rattle.q_channel.specs.QReading.{first_outside, program_ranges};
 ghost use Rattle.q_channel.specs.ReadingOf.{reading_of};
-ghost use Rattle.q_channel.specs.Kinds.{bcd_value, frame_at};
+ghost use Rattle.q_channel.specs.Kinds.{frame_at};
 ghost use Rattle.q_channel.specs.Sizes.{frame_bits};
 
 use crate::Message;
-use crate::kinds::Kind;
+use crate::frame::{CHECK_BITS, FIELD_BITS, FIELD_BYTES, FRAME_BYTES};
+use crate::kinds::{Kind, is_bcd_within};
 use crate::lines::{digit, six_digits};
-use crate::sizes::{CHECK_BITS, FIELD_BITS, FIELD_BYTES, FRAME_BYTES};
 use subcode_crc::crc16;
 
 /// The bytes of the line of a frame of the program: each of its parts has one width.
@@ -50,14 +50,13 @@ pub(crate) fn has_program_fields(message: &Message) -> bool
 
 // Whether a track and an index begin the fields.
 #[inline]
-#[tactic(auto, using(crate::proofs::Ranges::not_zero))]
 fn has_track_and_index(message: &Message) -> bool
     requires size { length message.now ≡ frame_bits }
     ensures track { result ≡ true → is_bcd_within 1 99 (field_value message.now 8 8) ≡ true }
     ensures index { result ≡ true → is_bcd_within 0 99 (field_value message.now 16 8) ≡ true }
 {
-    let track = message.byte_of_frame(8);
-    track > 0 && is_bcd_up_to(track, 99) && is_bcd_up_to(message.byte_of_frame(16), 99)
+    is_bcd_within(message.byte_of_frame(8), 1, 99)
+        && is_bcd_within(message.byte_of_frame(16), 0, 99)
 }
 
 // Whether a time begins at a bit.
@@ -69,27 +68,9 @@ fn has_time(message: &Message, first: u8) -> bool
     ensures second { result ≡ true → is_bcd_within 0 59 (field_value message.now (first + 8) 8) ≡ true }
     ensures frame { result ≡ true → is_bcd_within 0 74 (field_value message.now (first + 16) 8) ≡ true }
 {
-    is_bcd_up_to(message.byte_of_frame(first), 99)
-        && is_bcd_up_to(message.byte_of_frame(first + 8), 59)
-        && is_bcd_up_to(message.byte_of_frame(first + 16), 74)
-}
-
-// Whether a byte is of two decimal digits whose number is at most this one.
-#[inline]
-#[tactic(auto, using(crate::proofs::BcdTable::number_up_to))]
-fn is_bcd_up_to(byte: u8, most: u8) -> bool
-    requires { most ≤ 99 }
-    ensures { result ≡ true → is_bcd_within 0 most byte ≡ true }
-{
-    bcd_number(byte) <= most
-}
-
-// The number of a byte of two decimal digits, and 255 for another.
-#[inline]
-fn bcd_number(byte: u8) -> u8
-    ensures { result ≡ (if is_bcd_within 0 99 byte then bcd_value byte else 255) }
-{
-    NUMBERS[usize::from(byte)]
+    is_bcd_within(message.byte_of_frame(first), 0, 99)
+        && is_bcd_within(message.byte_of_frame(first + 8), 0, 59)
+        && is_bcd_within(message.byte_of_frame(first + 16), 0, 74)
 }
 
 /// The line of a block with such a frame.
@@ -129,20 +110,3 @@ fn put(text: &mut [u8; PROGRAM_LINE], at: usize, characters: &[u8])
 {
     text[at..at + characters.len()].copy_from_slice(characters);
 }
-
-// The number of each byte of two decimal digits, and 255 for each other byte.
-static NUMBERS: [u8; 256] = [
-    0, 1, 2, 3, 4, 5, 6, 7, 8, 9, 255, 255, 255, 255, 255, 255, 10, 11, 12, 13, 14, 15, 16, 17, 18,
-    19, 255, 255, 255, 255, 255, 255, 20, 21, 22, 23, 24, 25, 26, 27, 28, 29, 255, 255, 255, 255,
-    255, 255, 30, 31, 32, 33, 34, 35, 36, 37, 38, 39, 255, 255, 255, 255, 255, 255, 40, 41, 42, 43,
-    44, 45, 46, 47, 48, 49, 255, 255, 255, 255, 255, 255, 50, 51, 52, 53, 54, 55, 56, 57, 58, 59,
-    255, 255, 255, 255, 255, 255, 60, 61, 62, 63, 64, 65, 66, 67, 68, 69, 255, 255, 255, 255, 255,
-    255, 70, 71, 72, 73, 74, 75, 76, 77, 78, 79, 255, 255, 255, 255, 255, 255, 80, 81, 82, 83, 84,
-    85, 86, 87, 88, 89, 255, 255, 255, 255, 255, 255, 90, 91, 92, 93, 94, 95, 96, 97, 98, 99, 255,
-    255, 255, 255, 255, 255, 255, 255, 255, 255, 255, 255, 255, 255, 255, 255, 255, 255, 255, 255,
-    255, 255, 255, 255, 255, 255, 255, 255, 255, 255, 255, 255, 255, 255, 255, 255, 255, 255, 255,
-    255, 255, 255, 255, 255, 255, 255, 255, 255, 255, 255, 255, 255, 255, 255, 255, 255, 255, 255,
-    255, 255, 255, 255, 255, 255, 255, 255, 255, 255, 255, 255, 255, 255, 255, 255, 255, 255, 255,
-    255, 255, 255, 255, 255, 255, 255, 255, 255, 255, 255, 255, 255, 255, 255, 255, 255, 255, 255,
-    255, 255, 255, 255, 255, 255,
-];

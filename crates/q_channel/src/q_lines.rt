@@ -7,8 +7,8 @@ ghost use Rattle.q_channel.specs.QLine.{q_line};
 ghost use Rattle.q_channel.specs.ReadingOf.{reading_of};
 ghost use Rattle.q_channel.specs.QSteps.{q_next, q_give};
 
+use crate::frame::FRAME_BYTES;
 use crate::program::{is_program_frame, program_line};
-use crate::sizes::FRAME_BYTES;
 use crate::{decode, line};
 use cdg_io::{Piece, Stage};
 use raw_subcode::{BLOCK_BYTES, Block, MOST_UNITS};

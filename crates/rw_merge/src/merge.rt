@@ -1,5 +1,5 @@
 // Two readings of one stream, block by block in turn.
-ghost use Rattle.std.specs.Prelude.{◌≡◌, ◌≢◌, ◌≤◌, ◌<◌, ◌+◌, [], List, ℕ, Err, length, IsErrOf, IsOk, IfOk, IfSome, replicate, true};
+ghost use Rattle.std.specs.Prelude.{◌≡◌, ◌≤◌, ◌<◌, ◌+◌, [], List, ℕ, Err, length, IsOk, IfOk, IfSome, replicate, true};
 ghost use Rattle.std.specs.List.{concat};
 ghost use Rattle.std.specs.declared.option.Option.{Option};
 ghost use Rattle.disc_time.specs.Counts.{most_lead_in};

@@ -16,7 +16,7 @@ use Rattle.cdg_workload.specs.Scratches.{scratched}
 use Rattle.cdg_workload.specs.Steps.{block_next, block_gives, scratches_after}
 use Rattle.stream_trial.specs.Course.{stream_block, gathered_before, words_with_stream_block, HasGoneOver, HasTaken, HasShown, IsSteady, Knows}
 use Rattle.stream_trial.specs.Replay.{IsDamagedSchedule, IsPlayedOut}
-use Rattle.stream_trial.specs.declared.found.Found.{Found}
+use Rattle.stream_trial.specs.declared.run.Found.{Found}
 use Rattle.stream_trial.specs.declared.course.Course.{Course}
 use Rattle.stream_trial.proofs.Plays.{ShowsScheduled, goes_on, ends}
 use Rattle.stream_trial.proofs.Scratched.{same_size}

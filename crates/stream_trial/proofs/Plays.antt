@@ -25,7 +25,7 @@ use Rattle.stream_trial.specs.Course.{AreTaken, AreCompared, AreTakenAndCompared
 use Rattle.stream_trial.specs.Replay.{one_where, TakesWord, IsBelow, IsDamagedSchedule, IsPlayedOut}
 use Rattle.stream_trial.specs.declared.replay.Replay.{Replay}
 use Rattle.stream_trial.specs.declared.gallery.Gallery.{Gallery}
-use Rattle.stream_trial.specs.declared.found.Found.{Found}
+use Rattle.stream_trial.specs.declared.run.Found.{Found}
 use Rattle.stream_trial.proofs.Slots.{GathersWords, given_at}
 
 -- the laws that this rests on

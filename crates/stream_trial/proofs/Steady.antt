@@ -12,7 +12,7 @@ use Rattle.stream_trial.specs.Course.{IsSteady}
 use Rattle.rw_interleave.specs.Interleave.{whole_packs}
 use Rattle.stream_trial.specs.Differing.{differing}
 use Rattle.stream_trial.specs.Replay.{IsBelow, IsPlayedOut}
-use Rattle.stream_trial.specs.declared.found.Found.{Found}
+use Rattle.stream_trial.specs.declared.run.Found.{Found}
 use Rattle.stream_trial.specs.declared.course.Course.{Course}
 use Rattle.stream_trial.specs.declared.replay.Replay.{Replay}
 

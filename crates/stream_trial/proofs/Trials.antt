@@ -24,7 +24,7 @@ use Rattle.stream_trial.specs.Trial.{trial_audio, trial_blocks, all_changes, IsT
 use Rattle.stream_trial.specs.Told.{told}
 use Rattle.stream_trial.specs.Replay.{IsDamagedSchedule, IsPlayedOut}
 use Rattle.stream_trial.specs.declared.lines.Report.{Report}
-use Rattle.stream_trial.specs.declared.found.Found.{Found}
+use Rattle.stream_trial.specs.declared.run.Found.{Found}
 use Rattle.stream_trial.specs.declared.stops.TrialStop.{TrialStop}
 use Rattle.stream_trial.specs.declared.stops.TrialStop.TheVariants.{NoMemory, WriteFault}
 use Rattle.std.specs.Io.KnownBytes.{Appends}

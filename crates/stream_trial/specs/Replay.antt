@@ -13,7 +13,7 @@ use Rattle.picture_script.specs.Board.{Board, pixel_of}
 use Rattle.pack_schedule.specs.Schedule.{IsSchedule}
 use Rattle.stream_trial.specs.Differing.{differing}
 use Rattle.stream_trial.specs.declared.replay.Replay.{Replay}
-use Rattle.stream_trial.specs.declared.found.Found.{Found}
+use Rattle.stream_trial.specs.declared.run.Found.{Found}
 
 -- the pixel that a screen is to show for a canvas: that of its window, and else the border
 abbrev pub wanted_pixel : Board → ℕ → ℕ → ℕ

@@ -3,7 +3,6 @@
 
 mod comparing;
 mod course;
-mod found;
 mod gallery;
 mod generating;
 mod history;
@@ -13,14 +12,13 @@ mod replay;
 mod run;
 mod schedules;
 mod scratches;
-mod sheet;
-mod sizes;
 mod stops;
 mod streams;
 mod trying;
 
-pub use schedules::{generated_scripts_are_authored, generated_scripts_are_ready};
+pub use schedules::{
+    generated_scripts_are_authored, generated_scripts_are_ready, trial_sheet_is_read,
+};
 pub use scratches::{scratched_streams_are_recovered, scratched_words_are_near};
-pub use sheet::trial_sheet_is_read;
 pub use stops::TrialStop;
 pub use trying::trial;

@@ -8,13 +8,24 @@ ghost use Rattle.stream_trial.specs.Course.{Knows};
 ghost use Rattle.stream_trial.specs.Replay.{IsDamagedSchedule, IsPlayedOut};
 
 use crate::course::Course;
-use crate::found::Found;
 use crate::history::History;
 use cdg_io::{Failed, Sink};
 use cdg_workload::scratches_are_bursts;
 use picture_script::Script;
 use raw_subcode::{BLOCK_BYTES, MOST_UNITS};
 use std::alloc::{AllocError, Global};
+
+/// What was counted.
+#[derive(Clone, Copy)]
+pub(crate) struct Found {
+    /// The words that were corrected in one symbol, and in two.
+    pub(crate) one: u32,
+    pub(crate) two: u32,
+    /// The words with no codeword near.
+    pub(crate) bad: u32,
+    /// The pictures that stood on the screen when they were ready.
+    pub(crate) equal: u32,
+}
 
 /// A trial of the generated script of a seed, which is under way. Each block that is put is gone over at once, and only
 /// the one that has begun is kept.

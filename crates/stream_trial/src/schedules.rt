@@ -1,7 +1,7 @@
 // Laws on generated scripts: each picture is ready in time, and a sheet that has room is written with them.
-ghost use Rattle.std.specs.Prelude.{◌≡◌, ◌<◌, ◌≤◌, ◌+◌, ◌*◌, ◌⊎◌, ℕ};
+ghost use Rattle.std.specs.Prelude.{◌≡◌, ◌<◌, ◌≤◌, ◌+◌, ◌*◌, ◌⊎◌, ℕ, Ok};
 ghost use Rattle.cue_sheet.specs.CueSheet.{CueSheet};
-ghost use Rattle.toc_model.specs.Places.{program_blocks};
+ghost use Rattle.toc_model.specs.Places.{program_blocks, audio_need};
 ghost use Rattle.picture_script.specs.Script.{picture_pixel};
 ghost use Rattle.pack_schedule.specs.Schedule.{free_packs};
 ghost use Rattle.pack_schedule.specs.Survey.{IsPastEnd, IsStop};
@@ -9,6 +9,9 @@ ghost use Rattle.pack_schedule.specs.declared.stops.Stop.{Stop};
 ghost use Rattle.subcode_author.specs.AuthorAnswer.{AreReady, HasLayout, HasRoom, IsAccepted, IsAuthorStop};
 ghost use Rattle.subcode_author.specs.declared.stops.AuthorStop.{AuthorStop};
 ghost use Rattle.cdg_workload.specs.Generated.{generated_drawings};
+ghost use Rattle.cdg_workload.specs.Script.{most_generated};
+ghost use Rattle.cue_sheet.specs.Grammar.{read_cue};
+ghost use Rattle.stream_trial.specs.TrialSheet.{trial_text, trial_sheet};
 
 use cdg_workload::generated_scripts_have_times;
 use pack_schedule::{Stop, needs_are_fewest, planned_changes_are_changes};
@@ -44,4 +47,20 @@ pub fn generated_scripts_are_authored()
 {
     generated_scripts_are_ready();
     generated_scripts_have_times();
+}
+
+/// A law: the text of the sheet of a trial is read as this sheet, which lies on a disc of two seconds and the audio,
+/// so each generated script is written with it and no lead-in where the audio lasts until the last picture's hold
+/// time.
+pub fn trial_sheet_is_read()
+    ensures read { read_cue trial_text ≡ Ok trial_sheet }
+    ensures need { audio_need trial_sheet ≡ 1 }
+    ensures blocks { (audio : ℕ) → program_blocks trial_sheet audio ≡ 150 + audio }
+    ensures accepted { (seed count : ℕ) → count ≤ most_generated
+        → IsAccepted trial_sheet (generated_drawings seed count) 0 (800 * count + 20) }
+    ensures stop { (seed count : ℕ) (stop : AuthorStop) → count ≤ most_generated
+        → IsAuthorStop trial_sheet (generated_drawings seed count) 0 (800 * count + 20) stop
+        → (stop ≡ AuthorStop.NoMemory) ⊎ (stop ≡ AuthorStop.WriteFault) }
+{
+    generated_scripts_are_authored();
 }

@@ -13,13 +13,12 @@ ghost use Rattle.stream_trial.specs.Replay.{IsPlayedOut};
 ghost use Rattle.stream_trial.specs.Trial.{trial_audio, trial_blocks};
 ghost use Rattle.stream_trial.specs.declared.stops.TrialStop.TheVariants.{NoMemory};
 
-use crate::found::Found;
 use crate::generating::parse_sheet;
-use crate::run::TrialRun;
-use crate::sizes::count_audio;
+use crate::run::{Found, TrialRun};
 use crate::stops::TrialStop;
 use crate::trial_sheet_is_read;
-use cdg_workload::{scratches_are_bursts, scratches_are_damage};
+use cdg_workload::{BLOCKS_A_PICTURE, BLOCKS_HELD, scratches_are_bursts, scratches_are_damage};
+use disc_time::PAUSE_BLOCKS;
 use pack_schedule::Survey;
 use picture_script::Script;
 use std::alloc::{AllocError, Global};
@@ -110,4 +109,20 @@ fn write_stream(
         }
         Err(_) => unreachable!(),
     }
+}
+
+/// How many blocks the audio has.
+pub(crate) fn count_audio(pictures: u32) -> u32
+    requires { pictures ≤ most_generated }
+    ensures { result ≡ trial_audio pictures }
+{
+    BLOCKS_A_PICTURE * pictures + BLOCKS_HELD
+}
+
+/// How many blocks the program has: a pause comes before the audio.
+pub(crate) fn count_blocks(pictures: u32) -> u32
+    requires { pictures ≤ most_generated }
+    ensures { result ≡ trial_blocks pictures }
+{
+    PAUSE_BLOCKS + count_audio(pictures)
 }

@@ -11,9 +11,8 @@ ghost use Rattle.stream_trial.specs.declared.stops.TrialStop.TheVariants.{NoMemo
 use crate::generating::parse_script;
 use crate::lines::Report;
 use crate::needs::{count_changes, plan_changes};
-use crate::sizes::count_blocks;
 use crate::stops::TrialStop;
-use crate::streams::play_stream;
+use crate::streams::{count_blocks, play_stream};
 use crate::trial_sheet_is_read;
 use cdg_io::{Failed, Sink, put_all};
 use cdg_workload::{generated_scripts_are_read, generated_scripts_have_times};

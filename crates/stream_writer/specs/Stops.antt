@@ -2,8 +2,8 @@
 use Rattle.std.specs.Prelude.{ℕ}
 use Rattle.cue_sheet.specs.CueSheet.{CueSheet}
 use Rattle.stream_writer.specs.Needs.{IsLeadInShort, IsTextTooLong}
-use Rattle.stream_writer.specs.declared.stops.LeadInStop.{LeadInStop}
-use Rattle.stream_writer.specs.declared.stops.LeadInStop.TheVariants.{TextTooLong, LeadInShort}
+use Rattle.stream_writer.specs.declared.room.LeadInStop.{LeadInStop}
+use Rattle.stream_writer.specs.declared.room.LeadInStop.TheVariants.{TextTooLong, LeadInShort}
 
 -- a refusal and its cause
 abbrev pub IsLeadInRefusal : CueSheet → ℕ → LeadInStop → Type 0

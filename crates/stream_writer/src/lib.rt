@@ -7,13 +7,9 @@ mod program;
 mod room;
 mod sheet_texts;
 mod source;
-mod stops;
 mod stream;
-mod texts;
 
-pub use room::judge_lead_in;
-pub use sheet_texts::texts_of_sheet;
+pub use room::{LeadInStop, judge_lead_in};
+pub use sheet_texts::{pack_texts, texts_of_sheet};
 pub use source::{PackSource, unless_idle};
-pub use stops::LeadInStop;
 pub use stream::write_stream;
-pub use texts::pack_texts;

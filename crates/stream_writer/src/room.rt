@@ -8,10 +8,18 @@ ghost use Rattle.stream_writer.specs.SheetTexts.{code_at, for_each};
 ghost use Rattle.stream_writer.specs.Stops.{IsLeadInRefusal};
 
 use crate::sheet_texts::code_at;
-use crate::stops::LeadInStop;
 use cdtext_packs::{MOST_PACKS, TEXT_BYTES};
 use cue_sheet::{CueText, Sheet};
 use toc_model::toc_need;
+
+/// Why a lead-in has no room for the texts of a sheet or for the table of contents.
+#[derive(Clone, Copy, PartialEq, Eq, Debug)]
+pub enum LeadInStop {
+    /// The texts need so many packs, and 256 are the most.
+    TextTooLong { packs: u32 },
+    /// The lead-in needs so many blocks.
+    LeadInShort { need: u32 },
+}
 
 // How many size packs texts have.
 const SIZE_PACKS: usize = 3;

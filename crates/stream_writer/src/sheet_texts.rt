@@ -1,10 +1,11 @@
 // The texts of a cue sheet.
-ghost use Rattle.std.specs.Prelude.{◌≡◌, ◌+◌, ◌≤◌, length, IfOk, All};
+ghost use Rattle.std.specs.Prelude.{◌≡◌, ◌+◌, ◌≤◌, length, IfOk, All, ◌<◌, [], IsOkAnd};
 ghost use Rattle.cue_sheet.specs.CueSheet.{text_at, IsSheet};
 ghost use Rattle.cdtext_packs.specs.Texts.{IsString};
 ghost use Rattle.stream_writer.specs.SheetTexts.{for_each, code_at, texts_of_sheet};
+ghost use Rattle.stream_writer.specs.Needs.{text_packs, HasRoom};
 
-use cdtext_packs::{Strings, TextMap};
+use cdtext_packs::{Strings, TextMap, TextPack, pack_all};
 use cue_sheet::{CueText, Sheet};
 use std::alloc::{AllocError, Global};
 
@@ -61,4 +62,22 @@ pub(crate) fn code_at(sheet: &Sheet, place: usize) -> &[u8]
         Some(code) => code,
         None => &[],
     }
+}
+
+/// The text packs of a sheet for a lead-in of so many blocks, which has room for them. Without a lead-in there are
+/// none.
+pub fn pack_texts(alloc: Global, sheet: &Sheet, lead_in: u32) -> Result<Vec<TextPack>, AllocError>
+    requires { HasRoom sheet.now lead_in }
+    ensures texts { IfOk result (λ packs. 0 < lead_in → packs.items ≡ text_packs sheet.now) }
+    ensures none { lead_in ≡ 0 → IsOkAnd result (λ packs. packs.items ≡ []) }
+{
+    if lead_in == 0 {
+        return Ok(Vec::new(alloc));
+    }
+    let map = texts_of_sheet(alloc, sheet)?;
+    // There are at most 256, so that only memory can be short.
+    let Ok(packs) = pack_all(alloc, &map) else {
+        return Err(AllocError);
+    };
+    Ok(packs)
 }

@@ -2,3 +2,4 @@ pub mod Given
 pub mod Authored
 pub mod Stops
 pub mod AuthorAnswer
+pub mod Calls

@@ -1,16 +1,12 @@
 // Writing the stream of a sheet and a script.
-ghost use Rattle.std.specs.Prelude.{◌≡◌, ◌≢◌, ◌<◌, ◌≤◌, ◌⊎◌, List, ℕ, IfErr, OnOk, Err};
+ghost use Rattle.std.specs.Prelude.{◌≡◌, ◌≤◌, ◌⊎◌, IfErr};
 ghost use Rattle.disc_time.specs.Counts.{most_lead_in, most_program};
-ghost use Rattle.std.specs.Io.KnownBytes.{Appends};
 ghost use Rattle.cdg_io.specs.Causes.{TellsFault};
-ghost use Rattle.picture_script.specs.Script.{pictures};
-ghost use Rattle.pack_schedule.specs.Brings.{CannotBeReady, IsChange};
-ghost use Rattle.pack_schedule.specs.PlannedChange.{planned_change};
 ghost use Rattle.pack_schedule.specs.Survey.{IsSurvey, IsWithin};
 ghost use Rattle.toc_model.specs.Places.{program_blocks};
-ghost use Rattle.subcode_author.specs.Authored.{IsWrittenStream, disc_of};
-ghost use Rattle.subcode_author.specs.AuthorAnswer.{HasRoom, HoldsPictures, IsAccepted, IsAuthorStop};
-ghost use Rattle.subcode_author.specs.Given.{PutsScriptPart};
+ghost use Rattle.subcode_author.specs.Authored.{disc_of};
+ghost use Rattle.subcode_author.specs.Calls.{AnswersDisc, WritesDisc};
+ghost use Rattle.subcode_author.specs.AuthorAnswer.{HasRoom, HoldsPictures};
 
 use crate::no_memory::NoMemoryCount;
 use crate::parts::{plan_script, take_layout, take_spread, take_texts, weave};
@@ -46,29 +42,9 @@ pub fn author_stream<K: Sink>(
 ) -> Result<(), AuthorStop>
     requires lead_in { lead_in ≤ most_lead_in }
     requires length { length ≤ most_program }
-    // The authored stream with the planned changes was written.
-    ensures authored { OnOk result ((bytes : List ℕ) × (packs : List (List ℕ))
-        × IsWrittenStream (disc_of sheet.now script.now lead_in length) bytes packs
-        × Appends (K.held out.old) (K.held out.new) bytes) }
-    ensures accepted { OnOk result (IsAccepted sheet.now script.now lead_in length) }
-    // What is sent for each picture is a change for it: no list without scrolls that brings it is shorter.
-    ensures fewest { OnOk result ((k : ℕ) → k < pictures script.now
-        → IsChange script.now k (planned_change script.now k)) }
-
-    // Why none was written, and then nothing was.
-    ensures stop { IfErr result (IsAuthorStop sheet.now script.now lead_in length) }
-    ensures untouched { IfErr result (λ stop. stop ≢ AuthorStop.WriteFault → out.new ≡ out.old) }
-
-    // A late picture cannot be ready, whatever instructions without scrolls are sent.
-    ensures late { (picture need free : ℕ) → result ≡ Err (AuthorStop.Late picture need free)
-        → CannotBeReady script.now picture need free }
-
-    // A write failed, and a prefix of the lead-in and of program blocks with packs of the script was written.
-    ensures write_fault { TellsFault AuthorStop.WriteFault
-        (K.faults out.old) (K.faults out.new) result }
-    ensures part { result ≡ Err AuthorStop.WriteFault → (n : ℕ) × (packs : List (List ℕ))
-        × PutsScriptPart (disc_of sheet.now script.now lead_in length) (K.held out.old) (K.held out.new) n
-        packs }
+    ensures answer { AnswersDisc (disc_of sheet.now script.now lead_in length) result }
+    ensures written { WritesDisc K.held K.faults (disc_of sheet.now script.now lead_in length) out.old out.new
+        result }
 {
     let mut lacks = NoMemoryCount::none();
     author_counted(alloc, &mut lacks, sheet, script, lead_in, length, out)
@@ -86,29 +62,9 @@ pub fn author_counted<K: Sink>(
 ) -> Result<(), AuthorStop>
     requires lead_in { lead_in ≤ most_lead_in }
     requires length { length ≤ most_program }
-    // The authored stream with the planned changes was written.
-    ensures authored { OnOk result ((bytes : List ℕ) × (packs : List (List ℕ))
-        × IsWrittenStream (disc_of sheet.now script.now lead_in length) bytes packs
-        × Appends (K.held out.old) (K.held out.new) bytes) }
-    ensures accepted { OnOk result (IsAccepted sheet.now script.now lead_in length) }
-    // What is sent for each picture is a change for it: no list without scrolls that brings it is shorter.
-    ensures fewest { OnOk result ((k : ℕ) → k < pictures script.now
-        → IsChange script.now k (planned_change script.now k)) }
-
-    // Why none was written, and then nothing was.
-    ensures stop { IfErr result (IsAuthorStop sheet.now script.now lead_in length) }
-    ensures untouched { IfErr result (λ stop. stop ≢ AuthorStop.WriteFault → out.new ≡ out.old) }
-
-    // A late picture cannot be ready, whatever instructions without scrolls are sent.
-    ensures late { (picture need free : ℕ) → result ≡ Err (AuthorStop.Late picture need free)
-        → CannotBeReady script.now picture need free }
-
-    // A write failed, and a prefix of the lead-in and of program blocks with packs of the script was written.
-    ensures write_fault { TellsFault AuthorStop.WriteFault
-        (K.faults out.old) (K.faults out.new) result }
-    ensures part { result ≡ Err AuthorStop.WriteFault → (n : ℕ) × (packs : List (List ℕ))
-        × PutsScriptPart (disc_of sheet.now script.now lead_in length) (K.held out.old) (K.held out.new) n
-        packs }
+    ensures answer { AnswersDisc (disc_of sheet.now script.now lead_in length) result }
+    ensures written { WritesDisc K.held K.faults (disc_of sheet.now script.now lead_in length) out.old out.new
+        result }
     // A call that asks for memory said that none was found, and no other call did.
     ensures wants { TellsFault AuthorStop.NoMemory lacks.old lacks.new result }
 {
@@ -141,21 +97,10 @@ pub fn author_planned<K: Sink>(
     requires room { HasRoom sheet.now lead_in }
     requires within { IsWithin script.now (program_blocks sheet.now length) }
     requires planned { IsSurvey script.now planned }
-    // The authored stream with the planned changes was written.
-    ensures authored { OnOk result ((bytes : List ℕ) × (packs : List (List ℕ))
-        × IsWrittenStream (disc_of sheet.now script.now lead_in length) bytes packs
-        × Appends (K.held out.old) (K.held out.new) bytes) }
-
-    // Why none was written: memory ran out, and then nothing was written, or a write failed.
+    // Why none was written: memory ran out, or a write failed.
     ensures stop { IfErr result (λ stop. (stop ≡ AuthorStop.NoMemory) ⊎ (stop ≡ AuthorStop.WriteFault)) }
-    ensures untouched { IfErr result (λ stop. stop ≢ AuthorStop.WriteFault → out.new ≡ out.old) }
-
-    // A write failed, and a prefix of the lead-in and of program blocks with packs of the script was written.
-    ensures write_fault { TellsFault AuthorStop.WriteFault
-        (K.faults out.old) (K.faults out.new) result }
-    ensures part { result ≡ Err AuthorStop.WriteFault → (n : ℕ) × (packs : List (List ℕ))
-        × PutsScriptPart (disc_of sheet.now script.now lead_in length) (K.held out.old) (K.held out.new) n
-        packs }
+    ensures written { WritesDisc K.held K.faults (disc_of sheet.now script.now lead_in length) out.old out.new
+        result }
     // A call that asks for memory said that none was found, and no other call did.
     ensures wants { TellsFault AuthorStop.NoMemory lacks.old lacks.new result }
 {

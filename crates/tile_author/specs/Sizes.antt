@@ -1,4 +1,4 @@
--- The sizes of bases and plans. Code calls them by the names of src/sizes.rt.
+-- The sizes of bases and plans. Code calls them by the names of src/basis.rt.
 use Rattle.std.specs.Prelude.{ℕ}
 
 -- the most instructions that a tile takes: so many numbers of four bits can be independent

@@ -8,10 +8,15 @@ ghost use Rattle.tile_author.specs.Table.{entry, IsBasis, basis_of_lines};
 ghost use Rattle.tile_author.specs.Sizes.{most_steps, number_count};
 ghost use Rattle.cdg_instructions.specs.Sizes.{tile_height, tile_pixels, tile_width};
 
-use crate::sizes::{MOST_STEPS, NUMBERS};
 use arrayvec::ArrayVec;
 use cdg_instructions::{Instr, PIXELS, TILE_HEIGHT, TILE_WIDTH};
 use std::marker::Model;
+
+/// How many instructions a tile takes at most: so many numbers of four bits can be independent.
+pub const MOST_STEPS: usize = 4;
+
+/// How many numbers there are of four bits.
+pub(crate) const NUMBERS: usize = 16;
 
 /// Independent numbers of four bits, in the order in which they came, with the selection of them that makes each
 /// number.

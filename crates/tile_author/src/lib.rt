@@ -11,12 +11,11 @@ ghost use Rattle.tile_author.specs.Table.{are_independent};
 ghost use Rattle.tile_author.specs.Sizes.{most_steps};
 
 mod basis;
-mod sizes;
 
 use arrayvec::ArrayVec;
 use basis::Basis;
+pub use basis::MOST_STEPS;
 use cdg_instructions::{Instr, PIXELS, Tile};
-pub use sizes::MOST_STEPS;
 
 /// The length of a shortest list of tile instructions of one place that turns the old tile into the new one.
 pub fn steps(old: &Tile, new: &Tile) -> u8

@@ -1,4 +1,4 @@
-use Rattle.std.proofs.Common.{◌≡◌, ℕ, ◌<◌, All, List, replicate, sym, arith, subst}
+use Rattle.std.proofs.Common.{ℕ, ◌<◌, All, List, replicate, sym, arith, subst}
 use Rattle.std.proofs.lemmas.List.{get_or-replicate}
 use Rattle.cdg_io.specs.Change.{from_to}
 use Rattle.rw_code.proofs.CodewordLemmas.{idle_is_codeword}

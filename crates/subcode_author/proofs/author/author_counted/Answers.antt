@@ -1,4 +1,4 @@
-use Rattle.std.proofs.Common.{◌≡◌, ℕ, subst, sym, arith}
+use Rattle.std.proofs.Common.{ℕ, subst, sym, arith, rules}
 use Rattle.std.proofs.lemmas.Result.{err_from_is_err_and, on_ok_weaker, IfErr-weaker}
 use Rattle.pack_schedule.specs.Survey.{IsPastEnd, IsWithin}
 use Rattle.subcode_author.proofs.Schedules.{is_accepted}
@@ -19,54 +19,44 @@ author_planned-requires-clause-within g c =
     subst (λ (n : ℕ). IsWithin c.args.script.now n) c.in_ok-blocks.ensures.blocks
     c.in_ok-planned.ensures.within
 
-pub returns-in_err-planned-clause-stop : goal.returns-in_err-planned-clause-stop
-returns-in_err-planned-clause-stop g c =
-    let stop =
-    picture_stop c.args.sheet.now c.args.script.now c.args.lead_in c.args.length c.in_err-planned.field-0.0
-    c.in_ok-blocks.ensures.disc c.in_ok-blocks.ensures.room c.in_err-planned.ensures.err in
-    let p =
-    err_from_is_err_and c.from_residual-in_err-planned.result c.from_residual-in_err-planned.ensures.1 in
-    rw (p.1, p.2) stop
-
-pub returns-in_err-planned-clause-late : goal.returns-in_err-planned-clause-late
-returns-in_err-planned-clause-late g c picture need free told =
-    let stop =
+pub returns-in_err-planned-clause-answer : goal.returns-in_err-planned-clause-answer
+returns-in_err-planned-clause-answer g c =
+    let why =
     picture_stop c.args.sheet.now c.args.script.now c.args.lead_in c.args.length c.in_err-planned.field-0.0
     c.in_ok-blocks.ensures.disc c.in_ok-blocks.ensures.room c.in_err-planned.ensures.err in
     let p =
     err_from_is_err_and c.from_residual-in_err-planned.result c.from_residual-in_err-planned.ensures.1 in
     let known = c.times_rise_and_colours_are_in_range.ensures in
-    late_told c.needs_are_fewest.ensures.late c.args.sheet.now c.args.script.now c.args.lead_in c.args.length
-    c.in_err-planned.field-0.0 (record { held = known.held; later = known.later })
-    (record { border = known.borders; colour = known.colours }) known.pixels stop picture need free
-    (let first = p.1 in let second = p.2 in cc)
+    record {
+      accepted = rw p.1 tt;
+      fewest = rw p.1 tt;
+      stop = rw (p.1, p.2) why;
+      late = λ picture need free told.
+          late_told c.needs_are_fewest.ensures.late c.args.sheet.now c.args.script.now c.args.lead_in
+          c.args.length
+          c.in_err-planned.field-0.0 (record { held = known.held; later = known.later })
+          (record { border = known.borders; colour = known.colours }) known.pixels why picture need free
+          (let first = p.1 in let second = p.2 in cc);
+    }
 
-pub returns-clause-accepted : goal.returns-clause-accepted
-returns-clause-accepted g c =
-    let known = c.times_rise_and_colours_are_in_range.ensures in
-    on_ok_weaker c.author_planned.result
-    (λ _. is_accepted c.needs_are_fewest.ensures.change c.args.sheet.now c.args.script.now c.args.lead_in
-    c.args.length c.in_ok-blocks.ensures.disc c.in_ok-blocks.ensures.room
-    (record { border = known.borders; colour = known.colours }) known.pixels
-    (c.in_ok-planned.planned, c.in_ok-planned.ensures.planned))
-    c.author_planned.ensures.authored
-
-pub returns-clause-fewest : goal.returns-clause-fewest
-returns-clause-fewest g c =
-    let known = c.times_rise_and_colours_are_in_range.ensures in
-    on_ok_weaker c.author_planned.result
-    (λ _ k lt. c.needs_are_fewest.ensures.change c.args.script.now k
-    (record { border = known.borders; colour = known.colours }) known.pixels)
-    c.author_planned.ensures.authored
-
-pub returns-clause-stop : goal.returns-clause-stop
-returns-clause-stop g c =
+pub returns-clause-answer : goal.returns-clause-answer
+returns-clause-answer g c =
     let known = c.times_rise_and_colours_are_in_range.ensures in
     let accepted =
     is_accepted c.needs_are_fewest.ensures.change c.args.sheet.now c.args.script.now c.args.lead_in
     c.args.length c.in_ok-blocks.ensures.disc c.in_ok-blocks.ensures.room
     (record { border = known.borders; colour = known.colours }) known.pixels
     (c.in_ok-planned.planned, c.in_ok-planned.ensures.planned) in
-    IfErr-weaker c.author_planned.result _ _
-    (λ stop is. written_stop c.args.sheet.now c.args.script.now c.args.lead_in c.args.length stop accepted is)
-    c.author_planned.ensures.stop
+    record {
+      accepted = on_ok_weaker c.author_planned.result (λ _. accepted)
+          c.author_planned.ensures.written.authored;
+      fewest = on_ok_weaker c.author_planned.result
+          (λ _ k lt. c.needs_are_fewest.ensures.change c.args.script.now k
+          (record { border = known.borders; colour = known.colours }) known.pixels)
+          c.author_planned.ensures.written.authored;
+      stop = IfErr-weaker c.author_planned.result _ _
+          (λ stop is. written_stop c.args.sheet.now c.args.script.now c.args.lead_in c.args.length stop
+          accepted is)
+          c.author_planned.ensures.stop;
+      late = search rules;
+    }

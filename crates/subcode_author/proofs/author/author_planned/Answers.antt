@@ -1,4 +1,4 @@
-use Rattle.std.proofs.Common.{◌≡◌, ℕ, ◌<◌, ◌≤◌, List, ap, refl, sym, subst, ◌∙◌}
+use Rattle.std.proofs.Common.{◌≡◌, ℕ, ◌<◌, ◌≤◌, List, ap, refl, rules, sym, subst, ◌∙◌}
 use Rattle.cue_sheet.specs.CueSheet.{CueSheet}
 use Rattle.toc_model.specs.Places.{DiscLayout, layout_of, program_blocks}
 use Rattle.picture_script.specs.Script.{Drawing, pictures, ready_time, hold_time, picture_pixel}
@@ -50,31 +50,44 @@ write_stream-requires-clause-cut g c =
     (c.args.planned, c.requires.planned)
     known.held (record { border = known.borders; colour = known.colours }) known.pixels)
 
-pub returns-in_err-write_stream-clause-part : goal.returns-in_err-write_stream-clause-part
-returns-in_err-write_stream-clause-part g c = λ failed.
-    part_of c.args.sheet.now c.args.script.now c.in_ok-weaver.weaver c.in_ok-layout.layout c.deref.result.now
-    c.args.lead_in c.args.length
-    (g.K.Sink.held c.args.out.now) (g.K.Sink.held c.write_stream.new.out)
-    c.in_ok-layout.ensures.layout
-    (few_blocks c.args.sheet.now c.args.length c.in_ok-layout.layout c.in_ok-layout.ensures.layout
-    c.requires.disc.0.1)
-    (record { script_is = c.in_ok-weaver.ensures.script; given_is = c.in_ok-weaver.ensures.given })
-    (λ some. c.deref.ensures.value ∙ c.in_ok-texts.ensures.texts some)
-    (let part = c.in_err-write_stream.ensures.part in (part.0, part.1, part.2))
+pub returns-in_err-write_stream-clause-written : goal.returns-in_err-write_stream-clause-written
+returns-in_err-write_stream-clause-written g c = record {
+  authored = search rules;
+  untouched = search rules;
+  write_fault = search rules;
+  part = λ failed.
+      part_of c.args.sheet.now c.args.script.now c.in_ok-weaver.weaver c.in_ok-layout.layout
+      c.deref.result.now
+      c.args.lead_in c.args.length
+      (g.K.Sink.held c.args.out.now) (g.K.Sink.held c.write_stream.new.out)
+      c.in_ok-layout.ensures.layout
+      (few_blocks c.args.sheet.now c.args.length c.in_ok-layout.layout c.in_ok-layout.ensures.layout
+      c.requires.disc.0.1)
+      (record { script_is = c.in_ok-weaver.ensures.script; given_is = c.in_ok-weaver.ensures.given })
+      (λ some. c.deref.ensures.value ∙ c.in_ok-texts.ensures.texts some)
+      (let part = c.in_err-write_stream.ensures.part in (part.0, part.1, part.2));
+}
 
-pub returns-clause-authored : goal.returns-clause-authored
-returns-clause-authored g c =
+pub returns-clause-written : goal.returns-clause-written
+returns-clause-written g c =
     let known = c.times_rise_and_colours_are_in_range.ensures in
-    authored c.packs_are_a_schedule.ensures.schedule c.args.sheet.now c.args.script.now c.in_ok-weaver.weaver
-    c.in_ok-layout.layout c.deref.result.now c.args.lead_in c.args.length
-    (g.K.Sink.held c.args.out.now) (g.K.Sink.held c.write_stream.new.out)
-    c.in_ok-layout.ensures.layout
-    (few_blocks c.args.sheet.now c.args.length c.in_ok-layout.layout c.in_ok-layout.ensures.layout
-    c.requires.disc.0.1)
-    (record { script_is = c.in_ok-weaver.ensures.script; given_is = c.in_ok-weaver.ensures.given })
-    (λ some. c.deref.ensures.value ∙ c.in_ok-texts.ensures.texts some)
-    c.requires.room
-    (known_script c.args.script.now (program_blocks c.args.sheet.now c.args.length) _ refl c.requires.within
-    (c.args.planned, c.requires.planned)
-    known.held (record { border = known.borders; colour = known.colours }) known.pixels)
-    c.in_ok-write_stream.ensures.ok
+    record {
+      untouched = search rules;
+      write_fault = search rules;
+      part = search rules;
+      authored = authored c.packs_are_a_schedule.ensures.schedule c.args.sheet.now c.args.script.now
+          c.in_ok-weaver.weaver
+          c.in_ok-layout.layout c.deref.result.now c.args.lead_in c.args.length
+          (g.K.Sink.held c.args.out.now) (g.K.Sink.held c.write_stream.new.out)
+          c.in_ok-layout.ensures.layout
+          (few_blocks c.args.sheet.now c.args.length c.in_ok-layout.layout c.in_ok-layout.ensures.layout
+          c.requires.disc.0.1)
+          (record { script_is = c.in_ok-weaver.ensures.script; given_is = c.in_ok-weaver.ensures.given })
+          (λ some. c.deref.ensures.value ∙ c.in_ok-texts.ensures.texts some)
+          c.requires.room
+          (known_script c.args.script.now (program_blocks c.args.sheet.now c.args.length) _ refl
+          c.requires.within
+          (c.args.planned, c.requires.planned)
+          known.held (record { border = known.borders; colour = known.colours }) known.pixels)
+          c.in_ok-write_stream.ensures.ok;
+    }

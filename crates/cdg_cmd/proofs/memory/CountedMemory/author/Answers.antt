@@ -6,10 +6,10 @@ returns-clause-put g c =
     put_for g.K.Sink.held c.args.out.now c.author_counted.new.out c.args.sheet.now
     c.args.script.now
     c.args.lead_in c.args.length c.author_counted.result
-    c.author_counted.ensures.authored c.author_counted.ensures.accepted
-    c.author_counted.ensures.stop
-    c.author_counted.ensures.untouched
-    (λ fault accepted. let (n, packs, put) = c.author_counted.ensures.part fault in
+    c.author_counted.ensures.written.authored c.author_counted.ensures.answer.accepted
+    c.author_counted.ensures.answer.stop
+    c.author_counted.ensures.written.untouched
+    (λ fault accepted. let (n, packs, put) = c.author_counted.ensures.written.part fault in
     c.accepted_scripts_have_streams.ensures.part c.args.sheet.now c.args.script.now c.args.lead_in
     c.args.length n packs _ _ c.tracks_are_in_order.ensures
     (record {

@@ -1,6 +1,6 @@
 use Rattle.std.proofs.Common.{◌<◌, true, false, ◌∙◌, arith}
 use Rattle.std.proofs.lemmas.List.{get_or_default}
-use Rattle.pack_schedule.proofs.SameTileLaws.{row_kept, row_told}
+use Rattle.pack_schedule.proofs.SameTileLaws.{row_kept}
 use Rattle.pack_schedule.proofs.change.same_tiles.same_tiles.Goals as goal
 
 pub tell_row-requires-clause-stays : goal.tell_row-requires-clause-stays

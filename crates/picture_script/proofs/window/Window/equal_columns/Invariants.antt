@@ -1,4 +1,4 @@
-use Rattle.std.proofs.Common.{◌≡◌, ℕ, ◌+◌, ◌*◌, ◌<◌, true, false, length}
+use Rattle.std.proofs.Common.{◌≡◌, ℕ, ◌+◌, ◌*◌, ◌<◌, true, false}
 use Rattle.std.specs.Prelude.{◌↔◌, slice_index, slice_index_or}
 use Rattle.picture_script.proofs.window.Window.equal_columns.Given as goal
 

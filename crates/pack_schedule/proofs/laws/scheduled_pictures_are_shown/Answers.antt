@@ -1,5 +1,5 @@
 use Rattle.pack_schedule.proofs.Pictures.{pictures_shown}
-use Rattle.pack_schedule.proofs.screen_laws.scheduled_pictures_are_shown.Goals as goal
+use Rattle.pack_schedule.proofs.laws.scheduled_pictures_are_shown.Goals as goal
 
 pub returns : goal.returns
 returns c script blocks packs k time instrs order schedule picture ready held meant =

@@ -1,5 +1,5 @@
 use Rattle.subcode_author.proofs.Accepted.{accepted_times, accepted_colours, accepted_pixels}
-use Rattle.subcode_author.proofs.stream_laws.accepted_scripts_are_in_order.Goals as goal
+use Rattle.subcode_author.proofs.laws.accepted_scripts_are_in_order.Goals as goal
 
 pub returns-clause-times : goal.returns-clause-times
 returns-clause-times c = accepted_times

@@ -1,7 +1,7 @@
 use Rattle.std.proofs.Common.{◌+◌, ◌*◌}
 use Rattle.stream_trial.specs.TrialSheet.{trial_sheet}
 use Rattle.stream_trial.proofs.Sheets.{is_read, need_is, blocks_are, has_layout, room_enough, no_lead_in}
-use Rattle.stream_trial.proofs.sheet.trial_sheet_is_read.Goals as goal
+use Rattle.stream_trial.proofs.schedules.trial_sheet_is_read.Goals as goal
 
 pub returns-clause-read : goal.returns-clause-read
 returns-clause-read c = is_read

@@ -2,7 +2,7 @@ use Rattle.subcode_author.proofs.Existing.{has_stream}
 use Rattle.subcode_author.proofs.StreamParts.{part_is_prefix}
 use Rattle.subcode_author.proofs.Prompt.{are_prompt}
 use Rattle.subcode_author.proofs.Written.{ChangesAreWritten}
-use Rattle.subcode_author.proofs.stream_laws.accepted_scripts_have_streams.Goals as goal
+use Rattle.subcode_author.proofs.laws.accepted_scripts_have_streams.Goals as goal
 
 pub returns-clause-stream : goal.returns-clause-stream
 returns-clause-stream c sheet script lead_in audio is_sheet order colours pixels few accepted =

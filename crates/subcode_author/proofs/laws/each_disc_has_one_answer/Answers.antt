@@ -1,7 +1,7 @@
 use Rattle.subcode_author.proofs.Late.{NeedsAreKnown}
 use Rattle.subcode_author.proofs.Stages.{one_reason, not_refused}
 use Rattle.subcode_author.proofs.Some.{an_answer}
-use Rattle.subcode_author.proofs.answer_laws.each_disc_has_one_answer.Goals as goal
+use Rattle.subcode_author.proofs.laws.each_disc_has_one_answer.Goals as goal
 
 pub returns-clause-some : goal.returns-clause-some
 returns-clause-some c sheet script lead_in audio ranges small =

@@ -1,6 +1,6 @@
 // Laws on authored streams: accepted scripts are in order, an accepted sheet and script have one stream with the
 // planned changes, and what a failed write leaves is a prefix of it.
-ghost use Rattle.std.specs.Prelude.{◌≡◌, ◌<◌, ◌≤◌, List, ℕ, Ok, length};
+ghost use Rattle.std.specs.Prelude.{◌≡◌, ◌<◌, ◌≤◌, List, ℕ, Ok, length, ◌≢◌, ◌⊎◌};
 ghost use Rattle.disc_time.specs.Counts.{most_lead_in};
 ghost use Rattle.std.specs.declared.option.Option.{Option};
 ghost use Rattle.cdg_io.specs.Moves.{AppendsPrefix};
@@ -11,9 +11,11 @@ ghost use Rattle.pack_schedule.specs.PlannedChange.{planned_change};
 ghost use Rattle.pack_schedule.specs.Schedule.{IsInTime};
 ghost use Rattle.pack_schedule.specs.Shown.{AreColoursInRange, AreTimesInOrder};
 ghost use Rattle.subcode_author.specs.Authored.{IsWrittenStream, disc_of};
-ghost use Rattle.subcode_author.specs.AuthorAnswer.{HoldsPictures, IsAccepted};
+ghost use Rattle.subcode_author.specs.AuthorAnswer.{HoldsPictures, IsAccepted, IsAuthorStop};
 ghost use Rattle.subcode_author.specs.Given.{PutsScriptPart};
+ghost use Rattle.subcode_author.specs.declared.stops.AuthorStop.{AuthorStop};
 
+use crate::AuthorStop;
 use pack_schedule::{
     changes_can_be_written, needs_are_fewest, packs_are_a_schedule, planned_changes_are_changes,
 };
@@ -79,4 +81,24 @@ pub fn accepted_scripts_have_streams()
     planned_changes_are_changes();
     changes_can_be_written();
     spread_carries();
+}
+
+/// A law: each sheet and script, with their lead-in and audio, are accepted or refused, and not both, and they are
+/// refused for one reason alone, with one set of numbers. So `author_stream` answers a refusal exactly where its
+/// reason holds, but for want of memory.
+pub fn each_disc_has_one_answer()
+    ensures some { (sheet : CueSheet) (script : List Drawing) (lead_in audio : ℕ) → AreColoursInRange script
+        → ((k x y : ℕ) → picture_pixel script k x y < 16)
+        → IsAccepted sheet script lead_in audio
+        ⊎ ((stop : AuthorStop) × (stop ≢ AuthorStop.NoMemory) × (stop ≢ AuthorStop.WriteFault)
+        × IsAuthorStop sheet script lead_in audio stop) }
+    ensures not_both { (sheet : CueSheet) (script : List Drawing) (lead_in audio : ℕ) (stop : AuthorStop)
+        → IsAccepted sheet script lead_in audio
+        → IsAuthorStop sheet script lead_in audio stop
+        → (stop ≡ AuthorStop.NoMemory) ⊎ (stop ≡ AuthorStop.WriteFault) }
+    ensures one { (sheet : CueSheet) (script : List Drawing) (lead_in audio : ℕ) (stop other : AuthorStop)
+        → IsAuthorStop sheet script lead_in audio stop → IsAuthorStop sheet script lead_in audio other
+        → stop ≢ AuthorStop.NoMemory → other ≢ AuthorStop.NoMemory → stop ≡ other }
+{
+    needs_are_fewest();
 }
