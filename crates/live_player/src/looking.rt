@@ -23,9 +23,9 @@ pub(crate) fn pixels(screen: &PlainScreen, pixels: &mut [u8; SCREEN_PIXELS])
     write_whole(screen, pixels);
 }
 
-/// The pixels of a part of the screen: row j of it stands `stride` times j bytes from the front. It stands apart, so that its
-/// loop has the registers to itself.
-#[inline(never)]
+/// The pixels of a part of the screen: row j of it stands `stride` times j bytes from the front. It is inlined, since much of
+/// it goes where the part is known.
+#[inline(always)]
 pub fn part_of_screen(screen: &PlainScreen, part: &ScreenPart, pixels: &mut [u8], stride: usize)
     requires part { IsOnScreen part.now }
     requires apart { part.now.width ≤ stride }
