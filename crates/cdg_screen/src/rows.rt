@@ -1,5 +1,5 @@
 // Rows of the screen and of its memory, whole or some of their columns.
-ghost use Rattle.std.specs.Prelude.{◌≡◌, ◌<◌, ◌≤◌, ◌+◌, ◌-◌, ◌*◌, ◌%◌, ◌&&◌, nat_le, nat_lt, if◌then◌else◌, ℕ, [], All, IfSome, length, slice_index, slice_index_or};
+ghost use Rattle.std.specs.Prelude.{◌≡◌, ◌<◌, ◌≤◌, ◌+◌, ℕ, [], All, IfSome, length, slice_index, slice_index_or};
 ghost use Rattle.cdg_instructions.specs.Sizes.{colour_count, screen_height, screen_width};
 ghost use Rattle.cdg_screen.specs.Columns.{AreColumns};
 ghost use Rattle.cdg_screen.specs.Memory.{at, seen};
@@ -7,6 +7,7 @@ ghost use Rattle.cdg_screen.specs.Standing.{screen_pixel};
 
 use crate::PlainScreen;
 use crate::memory::Memory;
+use crate::row_parts::{fill, wrapped, write_at};
 use cdg_instructions::{SCREEN_HEIGHT, SCREEN_WIDTH, TILE_HEIGHT, TILE_WIDTH};
 
 impl PlainScreen {
@@ -124,39 +125,4 @@ impl Memory {
             write_at(columns, count, &row[..rest]);
         }
     }
-}
-
-// A place that goes on at the front, less than twice as far: no division.
-#[inline(always)]
-fn wrapped(place: usize, size: usize) -> usize
-    requires { place < 2 * size }
-    ensures { result ≡ place % size }
-{
-    if place < size { place } else { place - size }
-}
-
-// Makes the pixels from a place up to another one colour.
-#[inline(always)]
-fn fill(columns: &mut [u8], from: usize, to: usize, colour: u8)
-    requires order { from ≤ to }
-    requires room { to ≤ length columns.old }
-    ensures { (i : ℕ) → slice_index columns.new i
-        ≡ (if nat_le from i && nat_lt i to then colour else slice_index columns.old i) }
-{
-    // Each side of a whole row is as wide. A width that the compiler knows needs no call.
-    if to - from == TILE_WIDTH {
-        columns[from..from + TILE_WIDTH].fill(colour);
-    } else {
-        columns[from..to].fill(colour);
-    }
-}
-
-// Writes some pixels from a place on.
-fn write_at(columns: &mut [u8], place: usize, pixels: &[u8])
-    requires { place + length pixels.now ≤ length columns.old }
-    ensures { (i : ℕ) → slice_index columns.new i
-        ≡ (if nat_le place i && nat_lt i (place + length pixels.now) then slice_index pixels.now (i - place)
-        else slice_index columns.old i) }
-{
-    columns[place..place + pixels.len()].copy_from_slice(pixels);
 }

@@ -1,15 +1,20 @@
 // Whether a change of the memory would leave it as it is.
-ghost use Rattle.std.specs.Prelude.{◌≡◌, ◌<◌, ◌≤◌, ◌+◌, ◌-◌, ◌*◌, ◌%◌, ◌↔◌, ◌==◌, ◌&&◌, nat_le, nat_lt, if◌then◌else◌, ℕ, All, IsTrue, slice_index};
+ghost use Rattle.std.specs.Prelude.{◌≡◌, ◌<◌, ◌≤◌, ◌+◌, ◌-◌, ◌*◌, ◌%◌, ◌↔◌, ◌==◌, ◌&&◌, nat_le, nat_lt, if◌then◌else◌, ℕ, All, IsTrue, length, slice_index};
 ghost use Rattle.cdg_instructions.specs.Drawing.{tile_colour};
 ghost use Rattle.cdg_instructions.specs.Sizes.{colour_count, screen_height, screen_width, tile_width};
 ghost use Rattle.cdg_screen.specs.Standing.{covers, is_inside, source, source_x, source_y};
 ghost use Rattle.cdg_instructions.specs.Effect.{IsScrollInRange};
 ghost use Rattle.cdg_screen.specs.Memory.{at, Becomes, drawn_over, line_colour, scrolled, with_tile};
 
-use crate::memory::{Memory, colour_of, is_on_memory, over};
+use crate::line_table::LINE_BYTES;
+use crate::memory::{Memory, is_on_memory, line_pixels};
+use crate::row_parts::wrapped;
 use cdg_instructions::{
     DrawnTile, SCREEN_HEIGHT, SCREEN_WIDTH, Scrolling, TILE_HEIGHT, TILE_WIDTH,
 };
+
+// A line that is drawn over another by exclusive or and leaves it as it is.
+const ZEROS: [u8; TILE_WIDTH] = [0; TILE_WIDTH];
 
 impl Memory {
     /// Whether all pixels have a colour.
@@ -43,8 +48,10 @@ impl Memory {
     }
 
     // Whether a line of a tile that is drawn leaves its pixels as they are.
+    #[inline(always)]
     fn keeps_line(&self, x: usize, y: usize, colours: [u8; 2], line: u8, exclusive: bool) -> bool
         requires width { x + tile_width ≤ screen_width }
+        requires whole { x % tile_width ≡ 0 }
         requires height { y < screen_height }
         requires range { All (λ colour. colour < colour_count) colours }
         ensures { IsTrue result ↔ Becomes self.now (λ x' y'.
@@ -53,13 +60,11 @@ impl Memory {
             (line_colour (slice_index colours 0) (slice_index colours 1) line (x' - x)) (at self.now x' y')
             else at self.now x' y') }
     {
-        for i in 0..TILE_WIDTH {
-            let pixel = self.get(x + i, y);
-            if over(colour_of(colours, line, i), pixel, exclusive) != pixel {
-                return false;
-            }
-        }
-        true
+        // The origin moves by whole tiles, so no tile goes on at the other end.
+        let first = wrapped(x + self.left, SCREEN_WIDTH);
+        let row = &self.rows[wrapped(y + self.top, SCREEN_HEIGHT)];
+        let pixels = line_pixels(colours, line);
+        leaves(&pixels, &row[first..first + TILE_WIDTH], exclusive)
     }
 
     /// Whether a scroll leaves each pixel as it is.
@@ -173,6 +178,20 @@ impl Memory {
         } else {
             colour
         }
+    }
+}
+
+// Whether the pixels of a line that are drawn over six others leave them as they are.
+#[inline(always)]
+fn leaves(pixels: &[u8; LINE_BYTES], others: &[u8], exclusive: bool) -> bool
+    requires { length others.now ≡ tile_width }
+    ensures { IsTrue result ↔ ((i : ℕ) → i < tile_width → slice_index others.now i
+        ≡ drawn_over exclusive (slice_index pixels.now i) (slice_index others.now i)) }
+{
+    if exclusive {
+        pixels[..TILE_WIDTH] == ZEROS[..]
+    } else {
+        pixels[..TILE_WIDTH] == others[..]
     }
 }
 

@@ -1,6 +1,6 @@
 // What a screen shows, number by number.
-ghost use Rattle.std.specs.Prelude.{◌≡◌, ◌<◌, ◌≤◌, ◌+◌, ◌-◌, ◌/◌, ◌%◌, nat_le, if◌then◌else◌, ◌∷◌, [], ℕ, length, slice_index};
-ghost use Rattle.cdg_instructions.specs.Sizes.{colour_values, screen_pixels, screen_width};
+ghost use Rattle.std.specs.Prelude.{◌≡◌, ◌<◌, ◌≤◌, ◌+◌, ◌-◌, ◌/◌, ◌%◌, nat_le, if◌then◌else◌, ◌∷◌, [], ℕ, IsTrue, length, slice_index};
+ghost use Rattle.cdg_instructions.specs.Sizes.{colour_values, screen_height, screen_pixels, screen_width};
 ghost use Rattle.cdg_screen.specs.Memory.{seen};
 ghost use Rattle.cdg_screen.specs.Standing.{screen_pixel, standing_after};
 ghost use Rattle.cdg_screen.specs.Texts.{colour_bytes};
@@ -20,19 +20,56 @@ pub(crate) fn pixels(screen: &PlainScreen, pixels: &mut [u8; SCREEN_PIXELS])
     ensures { (n : ℕ) → n < screen_pixels
         → slice_index pixels.new n ≡ screen_pixel (seen screen.now) (n % screen_width) (n / screen_width) }
 {
-    let whole = ScreenPart {
-        left: 0,
-        top: 0,
-        width: SCREEN_WIDTH,
-        height: SCREEN_HEIGHT,
-    };
-    part_of_screen(screen, &whole, pixels, SCREEN_WIDTH);
+    write_whole(screen, pixels);
 }
 
 /// The pixels of a part of the screen: row j of it stands `stride` times j bytes from the front. It is inlined, since much of
 /// it goes where the part is known.
 #[inline(always)]
 pub fn part_of_screen(screen: &PlainScreen, part: &ScreenPart, pixels: &mut [u8], stride: usize)
+    requires part { IsOnScreen part.now }
+    requires apart { part.now.width ≤ stride }
+    requires room { HasRoomFor part.now stride (length pixels.old) }
+    ensures { ShowsPart (seen screen.now) part.now stride pixels.old pixels.new }
+{
+    if is_whole_screen(part) && stride == SCREEN_WIDTH {
+        write_whole(screen, pixels);
+    } else {
+        write_rows(screen, part, pixels, stride);
+    }
+}
+
+// Whether a part is all of the screen.
+#[inline(always)]
+fn is_whole_screen(part: &ScreenPart) -> bool
+    requires { IsOnScreen part.now }
+    ensures { IsTrue result
+        → part.now ≡ record { left = 0; top = 0; width = screen_width; height = screen_height } }
+{
+    part.width == SCREEN_WIDTH && part.height == SCREEN_HEIGHT
+}
+
+// Writes the pixels of the whole screen without gaps. It stands apart, so that there is one such loop, in which the compiler
+// knows where each row begins and ends.
+#[inline(never)]
+fn write_whole(screen: &PlainScreen, pixels: &mut [u8])
+    requires { screen_pixels ≤ length pixels.old }
+    ensures { ShowsPart (seen screen.now)
+        (record { left = 0; top = 0; width = screen_width; height = screen_height }) screen_width
+        pixels.old pixels.new }
+{
+    let whole = ScreenPart {
+        left: 0,
+        top: 0,
+        width: SCREEN_WIDTH,
+        height: SCREEN_HEIGHT,
+    };
+    write_rows(screen, &whole, pixels, SCREEN_WIDTH);
+}
+
+// Writes the pixels of a part row by row. It is inlined, since much of it goes where the part is known.
+#[inline(always)]
+fn write_rows(screen: &PlainScreen, part: &ScreenPart, pixels: &mut [u8], stride: usize)
     requires part { IsOnScreen part.now }
     requires apart { part.now.width ≤ stride }
     requires room { HasRoomFor part.now stride (length pixels.old) }

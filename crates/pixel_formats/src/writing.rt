@@ -35,13 +35,54 @@ pub fn write_pixels(
         part_of_screen(screen, part, out, stride);
         return;
     }
+    write_coloured(screen, part, format, out, stride);
+}
+
+// The same in a format of colours. It stands apart, so that the room of its table is cleared for it alone.
+#[inline(never)]
+fn write_coloured(
+    screen: &PlainScreen,
+    part: &ScreenPart,
+    format: PixelFormat,
+    out: &mut [u8],
+    stride: usize,
+)
+    requires part { IsOnScreen part.now }
+    requires format { format ≢ PixelFormat.Indexed }
+    requires apart { pixel_size format * part.now.width ≤ stride }
+    requires room { HasPixelRoom format part.now stride (length out.old) }
+    ensures { ShowsPixels format (seen screen.now) part.now stride out.old out.new }
+{
     let table = table_of(screen, format);
     if part.width * part.height < WORTH_PAIRS {
         write_rows(screen, part, format, &table, None, out, stride);
     } else {
-        let pairs = pairs_of(format.size(), &table);
-        write_rows(screen, part, format, &table, Some(&pairs), out, stride);
+        write_by_pairs(screen, part, format, &table, out, stride);
     }
+}
+
+// The same by the table of the colours, two pixels at a time. It stands apart for its room too.
+#[inline(never)]
+fn write_by_pairs(
+    screen: &PlainScreen,
+    part: &ScreenPart,
+    format: PixelFormat,
+    table: &[[u8; 4]; COLOURS],
+    out: &mut [u8],
+    stride: usize,
+)
+    requires part { IsOnScreen part.now }
+    requires format { format ≢ PixelFormat.Indexed }
+    requires apart { pixel_size format * part.now.width ≤ stride }
+    requires room { HasPixelRoom format part.now stride (length out.old) }
+    requires sizes { (p : ℕ) → p < 16 → length (slice_index_or table.now p []) ≡ 4 }
+    requires bytes { (p : ℕ) → p < 16 → take (pixel_size format) (slice_index_or table.now p [])
+        ≡ pixel_bytes format p (slice_index (seen screen.now).colours p)
+        (slice_index (seen screen.now).levels p) }
+    ensures { ShowsPixels format (seen screen.now) part.now stride out.old out.new }
+{
+    let pairs = pairs_of(format.size(), table);
+    write_rows(screen, part, format, table, Some(&pairs), out, stride);
 }
 
 /// Writes red, green and blue of all pixels of the screen, row by row.

@@ -10,6 +10,6 @@ returns c n lt =
     let place : n ≡ j * 300 + i = omega arith in
     let x : 0 + i ≡ i = omega arith in
     let y : 0 + j ≡ j = omega arith in
-    ap (λ m. get_or c.part_of_screen.new.pixels m 0) place
-    ∙ c.part_of_screen.ensures.pixels i j (omega arith) (omega (arith, lt))
+    ap (λ m. get_or c.write_whole.new.pixels m 0) place
+    ∙ c.write_whole.ensures.pixels i j (omega arith) (omega (arith, lt))
     ∙ ap₂ (screen_pixel (seen c.args.screen.now)) x y

@@ -13,12 +13,12 @@ loop-j-preserved c =
     ap (λ (memory : MemoryRows). memory.left) c.self.view_is ∙ sym left_same in
     let top : c.self.inside.top ≡ c.loop-j.self.top =
     ap (λ (memory : MemoryRows). memory.top) c.self.view_is ∙ sym top_same in
-    let down : (12 * c.args.row + c.self.inside.top) % 216 + c.loop-j.j
+    let down : c.wrapped-top.result + c.loop-j.j
     ≡ (12 * c.args.row + c.loop-j.j + c.loop-j.self.top) % 216 =
-    omega (arith, g.top_whole, g.top_below, c.loop-j-test.true) in
+    omega (arith, c.wrapped-top.ensures, g.top_whole, g.top_below, c.loop-j-test.true) in
     let there =
     c.draw_line.ensures.drawn c.args.column (12 * c.args.row + c.loop-j.j) c.requires.column y_lt
-    (ap (λ n. (6 * c.args.column + n) % 300) left) down in (
+    (c.wrapped-left.ensures ∙ ap (λ n. (6 * c.args.column + n) % 300) left) down in (
       left_kept ∙ left_same,
       top_kept ∙ top_same,
       line_more c.args.self.now c.loop-j.self c.draw_line.new.self c.args.row c.args.column _ _ c.loop-j.j

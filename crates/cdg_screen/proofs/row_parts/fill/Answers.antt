@@ -1,7 +1,7 @@
 use Rattle.std.proofs.Common.{◌+◌, ◌&&◌, if◌then◌else◌, ◌∙◌, get_or, ap, arith}
 use Rattle.std.specs.Prelude.{nat_le, nat_lt}
 use Rattle.cdg_screen.proofs.WholeRows.{filled_part}
-use Rattle.cdg_screen.proofs.rows.fill.Goals as goal
+use Rattle.cdg_screen.proofs.row_parts.fill.Goals as goal
 
 pub returns-then-to-from-eq-TILE_WIDTH : goal.returns-then-to-from-eq-TILE_WIDTH
 returns-then-to-from-eq-TILE_WIDTH c i =

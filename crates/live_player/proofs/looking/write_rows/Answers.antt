@@ -3,7 +3,7 @@ use Rattle.std.proofs.Common.{◌≡◌, ◌+◌, ◌-◌, ◌*◌, ◌≤◌, �
 use borrow.Rule.Slice.PartMut.{put_mid}
 use Rattle.cdg_screen.proofs.WholeRows.{length-part, piece_put}
 use Rattle.live_player.proofs.Pictures.{part_others, part_pixels}
-use Rattle.live_player.proofs.looking.part_of_screen.Goals as goal
+use Rattle.live_player.proofs.looking.write_rows.Goals as goal
 
 pub write_line-requires-clause-size : goal.write_line-requires-clause-size
 write_line-requires-clause-size c =

@@ -2,7 +2,7 @@ use Rattle.cdg_screen.specs.Memory.{seen}
 use Rattle.std.proofs.Common.{◌≡◌, ◌<◌, ◌+◌, ◌*◌, ℕ}
 use Rattle.std.specs.Prelude.{slice_index}
 use Rattle.cdg_screen.specs.Standing.{screen_pixel}
-use Rattle.live_player.proofs.looking.part_of_screen.Given as goal
+use Rattle.live_player.proofs.looking.write_rows.Given as goal
 
 abbrev pub invariant-loop-j : goal.invariant-loop-j
 invariant-loop-j l = record {
