@@ -1,5 +1,6 @@
 // A sink that is a trial: what is put to it is played at once, and is not kept.
 ghost use Rattle.std.specs.Prelude.{◌≡◌, ◌<◌, ◌≤◌, ◌+◌, ◌*◌, ◌/◌, ◌++◌, ℕ, List, [], ◌∷◌, Some, length, take, IfOk};
+ghost use Rattle.cdg_io.specs.Causes.{HasCause};
 ghost use Rattle.raw_subcode.specs.Channels.{symbols_of};
 ghost use Rattle.raw_subcode.specs.Sizes.{block_bytes, most_units};
 ghost use Rattle.cdg_workload.specs.Generated.{generated_drawings};
@@ -15,6 +16,7 @@ use cdg_workload::scratches_are_bursts;
 use picture_script::Script;
 use raw_subcode::{BLOCK_BYTES, MOST_UNITS};
 use std::alloc::{AllocError, Global};
+use subcode_author::NoMemoryCount;
 
 /// A trial of the generated script of a seed, which is under way. Each block that is put is gone over at once, and only
 /// the one that has begun is kept.
@@ -38,6 +40,7 @@ impl<'a> TrialRun<'a> {
     /// Before the first byte.
     pub(crate) fn start(
         alloc: Global,
+        lacks: &mut NoMemoryCount,
         script: &'a Script,
         seed: u64,
         pictures: u32,
@@ -45,12 +48,13 @@ impl<'a> TrialRun<'a> {
         requires { script.now ≡ generated_drawings seed pictures }
         ensures of { IfOk result (λ run. (run.seed ≡ seed) × (run.pictures ≡ pictures)) }
         ensures nothing { IfOk result (λ run. run.history.bytes ≡ []) }
+        ensures counted { HasCause lacks.old lacks.new result }
     {
         Ok(TrialRun {
             script,
             seed,
             pictures,
-            course: Course::start(alloc, seed)?,
+            course: Course::start(alloc, lacks, seed)?,
             block: [0; BLOCK_BYTES],
             filled: 0,
             faults: 0,

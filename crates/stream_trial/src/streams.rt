@@ -50,27 +50,9 @@ pub(crate) fn play_stream(
     scratches_are_bursts();
     scratches_are_damage();
     trial_sheet_is_read();
-    let mut run = start_run(alloc, lacks, script, seed, pictures)?;
+    let mut run = TrialRun::start(alloc, lacks, script, seed, pictures)?;
     write_stream(alloc, lacks, script, planned, pictures, &mut run)?;
     Ok(run.found())
-}
-
-// A run before the first byte.
-fn start_run<'a>(
-    alloc: Global,
-    lacks: &mut NoMemoryCount,
-    script: &'a Script,
-    seed: u64,
-    pictures: u32,
-) -> Result<TrialRun<'a>, AllocError>
-    requires { script.now ≡ generated_drawings seed pictures }
-    ensures of { IfOk result (λ run. (run.seed ≡ seed) × (run.pictures ≡ pictures)) }
-    ensures nothing { IfOk result (λ run. run.history.bytes ≡ []) }
-    ensures counted { HasCause lacks.old lacks.new result }
-{
-    let run = TrialRun::start(alloc, script, seed, pictures);
-    lacks.note_answer(&run);
-    run
 }
 
 // Writes the stream of the sheet with one track and of a generated script, with no lead-in, to a run that has begun.
