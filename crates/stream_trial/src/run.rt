@@ -32,6 +32,7 @@ pub(crate) struct TrialRun<'a> {
     faults: u64,
     pub(crate) history: History,
     ghost few: { course.blocks ≤ most_units },
+    ghost full: { 0 < faults → course.blocks ≡ most_units },
     ghost begun: { filled < block_bytes },
     ghost known: { ∥ Knows script.now seed pictures course block filled history.bytes ∥₁ },
 }
