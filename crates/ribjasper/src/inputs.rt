@@ -1,16 +1,23 @@
-// The inputs of the program.
+// The inputs of the program, and which is the first.
 ghost use Rattle.std.specs.Prelude.{◌≡◌, ◌≢◌, ◌<◌, ◌↔◌, String, ◌∷◌, [], None, Some, Ok, IfOk, OnErr, IsErr, IsSome, ◌⊎◌, string_bytes};
 ghost use Rattle.std.specs.Io.{ReadsAtMost};
 ghost use Rattle.std.specs.Io.KnownBytes.{ReadConsumes};
 ghost use Rattle.std.specs.declared.alloc.Global.{Global};
 ghost use Rattle.std.specs.declared.fs.File.{File};
 ghost use Rattle.std.specs.declared.io.Stdin.{Stdin};
+ghost use Rattle.cdg_io.specs.Change.{change, input};
+ghost use Rattle.cdg_cmd.specs.Performs.{Performs};
+ghost use Rattle.cdg_cmd.specs.Spelling.{Spells};
+ghost use Rattle.cdg_cmd.specs.Words.{texts};
 ghost use Rattle.ribjasper.specs.declared.inputs.InputReader.TheVariants.{Empty, Missing, Named, Standard, Unopened};
 ghost use Rattle.ribjasper.specs.Inputs.{name_of};
 
+use cdg_cmd::{Command, Status, run};
+use cdg_io::{BufferedSource, Sink, Source, SteadySink};
+use std::alloc::Global;
 use std::fs::File;
 use std::io;
-use std::io::{ErrorKind, Read, Stdin};
+use std::io::{BufReader, ErrorKind, Read, Stdin};
 
 // As much as a pipe holds, so that a read empties it.
 const PIPE_READ: usize = 65_536;
@@ -41,6 +48,12 @@ impl<'a> InputReader<'a> {
             InputReader::Standard(_) => PIPE_READ,
             _ => FILE_READ,
         }
+    }
+
+    // A source of it.
+    fn source(self, alloc: Global) -> io::Result<BufferedSource<InputReader<'a>>> {
+        let most = self.most_a_read();
+        Ok(BufferedSource::new(BufReader::with_capacity(alloc, most, self)?))
     }
 
     // The input of a file, as the machine answered when it was to be opened.
@@ -90,24 +103,88 @@ impl Read for InputReader<'_> {
     }
 }
 
+/// The first input of a line. It is looked into here alone, so that it cannot be taken for the second one.
+#[derive(Drop)]
+pub struct First<I> {
+    input: I,
+}
+
+/// The second input of a line.
+#[derive(Drop)]
+pub struct Second<I> {
+    input: I,
+}
+
+impl<'a> First<InputReader<'a>> {
+    /// A source of it.
+    pub(crate) fn source(
+        self,
+        alloc: Global,
+    ) -> io::Result<First<BufferedSource<InputReader<'a>>>> {
+        let First { input } = self;
+        Ok(First {
+            input: input.source(alloc)?,
+        })
+    }
+}
+
+impl<'a> Second<InputReader<'a>> {
+    /// A source of it.
+    pub(crate) fn source(
+        self,
+        alloc: Global,
+    ) -> io::Result<Second<BufferedSource<InputReader<'a>>>> {
+        let Second { input } = self;
+        Ok(Second {
+            input: input.source(alloc)?,
+        })
+    }
+}
+
 /// The two inputs: those that are named, in order, or standard input.
 pub fn named<'a>(
     rt: &'a HostRuntime,
     stdin: Stdin,
     names: &'a [String],
-) -> (InputReader<'a>, InputReader<'a>)
-    ensures none { names.now ≡ [] → result ≡ (Standard stdin, Empty) }
+) -> (First<InputReader<'a>>, Second<InputReader<'a>>)
+    ensures none { names.now ≡ [] → (result.0.input ≡ Standard stdin) × (result.1.input ≡ Empty) }
     ensures one { (name : String Global) → names.now ≡ name ∷ []
-        → (name_of result.0 ≡ Some (string_bytes name)) × (result.1 ≡ Empty) }
+        → (name_of result.0.input ≡ Some (string_bytes name)) × (result.1.input ≡ Empty) }
     ensures two { (first second : String Global) → names.now ≡ first ∷ second ∷ []
-        → (name_of result.0 ≡ Some (string_bytes first)) × (name_of result.1 ≡ Some (string_bytes second)) }
+        → (name_of result.0.input ≡ Some (string_bytes first))
+        × (name_of result.1.input ≡ Some (string_bytes second)) }
 {
-    match names {
+    let (first, second) = match names {
         [first, second] => (
             InputReader::Unopened(rt, first),
             InputReader::Unopened(rt, second),
         ),
         [first] => (InputReader::Unopened(rt, first), InputReader::Empty),
         _ => (InputReader::Standard(stdin), InputReader::Empty),
-    }
+    };
+    (First { input: first }, Second { input: second })
+}
+
+/// Runs the words of a command over both inputs and an output: the first input is that of `run`, and so is the second.
+pub(crate) fn run_over<S: Source, T: Source, K: Sink>(
+    alloc: Global,
+    words: &[String],
+    first: &mut First<S>,
+    second: &mut Second<T>,
+    out: &mut K,
+) -> Status
+    ensures performs { (command : Command) → Spells command (texts words.now) → Performs command
+        (input S.left S.ends first.old.input first.new.input)
+        (input T.left T.ends second.old.input second.new.input)
+        (change K.held out.old out.new) (first.old.input, second.old.input, out.old)
+        (first.new.input, second.new.input, out.new) result }
+{
+    run(
+        alloc,
+        words,
+        &mut first.input,
+        &mut second.input,
+        out,
+        &mut SteadySink::new(),
+    )
 }

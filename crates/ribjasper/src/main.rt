@@ -14,12 +14,12 @@ ghost use Rattle.cdg_cmd.specs.Splitting.{split_of};
 
 mod inputs;
 
-use cdg_cmd::{Status, run, split, tell};
-use cdg_io::{BufferedSink, BufferedSource, Failed, Sink, SteadySink, WriteSink};
-use inputs::{InputReader, named};
+use cdg_cmd::{Status, split, tell};
+use cdg_io::{BufferedSink, Failed, Sink, WriteSink};
+use inputs::{named, run_over};
 use std::alloc::{AllocError, Global};
 use std::env::Args;
-use std::io::{BufReader, ErrorKind, Write};
+use std::io::{ErrorKind, Write};
 use std::process::ExitCode;
 use std::{env, io};
 
@@ -60,12 +60,6 @@ fn parted(line: &[String]) -> (&[String], &[String])
     (&line[..split.words], &line[line.len() - split.names..])
 }
 
-// A source of an input.
-fn source(alloc: Global, input: InputReader<'_>) -> io::Result<BufferedSource<InputReader<'_>>> {
-    let most = input.most_a_read();
-    Ok(BufferedSource::new(BufReader::with_capacity(alloc, most, input)?))
-}
-
 // The status after the last write of what waits: what could not be written is a write fault.
 fn flushed<W: Write>(status: Status, out: &mut BufferedSink<W>) -> Status
     // Nothing waits any more, or it is reported that something does.
@@ -90,16 +84,9 @@ fn run_words<W: Write>(
 {
     let (words, names) = parted(line);
     let (first, second) = named(rt, rt.stdin(), names);
-    let mut first = source(rt.alloc(), first)?;
-    let mut second = source(rt.alloc(), second)?;
-    let status = run(
-        rt.alloc(),
-        words,
-        &mut first,
-        &mut second,
-        out,
-        &mut SteadySink::new(),
-    );
+    let mut first = first.source(rt.alloc())?;
+    let mut second = second.source(rt.alloc())?;
+    let status = run_over(rt.alloc(), words, &mut first, &mut second, out);
     Ok(flushed(status, out))
 }
 

@@ -7,3 +7,4 @@ pub mod Pixels
 pub mod Ready
 pub mod Sheets
 pub mod Scratched
+pub mod Room

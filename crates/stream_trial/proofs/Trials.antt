@@ -78,8 +78,9 @@ program_is blocks bytes size =
     ∙ whole_symbols blocks bytes (omega (arith, size))
 
 -- the size of the stream of a sheet
-stream_size : (sheet : CueSheet) (script : List Drawing) (audio : ℕ) (bytes : List ℕ) (packs : List (List ℕ))
-    → IsAuthored (disc_of sheet script 0 audio) bytes packs → length bytes ≡ 96 * program_blocks sheet audio
+pub stream_size : (sheet : CueSheet) (script : List Drawing) (audio : ℕ) (bytes : List ℕ)
+    (packs : List (List ℕ)) → IsAuthored (disc_of sheet script 0 audio) bytes packs
+    → length bytes ≡ 96 * program_blocks sheet audio
 stream_size sheet script audio bytes packs authored = authored.framing.size ∙ omega arith
 
 scratched_size : ChannelsStay

@@ -1,5 +1,6 @@
 // What a trial does with each block of a stream.
 ghost use Rattle.std.specs.Prelude.{◌≡◌, ◌<◌, ◌≤◌, ◌+◌, ◌*◌, ℕ, List, length, IfOk};
+ghost use Rattle.cdg_io.specs.Causes.{HasCause};
 ghost use Rattle.raw_subcode.specs.Sizes.{block_bytes, most_units};
 ghost use Rattle.picture_script.specs.Script.{Drawing};
 ghost use Rattle.stream_trial.specs.Course.{stream_block, HasGoneOver, IsSteady};
@@ -12,6 +13,7 @@ use picture_script::Script;
 use raw_subcode::{BLOCK_BYTES, SLOTS_A_BLOCK};
 use rw_interleave::{Gather, gather_gives_words};
 use std::alloc::{AllocError, Global};
+use subcode_author::NoMemoryCount;
 
 /// Goes over a stream with no lead-in block by block: each block is scratched, its words are corrected and played, and
 /// the screen is compared with the next picture of a script when that is ready. It holds a window of slots, a screen and
@@ -28,19 +30,24 @@ pub(crate) struct Course {
 
 impl Course {
     /// Before the first block, with the scratches of a seed.
-    pub(crate) fn start(alloc: Global, seed: u64) -> Result<Course, AllocError>
+    pub(crate) fn start(
+        alloc: Global,
+        lacks: &mut NoMemoryCount,
+        seed: u64,
+    ) -> Result<Course, AllocError>
         ensures blocks { IfOk result (λ course. course.blocks ≡ 0) }
         ensures steady { IfOk result (λ course. (script : List Drawing) → IsSteady script course) }
         ensures gone_over { IfOk result (λ course. (script : List Drawing) (bytes : List ℕ)
             → HasGoneOver script seed bytes course) }
+        ensures counted { HasCause lacks.old lacks.new result }
     {
         // For the scratches: before the first block.
         scratches_go_block_by_block();
         Ok(Course {
             scratches: Scratches::start(0, seed),
             gather: Gather::new(),
-            replay: Replay::start(alloc)?,
-            gallery: Gallery::start(alloc)?,
+            replay: Replay::start(alloc, lacks)?,
+            gallery: Gallery::start(alloc, lacks)?,
             blocks: 0,
         })
     }

@@ -1,5 +1,6 @@
 // The pictures of a script, one after another, beside a screen.
 ghost use Rattle.std.specs.Prelude.{◌≡◌, ◌≢◌, ◌<◌, ◌≤◌, ◌+◌, ◌*◌, List, IfOk};
+ghost use Rattle.cdg_io.specs.Causes.{HasCause};
 ghost use Rattle.picture_script.specs.Script.{Drawing, pictures, ready_time};
 ghost use Rattle.picture_script.specs.Board.{StandsBefore};
 ghost use Rattle.pack_schedule.specs.Shown.{ShowsPicture};
@@ -9,6 +10,7 @@ use cdg_screen::Screen;
 use picture_script::{Canvas, Script};
 use raw_subcode::SLOTS_A_BLOCK;
 use std::alloc::{AllocError, Global};
+use subcode_author::NoMemoryCount;
 
 /// The pictures that are still to be shown, and how many were shown when they were ready.
 #[derive(Drop)]
@@ -20,13 +22,16 @@ pub(crate) struct Gallery {
 
 impl Gallery {
     /// Before the first picture.
-    pub(crate) fn start(alloc: Global) -> Result<Gallery, AllocError>
+    pub(crate) fn start(alloc: Global, lacks: &mut NoMemoryCount) -> Result<Gallery, AllocError>
         ensures canvas { IfOk result
             (λ gallery. (script : List Drawing) → StandsBefore script 0 gallery.canvas) }
         ensures counts { IfOk result (λ gallery. (gallery.next ≡ 0) × (gallery.equal ≡ 0)) }
+        ensures counted { HasCause lacks.old lacks.new result }
     {
+        let canvas = Canvas::start(alloc);
+        lacks.note_answer(&canvas);
         Ok(Gallery {
-            canvas: Canvas::start(alloc)?,
+            canvas: canvas?,
             next: 0,
             equal: 0,
         })

@@ -42,9 +42,7 @@ pub(crate) fn parse_script(
     // For the grammar, which refuses no generated script, and for the length of its text.
     generated_scripts_are_read();
     generated_scripts_are_short();
-    let text = write_text(alloc, seed, pictures);
-    lacks.note_answer(&text);
-    let text = text?;
+    let text = write_text(alloc, lacks, seed, pictures)?;
     match Script::parse(alloc, text.bytes()) {
         Ok(script) => Ok(script),
         Err(ScriptStop::NoMemory) => {
@@ -56,16 +54,26 @@ pub(crate) fn parse_script(
 }
 
 // The text of the generated script of a seed, in room for the longest one.
-fn write_text(alloc: Global, seed: u64, pictures: u32) -> Result<MemSink, AllocError>
+fn write_text(
+    alloc: Global,
+    lacks: &mut NoMemoryCount,
+    seed: u64,
+    pictures: u32,
+) -> Result<MemSink, AllocError>
     requires { (1 ≤ pictures) × (pictures ≤ most_generated) }
-    ensures { IfOk result (λ text. text.held ≡ generated_script seed pictures) }
+    ensures text { IfOk result (λ text. text.held ≡ generated_script seed pictures) }
+    ensures counted { HasCause lacks.old lacks.new result }
 {
     let room = COLOURS_BYTES + PICTURE_BYTES * pictures as usize;
-    let mut text = MemSink::new(alloc, room, Vec::new(alloc), Vec::new(alloc))?;
+    let text = MemSink::new(alloc, room, Vec::new(alloc), Vec::new(alloc));
+    lacks.note_answer(&text);
+    let mut text = text?;
     match write_script(seed, pictures, &mut text) {
         Ok(()) => Ok(text),
+        // There is room for the longest script.
         Err(Failed) => {
             drop(text);
+            lacks.note(&AllocError);
             Err(AllocError)
         }
     }

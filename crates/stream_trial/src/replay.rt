@@ -1,5 +1,6 @@
 // A stream that is played again, word by word.
 ghost use Rattle.std.specs.Prelude.{◌≡◌, ◌<◌, ◌≤◌, ◌+◌, ◌-◌, ◌*◌, ◌/◌, ℕ, List, IfOk, length};
+ghost use Rattle.cdg_io.specs.Causes.{HasCause};
 ghost use Rattle.rw_code.specs.Codeword.{Reads};
 ghost use Rattle.raw_subcode.specs.Sizes.{block_bytes, slots_a_block};
 ghost use Rattle.rw_interleave.specs.Interleave.{whole_packs};
@@ -14,6 +15,7 @@ use cdg_screen::{Screen, instructions_in_turn};
 use rw_code::{Word, correct, only_one_codeword_is_near};
 use rw_interleave::gather_gives_words;
 use std::alloc::{AllocError, Global};
+use subcode_author::NoMemoryCount;
 
 /// Words are corrected, and what their packs say is carried out.
 #[derive(Drop)]
@@ -29,12 +31,15 @@ pub(crate) struct Replay {
 
 impl Replay {
     /// No word was taken.
-    pub(crate) fn start(alloc: Global) -> Result<Replay, AllocError>
+    pub(crate) fn start(alloc: Global, lacks: &mut NoMemoryCount) -> Result<Replay, AllocError>
         ensures screen { IfOk result (λ replay. replay.screen ≡ blank) }
         ensures counts { IfOk result (λ replay. (replay.one ≡ 0) × (replay.two ≡ 0) × (replay.bad ≡ 0)) }
+        ensures counted { HasCause lacks.old lacks.new result }
     {
+        let screen = Screen::start(alloc);
+        lacks.note_answer(&screen);
         Ok(Replay {
-            screen: Screen::start(alloc)?,
+            screen: screen?,
             one: 0,
             two: 0,
             bad: 0,

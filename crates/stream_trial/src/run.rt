@@ -1,5 +1,6 @@
 // A sink that is a trial: what is put to it is played at once, and is not kept.
 ghost use Rattle.std.specs.Prelude.{◌≡◌, ◌<◌, ◌≤◌, ◌+◌, ◌*◌, ◌/◌, ◌++◌, ℕ, List, [], ◌∷◌, Some, length, take, IfOk};
+ghost use Rattle.cdg_io.specs.Causes.{HasCause};
 ghost use Rattle.raw_subcode.specs.Channels.{symbols_of};
 ghost use Rattle.raw_subcode.specs.Sizes.{block_bytes, most_units};
 ghost use Rattle.cdg_workload.specs.Generated.{generated_drawings};
@@ -14,6 +15,7 @@ use cdg_workload::scratches_are_bursts;
 use picture_script::Script;
 use raw_subcode::{BLOCK_BYTES, MOST_UNITS};
 use std::alloc::{AllocError, Global};
+use subcode_author::NoMemoryCount;
 
 /// What was counted.
 #[derive(Clone, Copy)]
@@ -41,6 +43,7 @@ pub(crate) struct TrialRun<'a> {
     faults: u64,
     pub(crate) history: History,
     ghost few: { course.blocks ≤ most_units },
+    ghost full: { 0 < faults → course.blocks ≡ most_units },
     ghost begun: { filled < block_bytes },
     ghost known: { ∥ Knows script.now seed pictures course block filled history.bytes ∥₁ },
 }
@@ -49,6 +52,7 @@ impl<'a> TrialRun<'a> {
     /// Before the first byte.
     pub(crate) fn start(
         alloc: Global,
+        lacks: &mut NoMemoryCount,
         script: &'a Script,
         seed: u64,
         pictures: u32,
@@ -56,12 +60,13 @@ impl<'a> TrialRun<'a> {
         requires { script.now ≡ generated_drawings seed pictures }
         ensures of { IfOk result (λ run. (run.seed ≡ seed) × (run.pictures ≡ pictures)) }
         ensures nothing { IfOk result (λ run. run.history.bytes ≡ []) }
+        ensures counted { HasCause lacks.old lacks.new result }
     {
         Ok(TrialRun {
             script,
             seed,
             pictures,
-            course: Course::start(alloc, seed)?,
+            course: Course::start(alloc, lacks, seed)?,
             block: [0; BLOCK_BYTES],
             filled: 0,
             faults: 0,

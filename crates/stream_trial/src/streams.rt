@@ -1,6 +1,6 @@
 // The stream of a trial, played as it is written.
 ghost use Rattle.std.specs.Prelude.{◌≡◌, ◌≤◌, ℕ, List, [], OnOk, IfOk, IfErr};
-ghost use Rattle.cdg_io.specs.Causes.{HasCause};
+ghost use Rattle.cdg_io.specs.Causes.{HasCause, TellsFault};
 ghost use Rattle.cdg_workload.specs.Script.{most_generated};
 ghost use Rattle.cdg_workload.specs.Scratches.{scratched};
 ghost use Rattle.cdg_workload.specs.Generated.{generated_drawings};
@@ -18,11 +18,12 @@ use crate::run::{Found, TrialRun};
 use crate::stops::TrialStop;
 use crate::trial_sheet_is_read;
 use cdg_workload::{BLOCKS_A_PICTURE, BLOCKS_HELD, scratches_are_bursts, scratches_are_damage};
+use cue_sheet::Sheet;
 use disc_time::PAUSE_BLOCKS;
 use pack_schedule::Survey;
 use picture_script::Script;
-use std::alloc::{AllocError, Global};
-use subcode_author::{AuthorStop, NoMemoryCount, author_planned};
+use std::alloc::Global;
+use subcode_author::{AuthorStop, NoMemoryCount, accepted_scripts_have_streams, author_planned};
 
 /// Writes the stream of the script of a seed, whose changes are planned, and plays each of its blocks, with scratches of
 /// the same seed, as soon as it is written.
@@ -49,27 +50,9 @@ pub(crate) fn play_stream(
     scratches_are_bursts();
     scratches_are_damage();
     trial_sheet_is_read();
-    let mut run = start_run(alloc, lacks, script, seed, pictures)?;
+    let mut run = TrialRun::start(alloc, lacks, script, seed, pictures)?;
     write_stream(alloc, lacks, script, planned, pictures, &mut run)?;
     Ok(run.found())
-}
-
-// A run before the first byte.
-fn start_run<'a>(
-    alloc: Global,
-    lacks: &mut NoMemoryCount,
-    script: &'a Script,
-    seed: u64,
-    pictures: u32,
-) -> Result<TrialRun<'a>, AllocError>
-    requires { script.now ≡ generated_drawings seed pictures }
-    ensures of { IfOk result (λ run. (run.seed ≡ seed) × (run.pictures ≡ pictures)) }
-    ensures nothing { IfOk result (λ run. run.history.bytes ≡ []) }
-    ensures counted { HasCause lacks.old lacks.new result }
-{
-    let run = TrialRun::start(alloc, script, seed, pictures);
-    lacks.note_answer(&run);
-    run
 }
 
 // Writes the stream of the sheet with one track and of a generated script, with no lead-in, to a run that has begun.
@@ -96,19 +79,45 @@ fn write_stream(
     // For the author, which refuses neither the sheet nor the script.
     trial_sheet_is_read();
     let sheet = parse_sheet(alloc, lacks)?;
-    let audio = count_audio(pictures);
-    let written = author_planned(alloc, lacks, &sheet, script, planned, 0, audio, run);
+    let written = author_run(alloc, lacks, &sheet, script, planned, pictures, run);
     drop(sheet);
     match written {
         Ok(()) => Ok(()),
         Err(AuthorStop::NoMemory) => Err(TrialStop::NoMemory),
-        // A run takes more blocks than the stream has: past its limit there would be no place for them.
-        Err(AuthorStop::WriteFault) => {
-            lacks.note(&AllocError);
-            Err(TrialStop::NoMemory)
-        }
         Err(_) => unreachable!(),
     }
+}
+
+// The same with the sheet at hand. A run takes more blocks than the stream has, so no write fails.
+fn author_run(
+    alloc: Global,
+    lacks: &mut NoMemoryCount,
+    sheet: &Sheet,
+    script: &Script,
+    planned: Survey,
+    pictures: u32,
+    run: &mut TrialRun<'_>,
+) -> Result<(), AuthorStop>
+    requires few { pictures ≤ most_generated }
+    requires sheet { sheet.now ≡ trial_sheet }
+    requires script { (seed : ℕ) × (script.now ≡ generated_drawings seed pictures) }
+    requires planned { IsSurvey script.now planned }
+    requires within { IsWithin script.now (trial_blocks pictures) }
+    requires begun { run.old.history.bytes ≡ [] }
+    ensures stream { OnOk result ((packs : List (List ℕ))
+        × IsWrittenStream (disc_of trial_sheet script.now 0 (trial_audio pictures)) run.new.history.bytes
+        packs) }
+    ensures of { OnOk result ((run.new.seed ≡ run.old.seed) × (run.new.pictures ≡ run.old.pictures)) }
+    ensures stop { IfErr result (λ stop. stop ≡ AuthorStop.NoMemory) }
+    ensures wants { TellsFault AuthorStop.NoMemory lacks.old lacks.new result }
+{
+    // For the author, which refuses neither, and for what a failed write would leave.
+    trial_sheet_is_read();
+    accepted_scripts_have_streams();
+    sheet.tracks_are_in_order();
+    script.times_rise_and_colours_are_in_range();
+    let audio = count_audio(pictures);
+    author_planned(alloc, lacks, sheet, script, planned, 0, audio, run)
 }
 
 /// How many blocks the audio has.
