@@ -81,6 +81,8 @@ static void q_frames(void)
     CHECK(ribjasper_q_decode(bytes, &frame, &bit) == RIBJASPER_DONE && memcmp(frame.text, "1234567890123", 13) == 0);
     frame.kind = RIBJASPER_Q_ISRC;
     CHECK(ribjasper_q_encode(&frame, bytes) == RIBJASPER_REFUSED);
+    memcpy(frame.text, "D1A1B9912345", 12);
+    CHECK(ribjasper_q_encode(&frame, bytes) == RIBJASPER_REFUSED);
     memcpy(frame.text, "DEA1B9912345", 12);
     CHECK(ribjasper_q_encode(&frame, bytes) == RIBJASPER_DONE && bytes[0] == 3);
     CHECK(ribjasper_q_decode(bytes, &frame, &bit) == RIBJASPER_DONE && frame.kind == RIBJASPER_Q_ISRC);
@@ -379,6 +381,37 @@ static void saved_players(void)
     CHECK(held == 0);
 }
 
+/* Offsets and levels come back from a checkpoint, and are those of a copy. Of a stream that begins anew nothing is saved that
+   the one before has left. */
+static void saved_settings(void)
+{
+    static const uint8_t scroll[16] = { 0, 0x15, 0x1b };
+    static const uint8_t levels[16] = { 0, 1, 2, 3, 4, 5, 6, 7, 8, 9, 10, 11, 12, 13, 62, 63 };
+    static uint8_t file[RIBJASPER_CHECKPOINT];
+    ribjasper_player player = RIBJASPER_CLOSED, loaded = RIBJASPER_CLOSED, copied = RIBJASPER_CLOSED;
+    uint8_t block[96], seen[16], across = 0, down = 0;
+    uint32_t byte = 7;
+    memset(block, 1, sizeof block);
+    CHECK(ribjasper_player_open(&player) == RIBJASPER_DONE && ribjasper_player_open(&loaded) == RIBJASPER_DONE);
+    CHECK(ribjasper_player_open(&copied) == RIBJASPER_DONE);
+    draws(&player, 24, scroll);
+    draws(&player, 28, levels);
+    CHECK(ribjasper_player_save(&player, file) == RIBJASPER_DONE);
+    CHECK(ribjasper_player_load(&loaded, file, &byte) == RIBJASPER_DONE && byte == 7);
+    CHECK(ribjasper_player_copy(&player, &copied) == RIBJASPER_DONE);
+    CHECK(ribjasper_player_offsets(&loaded, &across, &down) == RIBJASPER_DONE && across == 5 && down == 11);
+    CHECK(ribjasper_player_levels(&loaded, seen) == RIBJASPER_DONE && memcmp(seen, levels, 16) == 0);
+    CHECK(ribjasper_player_offsets(&copied, &across, &down) == RIBJASPER_DONE && across == 5 && down == 11);
+    CHECK(ribjasper_player_levels(&copied, seen) == RIBJASPER_DONE && memcmp(seen, levels, 16) == 0);
+    CHECK(ribjasper_player_feed(&player, block) == RIBJASPER_DONE);
+    CHECK(ribjasper_player_begin(&player, RIBJASPER_RAW, 0) == RIBJASPER_DONE);
+    CHECK(ribjasper_player_save(&player, file) == RIBJASPER_DONE && all_are(file + 8, 184, 0));
+    ribjasper_player_close(&player);
+    ribjasper_player_close(&loaded);
+    ribjasper_player_close(&copied);
+    CHECK(held == 0);
+}
+
 /* A raw stream of 1,000,000 blocks is saved, and a longer one is refused: no memory is asked before. */
 static void long_players(void)
 {
@@ -484,6 +517,7 @@ int main(void)
     drawn_packs();
     taken_blocks();
     saved_players();
+    saved_settings();
     long_players();
     touched_parts();
     rectangles();

@@ -139,6 +139,14 @@ static void rooms_and_memory(void)
         CHECK(untouched(0) && told.why == 0x5a5a5a5a);
     }
     CHECK(answer == RIBJASPER_LATE);
+    /* A script is refused where there is no memory for the sheet. */
+    for (long n = 0; n < 20; n++) {
+        requests = 0;
+        refused = n;
+        answer = plan(sheet, "border 1\nfill 16\n", 12, 100, ROOM);
+        refused = -1;
+        CHECK(answer == RIBJASPER_NOT_PLANNED && is_refused(RIBJASPER_SCRIPT_REFUSED, 2, 3) && held == 0);
+    }
 }
 
 /* Every front of a script has a plan or is refused, and what is behind its rows stays. */

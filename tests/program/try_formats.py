@@ -161,6 +161,26 @@ class FormatsTest(unittest.TestCase):
                 wanted = x, y, 1 + (b & 0xFFFF) % (288 - x), 1 + (b >> 16) % (192 - y), b // 256 % 16
                 self.assertEqual(line, "rect " + " ".join(map(str, wanted)))
 
+    def test_scratches(self) -> None:
+        """Of a file, whose blocks are at hand: the lead-in stays, and the program has the bursts of the seed."""
+        lead_in, stream = 40, bytes(byte % 256 for byte in range(96 * 700))
+        scratched, end, words = bytearray(stream), 96 * lead_in, words_of(7)
+        while end < len(stream):
+            word = next(words)
+            start, count = end + 192 + word % 64, 1 + word // 256 % 16
+            for place in range(start, min(start + count, len(stream))):
+                scratched[place] ^= 1 + (word >> 16) % 63
+            end = start + count
+        ran = self.run_words(f"scratch --lead-in {lead_in} --seed 7", self.write("stream", stream))
+        self.assertEqual(ran, (0, bytes(scratched), ""))
+
+    def test_an_output_that_is_full(self) -> None:
+        """What is kept back to the end is not lost in silence."""
+        with open("/dev/full", "wb") as full:
+            call = [PROGRAM, "convert", "--lead-in", "0"]
+            ran = subprocess.run(call, input=bytes(192), stdout=full, stderr=subprocess.PIPE)
+        self.assertEqual((ran.returncode, ran.stderr), (6, b"write fault\n"))
+
 
 if __name__ == "__main__":
     if len(sys.argv) < 2:
