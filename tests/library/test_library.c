@@ -273,6 +273,8 @@ static void rectangles(void)
     CHECK(ribjasper_player_rect(&player, 300, 216, 0, 0, part, 0, 0) == RIBJASPER_DONE);
     CHECK(ribjasper_player_rect(&player, 0, 0, 300, 216, part, RIBJASPER_PIXELS, 300) == RIBJASPER_DONE);
     CHECK(memcmp(part, pixels, sizeof part) == 0);
+    CHECK(ribjasper_player_rect(&player, 0, 30, 300, 100, part, 300 * 100, 300) == RIBJASPER_DONE);
+    CHECK(memcmp(part, pixels + 300 * 30, 300 * 100) == 0 && memcmp(part, pixels, 300 * 100) != 0);
     ribjasper_player_close(&player);
     CHECK(ribjasper_player_rect(&player, 0, 0, 1, 1, part, 1, 1) == RIBJASPER_REFUSED && held == 0);
 }
