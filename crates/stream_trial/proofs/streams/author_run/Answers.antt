@@ -12,7 +12,7 @@ returns-clause-stop c =
     let audio = c.count_audio-audio.result in
     let begun = c.args.run.now in
     let run = c.author_planned.new.out in
-    let (n, given, put) = c.author_planned.ensures.part failed in
+    let (n, given, put) = c.author_planned.ensures.written.part failed in
     let times = c.times_rise_and_colours_are_in_range.ensures in
     let accepted =
     accepted_so sheet script _ audio c.args.pictures c.requires.sheet script_is c.count_audio-audio.ensures
@@ -26,7 +26,7 @@ returns-clause-stop c =
     size_so c.trial_sheet_is_read.ensures.blocks sheet script audio c.args.pictures bytes packs
     c.requires.sheet c.count_audio-audio.ensures written.authored in
     let full =
-    run.full (rose_some begun.faults run.faults (c.author_planned.ensures.write_fault.rose failed)) in
+    run.full (rose_some begun.faults run.faults (c.author_planned.ensures.written.write_fault.rose failed)) in
     ∥∥₁_elim run.known (λ x y. absurd x) (λ known.
     room_left begun.seed begun.pictures run.seed run.pictures begun.history.bytes run.history.bytes bytes m
     run.course.blocks run.filled c.args.pictures c.requires.begun within size c.requires.few appended
