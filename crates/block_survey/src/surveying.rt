@@ -1,5 +1,5 @@
 // The rows of a stream.
-ghost use Rattle.std.specs.Prelude.{◌≡◌, ◌<◌, ◌≤◌, ◌+◌, ◌-◌, ◌/◌, ◌++◌, [], ℕ, List, IsTrue, length, take, drop, slice_index_or, ◌==◌};
+ghost use Rattle.std.specs.Prelude.{◌≡◌, ◌<◌, ◌≤◌, ◌+◌, ◌-◌, ◌/◌, ◌++◌, [], ℕ, List, length, take, drop, slice_index_or, ◌==◌};
 ghost use Rattle.std.specs.List.{list_all};
 ghost use Rattle.raw_subcode.specs.Channels.{blocks_of, unit_size};
 ghost use Rattle.raw_subcode.specs.Sizes.{block_bytes};

@@ -35,7 +35,6 @@ pub(crate) fn write_blocks(readings: &HeldReadings, words: &Words, blocks: &mut 
     }
 }
 
-// Puts block b.
 fn put(blocks: &mut [u8], b: usize, block: &[u8; BLOCK_BYTES])
     requires { block_bytes * b + block_bytes ≤ length blocks.old }
     ensures blocks { blocks.new ≡ take (block_bytes * b) blocks.old ++ block.now

@@ -1,5 +1,5 @@
 // The reading that is taken for each block.
-ghost use Rattle.std.specs.Prelude.{◌≡◌, ◌==◌, ◌<◌, ◌≤◌, ◌+◌, ◌*◌, ◌%◌, [], length, slice_index_or};
+ghost use Rattle.std.specs.Prelude.{◌≡◌, ◌<◌, ◌≤◌, ◌+◌, ◌*◌, [], length, slice_index_or};
 ghost use Rattle.raw_subcode.specs.Sizes.{block_bytes};
 ghost use Rattle.rw_mend.specs.Words.{block_at, is_empty_block};
 ghost use Rattle.mended_stream.specs.Chosen.{blocks_at, first_framed, first_read, is_framed_block};

@@ -2,7 +2,7 @@
 use Rattle.std.proofs.Common.{◌≡◌, ℕ, zero, suc, ◌+◌, ◌-◌, ◌*◌, ◌/◌, ◌<◌, ◌≤◌, List, [], ◌∷◌, ◌++◌, length, get_or, map, take, drop, refl, sym, ap, ap₂, ◌∙◌, subst, arith, None, Some, length-append, length-drop}
 use Rattle.std.specs.declared.option.Option.{Option}
 use Rattle.std.specs.List.{concat, flat_map}
-use Rattle.std.proofs.lemmas.List.{append-nil, drop-drop, length-map, length-replicate, take-append-le, drop-append-le, take_all}
+use Rattle.std.proofs.lemmas.List.{append-nil, drop-drop, length-map, length-replicate}
 use Rattle.std.proofs.lemmas.List.Folds.{concat-append}
 use Rattle.std.proofs.Math.Nat.{mul-le-mul_left, suc-mul}
 use Rattle.std.proofs.Math.Seq.{drop-append-add, take-append_seam}

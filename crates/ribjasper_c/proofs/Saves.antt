@@ -13,7 +13,7 @@ use Rattle.live_player.specs.Lives.{Given, HasPlayed}
 use Rattle.live_player.specs.Saving.{IsAt, checkpoint_of}
 use Rattle.live_player.specs.declared.live.LivePlayer.{LivePlayer}
 use Rattle.ribjasper_c.specs.Handles.{IsPlaying}
-use Rattle.ribjasper_c.specs.Saving.{CannotBeSaved, IsSavedAs}
+use Rattle.ribjasper_c.specs.Saving.{CannotBeSaved}
 
 in_middle : (P : Part → Type 0) (early : List Part) (part : Part) (late : List Part)
     → AllByRecursion P (early ++ part ∷ late)

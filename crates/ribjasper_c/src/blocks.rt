@@ -1,9 +1,10 @@
-// Forms of blocks, and the check of a text pack.
+// Forms of blocks, the check of a text pack, and how a lead-in carries it.
 ghost use Rattle.std.specs.Prelude.{◌≡◌, if◌then◌else◌, pos, All, ◌<◌};
 ghost use Rattle.cdtext_packs.specs.Packs.{check_matches};
-ghost use Rattle.raw_subcode.specs.Channels.{IsPlanarForm};
+ghost use Rattle.raw_subcode.specs.Channels.{IsPlanarForm, symbol_bits};
+ghost use Rattle.bit_lists.specs.Bits.{bits_of_bytes, numbers_of};
 
-use raw_subcode::{BLOCK_BYTES, Block};
+use raw_subcode::{BLOCK_BYTES, Block, SYMBOLS_A_SLOT, text_symbols};
 use subcode_crc::crc16;
 
 /// Writes the planar form of a block.
@@ -42,4 +43,14 @@ fn matches(pack: &[u8; 18]) -> bool
     ensures { result ≡ check_matches pack.now }
 {
     crc16(&pack[..16]) == 256 * u16::from(pack[16]) + u16::from(pack[17])
+}
+
+/// Writes the symbols whose bits are those of a text pack: 24, each below 64.
+#[unsafe(no_mangle)]
+pub extern "C" fn ribjasper_text_pack_symbols(pack: &[u8; 18], symbols: &mut [u8; SYMBOLS_A_SLOT])
+    ensures symbols { symbols.new ≡ numbers_of 6 (bits_of_bytes pack.now) }
+    ensures bits { symbol_bits symbols.new ≡ bits_of_bytes pack.now }
+    ensures bound { All (λ s. s < 64) symbols.new }
+{
+    *symbols = text_symbols(pack);
 }

@@ -55,7 +55,6 @@ pub extern "C" fn ribjasper_player_counts(player: &mut Playing, counts: &mut Pla
     DONE
 }
 
-// What a player counts.
 fn counted(live: &LivePlayer) -> PlayerCounts
     ensures { result ≡ told_counts live.now }
 {
@@ -79,7 +78,6 @@ fn words_of(form: Form, blocks: u32) -> u64
     }
 }
 
-// The number of a form.
 fn form_number(form: Form) -> u32
     ensures { result ≡ form_number form }
 {

@@ -37,7 +37,6 @@ impl Handle {
         }
     }
 
-    /// A handle of a player.
     pub fn of(player: Box<LivePlayer>) -> Handle
         ensures { result.players ≡ player.value ∷ [] }
     {

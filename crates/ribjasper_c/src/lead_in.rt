@@ -149,7 +149,6 @@ fn tell(told: &mut Listed, seq: u8, byte: u8)
     };
 }
 
-// The lines of the texts of a lead-in.
 fn lines_of(alloc: Global, form: Form, lead_in: u32, stream: &[u8]) -> Result<Vec<u8>, TextFault>
     requires { lead_in ≤ most_lead_in }
     ensures lines { IfOk result (λ lines. IsTextListed form lead_in stream.now lines.items 0) }

@@ -1,6 +1,5 @@
 // The packs of readings of one stream in memory, each mended by the others.
-ghost use Rattle.std.specs.Prelude.{◌≡◌, ◌==◌, ◌≤◌, if◌then◌else◌, IfSome, None, length, pos};
-ghost use Rattle.disc_time.specs.Counts.{most_lead_in};
+ghost use Rattle.std.specs.Prelude.{◌≡◌, ◌==◌, if◌then◌else◌, IfSome, None, length, pos};
 ghost use Rattle.rw_mend.specs.Refusals.{readings_refusal};
 ghost use Rattle.ribjasper_c.specs.Mending.{refusal_of, stream_refusal, AreMendedInto, AreReadingsMended, IsStreamMended};
 

@@ -1,16 +1,21 @@
-// The plan of a disc: a row for each picture of a script, and whether some are late.
-ghost use Rattle.std.specs.Prelude.{◌≡◌, ◌≢◌, ◌<◌, ◌⊎◌, ◌↔◌, drop, length, pos};
+// The plan of a disc: a row for each picture of a script, and whether some are late; and how many packs a tile takes.
+ghost use Rattle.std.specs.Prelude.{◌≡◌, ◌≢◌, ◌<◌, ◌⊎◌, ◌↔◌, drop, length, pos, ◌≤◌, ℕ, All, negsuc, replicate};
 ghost use Rattle.disc_time.specs.Counts.{most_lead_in, most_program};
 ghost use Rattle.disc_plan.specs.Discs.{planned_disc, IsPlan, IsPlanStop};
 ghost use Rattle.disc_plan.specs.Told.{told_plan};
 ghost use Rattle.disc_plan.specs.declared.plan.PlannedDisc.{PlannedDisc};
 ghost use Rattle.disc_plan.specs.declared.stops.PlanStop.{PlanStop};
 ghost use Rattle.ribjasper_c.specs.Planning.{stop_answer, told_at_stop};
+ghost use Rattle.cdg_instructions.specs.Drawing.{IsLeast};
+ghost use Rattle.cdg_instructions.specs.Sizes.{colour_count, column_values, row_values, tile_pixels};
+ghost use Rattle.tile_author.specs.Plan.{weight};
 
-use crate::answers::{DONE, LATE, NO_MEMORY, REFUSED, USAGE, WRITE_FAULT};
+use crate::answers::{DONE, LATE, NO_MEMORY, NOT_DONE, REFUSED, USAGE, WRITE_FAULT};
+use cdg_instructions::{PIXELS, Tile};
 use disc_plan::{PlanStop, PlannedRow, ToldPlan, plan_disc, told_plan, told_stop};
 use disc_time::{MOST_LEAD_IN, MOST_PROGRAM};
 use std::alloc::Global;
+use tile_author::weight;
 
 /// Plans the pictures of a disc with a lead-in and an audio of so many blocks: writes a row for each picture to the front
 /// of some rows, and answers by an exit number of the program: 0 where none is late, 4 where some are.
@@ -62,5 +67,23 @@ fn stop_answer(stop: &PlanStop) -> i32
         PlanStop::NoRoom { .. } => WRITE_FAULT,
         PlanStop::NoMemory => NO_MEMORY,
         _ => REFUSED,
+    }
+}
+
+/// How many packs a tile of these colours takes where everywhere one colour stands, unless the tile is that colour: 1 to
+/// 4; or -1 where a number is above 15.
+#[unsafe(no_mangle)]
+pub extern "C" fn ribjasper_tile_weight(pixels: &[u8; PIXELS]) -> i32
+    ensures weight { All (λ pixel. pixel < 16) pixels.now → result ≡ pos (weight pixels.now) }
+    ensures least { (row column c : ℕ) → All (λ pixel. pixel < 16) pixels.now
+        → row < row_values → column < column_values
+        → c < colour_count → pixels.now ≢ replicate tile_pixels c
+        → IsLeast row column (replicate tile_pixels c) pixels.now (weight pixels.now) }
+    ensures most { All (λ pixel. pixel < 16) pixels.now → weight pixels.now ≤ 4 }
+    ensures refused { (result ≡ negsuc 0) ↔ (¬ All (λ pixel. pixel < 16) pixels.now) }
+{
+    match Tile::new(pixels) {
+        Some(tile) => i32::from(weight(&tile)),
+        None => NOT_DONE,
     }
 }

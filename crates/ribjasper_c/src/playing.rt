@@ -1,5 +1,5 @@
 // A player that C feeds block by block.
-ghost use Rattle.std.specs.Prelude.{◌≡◌, ◌≤◌, ◌⊎◌, ◌&&◌, nat_le, nat_lt, if◌then◌else◌, ◌∷◌, [], List, ℕ, pos, negsuc, length, true, false, IfSome};
+ghost use Rattle.std.specs.Prelude.{◌≡◌, ◌⊎◌, ◌&&◌, nat_le, nat_lt, if◌then◌else◌, ◌∷◌, [], List, ℕ, pos, negsuc, length, true, false, IfSome};
 ghost use Rattle.disc_time.specs.Counts.{most_lead_in};
 ghost use Rattle.live_player.specs.Lives.{Given, HasPlayed};
 ghost use Rattle.live_player.specs.Lives.Given.{Drawn, Fed};

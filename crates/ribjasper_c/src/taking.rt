@@ -1,5 +1,5 @@
-// A player that is fed a block and answers with the packs that came with it.
-ghost use Rattle.std.specs.Prelude.{◌≡◌, ◌≤◌, ◌++◌, ◌∷◌, [], List, ℕ, pos, negsuc, length, true, false};
+// The correction of a word, and a player that is fed a block and answers with the packs that came with it.
+ghost use Rattle.std.specs.Prelude.{◌≡◌, ◌≤◌, ◌++◌, ◌∷◌, [], List, ℕ, pos, negsuc, length, true, false, ◌%◌, map};
 ghost use Rattle.live_player.specs.Lives.{Given, blocks_in, stream_words};
 ghost use Rattle.live_player.specs.Lives.Given.{Fed};
 ghost use Rattle.live_player.specs.Steps.{TakesBlock, words_come};
@@ -85,5 +85,19 @@ fn read(word: &Word) -> ReadPack
             symbols: word.bytes(),
             wrong: -1,
         },
+    }
+}
+
+/// The codeword near a word.
+#[unsafe(no_mangle)]
+pub extern "C" fn ribjasper_correct(word: &[u8; SYMBOLS], out: &mut [u8; SYMBOLS]) -> i32
+    ensures { IsCorrected (map (λ byte. byte % 64) word.now) out.old out.new result }
+{
+    match correct(&Word::new(word)) {
+        Some(fixed) => {
+            *out = fixed.pack.word().bytes();
+            i32::from(fixed.wrong)
+        }
+        None => -1,
     }
 }

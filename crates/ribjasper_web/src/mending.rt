@@ -1,6 +1,5 @@
 // The packs of readings of one stream, each mended by the others.
-ghost use Rattle.std.specs.Prelude.{◌≡◌, ◌≤◌, IfSome, None, length, pos};
-ghost use Rattle.disc_time.specs.Counts.{most_lead_in};
+ghost use Rattle.std.specs.Prelude.{◌≡◌, IfSome, None, length, pos};
 ghost use Rattle.rw_mend.specs.Many.{AreAllMendedInto};
 ghost use Rattle.rw_mend.specs.Refusals.{readings_refusal};
 

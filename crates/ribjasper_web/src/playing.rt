@@ -1,7 +1,5 @@
 // A player that a page feeds.
-ghost use Rattle.std.specs.Prelude.{◌≡◌, ◌+◌, ◌-◌, ◌^◌, ◌/◌, ◌&&◌, ◌∷◌, [], if◌then◌else◌, nat_le, nat_lt, List, ℕ, length, min, pos, negsuc};
-ghost use Rattle.cdg_screen.specs.Memory.{seen};
-ghost use Rattle.cdg_screen.specs.Standing.{standing_after};
+ghost use Rattle.std.specs.Prelude.{◌≡◌, ◌-◌, ◌/◌, ◌&&◌, ◌∷◌, [], if◌then◌else◌, nat_le, nat_lt, List, ℕ, length, pos, negsuc};
 ghost use Rattle.disc_time.specs.Counts.{most_lead_in};
 ghost use Rattle.live_player.specs.Lives.{Given, HasPlayed};
 ghost use Rattle.live_player.specs.Lives.Given.{Drawn, Fed};

@@ -1,5 +1,5 @@
 // A player that is saved, and one that goes to where another was saved.
-ghost use Rattle.std.specs.Prelude.{◌≡◌, ◌≢◌, ◌⊎◌, ◌↔◌, pos, negsuc};
+ghost use Rattle.std.specs.Prelude.{◌≡◌, ◌≢◌, ◌⊎◌, pos, negsuc};
 ghost use Rattle.cdg_checkpoint.specs.Checkpoint.{checkpoint_in, file_of};
 ghost use Rattle.cdg_checkpoint.specs.Table.{IsBadAt, IsCheckpointFile};
 ghost use Rattle.live_player.specs.Saving.{checkpoint_of, IsAt};

@@ -1,5 +1,5 @@
 -- What calls of a player give of a whole input whose text is known.
-use Rattle.std.proofs.Common.{◌≡◌, ◌≢◌, ◌<◌, ℕ, ◌/◌, List, length, map, Result, Ok, Err, Some, None, IfSome, ◌==◌, if◌then◌else◌, sym, ap, subst, ◌∙◌, arith}
+use Rattle.std.proofs.Common.{◌≡◌, ◌<◌, ℕ, ◌/◌, List, length, map, Result, Ok, Err, Some, None, IfSome, ◌==◌, if◌then◌else◌, sym, ap, subst, ◌∙◌, arith}
 use Rattle.std.specs.declared.option.Option.{Option}
 use Rattle.std.specs.List.{concat}
 use Rattle.std.specs.Io.KnownBytes.{Appends}
@@ -23,10 +23,10 @@ use Rattle.cdg_io.specs.Streams.{Streams}
 use Rattle.cdg_io.proofs.Frames.{passing}
 use Rattle.cdg_cmd.specs.Stops.{play_status}
 use Rattle.cdg_cmd.specs.declared.command.Command.TheVariants.{Convert}
-use Rattle.cdg_cmd.proofs.WholeInputs.{both, unless_memory}
+use Rattle.cdg_cmd.proofs.WholeInputs.{both}
 use Rattle.run_laws.specs.Undamaged.{IsCleanStream, form_words}
 use Rattle.cdg_cmd.specs.declared.status.Status.{Status}
-use Rattle.cdg_cmd.specs.declared.status.Status.TheVariants.{Done, Damaged, NoMemory}
+use Rattle.cdg_cmd.specs.declared.status.Status.TheVariants.{Done, Damaged}
 
 -- what a call did with all of its input: it played it and put a text
 abbrev IsGiven : (List ℕ → List ℕ → ℕ → Type 0) → Form → ℕ → Change Bytes → Played → List ℕ → Type 0

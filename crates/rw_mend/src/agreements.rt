@@ -1,8 +1,6 @@
 // The codeword on which two of several readings agree.
-ghost use Rattle.std.specs.Prelude.{◌≡◌, ◌≢◌, ◌+◌, ◌<◌, ◌≤◌, List, ℕ, length, MatchOption};
-ghost use Rattle.rw_code.specs.Codeword.{IsWord};
-ghost use Rattle.rw_merge.specs.Agreement.{IsAgreed};
-ghost use Rattle.rw_mend.specs.Choice.{AreAgreed, IsAgreedAlone, IsPairAgreed, voice_of_reading};
+ghost use Rattle.std.specs.Prelude.{◌≡◌, ◌+◌, ◌<◌, List, ℕ, length, MatchOption};
+ghost use Rattle.rw_mend.specs.Choice.{AreAgreed, IsAgreedAlone, IsPairAgreed};
 ghost use Rattle.rw_mend.specs.Agreements.{ArePairAgreements};
 ghost use Rattle.rw_mend.specs.declared.voices.Voice.{Voice};
 ghost use Rattle.rw_mend.specs.declared.voices.Voice.TheVariants;

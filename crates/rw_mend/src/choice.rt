@@ -1,9 +1,9 @@
 // The codeword that the readings of a word give together.
-ghost use Rattle.std.specs.Prelude.{◌≡◌, ◌≢◌, ◌==◌, ◌≤◌, ◌<◌, true, false, List, ℕ, length, MatchOption, slice_index_or};
+ghost use Rattle.std.specs.Prelude.{◌≡◌, ◌≢◌, ◌==◌, ◌≤◌, ◌<◌, true, false, ℕ, length, MatchOption};
 ghost use Rattle.std.specs.List.{list_any};
 ghost use Rattle.rw_code.specs.Codeword.{differences};
 ghost use Rattle.rw_mend.specs.declared.voices.Voice.TheVariants;
-ghost use Rattle.rw_mend.specs.Choice.{is_best, is_near, is_of, stands, voice_of_reading, votes, IsFirstBest, IsMending};
+ghost use Rattle.rw_mend.specs.Choice.{is_best, is_near, is_of, stands, votes, IsFirstBest, IsMending};
 
 use crate::Voice;
 use crate::agreements::agreed;
@@ -93,7 +93,6 @@ fn first_best(voices: &[Voice]) -> Option<usize>
     None
 }
 
-// Whether a voice is best.
 fn is_best(voices: &[Voice], voice: &Voice) -> bool
     ensures { result ≡ is_best voices.now voice.now }
 {

@@ -134,7 +134,6 @@ pub fn is_empty_block(block: &[u8]) -> bool
     is_empty(block, is_blank(block))
 }
 
-// Whether a block is empty.
 fn is_empty(block: &[u8], blank: bool) -> bool
     requires size { length block.now ≡ block_bytes }
     requires blank { blank ≡ is_blank_block block.now }

@@ -62,7 +62,6 @@ impl Mender {
         }
     }
 
-    /// How many words there are.
     pub(crate) fn words(&self) -> usize
         ensures { result ≡ self.now.words }
     {

@@ -1,5 +1,5 @@
 // The words of some readings in turn.
-ghost use Rattle.std.specs.Prelude.{◌≡◌, ◌⊎◌, ◌<◌, ◌≤◌, ◌+◌, ◌-◌, ◌*◌, ◌/◌, ◌%◌, ◌^◌, [], nat_lt, List, ℕ, length, slice_index, slice_index_or, take, if◌then◌else◌};
+ghost use Rattle.std.specs.Prelude.{◌≡◌, ◌⊎◌, ◌<◌, ◌≤◌, ◌+◌, ◌-◌, ◌*◌, ◌/◌, nat_lt, List, ℕ, length, slice_index, slice_index_or, take, if◌then◌else◌};
 ghost use Rattle.raw_subcode.specs.Channels.{symbols_of};
 ghost use Rattle.raw_subcode.specs.Sizes.{block_bytes, symbols_a_slot};
 ghost use Rattle.rw_code.specs.Sizes.{word_symbols};
@@ -9,7 +9,7 @@ ghost use Rattle.rw_mend.specs.Choice.{voice_of_reading};
 ghost use Rattle.rw_mend.specs.Voices.{is_clean_graphics, voice_of};
 ghost use Rattle.rw_mend.specs.Readings.{AreHeldReadings, program_in, programs_in, size_in};
 ghost use Rattle.rw_mend.specs.Trails.{AreSameFrom, IsTrail};
-ghost use Rattle.rw_mend.specs.Words.{given_at, reading_at};
+ghost use Rattle.rw_mend.specs.Words.{reading_at};
 ghost use Rattle.rw_mend.specs.Rows.{AreFollowed, AreLastMissed, AreTrails, IsRow, is_left, no_trail, said_after};
 
 use crate::choice::MOST_READINGS;

@@ -1,5 +1,5 @@
 // What is told of readings that were mended.
-ghost use Rattle.std.specs.Prelude.{◌≡◌, ◌≤◌, ◌<◌, ◌+◌, ◌++◌, [], ◌∷◌, List, ℕ, IfSome, slice_index_or, slice_set, length, take, drop};
+ghost use Rattle.std.specs.Prelude.{◌≡◌, ◌<◌, ◌+◌, ◌++◌, [], ◌∷◌, List, ℕ, IfSome, slice_index_or, slice_set, length, take, drop};
 ghost use Rattle.std.specs.declared.option.Option.{Option};
 ghost use Rattle.rw_mend.specs.declared.choice.Mended.{Mended};
 ghost use Rattle.rw_mend.specs.Tallies.{AreTallies, HasSource, source_byte};

@@ -1,10 +1,8 @@
 -- Instructions one after the other.
-use Rattle.std.proofs.Common.{◌≡◌, ℕ, suc, ◌+◌, ◌<◌, List, [], ◌∷◌, ◌++◌, length, get_or, map, take, drop, reverse, append_assoc, refl, sym, ap, ◌∙◌, arith, None, Some}
+use Rattle.std.proofs.Common.{◌≡◌, ℕ, suc, ◌+◌, ◌<◌, List, [], ◌∷◌, ◌++◌, length, get_or, map, take, drop, reverse, append_assoc, refl, ap, ◌∙◌, arith, None, Some}
 use Rattle.std.specs.declared.option.Option.{Option}
 use Rattle.std.proofs.Math.Seq.{drop-append_seam, take-suc}
 use Rattle.std.proofs.lemmas.List.{map-append, reverse-append}
-use Rattle.cdg_io.specs.Run.{run_state}
-use Rattle.cdg_io.proofs.Runs.{run_state-append}
 use Rattle.cdg_instructions.specs.declared.instr.Instr.{Instr}
 use Rattle.cdg_instructions.specs.Meaning.{meaning}
 use Rattle.rw_code.specs.Finding.{finding}
@@ -12,8 +10,6 @@ use Rattle.arrayvec.specs.ArrayVec.{ArrayVec}
 use Rattle.raw_subcode.specs.declared.form.Form.{Form}
 use Rattle.live_player.specs.Lives.{Given, Fed, blocks_in, drawn_for, instructions_in, instructions_of, meant_by, stream_words, words_with}
 use Rattle.live_player.specs.Steps.{words_come}
-use Rattle.screen_changes.specs.Changes.{sees}
-use Rattle.screen_changes.specs.declared.watch.Watch.{Watch}
 
 -- the first elements, and one more
 pub one_more : {X : Type 0} (xs : List X) (i : ℕ) (d : X) → i < length xs

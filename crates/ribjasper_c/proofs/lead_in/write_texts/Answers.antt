@@ -1,5 +1,4 @@
 use Rattle.stream_stages.proofs.TextFaults.{text_fault}
-use Rattle.ribjasper_c.proofs.Listing.{texts_given}
 use Rattle.ribjasper_c.proofs.lead_in.write_texts.Goals as goal
 
 pub returns-in-Err-clause-fault : goal.returns-in-Err-clause-fault

@@ -1,4 +1,4 @@
-use Rattle.std.proofs.Common.{◌≡◌, ◌+◌, ◌*◌, ◌/◌, ◌%◌, sym, ◌∙◌, length, arith}
+use Rattle.std.proofs.Common.{length, arith}
 use Rattle.std.proofs.Math.Nat.{div-add-mod}
 use Rattle.ribjasper_c.proofs.mending.ribjasper_mend_readings.Goals as goal
 

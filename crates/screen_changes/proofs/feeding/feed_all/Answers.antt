@@ -1,4 +1,4 @@
-use Rattle.std.proofs.Common.{◌≡◌, ◌∙◌, ◌++◌, ◌<◌, [], ◌∷◌, List, ℕ, length, get_or, map, reverse, take, ap, sym, subst, arith}
+use Rattle.std.proofs.Common.{◌≡◌, ◌∙◌, ◌++◌, ◌<◌, [], List, ℕ, length, get_or, map, reverse, take, ap, sym, subst, arith}
 use Rattle.cdg_io.specs.Run.{run_state}
 use Rattle.cdg_io.proofs.Runs.{run_state-append}
 use Rattle.cdg_instructions.specs.declared.instr.Instr.{Instr}
@@ -6,7 +6,6 @@ use Rattle.cdg_screen.specs.Standing.{Standing, standing_after}
 use Rattle.cdg_screen.proofs.Turns.{in_turn}
 use Rattle.stream_stages.specs.Steps.{words_give}
 use Rattle.live_player.specs.Lives.{Given, Fed, HasPlayed, drawn_for, instructions_in, instructions_of, standing_on}
-use Rattle.live_player.specs.Steps.{words_come}
 use Rattle.screen_changes.specs.Changes.{changes_on, sees, watch_from, KeepsUntold}
 use Rattle.screen_changes.specs.declared.change.ScreenChange.{ScreenChange}
 use Rattle.screen_changes.specs.declared.watch.Watch.{Watch}

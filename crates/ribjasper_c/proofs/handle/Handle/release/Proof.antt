@@ -20,7 +20,7 @@ use types.Part.{whole, sub}
 use types.Run.{stop, fld, of_opd, returns, enter}
 use types.ByLocal.{alloc_all, pass_all, free_all, look_at, get, get_in, sets}
 use denote.Exit.{yes}
-use denote.RawPtr.{Ptr, ptr_val, rawptr_Lawful}
+use denote.RawPtr.{ptr_val, rawptr_Lawful}
 use denote.Steps.{heard, nothing}
 use denote.Triple.Spec.{triple_of}
 use denote.Triple.Table.{entered}

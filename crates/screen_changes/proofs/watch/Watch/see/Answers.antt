@@ -1,10 +1,7 @@
-use Rattle.std.proofs.Common.{◌≡◌, ◌∙◌, ℕ, [], ◌∷◌, ap}
+use Rattle.std.proofs.Common.{◌∙◌, ap}
 use Rattle.cdg_instructions.specs.declared.effect.Effect.{Effect}
-use Rattle.cdg_screen.specs.Standing.{offsets_from}
-use Rattle.cdg_screen.specs.Touched.{touched_by}
 use Rattle.cdg_screen.specs.declared.touching.Touched.{Touched}
 use Rattle.screen_changes.specs.Changes.{touched_change, join, offsets_by}
-use Rattle.screen_changes.specs.declared.change.ScreenChange.{ScreenChange}
 use Rattle.screen_changes.proofs.Kept.{offsets_of}
 use Rattle.screen_changes.proofs.watch.Watch.see.Goals as goal
 

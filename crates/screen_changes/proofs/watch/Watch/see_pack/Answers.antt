@@ -1,4 +1,4 @@
-use Rattle.std.proofs.Common.{◌≡◌, [], ◌∷◌, List, ℕ, map, ◌%◌, ap, ◌∙◌, subst}
+use Rattle.std.proofs.Common.{◌≡◌, List, ℕ, map, ◌%◌, ap, ◌∙◌, subst}
 use Rattle.cdg_instructions.specs.Instruction.{Means}
 use Rattle.cdg_instructions.proofs.Meaning.{only_meaning}
 use Rattle.live_player.specs.Lives.{instruction_of}

@@ -1,4 +1,4 @@
-use Rattle.std.proofs.Common.{◌≡◌, ◌∙◌, [], ◌∷◌, List, ℕ, ap, sym, subst}
+use Rattle.std.proofs.Common.{◌≡◌, ◌∙◌, [], ◌∷◌, List, ℕ, ap, subst}
 use Rattle.std.specs.declared.option.Option.{Option}
 use Rattle.cdg_io.specs.Run.{run_state}
 use Rattle.cdg_instructions.specs.Instruction.{Means}

@@ -1,9 +1,9 @@
-use Rattle.std.proofs.Common.{◌≡◌, ◌∙◌, ◌++◌, ℕ, ℤ, List, ap, drop, length}
+use Rattle.std.proofs.Common.{◌∙◌, ◌++◌, ℕ, ℤ, List, ap, drop, length}
 use Rattle.std.specs.Prelude.{replicate}
 use Rattle.std.proofs.Math.Facts.{to_z-of_z}
 use Rattle.std.proofs.lemmas.List.{drop-replicate}
 use Rattle.ribjasper_c.specs.Telling.{answer_text}
-use Rattle.ribjasper_c.proofs.telling.ribjasper_answer_text.Goals as goal
+use Rattle.ribjasper_c.proofs.answers.ribjasper_answer_text.Goals as goal
 
 pub returns : goal.returns
 returns c =

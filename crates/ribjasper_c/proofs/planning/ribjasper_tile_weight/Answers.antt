@@ -2,7 +2,7 @@ use Rattle.std.proofs.Common.{◌≡◌, ◌∙◌, ℕ, List, sym, subst}
 use Rattle.std.specs.Prelude.{replicate}
 use Rattle.cdg_instructions.specs.Drawing.{IsLeast}
 use Rattle.tile_author.specs.Plan.{weight}
-use Rattle.ribjasper_c.proofs.weighing.ribjasper_tile_weight.Goals as goal
+use Rattle.ribjasper_c.proofs.planning.ribjasper_tile_weight.Goals as goal
 
 pub returns-in-Some-clause-least : goal.returns-in-Some-clause-least
 returns-in-Some-clause-least c row column colour all row_lt column_lt colour_lt other =
