@@ -75,10 +75,8 @@ fn write_by_pairs(
     requires format { format ≢ PixelFormat.Indexed }
     requires apart { pixel_size format * part.now.width ≤ stride }
     requires room { HasPixelRoom format part.now stride (length out.old) }
-    requires sizes { (p : ℕ) → p < 16 → length (slice_index_or table.now p []) ≡ 4 }
-    requires bytes { (p : ℕ) → p < 16 → take (pixel_size format) (slice_index_or table.now p [])
-        ≡ pixel_bytes format p (slice_index (seen screen.now).colours p)
-        (slice_index (seen screen.now).levels p) }
+    requires sizes { HasFourBytes table.now }
+    requires bytes { HasColours format (seen screen.now) table.now }
     ensures { ShowsPixels format (seen screen.now) part.now stride out.old out.new }
 {
     let pairs = pairs_of(format.size(), table);
