@@ -19,7 +19,10 @@ from .words import Commands, number_in
 STANDS = 0.2
 MOST_STILLS = 1_000
 # What x264 leaves out: frames between two others, and a long search for what moved. Pictures of tiles change where they stand.
-PLAIN_SEARCH = "bframes=0:me=dia:subme=1:trellis=0"
+PLAIN_SEARCH = "bframes=0:me=dia:subme=0:trellis=0"
+# Frames are small: more threads take longer, and more of the processors.
+READING = ["-threads", "1", "-filter_threads", "1"]
+CODING = ["-threads", "2"]
 # A still in pixels, the line below it, and what is between them.
 STILL_WIDTH, STILL_HEIGHT, LABEL, BETWEEN = WIDTH // 2, HEIGHT // 2, 14, 8
 
@@ -62,7 +65,7 @@ def film_words(arguments: argparse.Namespace, out: str) -> list[str]:
     sound = ["-i", os.fspath(arguments.audio), "-map", "0:v", "-map", "1:a"] if arguments.audio else []
     frames = ["-f", "rawvideo", "-pix_fmt", "rgb24", "-s", size, "-r", str(arguments.rate), "-i", "pipe:0"]
     larger = ["-vf", f"scale=iw*{scale}:ih*{scale}:flags=neighbor"]
-    return ["ffmpeg", "-v", "error", "-y", *frames, *sound, *larger, *coding, "-movflags", "+faststart", out]
+    return ["ffmpeg", "-v", "error", "-y", *READING, *frames, *sound, *larger, *CODING, *coding, "-movflags", "+faststart", out]
 
 
 @contextlib.contextmanager

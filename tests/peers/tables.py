@@ -63,7 +63,7 @@ def tables() -> dict[str, tuple[str, list[int]]]:
         "HIGH_REMAINDERS": ("subcode_crc/src/check.rt", [remainder(byte << 24) for byte in range(256)]),
         "LINES": ("cdg_screen/src/line_table.rt", [line(bits) for bits in range(64)]),
         "BYTES": ("disc_time/src/time.rt", [int(str(number), 16) for number in range(100)]),
-        "NUMBERS": ("q_channel/src/program.rt", [digits(byte) for byte in range(256)]),
+        "NUMBERS": ("disc_time/src/time.rt", [digits(byte) for byte in range(256)]),
         "LANES": ("raw_subcode/src/lane_table.rt", [lanes(byte) for byte in range(256)]),
     }
 
