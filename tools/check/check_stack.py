@@ -18,7 +18,7 @@ TOP = Path(__file__).resolve().parents[2]
 site.addsitedir(str(TOP / "tools" / "build"))
 from build_over_gate import NOT_THERE  # noqa: E402
 
-# The program takes 411,936 bytes by this report.
+# The program takes 412,272 bytes by this report.
 MOST = 450_000
 
 
