@@ -1,12 +1,10 @@
 // What commands ask memory for, with a count of the answers that said that there was none. Nothing but the calls here
 // reaches the allocator, and that count rises by `note` alone, to which each of them shows what it was answered, or by what
 // an author and a trial count themselves.
-ghost use Rattle.std.specs.Prelude.{◌≡◌, ◌≢◌, ◌≤◌, ◌<◌, ◌↔◌, ℕ, List, Ok, Err, IfErr, IfOk, IfSome, IsTrue, OnOk, length};
-ghost use Rattle.std.specs.Io.KnownBytes.{Appends, IsAtEnd};
+ghost use Rattle.std.specs.Prelude.{◌≡◌, ◌≢◌, ◌≤◌, ◌<◌, ℕ, Ok, Err, IfErr, IfOk, IfSome, OnOk, length};
+ghost use Rattle.std.specs.Io.KnownBytes.{IsAtEnd};
 ghost use Rattle.cdg_io.specs.Causes.{HasCause, RoseOnce, TellsFault};
-ghost use Rattle.cdg_io.specs.Change.{change, input, passed};
-ghost use Rattle.cdg_io.specs.Moves.{AppendsPrefix};
-ghost use Rattle.cdg_cmd.specs.Answer.{IsListAnswer};
+ghost use Rattle.cdg_io.specs.Change.{change, input};
 ghost use Rattle.cdg_cmd.specs.Authors.{IsInputStop, IsPutFor, TakesAtStop};
 ghost use Rattle.cdg_cmd.specs.Ends.{StopEnds};
 ghost use Rattle.cdg_cmd.specs.Presses.{IsPressedFor};
@@ -20,15 +18,14 @@ ghost use Rattle.disc_time.specs.Counts.{most_lead_in, time_count};
 ghost use Rattle.picture_script.specs.ScriptGrammar.{read_script};
 ghost use Rattle.picture_script.specs.Stops.{StopsAt};
 ghost use Rattle.stream_stages.specs.Calls.{EndFirst};
-ghost use Rattle.stream_stages.specs.Faults.{TellsStops};
-ghost use Rattle.stream_stages.specs.TextListing.{ListsTexts};
-ghost use Rattle.stream_trial.specs.Trial.{IsTrial};
 ghost use Rattle.subcode_author.specs.Authored.{disc_of};
 ghost use Rattle.text_lines.specs.Text.{most_text_bytes};
 ghost use Rattle.cdtext_packs.specs.declared.kinds.TextFault.TheVariants as fault;
 ghost use Rattle.cue_sheet.specs.declared.fault.CueStop.TheVariants as sheet;
 ghost use Rattle.picture_script.specs.declared.reasons.ScriptStop.TheVariants as script;
 ghost use Rattle.stream_stages.specs.declared.played.PlayStop.TheVariants as play;
+ghost use Rattle.stream_stages.specs.Plays.{PlaysThenWrites, text_listing};
+ghost use Rattle.stream_trial.specs.Trial.{WritesTrial};
 
 use crate::no_memory::{note, note_answer};
 use crate::status::read_status;
@@ -115,12 +112,8 @@ impl CountedMemory {
     ) -> Result<Played, PlayStop>
         requires lead_in { lead_in ≤ most_lead_in }
         requires form { form ≢ Form.Cooked }
-        ensures lists { (taken : List ℕ) × ListsTexts form lead_in
-            (passed S.left K.held (source.old, out.old) (source.new, out.new)) result taken }
-        ensures answer { IsListAnswer form lead_in (S.left source.old) result }
-        ensures untouched { IfErr result (λ stop. stop ≢ PlayStop.WriteFault → out.new ≡ out.old) }
-        ensures faults { TellsStops (S.faults source.old) (S.faults source.new)
-            (K.faults out.old) (K.faults out.new) result }
+        ensures plays { PlaysThenWrites (text_listing form lead_in) S.left S.faults K.held K.faults
+            (source.old, out.old) (source.new, out.new) result }
         ensures ended { EndFirst result (S.ends source.old) (S.ends source.new) }
         ensures counted { TellsFault (play.Text fault.NoMemory) self.old self.new result }
     {
@@ -239,13 +232,7 @@ impl CountedMemory {
         out: &mut K,
     ) -> Result<(), TrialStop>
         requires { (1 ≤ pictures) × (pictures ≤ most_generated) }
-        ensures lines { OnOk result
-            ((text : List ℕ) × IsTrial seed pictures text × Appends (K.held out.old) (K.held out.new) text) }
-        ensures write_fault { TellsFault TrialStop.WriteFault (K.faults out.old) (K.faults out.new) result }
-        ensures part { result ≡ Err TrialStop.WriteFault
-            → (text : List ℕ) × IsTrial seed pictures text
-            × AppendsPrefix (K.held out.old) (K.held out.new) text }
-        ensures untouched { result ≡ Err TrialStop.NoMemory → out.new ≡ out.old }
+        ensures written { WritesTrial K.held K.faults seed pictures out.old out.new result }
         ensures counted { TellsFault TrialStop.NoMemory self.old self.new result }
     {
         trial(self.alloc, &mut self.lacks, seed, pictures, out)

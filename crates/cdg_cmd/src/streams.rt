@@ -18,7 +18,6 @@ use raw_subcode::Form;
 use stream_stages::{Checker, Converter, list_frames};
 
 /// Writes the packs of a stream as its blocks are read.
-#[tactic(auto, using(crate::proofs::Played::told_one, crate::proofs::Played::never_memory, crate::proofs::Ended::ended_as))]
 pub(crate) fn run_convert<S: Source, K: Sink>(
     lead_in: u32,
     form: Form,
@@ -37,7 +36,6 @@ pub(crate) fn run_convert<S: Source, K: Sink>(
 }
 
 /// Writes the counts of a stream.
-#[tactic(auto, using(crate::proofs::Played::told_one, crate::proofs::Played::never_memory, crate::proofs::Ended::ended_as, crate::proofs::Played::untouched))]
 pub(crate) fn run_check<S: Source, K: Sink>(
     lead_in: u32,
     form: Form,
@@ -57,7 +55,6 @@ pub(crate) fn run_check<S: Source, K: Sink>(
 }
 
 /// Writes the lines of the Q channel as blocks are read.
-#[tactic(auto, using(crate::proofs::Played::told_one, crate::proofs::Played::never_memory, crate::proofs::Ended::ended_as))]
 pub(crate) fn run_q<S: Source, K: Sink>(
     lead_in: u32,
     form: Form,

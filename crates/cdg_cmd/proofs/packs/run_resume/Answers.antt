@@ -47,8 +47,8 @@ returns-in-Ok-clause-ended g c = λ found.
 pub returns-in-Ok-clause-faults : goal.returns-in-Ok-clause-faults
 returns-in-Ok-clause-faults g c =
     let done = c.resume.ensures in
-    told c.resume.result _ _ _ _ _ _ _ c.resume_status.ensures done.first_fault done.second_fault
-    done.write_fault
+    told c.resume.result _ _ _ _ _ _ _ c.resume_status.ensures done.faults.first done.faults.second
+    done.faults.write
 
 pub returns-in-Ok-clause-wants : goal.returns-in-Ok-clause-wants
 returns-in-Ok-clause-wants g c =

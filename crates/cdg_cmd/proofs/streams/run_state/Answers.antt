@@ -4,27 +4,28 @@ use Rattle.cdg_cmd.proofs.streams.run_state.Goals as goal
 
 pub returns-in-Ok-clause-does : goal.returns-in-Ok-clause-does
 returns-in-Ok-clause-does g c = λ found.
-    let played = c.state_at.ensures in
+    let played = c.state_at.ensures.plays.plays in
     record {
       answer = c.state_at.result;
       status_is = c.play_status.ensures;
-      taken = played.shows.0;
-      did = played.shows.1;
+      taken = played.taken;
+      did = played.puts;
       exactly = (played.stops, played.answer);
     }
 
 pub returns-in-Ok-clause-no_memory : goal.returns-in-Ok-clause-no_memory
 returns-in-Ok-clause-no_memory g c =
     λ none.
-    absurd (shown_never_memory c.state_at.result _ c.play_status.ensures c.state_at.ensures.stops none)
+    absurd (shown_never_memory c.state_at.result _ c.play_status.ensures
+    c.state_at.ensures.plays.plays.stops none)
 
 pub returns-in-Ok-clause-untouched : goal.returns-in-Ok-clause-untouched
 returns-in-Ok-clause-untouched g c =
-    untouched c.state_at.result _ _ _ c.play_status.ensures c.state_at.ensures.untouched
+    untouched c.state_at.result _ _ _ c.play_status.ensures c.state_at.ensures.plays.untouched
 
 pub returns-in-Ok-clause-faults : goal.returns-in-Ok-clause-faults
 returns-in-Ok-clause-faults g c =
-    told_one c.state_at.result _ _ _ _ _ c.play_status.ensures c.state_at.ensures.faults
+    told_one c.state_at.result _ _ _ _ _ c.play_status.ensures c.state_at.ensures.plays.plays.faults
 
 pub returns-in-Ok-clause-ended : goal.returns-in-Ok-clause-ended
 returns-in-Ok-clause-ended g c = λ found.
@@ -33,7 +34,7 @@ returns-in-Ok-clause-ended g c = λ found.
 pub returns-in-Ok-clause-wants : goal.returns-in-Ok-clause-wants
 returns-in-Ok-clause-wants g c =
     wants.found_first _ _ c.in-Ok.viewer _ c.in-Ok.ensures
-    (shown_never_memory c.state_at.result _ c.play_status.ensures c.state_at.ensures.stops)
+    (shown_never_memory c.state_at.result _ c.play_status.ensures c.state_at.ensures.plays.plays.stops)
 
 pub returns-in-Err-clause-wants : goal.returns-in-Err-clause-wants
 returns-in-Err-clause-wants g c = wants.lacked_first _ _ _ c.in-Err.ensures

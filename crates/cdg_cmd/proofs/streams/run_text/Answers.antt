@@ -5,30 +5,34 @@ use Rattle.cdg_cmd.proofs.streams.run_text.Goals as goal
 
 pub returns-in-Ok-clause-does : goal.returns-in-Ok-clause-does
 returns-in-Ok-clause-does g c = λ found.
-    let played = c.list_texts.ensures in
+    let played = c.list_texts.ensures.plays.plays in
     record {
       answer = c.list_texts.result;
       status_is = c.play_status.ensures;
-      taken = played.lists.0;
-      did = played.lists.1;
-      exactly = played.answer;
+      taken = played.taken;
+      did = played.puts;
+      exactly = (played.stops, played.answer);
     }
 
 pub returns-in-Ok-clause-untouched : goal.returns-in-Ok-clause-untouched
 returns-in-Ok-clause-untouched g c =
-    untouched c.list_texts.result _ _ _ c.play_status.ensures c.list_texts.ensures.untouched
+    untouched c.list_texts.result _ _ _ c.play_status.ensures c.list_texts.ensures.plays.untouched
 
 pub returns-in-Ok-clause-faults : goal.returns-in-Ok-clause-faults
 returns-in-Ok-clause-faults g c =
-    told_one c.list_texts.result _ _ _ _ _ c.play_status.ensures c.list_texts.ensures.faults
+    told_one c.list_texts.result _ _ _ _ _ c.play_status.ensures c.list_texts.ensures.plays.plays.faults
 
 pub returns-in-Ok-clause-ended : goal.returns-in-Ok-clause-ended
 returns-in-Ok-clause-ended g c =
-    let played = c.list_texts.ensures in
+    let played = c.list_texts.ensures.plays.plays in
     inr (
-      record { answer = c.list_texts.result; status_is = c.play_status.ensures; ended = played.ended },
+      record {
+        answer = c.list_texts.result;
+        status_is = c.play_status.ensures;
+        ended = c.list_texts.ensures.ended;
+      },
       λ none. (lacks_memory c.list_texts.result _ c.args.form c.args.lead_in _ _ c.play_status.ensures
-          played.lists.1.plays.ended played.answer.1 none).0,
+          played.puts.plays.ended played.answer none).0,
     )
 
 pub returns-in-Err-clause-ended : goal.returns-in-Err-clause-ended
@@ -36,9 +40,9 @@ returns-in-Err-clause-ended g c = inl (refl, refl, refl)
 
 pub returns-in-Ok-clause-lacks : goal.returns-in-Ok-clause-lacks
 returns-in-Ok-clause-lacks g c = λ none.
-    let played = c.list_texts.ensures in
+    let played = c.list_texts.ensures.plays.plays in
     inr (lacks_memory c.list_texts.result _ c.args.form c.args.lead_in _ _ c.play_status.ensures
-    played.lists.1.plays.ended played.answer.1 none)
+    played.puts.plays.ended played.answer none)
 
 pub returns-in-Ok-clause-wants : goal.returns-in-Ok-clause-wants
 returns-in-Ok-clause-wants g c =
