@@ -10,7 +10,8 @@ use Rattle.q_channel.specs.QFrame.{field_value, is_bcd_within}
 use Rattle.q_channel.specs.QLine.{q_line}
 use Rattle.q_channel.specs.QReading.{first_outside, program_ranges}
 use Rattle.q_channel.specs.ReadingOf.{reading_of}
-use Rattle.q_channel.specs.Kinds.{bcd_value, decimal_at, frame_at, kind_by, ranges_of_kind, time_value}
+use Rattle.disc_time.specs.Time.{bcd_value}
+use Rattle.q_channel.specs.Kinds.{decimal_at, frame_at, kind_by, ranges_of_kind, time_value}
 use Rattle.q_channel.specs.declared.kinds.Kind.{Kind}
 use Rattle.q_channel.specs.declared.kinds.Kind.TheVariants.{ProgramFrame}
 use Rattle.q_channel.proofs.Ranges.{passes}
