@@ -95,16 +95,18 @@ impl BlockWords {
         self.gather.reset();
     }
 
-    // Whether a block is quickly seen to change nothing, so that four idle words come with it.
-    #[inline]
+    // Whether a block is quickly seen to change nothing, so that four idle words come with it. It stands in line, so that
+    // of a run of blocks only the bytes are looked at one by one.
+    #[inline(always)]
     fn stays_idle(&self, block: &[u8; BLOCK_BYTES]) -> bool
         ensures { result ≡ true → IdlesOn self.now block.now }
     {
-        if self.lead_in > 0 {
+        // Of most blocks that are not idle the gatherer says so at once.
+        if !self.gather.stays_idle(block) || self.lead_in > 0 {
             return false;
         }
         match self.form {
-            Form::Raw | Form::Sector => self.gather.stays_idle(block),
+            Form::Raw | Form::Sector => true,
             Form::Cooked => false,
         }
     }
@@ -134,7 +136,7 @@ impl Stage for BlockWords {
         }
     }
 
-    #[inline]
+    #[inline(always)]
     #[tactic(auto, unfolding(crate::specs::Steps::words_next, crate::specs::Steps::words_give))]
     fn sees_idle(&self, block: &[u8; BLOCK_BYTES]) -> bool {
         self.stays_idle(block)

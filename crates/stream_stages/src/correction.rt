@@ -1,6 +1,6 @@
 // From words to the bytes of packs.
-ghost use Rattle.std.specs.Prelude.{◌≡◌, [], Some, length, map};
-ghost use Rattle.raw_subcode.specs.Sizes.{symbols_a_slot};
+ghost use Rattle.std.specs.Prelude.{◌≡◌, [], Some, length, map, replicate};
+ghost use Rattle.raw_subcode.specs.Sizes.{block_bytes, symbols_a_slot};
 ghost use Rattle.rw_code.specs.Codeword.{IsCodeword};
 ghost use Rattle.rw_code.specs.Finding.{finding};
 ghost use Rattle.rw_code.specs.Packs.{idle_pack};
@@ -97,6 +97,8 @@ impl Stage for Correction {
 
     ghost gives = { correction_gives };
 
+    ghost idle = { Some (replicate block_bytes 0) };
+
     #[tactic(auto, unfolding(crate::specs::Steps::correction_gives))]
     fn feed(&mut self, words: &BlockOfWords) -> Option<Piece> {
         let mut piece = Piece::new();
@@ -114,5 +116,23 @@ impl Stage for Correction {
             Some(piece) => self.recover_block(words, piece),
             None => unreachable!(),
         }
+    }
+
+    #[inline]
+    fn sees_idle(&self, words: &BlockOfWords) -> bool {
+        match words.unless_idle() {
+            Some(_) => false,
+            None => {
+                idle_is_codeword();
+                true
+            }
+        }
+    }
+
+    #[inline]
+    fn idle_gives() -> Option<Piece> {
+        let mut piece = Piece::new();
+        piece.set_zeros(BLOCK_BYTES);
+        Some(piece)
     }
 }

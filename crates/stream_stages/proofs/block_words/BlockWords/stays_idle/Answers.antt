@@ -3,7 +3,8 @@ use Rattle.stream_stages.proofs.Blocks.{raw_state, raw_gives, taken_next, taken_
 use Rattle.stream_stages.proofs.block_words.BlockWords.stays_idle.Goals as goal
 
 pub returns-in-Raw : goal.returns-in-Raw
-returns-in-Raw c = λ yes.
+returns-in-Raw c = λ _.
+    let yes = c.if-not-stays_idle.false in
     let s = c.args.self.now in
     let block = c.args.block.now in
     let none : s.lead_in ≡ 0 = omega (arith, c.if-self-gt0.false) in (
