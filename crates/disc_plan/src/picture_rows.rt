@@ -1,5 +1,6 @@
 // The rows of a plan.
 ghost use Rattle.std.specs.Prelude.{◌≡◌, ◌≤◌, Ok, OnErr, OnOk, IfOk, count_by, drop, length, take};
+ghost use Rattle.cdg_io.specs.Causes.{HasCause};
 ghost use Rattle.text_lines.specs.Text.{most_text_bytes};
 ghost use Rattle.picture_script.specs.Script.{pictures};
 ghost use Rattle.picture_script.specs.ScriptGrammar.{read_script};
@@ -9,6 +10,7 @@ ghost use Rattle.disc_plan.specs.PictureRows.{is_late, told_row, AreToldRows};
 use pack_schedule::{PlanRow, Planner};
 use picture_script::{Script, ShowLines, each_picture_has_a_line};
 use std::alloc::{AllocError, Global};
+use subcode_author::NoMemoryCount;
 
 /// A picture of a script in a plan, as programs in C hold it. Times are blocks of the program.
 #[repr(C)]
@@ -49,6 +51,7 @@ fn told_row(line: u32, plan: &PlanRow) -> PlannedRow
 /// pictures are late. Where there is no memory it writes nothing.
 pub(crate) fn write_rows(
     alloc: Global,
+    lacks: &mut NoMemoryCount,
     script: &Script,
     text: &[u8],
     rows: &mut [PlannedRow],
@@ -60,9 +63,10 @@ pub(crate) fn write_rows(
     ensures rest { drop (pictures script.now) rows.new ≡ drop (pictures script.now) rows.old }
     ensures late { IfOk result (λ late. late ≡ count_by is_late (take (pictures script.now) rows.new)) }
     ensures untouched { OnErr result (rows.new ≡ rows.old) }
+    ensures counted { HasCause lacks.old lacks.new result }
 {
     each_picture_has_a_line();
-    let mut planner = Planner::start(alloc, script)?;
+    let mut planner = start_planner(alloc, lacks, script)?;
     let mut lines = ShowLines::of(text);
     let mut late = 0u32;
     for k in 0..script.pictures() as usize {
@@ -78,4 +82,19 @@ pub(crate) fn write_rows(
         }
     }
     Ok(late)
+}
+
+// The planner of a script, before its first picture.
+fn start_planner<'a>(
+    alloc: Global,
+    lacks: &mut NoMemoryCount,
+    script: &'a Script,
+) -> Result<Planner<'a>, AllocError>
+    ensures script { IfOk result (λ p. p.script ≡ script.now) }
+    ensures given { IfOk result (λ p. p.given ≡ 0) }
+    ensures counted { HasCause lacks.old lacks.new result }
+{
+    let planner = Planner::start(alloc, script);
+    lacks.note_answer(&planner);
+    planner
 }

@@ -1,5 +1,6 @@
 // The plan of a disc.
-ghost use Rattle.std.specs.Prelude.{◌≡◌, ◌≤◌, OnErr, IfErr, IfOk, drop, length};
+ghost use Rattle.std.specs.Prelude.{◌≡◌, ◌≤◌, ◌⊎◌, Err, OnErr, OnOk, IfErr, IfOk, drop, length};
+ghost use Rattle.cdg_io.specs.Causes.{Rose};
 ghost use Rattle.disc_time.specs.Counts.{most_program};
 ghost use Rattle.disc_plan.specs.Discs.{planned_disc, IsPlan, IsPlanScriptStop, IsPlanStop};
 
@@ -7,7 +8,7 @@ use crate::picture_rows::{PlannedRow, write_rows};
 use crate::reading::{read_script, read_sheet};
 use crate::stops::PlanStop;
 use std::alloc::Global;
-use subcode_author::accept_disc;
+use subcode_author::{NoMemoryCount, accept_disc};
 
 #[derive(Clone, Copy)]
 pub struct PlannedDisc {
@@ -25,9 +26,10 @@ pub struct PlannedDisc {
 ///
 /// The reasons of `PlanStop` in their order, which is that in which the program refuses to write the disc. Those of the
 /// texts are found without memory. `Disc` and `NoRoom` are found only where there is memory for both texts: `NoMemory`
-/// may come in their place. Then no row is written.
+/// may come in their place, and only if an answer was counted that said so. Then no row is written.
 pub fn plan_disc(
     alloc: Global,
+    lacks: &mut NoMemoryCount,
     sheet: &[u8],
     script: &[u8],
     lead_in: u32,
@@ -40,13 +42,18 @@ pub fn plan_disc(
     ensures stop { IfErr result (IsPlanStop (planned_disc sheet.now script.now lead_in audio)
         (length rows.old)) }
     ensures untouched { OnErr result (rows.new ≡ rows.old) }
+    // A call that asks for memory said that none was found.
+    ensures wants { result ≡ Err PlanStop.NoMemory → Rose lacks.old lacks.new }
+    // Where there is a plan no call did.
+    ensures found { OnOk result (lacks.new ≡ lacks.old) }
+    ensures later { lacks.old ≤ lacks.new }
 {
-    let cues = match read_sheet(alloc, sheet) {
+    let cues = match read_sheet(alloc, lacks, sheet) {
         Ok(cues) => cues,
-        Err(PlanStop::NoMemory) => return Err(stop_of_script(alloc, script)),
+        Err(PlanStop::NoMemory) => return Err(stop_of_script(alloc, lacks, script)),
         Err(stop) => return Err(stop),
     };
-    let drawings = match read_script(alloc, script) {
+    let drawings = match read_script(alloc, lacks, script) {
         Ok(drawings) => drawings,
         Err(stop) => return Err(stop),
     };
@@ -58,7 +65,7 @@ pub fn plan_disc(
     if pictures as usize > rows.len() {
         return Err(PlanStop::NoRoom { pictures, blocks });
     }
-    match write_rows(alloc, &drawings, script, rows) {
+    match write_rows(alloc, lacks, &drawings, script, rows) {
         Ok(late) => Ok(PlannedDisc {
             pictures,
             blocks,
@@ -69,10 +76,12 @@ pub fn plan_disc(
 }
 
 // Why a script is refused; where it is not, want of memory.
-fn stop_of_script(alloc: Global, script: &[u8]) -> PlanStop
-    ensures { IsPlanScriptStop script.now result }
+fn stop_of_script(alloc: Global, lacks: &mut NoMemoryCount, script: &[u8]) -> PlanStop
+    ensures stop { IsPlanScriptStop script.now result }
+    ensures counted { (lacks.new ≡ lacks.old) ⊎ Rose lacks.old lacks.new }
+    ensures later { lacks.old ≤ lacks.new }
 {
-    match read_script(alloc, script) {
+    match read_script(alloc, lacks, script) {
         Ok(drawings) => {
             drop(drawings);
             PlanStop::NoMemory

@@ -1,17 +1,22 @@
 // A text of a sheet.
 ghost use Rattle.std.specs.Prelude.{◌≡◌, ◌≤◌, ◌++◌, IfErr, IfOk, OnErr, drop, length};
+ghost use Rattle.cdg_io.specs.Causes.{TellsFault};
 ghost use Rattle.cue_sheet.specs.CueSheet.{text_at};
 ghost use Rattle.disc_plan.specs.SheetRows.{IsTextOf, IsTextStop};
 
+use crate::reading::parse_sheet;
 use crate::stops::TextStop;
-use cue_sheet::{CueStop, CueText, Sheet};
+use cue_sheet::{CueStop, CueText};
 use std::alloc::Global;
+use subcode_author::NoMemoryCount;
 use text_lines::MOST_TEXT_BYTES;
 
 /// Writes a text of a cue sheet to the front of some bytes, and answers how many it has: at place 0 that of the album, at
-/// place k that of the k-th track, counted from 1. It is empty where none is given.
+/// place k that of the k-th track, counted from 1. It is empty where none is given. `NoMemory` comes only if an answer was
+/// counted that said so.
 pub fn sheet_text(
     alloc: Global,
+    lacks: &mut NoMemoryCount,
     text: &[u8],
     kind: CueText,
     place: usize,
@@ -20,11 +25,13 @@ pub fn sheet_text(
     ensures text { IfOk result (IsTextOf kind place text.now out.old out.new) }
     ensures stop { IfErr result (IsTextStop kind place text.now (length out.old)) }
     ensures untouched { OnErr result (out.new ≡ out.old) }
+    // A call that asks for memory said that none was found, and no other call did.
+    ensures wants { TellsFault TextStop.NoMemory lacks.old lacks.new result }
 {
     if text.len() > MOST_TEXT_BYTES {
         return Err(TextStop::TooLong);
     }
-    let sheet = match Sheet::parse(alloc, text) {
+    let sheet = match parse_sheet(alloc, lacks, text) {
         Ok(sheet) => sheet,
         Err(CueStop::Fault { line, why }) => return Err(TextStop::Fault { line, why }),
         Err(CueStop::NoMemory) => return Err(TextStop::NoMemory),

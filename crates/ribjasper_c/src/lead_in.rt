@@ -1,5 +1,6 @@
 // The packs and the texts of a lead-in.
 ghost use Rattle.std.specs.Prelude.{◌≡◌, ◌≢◌, ◌<◌, ◌≤◌, ◌⊎◌, ◌↔◌, ◌++◌, ◌+◌, ◌*◌, List, ℕ, IsOk, IsTrue, IfOk, IfErr, Ok, Some, pos, length, take, drop};
+ghost use Rattle.cdg_io.specs.Causes.{HasCause, Rose, TellsFault};
 ghost use Rattle.disc_time.specs.Counts.{most_lead_in};
 ghost use Rattle.cdtext_packs.specs.Reading.{read_texts};
 ghost use Rattle.cdtext_packs.specs.TextLines.{counted_lines};
@@ -20,6 +21,8 @@ use cdtext_packs::{LeadInTexts, TextFault, TextMap, lead_in_packs_are_read, writ
 use disc_time::MOST_LEAD_IN;
 use raw_subcode::{BLOCK_BYTES, Block, Form, MOST_UNITS};
 use std::alloc::{AllocError, Global};
+use std::mem;
+use subcode_author::NoMemoryCount;
 
 /// What is told of the texts of a lead-in.
 #[repr(C)]
@@ -84,6 +87,43 @@ pub extern "C" fn ribjasper_texts(
     ensures same { (result ≡ pos 2) ⊎ (result ≡ pos 3) ⊎ (result ≡ pos 6) ⊎ (result ≡ pos 7)
         → told.new ≡ told.old }
 {
+    let mut lacks = NoMemoryCount::none();
+    texts_counted(alloc, &mut lacks, stream, form, lead_in, out, told)
+}
+
+// The same with a count of the answers that said that no memory was found: 7 comes only if one did.
+fn texts_counted(
+    alloc: Global,
+    lacks: &mut NoMemoryCount,
+    stream: &[u8],
+    form: u32,
+    lead_in: u32,
+    out: &mut [u8],
+    told: &mut Listed,
+) -> i32
+    ensures done { result ≡ pos 0 → (text : List ℕ)
+        × IsTextListed (stream_form form) lead_in stream.now text 0
+        × (out.new ≡ text ++ drop (length text) out.old)
+        × (told.new ≡ record { bytes = length text; seq = 0; byte = 0 }) }
+    ensures usage { (result ≡ pos 2) ↔ ((form ≡ 1) ⊎ (2 < form) ⊎ (most_lead_in < lead_in)) }
+    ensures refused { result ≡ pos 3 → ¬ IsWholeInput (stream_form form) stream.now }
+    ensures whole { result ≢ pos 2 → result ≢ pos 3 → IsWholeInput (stream_form form) stream.now }
+    ensures small { result ≡ pos 6 → (text : List ℕ)
+        × IsTextListed (stream_form form) lead_in stream.now text 0 × (length out.old < length text) }
+    ensures texts { (result ≡ pos 8) ⊎ (result ≡ pos 9) ⊎ (result ≡ pos 10) → (fault : TextFault)
+        × IsRefusedBy fault (stream_form form) lead_in stream.now
+        × (result ≡ fault_answer fault) × (told.new ≡ fault_told fault) }
+    // Memory is wanted only where the packs give texts.
+    ensures memory { result ≡ pos 7 → IsOk (texts_of_lead_in (stream_form form) lead_in stream.now) }
+    ensures answer { (result ≡ pos 0) ⊎ (result ≡ pos 2) ⊎ (result ≡ pos 3) ⊎ (result ≡ pos 6)
+        ⊎ (result ≡ pos 7) ⊎ (result ≡ pos 8) ⊎ (result ≡ pos 9) ⊎ (result ≡ pos 10) }
+    ensures untouched { result ≢ pos 0 → out.new ≡ out.old }
+    ensures same { (result ≡ pos 2) ⊎ (result ≡ pos 3) ⊎ (result ≡ pos 6) ⊎ (result ≡ pos 7)
+        → told.new ≡ told.old }
+    // A call that asks for memory said that none was found, and no other call did.
+    ensures wants { result ≡ pos 7 → Rose lacks.old lacks.new }
+    ensures found { result ≢ pos 7 → lacks.new ≡ lacks.old }
+{
     if form == 1 || form > 2 || lead_in > MOST_LEAD_IN {
         return USAGE;
     }
@@ -91,7 +131,7 @@ pub extern "C" fn ribjasper_texts(
     if !is_whole(form, stream) {
         return REFUSED;
     }
-    let lines = match lines_of(alloc, form, lead_in, stream) {
+    let lines = match lines_of(alloc, lacks, form, lead_in, stream) {
         Ok(lines) => lines,
         Err(fault) => return refuse(fault, told),
     };
@@ -149,14 +189,21 @@ fn tell(told: &mut Listed, seq: u8, byte: u8)
     };
 }
 
-fn lines_of(alloc: Global, form: Form, lead_in: u32, stream: &[u8]) -> Result<Vec<u8>, TextFault>
+fn lines_of(
+    alloc: Global,
+    lacks: &mut NoMemoryCount,
+    form: Form,
+    lead_in: u32,
+    stream: &[u8],
+) -> Result<Vec<u8>, TextFault>
     requires { lead_in ≤ most_lead_in }
     ensures lines { IfOk result (λ lines. IsTextListed form lead_in stream.now lines.items 0) }
     ensures fault { IfErr result (λ fault. IsTextFault fault (texts_of_lead_in form lead_in stream.now)) }
+    ensures wants { TellsFault TextFault.NoMemory lacks.old lacks.new result }
 {
     let mut texts = LeadInTexts::start();
     read_lead_in(&mut texts, form, lead_in, stream);
-    let lines = write_texts(alloc, &texts);
+    let lines = write_texts(alloc, lacks, &texts);
     drop(texts);
     lines
 }
@@ -175,16 +222,21 @@ fn read_lead_in(texts: &mut LeadInTexts, form: Form, lead_in: u32, stream: &[u8]
 }
 
 // Writes the lines of the texts that were read.
-fn write_texts(alloc: Global, texts: &LeadInTexts) -> Result<Vec<u8>, TextFault>
+fn write_texts(
+    alloc: Global,
+    lacks: &mut NoMemoryCount,
+    texts: &LeadInTexts,
+) -> Result<Vec<u8>, TextFault>
     ensures lines { IfOk result (λ lines. (map : Texts) × (read_texts texts.now.reader ≡ Ok map)
         × (lines.items ≡ counted_lines map texts.now.good texts.now.bad texts.now.other)) }
     ensures fault { IfErr result (λ fault. IsTextFault fault (read_texts texts.now.reader)) }
+    ensures wants { TellsFault TextFault.NoMemory lacks.old lacks.new result }
 {
-    let map = match texts.reader.finish(alloc) {
+    let map = match finish(alloc, lacks, texts) {
         Ok(map) => map,
         Err(fault) => return Err(fault),
     };
-    let lines = write_map(alloc, texts, &map);
+    let lines = write_map(alloc, lacks, texts, &map);
     drop(map);
     match lines {
         Ok(lines) => Ok(lines),
@@ -192,17 +244,47 @@ fn write_texts(alloc: Global, texts: &LeadInTexts) -> Result<Vec<u8>, TextFault>
     }
 }
 
+// The map of the texts that were read.
+fn finish(
+    alloc: Global,
+    lacks: &mut NoMemoryCount,
+    texts: &LeadInTexts,
+) -> Result<TextMap, TextFault>
+    ensures texts { IfOk result (λ map. read_texts texts.now.reader ≡ Ok map) }
+    ensures fault { IfErr result (λ fault. IsTextFault fault (read_texts texts.now.reader)) }
+    ensures wants { TellsFault TextFault.NoMemory lacks.old lacks.new result }
+{
+    match texts.reader.finish(alloc) {
+        Ok(map) => Ok(map),
+        Err(TextFault::NoMemory) => {
+            lacks.note(&AllocError);
+            Err(TextFault::NoMemory)
+        }
+        Err(fault) => Err(fault),
+    }
+}
+
 // Writes the lines of a map of texts.
-fn write_map(alloc: Global, texts: &LeadInTexts, map: &TextMap) -> Result<Vec<u8>, AllocError>
-    ensures { IfOk result (λ lines.
+fn write_map(
+    alloc: Global,
+    lacks: &mut NoMemoryCount,
+    texts: &LeadInTexts,
+    map: &TextMap,
+) -> Result<Vec<u8>, AllocError>
+    ensures lines { IfOk result (λ lines.
         lines.items ≡ counted_lines map.now texts.now.good texts.now.bad texts.now.other) }
+    ensures counted { HasCause lacks.old lacks.new result }
 {
     let mut lines = LineSink {
         bytes: Vec::new(alloc),
-        faults: 0,
+        lacks: mem::replace(lacks, NoMemoryCount::none()),
     };
     let written = write_lines(map, texts.good, texts.bad, texts.other, &mut lines);
-    let LineSink { bytes, faults: _ } = lines;
+    let LineSink {
+        bytes,
+        lacks: count,
+    } = lines;
+    *lacks = count;
     match written {
         Ok(()) => Ok(bytes),
         Err(Failed) => {
@@ -212,23 +294,23 @@ fn write_map(alloc: Global, texts: &LeadInTexts, map: &TextMap) -> Result<Vec<u8
     }
 }
 
-// A sink whose memory grows with what it takes: it fails where memory is wanted, and nowhere else.
+// A sink whose memory grows with what it takes: it fails where none is found, and nowhere else.
 #[derive(Drop)]
 struct LineSink {
     bytes: Vec<u8>,
-    faults: u64,
+    lacks: NoMemoryCount,
 }
 
 impl Sink for LineSink {
     ghost held = { λ s. Some s.bytes.items };
 
-    ghost faults = { λ s. s.faults };
+    ghost faults = { λ s. s.lacks };
 
     fn put(&mut self, piece: &[u8]) -> Result<usize, Failed> {
         match self.bytes.extend_from_slice(piece) {
             Ok(()) => Ok(piece.len()),
-            Err(_) => {
-                self.faults = self.faults.saturating_add(1);
+            Err(error) => {
+                self.lacks.note(&error);
                 Err(Failed)
             }
         }

@@ -1,5 +1,6 @@
 // The plan of a disc: a row for each picture of a script, and whether some are late; and how many packs a tile takes.
 ghost use Rattle.std.specs.Prelude.{◌≡◌, ◌≢◌, ◌<◌, ◌⊎◌, ◌↔◌, drop, length, pos, ◌≤◌, ℕ, All, negsuc, replicate};
+ghost use Rattle.cdg_io.specs.Causes.{Rose};
 ghost use Rattle.disc_time.specs.Counts.{most_lead_in, most_program};
 ghost use Rattle.disc_plan.specs.Discs.{planned_disc, IsPlan, IsPlanStop};
 ghost use Rattle.disc_plan.specs.Told.{told_plan};
@@ -15,6 +16,7 @@ use cdg_instructions::{PIXELS, Tile};
 use disc_plan::{PlanStop, PlannedRow, ToldPlan, plan_disc, told_plan, told_stop};
 use disc_time::{MOST_LEAD_IN, MOST_PROGRAM};
 use std::alloc::Global;
+use subcode_author::NoMemoryCount;
 use tile_author::weight;
 
 /// Plans the pictures of a disc with a lead-in and an audio of so many blocks: writes a row for each picture to the front
@@ -43,10 +45,43 @@ pub extern "C" fn ribjasper_plan(
     ensures rows { result ≢ pos 0 → result ≢ pos 4 → rows.new ≡ rows.old }
     ensures unused { result ≡ pos 2 → told.new ≡ told.old }
 {
+    let mut lacks = NoMemoryCount::none();
+    plan_counted(alloc, &mut lacks, sheet, script, lead_in, audio, rows, told)
+}
+
+// The same with a count of the answers that said that no memory was found: 7 comes only if one did.
+fn plan_counted(
+    alloc: Global,
+    lacks: &mut NoMemoryCount,
+    sheet: &[u8],
+    script: &[u8],
+    lead_in: u32,
+    audio: u32,
+    rows: &mut [PlannedRow],
+    told: &mut ToldPlan,
+) -> i32
+    ensures plan { (result ≡ pos 0) ⊎ (result ≡ pos 4) → (disc : PlannedDisc)
+        × IsPlan (planned_disc sheet.now script.now lead_in audio) rows.new disc
+        × (told.new ≡ told_plan disc) × (drop disc.pictures rows.new ≡ drop disc.pictures rows.old) }
+    ensures prompt { result ≡ pos 0 → told.new.late ≡ 0 }
+    ensures late { result ≡ pos 4 → 0 < told.new.late }
+    ensures usage { (result ≡ pos 2) ↔ ((most_lead_in < lead_in) ⊎ (most_program < audio)) }
+    ensures stop { (result ≡ pos 3) ⊎ (result ≡ pos 6) ⊎ (result ≡ pos 7) → (stop : PlanStop)
+        × IsPlanStop (planned_disc sheet.now script.now lead_in audio) (length rows.old) stop
+        × (result ≡ stop_answer stop) × (told.new ≡ told_at_stop told.old stop) }
+    ensures answer { (result ≡ pos 0) ⊎ (result ≡ pos 2) ⊎ (result ≡ pos 3) ⊎ (result ≡ pos 4)
+        ⊎ (result ≡ pos 6) ⊎ (result ≡ pos 7) }
+    ensures rows { result ≢ pos 0 → result ≢ pos 4 → rows.new ≡ rows.old }
+    ensures unused { result ≡ pos 2 → told.new ≡ told.old }
+    // A call that asks for memory said that none was found.
+    ensures wants { result ≡ pos 7 → Rose lacks.old lacks.new }
+    // Where there is a plan no call did.
+    ensures found { (result ≡ pos 0) ⊎ (result ≡ pos 4) → lacks.new ≡ lacks.old }
+{
     if lead_in > MOST_LEAD_IN || audio > MOST_PROGRAM {
         return USAGE;
     }
-    match plan_disc(alloc, sheet, script, lead_in, audio, rows) {
+    match plan_disc(alloc, lacks, sheet, script, lead_in, audio, rows) {
         Ok(disc) => {
             *told = told_plan(&disc);
             if disc.late == 0 { DONE } else { LATE }

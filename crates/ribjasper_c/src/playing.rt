@@ -1,5 +1,6 @@
 // A player that C feeds block by block.
-ghost use Rattle.std.specs.Prelude.{◌≡◌, ◌⊎◌, ◌&&◌, nat_le, nat_lt, if◌then◌else◌, ◌∷◌, [], List, ℕ, pos, negsuc, length, true, false, IfSome};
+ghost use Rattle.std.specs.Prelude.{◌≡◌, ◌⊎◌, ◌&&◌, nat_le, nat_lt, if◌then◌else◌, ◌∷◌, [], List, ℕ, pos, negsuc, length, true, false, IfOk};
+ghost use Rattle.cdg_io.specs.Causes.{HasCause, Rose};
 ghost use Rattle.disc_time.specs.Counts.{most_lead_in};
 ghost use Rattle.live_player.specs.Lives.{Given, HasPlayed};
 ghost use Rattle.live_player.specs.Lives.Given.{Drawn, Fed};
@@ -13,8 +14,9 @@ use disc_time::MOST_LEAD_IN;
 use live_player::LivePlayer;
 use raw_subcode::{BLOCK_BYTES, Form};
 use rw_code::SYMBOLS;
-use std::alloc::Global;
+use std::alloc::{AllocError, Global};
 use std::mem;
+use subcode_author::NoMemoryCount;
 
 /// What C keeps of a player. All zero it is closed.
 #[repr(C)]
@@ -108,18 +110,34 @@ pub extern "C" fn ribjasper_player_open(alloc: Global, player: &mut Playing) -> 
     ensures closed { result ≡ negsuc 0 → player.new.is_open ≡ false }
     ensures answer { (result ≡ pos 0) ⊎ (result ≡ negsuc 0) }
 {
+    let mut lacks = NoMemoryCount::none();
+    open_counted(alloc, &mut lacks, player)
+}
+
+// The same with a count of the answers that said that no memory was found: -1 comes only if one did.
+fn open_counted(alloc: Global, lacks: &mut NoMemoryCount, player: &mut Playing) -> i32
+    ensures begun { result ≡ pos 0 → IsPlaying Form.Raw 0 [] player.new.handle.players }
+    ensures opened { result ≡ pos 0 → player.new.is_open ≡ true }
+    ensures refused { result ≡ negsuc 0 → player.old.is_open ≡ false }
+    ensures none { result ≡ negsuc 0 → player.new.handle.players ≡ [] }
+    ensures closed { result ≡ negsuc 0 → player.new.is_open ≡ false }
+    ensures answer { (result ≡ pos 0) ⊎ (result ≡ negsuc 0) }
+    // A call that asks for memory said that none was found, and no other call did.
+    ensures wants { result ≡ negsuc 0 → Rose lacks.old lacks.new }
+    ensures found { result ≡ pos 0 → lacks.new ≡ lacks.old }
+{
     if player.is_open {
         let mut live = player.take_out();
         live.begin(0, Form::Raw);
         player.put_back(live);
         return DONE;
     }
-    match opened(alloc) {
-        Some(live) => {
+    match opened(alloc, lacks) {
+        Ok(live) => {
             player.put_back(live);
             DONE
         }
-        None => {
+        Err(AllocError) => {
             *player = Playing::closed(alloc);
             NOT_DONE
         }
@@ -127,10 +145,13 @@ pub extern "C" fn ribjasper_player_open(alloc: Global, player: &mut Playing) -> 
 }
 
 // A player of a raw stream, where there is memory.
-fn opened(alloc: Global) -> Option<Box<LivePlayer>>
-    ensures { IfSome result (λ live. HasPlayed Form.Raw 0 [] live.value) }
+fn opened(alloc: Global, lacks: &mut NoMemoryCount) -> Result<Box<LivePlayer>, AllocError>
+    ensures begun { IfOk result (λ live. HasPlayed Form.Raw 0 [] live.value) }
+    ensures counted { HasCause lacks.old lacks.new result }
 {
-    LivePlayer::start(alloc).ok()
+    let player = LivePlayer::start(alloc);
+    lacks.note_answer(&player);
+    player
 }
 
 /// Closes a player, and frees what it holds.

@@ -1,5 +1,6 @@
 // A player that is saved to a file and brought back, and one that is copied to another.
-ghost use Rattle.std.specs.Prelude.{◌≡◌, ◌≢◌, ◌≤◌, ◌<◌, ◌^◌, ◌⊎◌, ◌↔◌, ◌&&◌, ◌∷◌, [], List, ℕ, IsTrue, true, false, if◌then◌else◌, pos, negsuc, length, IfSome};
+ghost use Rattle.std.specs.Prelude.{◌≡◌, ◌≢◌, ◌≤◌, ◌<◌, ◌^◌, ◌⊎◌, ◌↔◌, ◌&&◌, ◌∷◌, [], List, ℕ, IsTrue, true, false, if◌then◌else◌, pos, negsuc, length, IfOk};
+ghost use Rattle.cdg_io.specs.Causes.{HasCause, Rose};
 ghost use Rattle.disc_time.specs.Counts.{most_lead_in};
 ghost use Rattle.raw_subcode.specs.Sizes.{most_units};
 ghost use Rattle.raw_subcode.specs.declared.form.Form.{Form};
@@ -18,7 +19,8 @@ use cdg_io::SteadySource;
 use disc_time::MOST_LEAD_IN;
 use live_player::{LivePlayer, a_saved_player_goes_on};
 use raw_subcode::{Form, MOST_UNITS};
-use std::alloc::Global;
+use std::alloc::{AllocError, Global};
+use subcode_author::NoMemoryCount;
 
 /// Writes the file of the checkpoint at which an open player is. 0, or -1 where the player is closed or cannot be
 /// saved, or 7 where no memory is left.
@@ -47,29 +49,70 @@ pub extern "C" fn ribjasper_player_save(
     ensures same { player.new.handle.players ≡ player.old.handle.players }
     ensures untouched { result ≢ pos 0 → file.new ≡ file.old }
 {
+    let mut lacks = NoMemoryCount::none();
+    save_counted(alloc, &mut lacks, player, file)
+}
+
+// The same with a count of the answers that said that no memory was found: 7 comes only if one did.
+fn save_counted(
+    alloc: Global,
+    lacks: &mut NoMemoryCount,
+    player: &mut Playing,
+    file: &mut [u8; FILE_BYTES],
+) -> i32
+    ensures saved { result ≡ pos 0 → (live : LivePlayer) × (player.old.handle.players ≡ live ∷ [])
+        × IsSavedAs file.new live }
+    ensures refused { result ≡ negsuc 0 → (live : LivePlayer) → player.old.handle.players ≡ live ∷ []
+        → CannotBeSaved live }
+    // A player of a raw stream that is no longer than a checkpoint can say is saved, where there is memory.
+    ensures can { (lead_in : ℕ) (given : List Given)
+        → IsPlaying Form.Raw lead_in given player.old.handle.players
+        → lead_in ≤ most_lead_in → length (blocks_in given) ≤ most_units → result ≢ negsuc 0 }
+    // A player of packs is not saved, nor is one of a longer stream, whatever memory there is.
+    ensures packs { (live : LivePlayer) → player.old.handle.players ≡ live ∷ [] → live.words.form ≢ Form.Raw
+        → result ≡ negsuc 0 }
+    ensures long { (live : LivePlayer) → player.old.handle.players ≡ live ∷ [] → IsTooLong live
+        → result ≡ negsuc 0 }
+    ensures closed { player.old.is_open ≡ false → result ≡ negsuc 0 }
+    ensures answer { (result ≡ pos 0) ⊎ (result ≡ negsuc 0) ⊎ (result ≡ pos 7) }
+    ensures stays { player.new.is_open ≡ player.old.is_open }
+    ensures same { player.new.handle.players ≡ player.old.handle.players }
+    ensures untouched { result ≢ pos 0 → file.new ≡ file.old }
+    // A call that asks for memory said that none was found, and no other call did.
+    ensures wants { result ≡ pos 7 → Rose lacks.old lacks.new }
+    ensures found { result ≢ pos 7 → lacks.new ≡ lacks.old }
+{
     a_saved_player_goes_on();
     if !player.is_open {
         return NOT_DONE;
     }
     let live = player.take_out();
-    let answer = save(alloc, &live, file);
+    let answer = save(alloc, lacks, &live, file);
     player.put_back(live);
     answer
 }
 
 // Writes the file of a player.
-fn save(alloc: Global, live: &LivePlayer, file: &mut [u8; FILE_BYTES]) -> i32
+fn save(
+    alloc: Global,
+    lacks: &mut NoMemoryCount,
+    live: &LivePlayer,
+    file: &mut [u8; FILE_BYTES],
+) -> i32
     ensures saved { result ≡ pos 0 → IsSavedAs file.new live.now }
     ensures refused { result ≡ negsuc 0 → CannotBeSaved live.now }
     ensures packs { live.now.words.form ≢ Form.Raw → result ≡ negsuc 0 }
     ensures long { IsTooLong live.now → result ≡ negsuc 0 }
     ensures answer { (result ≡ pos 0) ⊎ (result ≡ negsuc 0) ⊎ (result ≡ pos 7) }
     ensures untouched { result ≢ pos 0 → file.new ≡ file.old }
+    // A call that asks for memory said that none was found, and no other call did.
+    ensures wants { result ≡ pos 7 → Rose lacks.old lacks.new }
+    ensures found { result ≢ pos 7 → lacks.new ≡ lacks.old }
 {
     if !matches!(live.words.form, Form::Raw) || is_too_long(live) {
         return NOT_DONE;
     }
-    let Ok(mut saved) = CheckpointFile::start(alloc) else {
+    let Ok(mut saved) = take_file(alloc, lacks) else {
         return NO_MEMORY;
     };
     live.save(&mut saved.plain);
@@ -122,6 +165,36 @@ pub extern "C" fn ribjasper_player_load(
     ensures refused { result ≢ pos 0 → player.new.handle.players ≡ player.old.handle.players }
     ensures same { result ≢ pos 3 → byte.new ≡ byte.old }
 {
+    let mut lacks = NoMemoryCount::none();
+    load_counted(alloc, &mut lacks, player, file, byte)
+}
+
+// The same with a count of the answers that said that no memory was found: 7 comes only if one did.
+fn load_counted(
+    alloc: Global,
+    lacks: &mut NoMemoryCount,
+    player: &mut Playing,
+    file: &[u8; FILE_BYTES],
+    byte: &mut u32,
+) -> i32
+    ensures loaded { result ≡ pos 0 → IsCheckpointFile file.now × AreAt file.now player.new.handle.players }
+    // Where the file is that of a player that was saved, this one was given from here on what that one was given.
+    ensures goes_on { result ≡ pos 0 → (saved : LivePlayer) (lead_in : ℕ) (given : List Given)
+        → IsSavedAs file.now saved → HasPlayed Form.Raw lead_in given saved
+        → lead_in ≤ most_lead_in → length (blocks_in given) ≤ most_units
+        → IsPlaying Form.Raw lead_in given player.new.handle.players }
+    ensures bad { result ≡ pos 3 → IsBadAt file.now byte.new }
+    // Memory is asked for a checkpoint's file alone.
+    ensures memory { result ≡ pos 7 → IsCheckpointFile file.now }
+    ensures closed { (result ≡ negsuc 0) ↔ (player.old.is_open ≡ false) }
+    ensures answer { (result ≡ pos 0) ⊎ (result ≡ negsuc 0) ⊎ (result ≡ pos 3) ⊎ (result ≡ pos 7) }
+    ensures stays { player.new.is_open ≡ player.old.is_open }
+    ensures refused { result ≢ pos 0 → player.new.handle.players ≡ player.old.handle.players }
+    ensures same { result ≢ pos 3 → byte.new ≡ byte.old }
+    // A call that asks for memory said that none was found, and no other call did.
+    ensures wants { result ≡ pos 7 → Rose lacks.old lacks.new }
+    ensures found { result ≢ pos 7 → lacks.new ≡ lacks.old }
+{
     a_saved_player_goes_on();
     if !player.is_open {
         return NOT_DONE;
@@ -130,7 +203,7 @@ pub extern "C" fn ribjasper_player_load(
         *byte = bad;
         return REFUSED;
     }
-    let Some(saved) = read_file(alloc, file) else {
+    let Ok(saved) = read_file(alloc, lacks, file) else {
         return NO_MEMORY;
     };
     let mut live = player.take_out();
@@ -148,13 +221,30 @@ fn go_to(live: &mut LivePlayer, file: &CheckpointFile)
 }
 
 // The file of these bytes, where there is memory.
-fn read_file(alloc: Global, bytes: &[u8; FILE_BYTES]) -> Option<CheckpointFile>
-    ensures { IfSome result (λ file. file ≡ bytes.now) }
+fn read_file(
+    alloc: Global,
+    lacks: &mut NoMemoryCount,
+    bytes: &[u8; FILE_BYTES],
+) -> Result<CheckpointFile, AllocError>
+    ensures file { IfOk result (λ file. file ≡ bytes.now) }
+    ensures counted { HasCause lacks.old lacks.new result }
 {
-    let mut file = CheckpointFile::start(alloc).ok()?;
+    let mut file = take_file(alloc, lacks)?;
     let mut source = SteadySource::new(bytes);
-    file.read(&mut source).ok()?;
-    Some(file)
+    let Ok(()) = file.read(&mut source) else {
+        unreachable!();
+    };
+    Ok(file)
+}
+
+// The memory of a file.
+fn take_file(alloc: Global, lacks: &mut NoMemoryCount) -> Result<CheckpointFile, AllocError>
+    ensures empty { IfOk result (λ file. file ≡ []) }
+    ensures counted { HasCause lacks.old lacks.new result }
+{
+    let file = CheckpointFile::start(alloc);
+    lacks.note_answer(&file);
+    file
 }
 
 /// Makes one open player show and gather from here on what another does. 0, or -1 where one of them is closed.

@@ -1,6 +1,6 @@
 use Rattle.cue_sheet.specs.CueSheet.{track_of}
 use Rattle.disc_plan.proofs.Tracks.{few_lines}
-use Rattle.std.proofs.Common.{◌≤◌, ◌≡◌, length, arith}
+use Rattle.std.proofs.Common.{◌≤◌, length, arith}
 use Rattle.disc_plan.proofs.index_rows.lines_of.Goals as goal
 
 pub returns-clause-few : goal.returns-clause-few

@@ -1,8 +1,8 @@
-use Rattle.std.proofs.Common.{◌≡◌, ◌+◌, ◌++◌, ◌<◌, ◌≤◌, ◌∙◌, List, length, drop, ap, sym, arith, length-append}
+use Rattle.std.proofs.Common.{◌≡◌, ◌+◌, ◌++◌, ◌<◌, ◌∙◌, List, length, drop, ap, sym, arith, length-append}
 use Rattle.cue_sheet.specs.CueSheet.{track_of}
-use Rattle.disc_plan.specs.SheetRows.{sheet_rows, track_rows}
+use Rattle.disc_plan.specs.SheetRows.{track_rows}
 use Rattle.disc_plan.specs.declared.index_rows.SheetRow.{SheetRow}
-use Rattle.disc_plan.proofs.Tracks.{all_rows, put_more, rows_before, rows_more, track_fits}
+use Rattle.disc_plan.proofs.Tracks.{put_more, rows_before, rows_more, track_fits}
 use Rattle.disc_plan.proofs.index_rows.write_rows.Goals as goal
 
 pub write_track-requires-clause-room : goal.write_track-requires-clause-room
