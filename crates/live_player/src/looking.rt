@@ -1,5 +1,5 @@
 // What a screen shows, number by number.
-ghost use Rattle.std.specs.Prelude.{◌≡◌, ◌<◌, ◌≤◌, ◌+◌, ◌-◌, ◌/◌, ◌%◌, nat_le, if◌then◌else◌, ◌∷◌, [], ℕ, IsTrue, length, slice_index};
+ghost use Rattle.std.specs.Prelude.{◌≡◌, ◌↔◌, ◌<◌, ◌≤◌, ◌+◌, ◌-◌, ◌/◌, ◌%◌, nat_le, if◌then◌else◌, ◌∷◌, [], ℕ, IsTrue, length, slice_index};
 ghost use Rattle.cdg_instructions.specs.Sizes.{colour_values, screen_height, screen_pixels, screen_width};
 ghost use Rattle.cdg_screen.specs.Memory.{seen};
 ghost use Rattle.cdg_screen.specs.Standing.{screen_pixel, standing_after};
@@ -54,7 +54,7 @@ pub fn part_of_screen(screen: &PlainScreen, part: &ScreenPart, pixels: &mut [u8]
 fn is_whole_screen(part: &ScreenPart) -> bool
     requires { IsOnScreen part.now }
     ensures { IsTrue result
-        → part.now ≡ record { left = 0; top = 0; width = screen_width; height = screen_height } }
+        ↔ (part.now ≡ record { left = 0; top = 0; width = screen_width; height = screen_height }) }
 {
     part.width == SCREEN_WIDTH && part.height == SCREEN_HEIGHT
 }
