@@ -176,7 +176,6 @@ fn sixteen_of(row: &[u8]) -> [u8; MOST_BURST]
     }
 }
 
-// Puts sixteen bytes in place of others.
 #[inline]
 fn put_sixteen(row: &mut [u8], bytes: &[u8; MOST_BURST])
     requires { length row.old ≡ most_burst }

@@ -16,7 +16,6 @@ use cdg_instructions::{COLOURS, WINDOW_HEIGHT, WINDOW_WIDTH};
 use text_lines::after_word;
 
 impl ScriptReader {
-    // Takes the words after `colour`.
     fn take_colour(&mut self, words: &[u8]) -> Result<(), ScriptWhy>
         requires { (before : List Drawing) × Followed before self.old }
         ensures { (before : List Drawing) → Followed before self.old
@@ -35,7 +34,6 @@ impl ScriptReader {
         Ok(())
     }
 
-    // Takes the words after `border`.
     fn take_border(&mut self, words: &[u8]) -> Result<(), ScriptWhy>
         requires { (before : List Drawing) × Followed before self.old }
         ensures { (before : List Drawing) → Followed before self.old
@@ -46,7 +44,6 @@ impl ScriptReader {
         Ok(())
     }
 
-    // Takes the words after `fill`.
     fn take_fill(&mut self, words: &[u8]) -> Result<(), ScriptWhy>
         requires { (before : List Drawing) × Followed before self.old }
         ensures { (before : List Drawing) → Followed before self.old
@@ -57,7 +54,6 @@ impl ScriptReader {
         Ok(())
     }
 
-    // Takes the words after `rect`.
     fn take_rect(&mut self, words: &[u8]) -> Result<(), ScriptWhy>
         requires { (before : List Drawing) × Followed before self.old }
         ensures { (before : List Drawing) → Followed before self.old
@@ -80,7 +76,6 @@ impl ScriptReader {
         Ok(())
     }
 
-    // Takes the words after `row`.
     fn take_row(&mut self, words: &[u8]) -> Result<(), ScriptWhy>
         requires { (before : List Drawing) × Followed before self.old }
         ensures { (before : List Drawing) → Followed before self.old
@@ -96,7 +91,6 @@ impl ScriptReader {
         Ok(())
     }
 
-    // Takes the words after `show`.
     fn take_show(&mut self, words: &[u8]) -> Result<(), ScriptWhy>
         requires { (before : List Drawing) × Followed before self.old }
         ensures { (before : List Drawing) → Followed before self.old

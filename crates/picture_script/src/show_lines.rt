@@ -75,7 +75,6 @@ fn next_show_line(text: &[u8], number: u32) -> Option<(u32, &[u8])>
     None
 }
 
-// Whether a line shows a picture.
 fn is_show_line(line: &[u8]) -> bool
     ensures { result ≡ is_show_line line.now }
 {

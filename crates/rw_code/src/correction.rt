@@ -106,7 +106,6 @@ fn without_two(received: &Word, syndromes: Syndromes, errors: TwoErrors) -> Fixe
     }
 }
 
-// What is wrong with the symbol at a position.
 #[derive(Clone, Copy)]
 struct SymbolError {
     pub(crate) position: usize,
@@ -212,7 +211,6 @@ struct Pair {
 }
 
 impl Locator {
-    // That of the sums of a word.
     fn of(sums: &Sums) -> Locator
         ensures { IsLocator sums.now result }
     {

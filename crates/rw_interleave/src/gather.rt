@@ -250,7 +250,6 @@ pub(crate) const BEFORE_BYTES: usize = PACKS_KEPT_BACK * SYMBOLS_A_SLOT;
 // The bytes of the first three of them.
 pub(crate) const EARLY_BYTES: usize = BEFORE_BYTES - BLOCK_BYTES;
 
-// The bytes of a row.
 const ROW_BYTES: usize = BEFORE_BYTES + BLOCK_BYTES;
 
 // Whether the low six bits of all bytes are 0.
