@@ -62,7 +62,8 @@ take-parts size (suc m) (suc n) xs few =
     ap (λ rest. take size xs ∷ rest) (take-parts size m n (drop size xs) (omega (arith, few)))
 
 -- the first of some of the chunks of a list are its first units
-pub first_units : (size m n all : ℕ) (xs : List ℕ) (chunks : List (List ℕ)) → chunks ≡ first_chunks size all xs
+pub first_units : (size m n all : ℕ) (xs : List ℕ) (chunks : List (List ℕ))
+    → chunks ≡ first_chunks size all xs
     → m ≤ n → n ≤ all → take m (take n chunks) ≡ units_of size m xs
 first_units size m n all xs chunks are few within =
     ap (λ l. take m (take n l)) (are ∙ chunks_are_parts size all xs)
@@ -78,7 +79,8 @@ pub run_passes : {S : Type 0} (next : S → List ℕ → S) (gives : S → List 
     → take end new ≡ take start old ++ replicate (zeros * count) 0
     → Works size (machine_of next gives) (moving (from_to (Some row) (Some row')) (from_to s s)
     (from_to (Some (take start old)) (Some (take end new)))) count (take (size * count) row)
-run_passes next gives s idle row row' old new units size count zeros start end is fits left are stays gave put =
+run_passes next gives s idle row row' old new units size count zeros start end is fits left are stays gave
+    put =
     let taken = take (size * count) row in
     let same : units ≡ units_of size count taken =
     are

@@ -11,16 +11,18 @@ use Rattle.cdg_cmd.specs.declared.status.Status.{Status}
 use Rattle.ribjasper.specs.declared.inputs.InputReader.{InputReader}
 use Rattle.ribjasper.specs.declared.output.TellingWriter.{TellingWriter}
 use Rattle.ribjasper.specs.Inputs.{AreInputs, InputSource, IsNewSource}
-use Rattle.ribjasper.specs.Runs.{AreOwnWords, IsNewOutput, IsSettled, RunsLine, RunsOver, RunsProgram, command_words, input_names, taken_bytes}
+use Rattle.ribjasper.specs.Runs.{AreOwnWords, IsNewOutput, IsSettled, RunsLine, RunsOver, RunsProgram, words_of_command, input_names, taken_bytes}
 
 -- what was run over the words and the names into which a line was parted was run on the line
 pub runs_line : {W : Type 0} (contents : W → Bytes) (line words names : List (String Global)) (stdin : Stdin)
     (one other : InputReader) (first second : Change InputSource) (old unsettled new : Buffered W)
-    (answer status : Status) → words ≡ command_words line → names ≡ input_names line
+    (answer status : Status) → words ≡ words_of_command line → names ≡ input_names line
     → AreInputs stdin names one other → IsNewSource one first.before → IsNewSource other second.before
     → RunsOver contents (texts words) first second (from_to old unsettled) answer
-    → IsSettled contents (from_to unsettled new) answer status → RunsLine contents line (from_to old new) status
-runs_line contents line words names stdin one other first second old unsettled new answer status of_words of_names
+    → IsSettled contents (from_to unsettled new) answer status
+    → RunsLine contents line (from_to old new) status
+runs_line contents line words names stdin one other first second old unsettled new answer status of_words
+    of_names
     inputs first_is second_is runs settles =
     let Inputs : List (String Global) → Type 0 = λ ns. AreInputs stdin ns one other in
     let Runs : List (String Global) → Type 0 =

@@ -26,8 +26,8 @@ use Rattle.ribjasper.specs.declared.output.TellingWriter.{TellingWriter}
 use Rattle.ribjasper.specs.Inputs.{AreInputs, InputSource, IsNewSource}
 
 -- the command's words of a line
-abbrev pub command_words : List (String Global) → List (String Global)
-command_words line = take (split_of line).words line
+abbrev pub words_of_command : List (String Global) → List (String Global)
+words_of_command line = take (split_of line).words line
 
 -- the names of its inputs
 abbrev pub input_names : List (String Global) → List (String Global)
@@ -42,17 +42,19 @@ abbrev pub input_ends : InputSource → Count
 input_ends source = Some source.ends
 
 -- What waited in an output was written, and nothing waits any more; or some of it waits, and that is told.
-pub record IsSettled {W : Type 0} (contents : W → Bytes) (out : Change (Buffered W)) (answer status : Status)
-    : Type 0 where
-  pub settled : (out.after.waiting ≡ []) × (status ≡ answer) ⊎ (out.after.waiting ≢ []) × (status ≡ WriteFault)
+pub record IsSettled {W : Type 0} (contents : W → Bytes) (out : Change (Buffered W))
+    (answer status : Status) : Type 0 where
+  pub settled : (out.after.waiting ≡ []) × (status ≡ answer)
+      ⊎ (out.after.waiting ≢ []) × (status ≡ WriteFault)
   pub bytes : Keeps (bytes_with_waiting contents out.before) (bytes_with_waiting contents out.after)
   pub nothing : out.before.waiting ≡ [] → status ≡ answer
 
 -- A command was run over sources of two inputs and an output, as `run` says.
-pub record RunsOver {W : Type 0} (contents : W → Bytes) (words : List (List ℕ)) (first second : Change InputSource)
-    (out : Change (Buffered W)) (answer : Status) : Type 0 where
+pub record RunsOver {W : Type 0} (contents : W → Bytes) (words : List (List ℕ))
+    (first second : Change InputSource) (out : Change (Buffered W)) (answer : Status) : Type 0 where
   pub usage : ((answer ≡ Usage) ↔ ((command : Command) → ¬ (Spells command words)))
-      × (answer ≡ Usage → (first.after ≡ first.before) × (second.after ≡ second.before) × (out.after ≡ out.before))
+      × (answer ≡ Usage
+      → (first.after ≡ first.before) × (second.after ≡ second.before) × (out.after ≡ out.before))
   pub performs : (command : Command) → Spells command words → Performs command
       (input input_left input_ends first.before first.after)
       (input input_left input_ends second.before second.after)
@@ -63,8 +65,8 @@ pub record RunsOver {W : Type 0} (contents : W → Bytes) (words : List (List �
 
 -- The words of a line were run over new sources of the inputs that it names and over an output, in which then what waits was
 -- written.
-pub record RunsLine {W : Type 0} (contents : W → Bytes) (line : List (String Global)) (out : Change (Buffered W))
-    (status : Status) : Type 0 where
+pub record RunsLine {W : Type 0} (contents : W → Bytes) (line : List (String Global))
+    (out : Change (Buffered W)) (status : Status) : Type 0 where
   pub stdin : Stdin
   pub first_input : InputReader
   pub second_input : InputReader
@@ -76,7 +78,8 @@ pub record RunsLine {W : Type 0} (contents : W → Bytes) (line : List (String G
   -- the output and the answer before what waits was written
   pub unsettled : Buffered W
   pub answer : Status
-  pub runs : RunsOver contents (texts (command_words line)) first second (from_to out.before unsettled) answer
+  pub runs : RunsOver contents (texts (words_of_command line)) first second
+      (from_to out.before unsettled) answer
   pub settles : IsSettled contents (from_to unsettled out.after) answer status
 
 -- The words of a line are those after the program's own name, as the machine gave them; if it says that they are no text, there
@@ -101,8 +104,8 @@ taken_bytes writer = Some writer.taken.bytes
 
 -- The words that the machine gave were run on the inputs that they name, and over a new output, which tells the bytes that the
 -- writer took.
-pub record RunsProgram {W : Type 0} (words : Result (IntoIter (String Global) Global) Error) (writer : W) (status : Status)
-    : Type 0 where
+pub record RunsProgram {W : Type 0} (words : Result (IntoIter (String Global) Global) Error)
+    (writer : W) (status : Status) : Type 0 where
   pub line : List (String Global)
   pub own_words : AreOwnWords words line
   pub out : Change (Buffered (TellingWriter W))

@@ -119,10 +119,7 @@ pub struct Second<I> {
 
 impl<'a> First<InputReader<'a>> {
     /// A source of it.
-    pub(crate) fn source(
-        self,
-        alloc: Global,
-    ) -> io::Result<First<BufferedSource<InputReader<'a>>>>
+    pub(crate) fn source(self, alloc: Global) -> io::Result<First<BufferedSource<InputReader<'a>>>>
         ensures { IfOk result (λ source. IsNewSource self.entry.input source.input) }
     {
         let First { input } = self;
@@ -134,10 +131,7 @@ impl<'a> First<InputReader<'a>> {
 
 impl<'a> Second<InputReader<'a>> {
     /// A source of it.
-    pub(crate) fn source(
-        self,
-        alloc: Global,
-    ) -> io::Result<Second<BufferedSource<InputReader<'a>>>>
+    pub(crate) fn source(self, alloc: Global) -> io::Result<Second<BufferedSource<InputReader<'a>>>>
         ensures { IfOk result (λ source. IsNewSource self.entry.input source.input) }
     {
         let Second { input } = self;

@@ -10,7 +10,7 @@ ghost use Rattle.std.specs.declared.io.Error.{Error};
 ghost use Rattle.cdg_io.specs.Causes.{Rose};
 ghost use Rattle.cdg_io.specs.Change.{from_to};
 ghost use Rattle.cdg_cmd.specs.Line.{error_line, exit_of};
-ghost use Rattle.ribjasper.specs.Runs.{AreOwnWords, IsSettled, RunsLine, RunsProgram, command_words, input_names};
+ghost use Rattle.ribjasper.specs.Runs.{AreOwnWords, IsSettled, RunsLine, RunsProgram, words_of_command, input_names};
 
 mod inputs;
 mod output;
@@ -55,7 +55,7 @@ fn after_first(alloc: Global, all: Args) -> Result<Vec<String>, AllocError>
 
 // The command's words of a line, and the names of its inputs.
 fn parted(line: &[String]) -> (&[String], &[String])
-    ensures words { result.0.now ≡ command_words line.now }
+    ensures words { result.0.now ≡ words_of_command line.now }
     ensures names { result.1.now ≡ input_names line.now }
 {
     let split = split(line);

@@ -30,7 +30,8 @@ returns-clause-works g c =
     let long : length zeroed ≡ zeros * n = search rules in (
       take (size * n) row,
       run_passes g.G.Stage.next g.G.Stage.gives c.args.stage.now g.G.Stage.idle row _ buffer _
-          (take n (take most units)) size n zeros start _ idle (units_fit size n row (omega (arith, few, whole)))
+          (take n (take most units)) size n zeros start _ idle
+          (units_fit size n row (omega (arith, few, whole)))
           (take_rest row (size * n)) looked c.count_idle-count.ensures.stays c.count_idle-count.ensures.gives
           (zeros_behind buffer zeroed start _ (zeros * n) c.requires.start c.clear.ensures long),
     )

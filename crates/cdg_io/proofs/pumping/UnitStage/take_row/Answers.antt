@@ -39,7 +39,10 @@ loop-units-preserved g c =
     unit_taken row size _ _ c.SIZE-in-loop-units.ensures c.SIZE-in-loop-units-2.ensures
     (omega (arith, c.SIZE.ensures, c.if-row-SIZE.false)) in
     record {
-      works = ((taken ++ passed) ++ unit, Works-next _ _ _ _ _ _ _ _ _ both took full c.take_unit.ensures.next put);
+      works = (
+        (taken ++ passed) ++ unit,
+        Works-next _ _ _ _ _ _ _ _ _ both took full c.take_unit.ensures.next put,
+      );
       order = omega (arith, c.loop-units.invariant.order, idle.ensures.within.0);
       within = search (rules, arith, given.fits);
       most = omega (arith, c.loop-units.invariant.most, idle.ensures.most);
