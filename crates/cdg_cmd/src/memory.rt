@@ -101,7 +101,6 @@ impl CountedMemory {
         lister
     }
 
-    /// Lists the texts of the lead-in of a stream.
     pub(crate) fn list_texts<S: Source, K: Sink>(
         &mut self,
         lister: &mut TextLister,
@@ -169,7 +168,6 @@ impl CountedMemory {
         script
     }
 
-    /// Writes the stream of a sheet and a script.
     pub(crate) fn author<K: Sink>(
         &mut self,
         sheet: &Sheet,
@@ -224,7 +222,6 @@ impl CountedMemory {
         pressed
     }
 
-    /// Writes the lines of a trial of a seed.
     pub(crate) fn try_out<K: Sink>(
         &mut self,
         seed: u64,

@@ -85,7 +85,6 @@ pub(crate) fn note<E: MemoryStop>(count: &mut NoMemoryCount, stop: &E)
     }
 }
 
-/// The same of an answer.
 pub(crate) fn note_answer<T, E: MemoryStop>(count: &mut NoMemoryCount, answer: &Result<T, E>)
     ensures { TellsFault E.no_memory count.old count.new answer.now }
 {

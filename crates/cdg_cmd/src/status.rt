@@ -319,7 +319,6 @@ fn push_number(text: &mut ErrorLine, number: u32)
     text.push_str(digits.format(number));
 }
 
-// Words and a number.
 fn push_counted(text: &mut ErrorLine, words: &str, number: u32)
     requires { length text.old.bytes + length words.now ≤ 80 }
     ensures text { text.new.bytes ≡ text.old.bytes ++ words_and_count words.now number }
@@ -329,7 +328,6 @@ fn push_counted(text: &mut ErrorLine, words: &str, number: u32)
     push_number(text, number);
 }
 
-// The name of an input, the number of a line of it, and why it is refused.
 fn push_line(text: &mut ErrorLine, name: &str, line: u32, why: &str)
     requires room { length text.old.bytes + length name.now ≤ 40 }
     requires why { length why.now ≤ 20 }
@@ -375,7 +373,6 @@ fn push_refusal(text: &mut ErrorLine, refusal: Refusal)
     }
 }
 
-// The words of a picture that is late.
 fn push_late(text: &mut ErrorLine, picture: u32, need: u32, free: u32)
     requires { text.old.bytes ≡ [] }
     ensures text { text.new.bytes ≡ late_words picture need free }

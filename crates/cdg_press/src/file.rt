@@ -14,7 +14,6 @@ use stream_writer::{PackSource, unless_idle};
 /// How many bytes a pack of a file has: one for each symbol.
 pub(crate) const PACK_BYTES: usize = SYMBOLS;
 
-/// The number of packs of a file.
 pub(crate) fn whole_packs_of(cdg: &[u8]) -> Result<u32, PressStop>
     requires { IsShort cdg.now }
     ensures { IsCounted cdg.now result }

@@ -78,7 +78,6 @@ impl PlainScreen {
 }
 
 impl Memory {
-    // Row y of the pixels.
     fn row(&self, y: usize) -> [u8; SCREEN_WIDTH]
         requires { y < screen_height }
         ensures size { length result ≡ screen_width }
@@ -107,7 +106,6 @@ impl Memory {
         Some(&row[first..first + count])
     }
 
-    // Copies pixels of row y, from column x on.
     fn copy_columns(&self, x: usize, y: usize, columns: &mut [u8])
         requires width { x + length columns.old ≤ screen_width }
         requires height { y < screen_height }

@@ -1,5 +1,5 @@
 // From packs to those of the thin form.
-ghost use Rattle.std.specs.Prelude.{◌≡◌, ◌≢◌, ◌≤◌, ◌*◌, List, ℕ, [], ◌∷◌, length, Err, IfOk, IfSome, IsErrOf, Some, ◌/◌, IsTrue};
+ghost use Rattle.std.specs.Prelude.{◌≡◌, ◌*◌, List, ℕ, [], ◌∷◌, length, IfOk, IfSome, Some, ◌/◌, IsTrue};
 ghost use Rattle.std.specs.List.{concat};
 ghost use Rattle.cdg_instructions.specs.Instruction.{InRange};
 ghost use Rattle.cdg_io.specs.Causes.{TellsFault};

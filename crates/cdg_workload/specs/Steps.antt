@@ -1,5 +1,5 @@
 -- The steps of the stage that scratches a stream.
-use Rattle.std.specs.Prelude.{ℕ, ◌-◌, ◌*◌, ◌==◌, ◌&&◌, if◌then◌else◌, List, take, bit_xor, Option, Some}
+use Rattle.std.specs.Prelude.{◌≡◌, ℕ, ◌-◌, ◌*◌, ◌==◌, ◌&&◌, ◌++◌, if◌then◌else◌, List, map, take, drop, bit_xor, Option, Some}
 use Rattle.raw_subcode.specs.Sizes.{block_bytes}
 use Rattle.rand_pcg.specs.Lcg.{Lcg}
 use Rattle.rand_pcg.specs.Pcg.{pcg32}
@@ -30,6 +30,11 @@ change_now needle = if needle.gap == 0 then needle.change else 0
 unfoldable pub past_byte : Needle → Needle
 past_byte needle = if needle.gap == 0 then record needle { left = needle.left - 1 }
     else record needle { gap = needle.gap - 1 }
+
+-- the bytes between two places were combined with a change: up to the second these stand, where those stood
+abbrev pub AreCombined : ℕ → ℕ → ℕ → List ℕ → List ℕ → Type 0
+AreCombined from to change before after = take to after
+    ≡ take from before ++ map (λ byte. bit_xor byte change) (take (to - from) (drop from before))
 
 -- the needle after a byte of the program
 unfoldable pub byte_next : Needle → ℕ → Needle

@@ -1,9 +1,9 @@
 // The changes of neighbouring symbols, by the words of a generator.
-ghost use Rattle.std.specs.Prelude.{◌≡◌, ◌<◌, ◌≤◌, ◌+◌, ◌-◌, ◌^◌, ◌++◌, bit_xor, drop, false, length, map, take, true};
+ghost use Rattle.std.specs.Prelude.{◌≡◌, ◌<◌, ◌≤◌, ◌+◌, ◌-◌, ◌^◌, ◌++◌, drop, false, length, take, true};
 ghost use Rattle.raw_subcode.specs.Sizes.{block_bytes};
 ghost use Rattle.rw_interleave.specs.Stream.{most_burst};
 ghost use Rattle.cdg_io.specs.Run.{run_state, run_gives};
-ghost use Rattle.cdg_workload.specs.Steps.{next_needle, ready, byte_next, byte_gives};
+ghost use Rattle.cdg_workload.specs.Steps.{next_needle, ready, byte_next, byte_gives, AreCombined};
 
 use rand_core::utils::NextWord;
 use rand_pcg::Pcg32;
@@ -139,8 +139,7 @@ impl Needle {
 fn combine(bytes: &mut [u8], from: usize, to: usize, change: u8)
     requires order { from ≤ to }
     requires within { to ≤ length bytes.old }
-    ensures changed { take to bytes.new
-        ≡ take from bytes.old ++ map (λ byte. bit_xor byte change) (take (to - from) (drop from bytes.old)) }
+    ensures changed { AreCombined from to change bytes.old bytes.new }
     ensures rest { drop to bytes.new ≡ drop to bytes.old }
 {
     if to - from <= MOST_BURST && bytes.len() - to >= MOST_BURST {
@@ -157,8 +156,7 @@ fn combine_few(bytes: &mut [u8], from: usize, to: usize, change: u8)
     requires order { from ≤ to }
     requires few { to ≤ from + most_burst }
     requires within { to + most_burst ≤ length bytes.old }
-    ensures changed { take to bytes.new
-        ≡ take from bytes.old ++ map (λ byte. bit_xor byte change) (take (to - from) (drop from bytes.old)) }
+    ensures changed { AreCombined from to change bytes.old bytes.new }
     ensures rest { drop to bytes.new ≡ drop to bytes.old }
 {
     let kept = sixteen_of(&bytes[to..to + MOST_BURST]);
@@ -178,7 +176,6 @@ fn sixteen_of(row: &[u8]) -> [u8; MOST_BURST]
     }
 }
 
-// Puts sixteen bytes in place of others.
 #[inline]
 fn put_sixteen(row: &mut [u8], bytes: &[u8; MOST_BURST])
     requires { length row.old ≡ most_burst }
@@ -194,8 +191,7 @@ fn put_sixteen(row: &mut [u8], bytes: &[u8; MOST_BURST])
 fn combine_each(bytes: &mut [u8], from: usize, to: usize, change: u8)
     requires order { from ≤ to }
     requires within { to ≤ length bytes.old }
-    ensures changed { take to bytes.new
-        ≡ take from bytes.old ++ map (λ byte. bit_xor byte change) (take (to - from) (drop from bytes.old)) }
+    ensures changed { AreCombined from to change bytes.old bytes.new }
     ensures rest { drop to bytes.new ≡ drop to bytes.old }
 {
     for i in from..to {

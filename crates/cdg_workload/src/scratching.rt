@@ -1,5 +1,5 @@
 // Scratches of a raw stream.
-ghost use Rattle.std.specs.Prelude.{◌≡◌, ◌≢◌, ◌≤◌, ◌+◌, ◌*◌, ◌/◌, List, ℕ, length, map, take, drop, IfSome, IsErrOf, Some, Err};
+ghost use Rattle.std.specs.Prelude.{◌≡◌, ◌≤◌, ◌+◌, ◌*◌, ◌/◌, List, ℕ, length, map, take, drop, Some};
 ghost use Rattle.std.specs.List.{concat};
 ghost use Rattle.disc_time.specs.Counts.{most_lead_in};
 ghost use Rattle.raw_subcode.specs.Sizes.{block_bytes, most_units};

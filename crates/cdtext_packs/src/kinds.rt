@@ -37,7 +37,6 @@ pub(crate) const FIRST_TRACK: usize = 1;
 /// Which of the 36 size bytes is the last track.
 pub(crate) const LAST_TRACK: usize = 2;
 
-/// How many size packs there are.
 pub(crate) const SIZE_PACKS: u8 = 3;
 
 /// The bytes of text of the size packs in a row.
@@ -59,7 +58,6 @@ pub(crate) const LANGUAGE: usize = 28;
 pub(crate) const ENGLISH: u8 = 9;
 
 impl TextKind {
-    /// The type of its packs.
     pub(crate) fn pack_type(self) -> u8
         ensures { result ≡ type_of self }
     {

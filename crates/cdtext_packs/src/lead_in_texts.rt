@@ -135,7 +135,6 @@ pub fn lead_in_symbols(packs: &[TextPack], l: u32) -> [u8; BLOCK_BYTES]
     symbols
 }
 
-// The symbols of slot j.
 fn slot_symbols(packs: &[TextPack], j: usize) -> [u8; SYMBOLS_A_SLOT]
     ensures symbols { result ≡ lead_in_slot packs.now j }
     ensures bound { All (λ s. s < 64) result }

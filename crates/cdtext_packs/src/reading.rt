@@ -12,7 +12,6 @@ use crate::pack::TextPack;
 use crate::strings::Strings;
 use std::alloc::{AllocError, Global};
 
-/// Whether no pack is kept.
 pub(crate) fn keeps_nothing(kept: &[Option<TextPack>]) -> bool
     ensures { result ≡ keeps_nothing kept.now }
 {
@@ -88,7 +87,6 @@ fn short_at(kept: &[Option<TextPack>], count: usize, kind: TextKind) -> Option<u
     if ends < count { last } else { None }
 }
 
-// How many of the bytes are zero.
 fn zeros_in(bytes: &[u8]) -> usize
     ensures count { result ≡ ends_in bytes.now }
     ensures bound { result ≤ length bytes.now }
@@ -117,7 +115,6 @@ pub(crate) fn kind_texts(
     }
 }
 
-// The bytes of text of a kind.
 fn kind_bytes(
     alloc: Global,
     kept: &[Option<TextPack>],
@@ -137,7 +134,6 @@ fn kind_bytes(
     Ok(bytes)
 }
 
-/// So many empty strings.
 pub(crate) fn empty_strings(alloc: Global, count: usize) -> Result<Strings, AllocError>
     ensures strings { IfOk result (λ strings. strings ≡ replicate count []) }
     ensures count { IfOk result (λ strings. length strings ≡ count) }

@@ -39,7 +39,6 @@ impl Strings {
         Ok(())
     }
 
-    /// How many strings there are.
     pub(crate) fn len(&self) -> usize
         ensures { result ≡ length self.now }
     {

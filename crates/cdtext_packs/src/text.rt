@@ -77,7 +77,6 @@ fn write_bytes<K: Sink>(bytes: &[u8], out: &mut K) -> Result<(), Failed>
     Ok(())
 }
 
-// A byte as it is printed.
 fn printed(byte: u8) -> Piece
     ensures { result ≡ printed byte }
 {
@@ -142,7 +141,6 @@ fn count_line(good: u32, bad: u32, other: u32) -> Piece
     piece
 }
 
-// Appends a count under its name.
 fn add_count(piece: &mut Piece, name: &[u8], count: u32)
     requires { length piece.old + length name.now ≤ 100 }
     ensures text { piece.new ≡ (piece.old ++ name.now) ++ decimal count }

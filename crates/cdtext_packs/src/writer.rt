@@ -33,7 +33,6 @@ pub fn pack_all(alloc: Global, map: &TextMap) -> Result<Vec<TextPack>, PackStop>
     Ok(all)
 }
 
-// How many packs the texts need.
 fn packs_needed(map: &TextMap) -> u32
     ensures { result ≡ length (contents map.now) }
 {
@@ -47,7 +46,6 @@ fn packs_needed(map: &TextMap) -> u32
     count
 }
 
-// How many packs the strings of a kind need.
 fn kind_packs(map: &TextMap, kind: TextKind) -> u32
     ensures value { result ≡ length (kind_contents map.now kind) }
     ensures bound { result ≤ most_kind_packs }

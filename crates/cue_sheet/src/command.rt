@@ -4,7 +4,6 @@ ghost use Rattle.std.specs.Str.{str_eq_ignore_ascii_case};
 
 use disc_time::{CATALOGUE_DIGITS, ISRC_CHARACTERS};
 
-/// A command of a cue sheet.
 #[derive(Clone, Copy)]
 pub(crate) enum SheetCommand {
     Remark,

@@ -104,7 +104,6 @@ impl SheetJudge {
         }
     }
 
-    // Whether a command is a FILE after a FILE.
     fn is_second_file(&self, command: SheetCommand) -> bool
         ensures { (said : CueState) → Judges said self.now → result ≡ is_second_file said command }
     {

@@ -94,7 +94,6 @@ fn bytes_or_none(text: &Option<Vec<u8>>) -> &[u8]
     }
 }
 
-// Puts a copy of a text at its place.
 fn keep_text(alloc: Global, place: &mut Option<Vec<u8>>, text: &[u8]) -> Result<(), AllocError>
     ensures { IfOk result (λ _. option_map (λ v. v.items) place.new ≡ Some text.now) }
 {

@@ -1,5 +1,5 @@
 // What a screen shows, number by number.
-ghost use Rattle.std.specs.Prelude.{◌≡◌, ◌<◌, ◌≤◌, ◌+◌, ◌-◌, ◌/◌, ◌%◌, nat_le, if◌then◌else◌, ◌∷◌, [], ℕ, IsTrue, length, slice_index};
+ghost use Rattle.std.specs.Prelude.{◌≡◌, ◌↔◌, ◌<◌, ◌≤◌, ◌+◌, ◌-◌, ◌/◌, ◌%◌, nat_le, if◌then◌else◌, ◌∷◌, [], ℕ, IsTrue, length, slice_index};
 ghost use Rattle.cdg_instructions.specs.Sizes.{colour_values, screen_height, screen_pixels, screen_width};
 ghost use Rattle.cdg_screen.specs.Memory.{seen};
 ghost use Rattle.cdg_screen.specs.Standing.{screen_pixel, standing_after};
@@ -49,12 +49,11 @@ pub fn part_of_screen(screen: &PlainScreen, part: &ScreenPart, pixels: &mut [u8]
     }
 }
 
-// Whether a part is all of the screen.
 #[inline(always)]
 fn is_whole_screen(part: &ScreenPart) -> bool
     requires { IsOnScreen part.now }
     ensures { IsTrue result
-        → part.now ≡ record { left = 0; top = 0; width = screen_width; height = screen_height } }
+        ↔ (part.now ≡ record { left = 0; top = 0; width = screen_width; height = screen_height }) }
 {
     part.width == SCREEN_WIDTH && part.height == SCREEN_HEIGHT
 }
@@ -111,7 +110,6 @@ fn write_line(screen: &PlainScreen, part: &ScreenPart, j: usize, line: &mut [u8]
     }
 }
 
-/// The colours of the table.
 pub(crate) fn colours(screen: &PlainScreen, table: &mut [u16; 16])
     ensures size { length table.new ≡ 16 }
     ensures colours { (k : ℕ) → k < 16 → slice_index table.new k ≡ slice_index (seen screen.now).colours k }
@@ -122,7 +120,6 @@ pub(crate) fn colours(screen: &PlainScreen, table: &mut [u16; 16])
     }
 }
 
-/// The levels of the colours.
 pub(crate) fn levels(screen: &PlainScreen, levels: &mut [u8; 16])
     ensures size { length levels.new ≡ 16 }
     ensures levels { (k : ℕ) → k < 16 → slice_index levels.new k ≡ slice_index (seen screen.now).levels k }
@@ -151,7 +148,6 @@ pub(crate) fn bytes(screen: &PlainScreen, bytes: &mut [u8; PICTURE_BYTES])
     }
 }
 
-// Writes three bytes from a place on.
 #[inline(always)]
 fn write_three(bytes: &mut [u8; PICTURE_BYTES], at: usize, three: [u8; 3])
     requires { at + 3 ≤ picture_bytes }

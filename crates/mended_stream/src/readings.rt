@@ -51,7 +51,6 @@ impl<'a> HeldReadings<'a> {
         self.block(0, b)
     }
 
-    // Block b of a reading.
     fn block(&self, r: usize, b: usize) -> &'a [u8]
         requires held { AreHeld self.now }
         requires within { r < self.now.count }

@@ -35,7 +35,6 @@ pub(crate) fn is_in_time(script: &Script, k: u32, start: u32, need: u32) -> bool
     start + need + PACKS_KEPT_BACK as u32 <= SLOTS_A_BLOCK as u32 * script.ready(k)
 }
 
-/// The packs that are free for picture `k`.
 pub(crate) fn free_packs(script: &Script, k: u32, start: u32) -> u32
     requires picture { k < pictures script.now }
     requires start { start ≡ start_of script.now k }

@@ -1,5 +1,5 @@
 -- The lines of a picture script, and the first one that is refused.
-use Rattle.std.specs.Prelude.{ℕ, zero, suc, ◌+◌, ◌-◌, ◌*◌, Bool, true, not, ◌&&◌, ◌||◌, List, [], ◌∷◌, ◌++◌, length, map, slice_index, Option, Some, None, codes, Result, Ok, Err, ◌==◌, nat_le, nat_lt, if◌then◌else◌}
+use Rattle.std.specs.Prelude.{◌≡◌, ◌<◌, ℕ, zero, suc, ◌+◌, ◌-◌, ◌*◌, Bool, true, not, ◌&&◌, ◌||◌, List, [], ◌∷◌, ◌++◌, length, map, slice_index, Option, Some, None, codes, Result, Ok, Err, ◌==◌, nat_le, nat_lt, if◌then◌else◌}
 use Rattle.std.specs.List.{list_all}
 use Rattle.std.specs.Str.{bytes_eq}
 use Rattle.std.specs.Char.{is_ascii_hexdigit, digit_value}
@@ -131,6 +131,14 @@ unless_refused line (Some why) = Err why
 unfoldable pub checked_line : List Drawing → Option Drawing → Result Drawing ScriptWhy
 checked_line before None = Err BadArgument
 checked_line before (Some line) = unless_refused line (later_reason before line)
+
+-- a text of one number, which is that of a colour
+abbrev pub IsColourNumber : List ℕ → ℕ → Type 0
+IsColourNumber text colour = (numbers_in 1 (words_in text) ≡ Some (colour ∷ [])) × (colour < colour_count)
+
+-- the reason to refuse a line of these words, whatever lines stand before it
+abbrev pub IsWrongAs : (List (List ℕ) → Option Drawing) → List ℕ → ScriptWhy → Type 0
+IsWrongAs line text why = (before : List Drawing) → checked_line before (line (words_in text)) ≡ Err why
 
 -- what a command and the words after it say after the lines before, or the first reason to refuse them
 unfoldable pub checked_command : List Drawing → List ℕ → List (List ℕ) → Result Drawing ScriptWhy

@@ -71,7 +71,6 @@ impl Canvas {
         self.at
     }
 
-    // Draws what one line says.
     fn draw(&mut self, line: ScriptLine, pixels: &[u8])
         requires kept { is_kept (length pixels.now) line ≡ true }
         requires colours { AreColours pixels.now }

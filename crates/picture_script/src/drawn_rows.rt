@@ -38,7 +38,6 @@ impl Script {
     }
 }
 
-// Marks the rows that a line draws on.
 fn mark_line(rows: &mut [bool; WINDOW_ROWS], line: ScriptLine)
     requires kept { (size : ℕ) × (is_kept size line ≡ true) }
     ensures leaves { (pixels : List ℕ) (before : Picture) (r x y : ℕ) → slice_index_or rows.new r true ≡ false
@@ -68,7 +67,6 @@ fn mark_line(rows: &mut [bool; WINDOW_ROWS], line: ScriptLine)
     }
 }
 
-// Marks the rows from one on up to another.
 fn mark_rows(rows: &mut [bool; WINDOW_ROWS], from: usize, to: usize)
     requires { to ≤ window_rows }
     ensures leaves { (r : ℕ) → slice_index_or rows.new r true ≡ false

@@ -1,11 +1,11 @@
 // The commands of a script: each line is taken by the reader, or refused with its first reason.
-ghost use Rattle.std.specs.Prelude.{◌≡◌, ◌<◌, ◌+◌, ◌∷◌, ◌&&◌, [], List, Some, Err, IfOk, IfErr, nat_le, nat_lt};
+ghost use Rattle.std.specs.Prelude.{◌≡◌, ◌<◌, ◌+◌, ◌&&◌, List, Some, Err, IfOk, IfErr, nat_le, nat_lt};
 ghost use Rattle.picture_script.specs.Script.{Drawing, Rect};
 ghost use Rattle.text_lines.specs.Text.{words_in, without_blanks};
-ghost use Rattle.picture_script.specs.ScriptGrammar.{is_in_range, numbers_in, checked_line, checked_words, colour_line, border_line, fill_line, rect_line, row_line, show_line};
+ghost use Rattle.picture_script.specs.ScriptGrammar.{is_in_range, checked_line, checked_words, colour_line, border_line, fill_line, rect_line, row_line, show_line, IsColourNumber, IsWrongAs};
 ghost use Rattle.picture_script.specs.Reader.{Followed, Takes};
 ghost use Rattle.picture_script.specs.Sizes.{small_number_values};
-ghost use Rattle.cdg_instructions.specs.Sizes.{colour_count, window_height, window_width};
+ghost use Rattle.cdg_instructions.specs.Sizes.{window_height, window_width};
 
 use crate::line::ScriptLine;
 use crate::reader::ScriptReader;
@@ -16,7 +16,6 @@ use cdg_instructions::{COLOURS, WINDOW_HEIGHT, WINDOW_WIDTH};
 use text_lines::after_word;
 
 impl ScriptReader {
-    // Takes the words after `colour`.
     fn take_colour(&mut self, words: &[u8]) -> Result<(), ScriptWhy>
         requires { (before : List Drawing) × Followed before self.old }
         ensures { (before : List Drawing) → Followed before self.old
@@ -35,7 +34,6 @@ impl ScriptReader {
         Ok(())
     }
 
-    // Takes the words after `border`.
     fn take_border(&mut self, words: &[u8]) -> Result<(), ScriptWhy>
         requires { (before : List Drawing) × Followed before self.old }
         ensures { (before : List Drawing) → Followed before self.old
@@ -46,7 +44,6 @@ impl ScriptReader {
         Ok(())
     }
 
-    // Takes the words after `fill`.
     fn take_fill(&mut self, words: &[u8]) -> Result<(), ScriptWhy>
         requires { (before : List Drawing) × Followed before self.old }
         ensures { (before : List Drawing) → Followed before self.old
@@ -57,7 +54,6 @@ impl ScriptReader {
         Ok(())
     }
 
-    // Takes the words after `rect`.
     fn take_rect(&mut self, words: &[u8]) -> Result<(), ScriptWhy>
         requires { (before : List Drawing) × Followed before self.old }
         ensures { (before : List Drawing) → Followed before self.old
@@ -80,7 +76,6 @@ impl ScriptReader {
         Ok(())
     }
 
-    // Takes the words after `row`.
     fn take_row(&mut self, words: &[u8]) -> Result<(), ScriptWhy>
         requires { (before : List Drawing) × Followed before self.old }
         ensures { (before : List Drawing) → Followed before self.old
@@ -96,7 +91,6 @@ impl ScriptReader {
         Ok(())
     }
 
-    // Takes the words after `show`.
     fn take_show(&mut self, words: &[u8]) -> Result<(), ScriptWhy>
         requires { (before : List Drawing) × Followed before self.old }
         ensures { (before : List Drawing) → Followed before self.old
@@ -171,12 +165,9 @@ fn is_row(x: u16, y: u16, count: usize) -> bool
 // need not be taken apart.
 #[inline(always)]
 fn colour_number(words: &[u8]) -> Result<u8, ScriptWhy>
-    ensures ok { IfOk result
-        (λ colour. (numbers_in 1 (words_in words.now) ≡ Some (colour ∷ [])) × (colour < colour_count)) }
-    ensures border { IfErr result (λ why. (before : List Drawing)
-        → checked_line before (border_line (words_in words.now)) ≡ Err why) }
-    ensures fill { IfErr result (λ why. (before : List Drawing)
-        → checked_line before (fill_line (words_in words.now)) ≡ Err why) }
+    ensures ok { IfOk result (IsColourNumber words.now) }
+    ensures border { IfErr result (IsWrongAs border_line words.now) }
+    ensures fill { IfErr result (IsWrongAs fill_line words.now) }
 {
     match words {
         [b' ', digit] if digit.is_ascii_digit() => Ok(*digit - b'0'),
@@ -187,12 +178,9 @@ fn colour_number(words: &[u8]) -> Result<u8, ScriptWhy>
 // The same, however the words are written.
 #[inline(never)]
 fn any_colour_number(words: &[u8]) -> Result<u8, ScriptWhy>
-    ensures ok { IfOk result
-        (λ colour. (numbers_in 1 (words_in words.now) ≡ Some (colour ∷ [])) × (colour < colour_count)) }
-    ensures border { IfErr result (λ why. (before : List Drawing)
-        → checked_line before (border_line (words_in words.now)) ≡ Err why) }
-    ensures fill { IfErr result (λ why. (before : List Drawing)
-        → checked_line before (fill_line (words_in words.now)) ≡ Err why) }
+    ensures ok { IfOk result (IsColourNumber words.now) }
+    ensures border { IfErr result (IsWrongAs border_line words.now) }
+    ensures fill { IfErr result (IsWrongAs fill_line words.now) }
 {
     let Some(numbers) = numbers::<1>(words) else {
         return Err(ScriptWhy::BadArgument);

@@ -13,7 +13,6 @@ use std::alloc::Global;
 use text_lines::{next_line, trim_start, without_mark};
 
 impl ScriptReader {
-    // Reads a line.
     fn read_line(&mut self, line: &[u8]) -> Result<(), ScriptWhy>
         requires { (before : List Drawing) × Followed before self.old }
         ensures { (before : List Drawing) → Followed before self.old

@@ -1,6 +1,5 @@
 // A script that was read: how many pictures it shows, their times, and the lines that draw them.
 use crate::line::{ScriptLine, Shown};
-use std::alloc::{AllocError, Global};
 use std::marker::Model;
 
 /// How many pictures a script shows at most: more than three for each second of the longest program.
@@ -29,7 +28,7 @@ impl Model for Script {
 }
 
 impl Script {
-    ghost use Rattle.std.specs.Prelude.{◌≡◌, ◌<◌, ◌≤◌, ◌+◌, ◌-◌, ℕ, List, length, slice_index_or, IfSome};
+    ghost use Rattle.std.specs.Prelude.{◌≡◌, ◌<◌, ◌≤◌, ◌+◌, ℕ, List, length, slice_index_or, IfSome};
     ghost use Rattle.disc_time.specs.Counts.{time_count};
     ghost use Rattle.picture_script.specs.Script.{pictures, ready_time, hold_time, picture_pixel, picture_border, picture_colour, lines_before, Drawing, Fill};
     ghost use Rattle.picture_script.specs.Sizes.{most_pictures};

@@ -1,5 +1,5 @@
 // The lines of a script's text on which its pictures are shown.
-ghost use Rattle.std.specs.Prelude.{◌≡◌, ◌<◌, ◌≤◌, ◌+◌, ◌∷◌, [], List, ℕ, Ok, length, MatchOption};
+ghost use Rattle.std.specs.Prelude.{◌≡◌, ◌≤◌, ◌+◌, ◌∷◌, [], List, ℕ, Ok, length, MatchOption};
 ghost use Rattle.text_lines.specs.Text.{lines_in, most_text_bytes};
 ghost use Rattle.picture_script.specs.Script.{Drawing, pictures};
 ghost use Rattle.picture_script.specs.ScriptGrammar.{read_script};
@@ -75,7 +75,6 @@ fn next_show_line(text: &[u8], number: u32) -> Option<(u32, &[u8])>
     None
 }
 
-// Whether a line shows a picture.
 fn is_show_line(line: &[u8]) -> bool
     ensures { result ≡ is_show_line line.now }
 {

@@ -6,7 +6,6 @@ use crate::line::write_more;
 use cdg_instructions::COLOURS;
 use std::simd::prelude::*;
 
-/// How many pairs of colours there are.
 pub(crate) const PAIRS: usize = COLOURS * COLOURS;
 
 // How many pairs a round of a loop writes, without a test between them.

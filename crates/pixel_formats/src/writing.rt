@@ -156,7 +156,6 @@ fn write_row(
     }
 }
 
-// Writes the bytes of the colours of pixels.
 fn write_colours(
     format: PixelFormat,
     pixels: &[u8],

@@ -18,7 +18,6 @@ use subcode_crc::crc16;
 /// The bytes of the line of a frame of the program: each of its parts has one width.
 pub(crate) const PROGRAM_LINE: usize = 49;
 
-/// Whether these bytes are a frame of the program.
 pub(crate) fn is_program_frame(bytes: &[u8; FRAME_BYTES]) -> bool
     ensures reading { result ≡ true
         → reading_of (bits_of_bytes bytes.now) ≡ Ok (frame_at Kind.ProgramFrame (bits_of_bytes bytes.now)) }

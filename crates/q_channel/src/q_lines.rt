@@ -26,7 +26,6 @@ pub struct QLines {
 }
 
 impl QLines {
-    // Puts the line of the next block in the place of a piece.
     #[tactic(auto, unfolding(crate::specs::QSteps::q_next, crate::specs::QSteps::q_give))]
     fn put_line(&mut self, block: &[u8; BLOCK_BYTES], piece: &mut Piece)
         ensures next { self.new ≡ q_next self.old block.now }

@@ -197,7 +197,6 @@ fn one_after_another(rows: [u8x16; 8]) -> [u8; BLOCK_BYTES]
     bytes
 }
 
-// Puts the lanes of a row from one byte on.
 #[inline]
 fn put_row(bytes: &mut [u8], first: usize, row: u8x16)
     requires bytes { length bytes.old ≡ block_bytes }

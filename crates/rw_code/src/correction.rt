@@ -1,9 +1,10 @@
 // The codeword near a word, and the wrong symbols by which it is found.
-ghost use Rattle.std.specs.Prelude.{◌≡◌, ◌≢◌, ◌<◌, ◌+◌, ◌-◌, ◌*◌, ◌%◌, List, ℕ, MatchOption, Some, IfSome};
+ghost use Rattle.std.specs.Prelude.{◌≡◌, ◌≢◌, ◌<◌, ◌+◌, ◌-◌, ◌*◌, ◌%◌, ℕ, MatchOption, Some, IfSome};
 ghost use Rattle.rw_code.specs.Codeword.{IsCodeword, IsWord, differences, Reads};
 ghost use Rattle.rw_code.specs.Syndromes.{AreSyndromes, IsOneWrong, AreErrors, IsEntry, IsError, AreTwoWrong, AreTwoSums, IsLocator, IsLocatorOf, IsPair};
 ghost use Rattle.gf64.specs.Field.{product, alpha_power};
 ghost use Rattle.rw_code.specs.Sizes.{last_position, word_symbols};
+ghost use Rattle.rw_code.specs.Finding.{GivesFixed};
 
 use crate::syndromes::{Sums, Syndromes, entry};
 use crate::word::words_have_24_symbols;
@@ -21,9 +22,7 @@ pub struct Fixed {
 
 /// The codeword near a word, if there is one: the one that differs from it at two positions at most.
 pub fn correct(received: &Word) -> Option<Fixed>
-    ensures reads { MatchOption result
-        ((w : List ℕ) → ¬ Reads received.now w)
-        (λ fixed. Reads received.now fixed.pack × (fixed.wrong ≡ differences received.now fixed.pack)) }
+    ensures reads { GivesFixed received.now result }
     ensures word { IsWord received.now }
 {
     // For the clause `word`.
@@ -40,9 +39,7 @@ pub fn correct(received: &Word) -> Option<Fixed>
 
 /// The same by the sums of the word alone, where the idle pack is seen not to be near.
 pub fn correct_by_sums(received: &Word) -> Option<Fixed>
-    ensures reads { MatchOption result
-        ((w : List ℕ) → ¬ Reads received.now w)
-        (λ fixed. Reads received.now fixed.pack × (fixed.wrong ≡ differences received.now fixed.pack)) }
+    ensures reads { GivesFixed received.now result }
     ensures word { IsWord received.now }
 {
     // For the clause `word`.
@@ -58,9 +55,7 @@ pub fn correct_by_sums(received: &Word) -> Option<Fixed>
 fn correct_by(received: &Word, syndromes: Syndromes) -> Option<Fixed>
     requires no_codeword { ¬ IsCodeword received.now }
     requires syndromes { AreSyndromes received.now syndromes.lanes }
-    ensures { MatchOption result
-        ((w : List ℕ) → ¬ Reads received.now w)
-        (λ fixed. Reads received.now fixed.pack × (fixed.wrong ≡ differences received.now fixed.pack)) }
+    ensures { GivesFixed received.now result }
 {
     // What is found for a word, or not, is known of words alone.
     words_have_24_symbols(received);
@@ -111,7 +106,6 @@ fn without_two(received: &Word, syndromes: Syndromes, errors: TwoErrors) -> Fixe
     }
 }
 
-// What is wrong with the symbol at a position.
 #[derive(Clone, Copy)]
 struct SymbolError {
     pub(crate) position: usize,
@@ -217,7 +211,6 @@ struct Pair {
 }
 
 impl Locator {
-    // That of the sums of a word.
     fn of(sums: &Sums) -> Locator
         ensures { IsLocator sums.now result }
     {

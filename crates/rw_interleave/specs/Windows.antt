@@ -1,10 +1,12 @@
 -- The last seven slots of a stream of blocks, and the block behind them, as bytes in a row. Code calls the sizes by the
 -- names of src/gather.rt.
-use Rattle.std.specs.Prelude.{◌≡◌, ℕ, ◌+◌, ◌*◌, ◌%◌, ◌<◌, ◌≤◌, Bool, true, List, length, map, slice_index}
+use Rattle.std.specs.Prelude.{◌≡◌, ℕ, ◌+◌, ◌*◌, ◌%◌, ◌<◌, ◌≤◌, Bool, true, List, ◌++◌, length, map, slice_index}
 use Rattle.std.specs.List.{range_with_len}
 use Rattle.bit_lists.specs.Counting.{below}
-use Rattle.raw_subcode.specs.Sizes.{symbols_a_slot}
+use Rattle.cdg_io.specs.Run.{run_gives, run_state}
+use Rattle.raw_subcode.specs.Sizes.{slots_a_block, symbols_a_slot}
 use Rattle.rw_code.specs.Sizes.{symbol_values}
+use Rattle.rw_interleave.specs.Gathering.{gather_gives, gather_next}
 use Rattle.rw_interleave.specs.Interleave.{packs_kept_back}
 
 -- the bytes of the last seven slots
@@ -27,6 +29,14 @@ slot_in bytes k = map (λ i. slice_index bytes (symbols_a_slot * k + i) % 64) (b
 unfoldable pub slots_in : List ℕ → ℕ → ℕ → List (List ℕ)
 slots_in bytes first count = map (slot_in bytes) (range_with_len first count)
 
+-- the last slots after the four of a block
+abbrev pub slots_after_block : List (List ℕ) → List ℕ → List (List ℕ)
+slots_after_block slots block = run_state gather_next slots (slots_in block 0 slots_a_block)
+
+-- the words that come with them
+abbrev pub words_from_block : List (List ℕ) → List ℕ → List (List ℕ)
+words_from_block slots block = run_gives gather_next gather_gives slots (slots_in block 0 slots_a_block)
+
 -- four bytes from a place on
 abbrev pub four_in : List ℕ → ℕ → List ℕ
 four_in bytes at = map (λ i. slice_index bytes (at + i)) (below 4)
@@ -34,6 +44,11 @@ four_in bytes at = map (λ i. slice_index bytes (at + i)) (below 4)
 -- four bytes, each at the next place of the next slot
 abbrev pub sloping_in : List ℕ → ℕ → List ℕ
 sloping_in bytes at = map (λ i. slice_index bytes (at + (symbols_a_slot + 1) * i)) (below 4)
+
+-- the bytes of the last seven slots and of the block behind them are symbols
+abbrev pub AreRowSymbols : List ℕ → List ℕ → List ℕ → Type 0
+AreRowSymbols early late block = (n : ℕ) → n < row_bytes
+    → slice_index (early ++ (late ++ block)) n < symbol_values
 
 -- The bytes of the last seven slots of a stream, of which so many have come, are symbols. Quiet is only a window of
 -- seven slots of zeros.

@@ -1,15 +1,14 @@
 // From slots and blocks to words.
 ghost use Rattle.std.specs.Prelude.{◌≡◌, ◌-◌, ◌≤◌, ◌<◌, ◌%◌, ◌++◌, ◌+◌, true, [], All, List, ℕ, IfOk, IsOk, length, map, replicate, slice_index};
 ghost use Rattle.std.specs.List.{concat};
-ghost use Rattle.cdg_io.specs.Run.{run_gives, run_state};
+ghost use Rattle.cdg_io.specs.Run.{run_gives};
 ghost use Rattle.bit_lists.specs.Counting.{below};
 ghost use Rattle.raw_subcode.specs.Sizes.{slots_a_block, symbols_a_slot, block_bytes};
 ghost use Rattle.rw_code.specs.Codeword.{IsWord};
 ghost use Rattle.rw_code.specs.Packs.{idle_pack};
-ghost use Rattle.rw_code.specs.Sizes.{symbol_values};
 ghost use Rattle.rw_interleave.specs.Gathering.{gather_gives, gather_next, kept_symbols, gathered};
 ghost use Rattle.rw_interleave.specs.Interleave.{packs_kept_back, word_of, whole_of_slots, span};
-ghost use Rattle.rw_interleave.specs.Windows.{before_bytes, row_bytes, slot_in, slots_in, early_bytes};
+ghost use Rattle.rw_interleave.specs.Windows.{before_bytes, row_bytes, slot_in, slots_in, early_bytes, AreRowSymbols, slots_after_block, words_from_block};
 
 use crate::Slot;
 use crate::four_words::four_words;
@@ -96,10 +95,9 @@ impl Gather {
     /// Whether the words that come with a block are four of zeros, and the slots stay as they are.
     #[inline(always)]
     pub fn stays_idle(&self, block: &[u8; BLOCK_BYTES]) -> bool
-        ensures next { result ≡ true
-            → self.now ≡ run_state gather_next self.now (slots_in block.now 0 slots_a_block) }
-        ensures gives { result ≡ true → replicate slots_a_block idle_pack
-            ≡ run_gives gather_next gather_gives self.now (slots_in block.now 0 slots_a_block) }
+        ensures next { result ≡ true → self.now ≡ slots_after_block self.now block.now }
+        ensures gives { result ≡ true
+            → replicate slots_a_block idle_pack ≡ words_from_block self.now block.now }
     {
         if self.quiet && are_idle(block) {
             return true;
@@ -111,9 +109,8 @@ impl Gather {
     /// came with them.
     #[inline]
     pub fn push_block(&mut self, block: &[u8; BLOCK_BYTES]) -> ArrayVec<Word, SLOTS_A_BLOCK>
-        ensures next { self.new ≡ run_state gather_next self.old (slots_in block.now 0 slots_a_block) }
-        ensures gives { result.items
-            ≡ run_gives gather_next gather_gives self.old (slots_in block.now 0 slots_a_block) }
+        ensures next { self.new ≡ slots_after_block self.old block.now }
+        ensures gives { result.items ≡ words_from_block self.old block.now }
     {
         if self.stays_idle(block) {
             return idle_words();
@@ -125,9 +122,8 @@ impl Gather {
     /// its variables.
     #[inline(never)]
     pub fn gather_block(&mut self, block: &[u8; BLOCK_BYTES]) -> ArrayVec<Word, SLOTS_A_BLOCK>
-        ensures next { self.new ≡ run_state gather_next self.old (slots_in block.now 0 slots_a_block) }
-        ensures gives { result.items
-            ≡ run_gives gather_next gather_gives self.old (slots_in block.now 0 slots_a_block) }
+        ensures next { self.new ≡ slots_after_block self.old block.now }
+        ensures gives { result.items ≡ words_from_block self.old block.now }
     {
         if self.count < PACKS_KEPT_BACK {
             return self.gather_first(block);
@@ -140,9 +136,8 @@ impl Gather {
     // The same at the start of a stream, where fewer words may come.
     #[inline(never)]
     fn gather_first(&mut self, block: &[u8; BLOCK_BYTES]) -> ArrayVec<Word, SLOTS_A_BLOCK>
-        ensures next { self.new ≡ run_state gather_next self.old (slots_in block.now 0 slots_a_block) }
-        ensures gives { result.items
-            ≡ run_gives gather_next gather_gives self.old (slots_in block.now 0 slots_a_block) }
+        ensures next { self.new ≡ slots_after_block self.old block.now }
+        ensures gives { result.items ≡ words_from_block self.old block.now }
     {
         let symbols = symbols_of(block);
         let words = first_words(&self.early, &self.late, &symbols, self.count);
@@ -153,7 +148,7 @@ impl Gather {
     // Moves the slots up by those of a block.
     #[inline(always)]
     fn move_up(&mut self, block: &[u8; BLOCK_BYTES])
-        ensures { self.new ≡ run_state gather_next self.old (slots_in block.now 0 slots_a_block) }
+        ensures { self.new ≡ slots_after_block self.old block.now }
     {
         let symbols = symbols_of(block);
         self.early = last_three(&self.late);
@@ -231,8 +226,7 @@ fn last_word(
     count: usize,
 ) -> Option<Word>
     requires count { count ≤ packs_kept_back }
-    requires symbols { (n : ℕ) → n < row_bytes
-        → slice_index (early.now ++ (late.now ++ block.now)) n < symbol_values }
+    requires symbols { AreRowSymbols early.now late.now block.now }
     ensures { result ≡ gather_gives
         (slots_in (early.now ++ (late.now ++ block.now)) (packs_kept_back - count) count)
         (slot_in (early.now ++ (late.now ++ block.now)) packs_kept_back) }
@@ -256,7 +250,6 @@ pub(crate) const BEFORE_BYTES: usize = PACKS_KEPT_BACK * SYMBOLS_A_SLOT;
 // The bytes of the first three of them.
 pub(crate) const EARLY_BYTES: usize = BEFORE_BYTES - BLOCK_BYTES;
 
-// The bytes of a row.
 const ROW_BYTES: usize = BEFORE_BYTES + BLOCK_BYTES;
 
 // Whether the low six bits of all bytes are 0.
@@ -367,8 +360,7 @@ fn first_words(
     count: usize,
 ) -> ArrayVec<Word, SLOTS_A_BLOCK>
     requires count { count ≤ packs_kept_back }
-    requires symbols { (n : ℕ) → n < row_bytes
-        → slice_index (early.now ++ (late.now ++ block.now)) n < symbol_values }
+    requires symbols { AreRowSymbols early.now late.now block.now }
     ensures { result.items ≡ run_gives gather_next gather_gives (slots_in (early.now ++ (late.now
         ++ block.now)) (packs_kept_back - count) count)
         (slots_in (early.now ++ (late.now ++ block.now)) packs_kept_back slots_a_block) }
@@ -393,8 +385,7 @@ fn word_at(
     first: usize,
 ) -> Word
     requires first { first < slots_a_block }
-    requires symbols { (n : ℕ) → n < row_bytes
-        → slice_index (early.now ++ (late.now ++ block.now)) n < symbol_values }
+    requires symbols { AreRowSymbols early.now late.now block.now }
     ensures { result ≡ gathered (slots_in (early.now ++ (late.now ++ block.now)) first span) }
 {
     let at = SYMBOLS_A_SLOT * first;

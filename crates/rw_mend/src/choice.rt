@@ -102,7 +102,6 @@ fn is_best(voices: &[Voice], voice: &Voice) -> bool
     }
 }
 
-// Whether a codeword stands beside all voices.
 fn stands_beside_all(voices: &[Voice], pack: &Pack, doubts: u8) -> bool
     ensures { result ≡ is_best voices.now (TheVariants.Near pack.now doubts) }
 {
@@ -158,7 +157,6 @@ pub(crate) fn is_same(one: &Pack, other: &Pack) -> bool
     false
 }
 
-// Whether a voice is a codeword, whichever.
 fn has_codeword(voices: &[Voice]) -> bool
     ensures { result ≡ list_any is_near voices.now }
 {

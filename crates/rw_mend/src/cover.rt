@@ -115,7 +115,6 @@ fn is_blank(block: &[u8]) -> bool
     has_no_symbol(block)
 }
 
-// Whether a block of a program is empty.
 #[inline]
 fn is_empty_at(program: &[u8], b: usize, blank: bool) -> bool
     requires within { block_bytes * b + block_bytes ≤ length program.now }

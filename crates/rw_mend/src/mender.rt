@@ -122,7 +122,6 @@ impl Mender {
     }
 }
 
-// Hears word m, and keeps what the readings give for it.
 fn hear_next(
     readings: &Readings,
     m: usize,

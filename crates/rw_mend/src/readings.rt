@@ -19,7 +19,6 @@ pub(crate) struct Readings<'a> {
 }
 
 impl<'a> Readings<'a> {
-    /// The program of a reading.
     pub(crate) fn program(&self, r: usize) -> &'a [u8]
         requires within { r < self.now.count }
         requires readings { AreHeldReadings self.now }

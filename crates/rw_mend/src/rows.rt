@@ -232,7 +232,6 @@ pub(crate) fn say_all(row: &[Voice], missed: &[usize], n: usize, said: &mut [Voi
     }
 }
 
-// What one reading says.
 #[inline]
 fn say(given: Voice, missed: usize, n: usize) -> Voice
     ensures { result ≡ said_after missed n given }
@@ -276,7 +275,6 @@ fn has_graphics(row: &[Voice]) -> bool
     row.iter().any(|voice| voice.is_graphics())
 }
 
-// The reading of word n.
 fn reading(program: &[u8], n: usize, trail: &Trail) -> WordReading
     requires size { symbols_a_slot * (n + 8) ≤ length program.now }
     requires trail { IsTrail program.now n trail.now }

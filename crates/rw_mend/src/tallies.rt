@@ -88,7 +88,6 @@ pub(crate) fn put_source(sources: &mut [u8], n: usize, found: &Option<Mended>)
     }
 }
 
-// The byte of the source of a word.
 fn source_byte(found: &Option<Mended>) -> u8
     ensures { result ≡ source_byte found.now }
 {

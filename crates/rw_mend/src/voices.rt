@@ -142,7 +142,6 @@ fn doubts(coverage: Coverage, fixed: &Fixed) -> u8
     fixed.wrong
 }
 
-// Whether a codeword is the idle pack.
 #[inline]
 fn is_idle_pack(pack: &Pack) -> bool
     ensures { result ≡ is_idle_pack pack.now }

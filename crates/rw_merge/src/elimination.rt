@@ -20,7 +20,6 @@ pub(crate) struct WordSums {
 }
 
 impl WordSums {
-    /// The four of a word.
     pub(crate) fn of(word: &Word) -> WordSums
         requires { IsWord word.now }
         ensures { AreFirstSums 4 word.now result }

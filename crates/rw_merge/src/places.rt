@@ -10,7 +10,6 @@ use crate::counting::next_difference;
 use crate::elimination::{WordSums, power_at};
 use rw_code::{SYMBOLS, Word};
 
-/// Four positions of a word.
 #[derive(Clone, Copy)]
 pub(crate) struct WrongPlaces {
     pub(crate) first: usize,

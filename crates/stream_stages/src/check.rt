@@ -116,7 +116,6 @@ impl Checker {
     }
 }
 
-// The lines of counts after so many blocks.
 #[tactic(auto, unfolding(crate::specs::CheckSteps::lines_of_counts))]
 fn lines(lead_in: u32, form: Form, blocks: u32, counting: &Counting) -> Lines
     requires { blocks ≤ most_units }

@@ -197,7 +197,6 @@ impl WordCounts {
         self.count_idle();
     }
 
-    // Counts a word that is near a codeword.
     fn count_fixed(&mut self, fixed: &Fixed, word: &Word)
         requires { fixed.now.wrong ≡ differences word.now fixed.now.pack }
         ensures { self.new ≡ count_found self.old word.now (Some fixed.now.pack) }
@@ -228,7 +227,6 @@ impl WordCounts {
         tick(&mut self.foreign, !(mode == 0 || mode == 9));
     }
 
-    // Counts a word with no codeword near.
     #[tactic(auto, unfolding(crate::specs::CheckSteps::count_found, crate::specs::CheckSteps::tick))]
     fn count_bad(&mut self, word: &Word)
         ensures { self.new ≡ count_found self.old word.now None }

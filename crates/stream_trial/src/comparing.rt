@@ -26,7 +26,6 @@ pub(crate) fn agrees(screen: &Screen, canvas: &Canvas) -> bool
         && pixels_agree(screen, canvas)
 }
 
-// Whether all sixteen colours agree.
 fn colours_agree(screen: &Screen, canvas: &Canvas) -> bool
     ensures { IsTrue result
         ↔ ((n : ℕ) → n < 16 → slice_index screen.now.colours n ≡ slice_index canvas.now.colours n) }

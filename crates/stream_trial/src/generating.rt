@@ -21,13 +21,11 @@ const COLOURS_BYTES: usize = 230;
 // The most bytes of the lines of each picture.
 const PICTURE_BYTES: usize = 95;
 
-// A sheet with one track.
 const SHEET: &[u8] = b"\
     FILE \"trial\" WAVE\n\
     TRACK 01 AUDIO\n\
     INDEX 01 00:00:00\n";
 
-/// The generated script of a seed.
 pub(crate) fn parse_script(
     alloc: Global,
     lacks: &mut NoMemoryCount,
@@ -79,7 +77,6 @@ fn write_text(
     }
 }
 
-/// The sheet with one track.
 pub(crate) fn parse_sheet(alloc: Global, lacks: &mut NoMemoryCount) -> Result<Sheet, TrialStop>
     ensures sheet { IfOk result (λ sheet. sheet ≡ trial_sheet) }
     ensures err { IfErr result (λ stop. stop ≡ NoMemory) }

@@ -5,7 +5,6 @@ mod comparing;
 mod course;
 mod gallery;
 mod generating;
-mod history;
 mod lines;
 mod needs;
 mod replay;

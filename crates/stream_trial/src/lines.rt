@@ -66,7 +66,6 @@ impl Report {
     }
 }
 
-// The line of a name and a number.
 #[tactic(auto, unfolding(crate::specs::TrialLines::trial_count_line))]
 fn push_number(text: &mut Lines, name: &str, count: u64)
     requires name { length name.now ≤ 8 }

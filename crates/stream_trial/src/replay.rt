@@ -82,7 +82,6 @@ impl Replay {
         }
     }
 
-    // Counts a word with so many wrong symbols.
     fn count(&mut self, wrong: u8)
         requires { IsBelow 4000000000 self.old }
         ensures one { self.new.one ≡ self.old.one + one_where wrong 1 }

@@ -9,7 +9,7 @@ ghost use Rattle.stream_trial.specs.Course.{Knows};
 ghost use Rattle.stream_trial.specs.Replay.{IsDamagedSchedule, IsPlayedOut};
 
 use crate::course::Course;
-use crate::history::History;
+use byte_history::History;
 use cdg_io::{Failed, Sink};
 use cdg_workload::scratches_are_bursts;
 use picture_script::Script;

@@ -21,7 +21,6 @@ pub enum LeadInStop {
     LeadInShort { need: u32 },
 }
 
-// How many size packs texts have.
 const SIZE_PACKS: usize = 3;
 
 /// Whether a lead-in of so many blocks, if there is one, has room for the texts of a sheet and for the table of
@@ -48,7 +47,6 @@ pub fn judge_lead_in(sheet: &Sheet, lead_in: u32) -> Result<(), LeadInStop>
     Ok(())
 }
 
-// How many text packs a sheet has.
 fn count_text_packs(sheet: &Sheet) -> u32
     ensures { result ≡ length (text_packs sheet.now) }
 {
@@ -62,7 +60,6 @@ fn count_text_packs(sheet: &Sheet) -> u32
     (filled + SIZE_PACKS) as u32
 }
 
-// How many packs the texts of a kind fill.
 fn text_packs_of(sheet: &Sheet, kind: CueText) -> usize
     ensures packs { result ≡ pack_count (for_each sheet.now (text_at kind sheet.now)) }
     ensures bound { result ≤ 560000000 }

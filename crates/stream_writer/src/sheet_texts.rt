@@ -21,7 +21,6 @@ pub fn texts_of_sheet(alloc: Global, sheet: &Sheet) -> Result<TextMap, AllocErro
     TextMap::of_strings(alloc, sheet.first(), titles, performers, songwriters, codes)
 }
 
-// The texts of a kind.
 fn sheet_strings(alloc: Global, sheet: &Sheet, kind: CueText) -> Result<Strings, AllocError>
     ensures strings { IfOk result (λ strings. strings ≡ for_each sheet.now (text_at kind sheet.now)) }
     ensures count { IfOk result (λ strings. length strings ≡ length sheet.now.tracks + 1) }

@@ -23,7 +23,6 @@ use raw_subcode::BLOCK_BYTES;
 use rw_interleave::{Spread, spread_carries};
 use toc_model::Layout;
 
-// Puts so many lead-in blocks.
 fn put_lead_in<K: Sink>(
     layout: &Layout,
     texts: &[TextPack],

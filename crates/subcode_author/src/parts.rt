@@ -32,7 +32,6 @@ pub(crate) fn held_blocks(sheet: &Sheet, script: &Script, length: u32) -> Result
     Ok(blocks)
 }
 
-/// The layout of a sheet.
 pub(crate) fn take_layout(
     alloc: Global,
     lacks: &mut NoMemoryCount,
@@ -96,7 +95,6 @@ pub(crate) fn plan_script(
     Ok(planned)
 }
 
-// The memory of a survey of so many pictures.
 fn take_room(
     alloc: Global,
     lacks: &mut NoMemoryCount,

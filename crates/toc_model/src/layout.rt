@@ -164,7 +164,6 @@ impl Layout {
         }
     }
 
-    // The track of a block.
     fn track_at(&self, block: u32) -> &Place
         ensures { result.now ≡ track_at self.now block }
     {

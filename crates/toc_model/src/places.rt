@@ -34,7 +34,6 @@ pub(crate) fn gaps(sheet: &Sheet) -> u32
     sum
 }
 
-/// The catalogue number.
 pub(crate) fn catalogue(sheet: &Sheet) -> Option<[u8; CATALOGUE_DIGITS]>
     ensures { result ≡ sheet.now.catalogue }
 {

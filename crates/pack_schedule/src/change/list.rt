@@ -39,7 +39,6 @@ impl ChangeList {
         Ok(ChangeList { instrs, len: 0 })
     }
 
-    /// Instruction `i`.
     pub(crate) fn get(&self, i: usize) -> Instr
         requires { i < length self.now }
         ensures { result ≡ slice_index_or self.now i Idle }

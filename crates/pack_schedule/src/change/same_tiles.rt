@@ -17,7 +17,7 @@ pub(crate) struct ToldTiles {
 
 /// Whether no row was drawn on, so that two pictures are the same.
 pub(crate) fn are_undrawn(drawn: &[bool; WINDOW_ROWS]) -> bool
-    ensures { IsTrue result → (r : ℕ) → r < window_rows → slice_index_or drawn.now r false ≡ false }
+    ensures { IsTrue result ↔ ((r : ℕ) → r < window_rows → slice_index_or drawn.now r false ≡ false) }
 {
     for r in 0..WINDOW_ROWS {
         if drawn[r] {

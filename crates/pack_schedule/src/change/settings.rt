@@ -74,7 +74,6 @@ impl ChangeList {
         }
     }
 
-    // Adds the settings of the first picture.
     fn push_first(&mut self, script: &Script, k: u32, now: &Canvas)
         requires few { length self.old ≤ 1 }
         requires first { k ≡ 0 }
@@ -93,7 +92,6 @@ impl ChangeList {
         });
     }
 
-    // Adds the settings of a later picture.
     fn push_later(&mut self, script: &Script, k: u32, before: &Canvas, now: &Canvas)
         requires few { length self.old ≤ 1 }
         requires later { 0 < k }

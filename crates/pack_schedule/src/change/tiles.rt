@@ -160,7 +160,6 @@ impl ChangeList {
     }
 }
 
-// The tile that stands before picture `k`.
 fn old_tile(
     script: &Script,
     k: u32,

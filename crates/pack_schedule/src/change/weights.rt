@@ -38,7 +38,6 @@ fn weigh(tile: &Tile) -> Weighed
     Weighed { weight, single }
 }
 
-// The colour that all pixels of a tile have.
 fn single_colour(tile: &Tile) -> Option<u8>
     ensures tile { IsTilePixels tile.now }
     ensures colour { MatchOption result ((c : ℕ) → tile.now ≢ replicate tile_pixels c)
