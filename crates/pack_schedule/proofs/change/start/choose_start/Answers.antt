@@ -33,7 +33,7 @@ returns-then-are_undrawn-clause-preset c =
     (undrawn_same c.args.script.now c.args.k c.args.before.now c.args.now.now c.drawn_rows-drawn.result
     (omega (arith, c.drawn_rows-drawn.type_inv)) (c.requires.before pos) c.requires.now
     c.drawn_rows-drawn.ensures.keeps
-    (c.are_undrawn.ensures c.if-are_undrawn.true)))
+    (c.are_undrawn.ensures.0 c.if-are_undrawn.true)))
 
 pub returns-then-are_undrawn-clause-need : goal.returns-then-are_undrawn-clause-need
 returns-then-are_undrawn-clause-need c =
@@ -45,7 +45,7 @@ returns-then-are_undrawn-clause-need c =
     (undrawn_same c.args.script.now c.args.k c.args.before.now c.args.now.now c.drawn_rows-drawn.result
     (omega (arith, c.drawn_rows-drawn.type_inv)) (c.requires.before pos) c.requires.now
     c.drawn_rows-drawn.ensures.keeps
-    (c.are_undrawn.ensures c.if-are_undrawn.true)))
+    (c.are_undrawn.ensures.0 c.if-are_undrawn.true)))
 
 pub returns-then-are_undrawn-clause-weights : goal.returns-then-are_undrawn-clause-weights
 returns-then-are_undrawn-clause-weights c =
@@ -55,5 +55,5 @@ returns-then-are_undrawn-clause-weights c =
     (undrawn_same c.args.script.now c.args.k c.args.before.now c.args.now.now c.drawn_rows-drawn.result
     (omega (arith, c.drawn_rows-drawn.type_inv)) (c.requires.before pos) c.requires.now
     c.drawn_rows-drawn.ensures.keeps
-    (c.are_undrawn.ensures c.if-are_undrawn.true))
+    (c.are_undrawn.ensures.0 c.if-are_undrawn.true))
     (c.requires.weights pos)
