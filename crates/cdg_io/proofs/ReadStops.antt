@@ -1,12 +1,13 @@
 -- The stops of a reader and of a pump differ.
-use Rattle.std.proofs.Common.{◌≡◌, ℕ, ◌+◌, ◌≤◌, List, ◌++◌, length, take, length-append, Result, Err, refl, arith, ◌∙◌}
+use Rattle.std.proofs.Common.{◌≡◌, ℕ, ◌+◌, ◌≤◌, List, ◌++◌, length, take, ap, length-append, Result, Ok, Err, refl, arith, ◌∙◌}
+use Rattle.std.specs.Prelude.{IsErrAnd}
 use Rattle.std.specs.declared.option.Option.{Option}
 use Rattle.std.proofs.KnownBytes.{Consumes-kept, Consumes-trans}
-use Rattle.std.proofs.lemmas.List.{length-take}
+use Rattle.std.proofs.lemmas.List.{length-take, take-append-le}
 use Rattle.std.specs.Io.KnownBytes.{Consumes}
-use Rattle.cdg_io.specs.Causes.{Count}
 use Rattle.cdg_io.specs.Moves.{ConsumesBelow}
-use Rattle.cdg_io.specs.Whole.{ConsumesExactly, ReadsWithin, StopsAtFault}
+use Rattle.cdg_io.specs.Causes.{Ends, Tally, ToldUnless}
+use Rattle.cdg_io.specs.Whole.{ConsumesExactly, ReadsWithin, StopsAtFault, is_early_read}
 use Rattle.cdg_io.specs.declared.whole.ReadStop.{ReadStop}
 use Rattle.cdg_io.specs.declared.whole.ReadStop.TheVariants.{Failed, NoMemory, TooLong as TextTooLong}
 use Rattle.cdg_io.specs.declared.pumping.PumpStop.{PumpStop}
@@ -43,20 +44,28 @@ long_is_no_read same = absurd (cc)
 pub long_is_no_write : {T X : Type 0} → ◌≡◌ {A = Result T PumpStop} (Err TooLong) (Err WriteFault) → X
 long_is_no_write same = absurd (cc)
 
+-- a read that failed comes before the end
+pub told_at_fault : {T : Type 0} (r : Result T ReadStop) (before now : Tally) → IsErrAnd r (λ stop. stop ≡ Failed)
+    → Ends 0 before now
+    → ToldUnless is_early_read r before now
+told_at_fault (Ok value) before now is told = absurd is
+told_at_fault (Err NoMemory) before now is told = absurd (memory_is_no_fault is)
+told_at_fault (Err TextTooLong) before now is told = told
+told_at_fault (Err Failed) before now is told = told
+
 -- whatever ended it, a call that read on took at most one byte more than it was to look for
 pub read_part : {S : Type 0} (stop : ReadStop) (left : S → Option (List ℕ)) (faults : S → ℕ)
-    (ends : S → Count)
-    (most : ℕ) {before after : S} → (stop ≡ NoMemory → ReadsWithin left ends most before after)
+    (most : ℕ) {before after : S} → (stop ≡ NoMemory → ReadsWithin left most before after)
     → (stop ≡ TextTooLong → ConsumesExactly (left before) (left after) (most + 1))
     → (stop ≡ Failed → StopsAtFault left faults most before after)
     → ConsumesBelow (left before) (left after) (most + 2)
-read_part NoMemory left faults ends most none long cut =
+read_part NoMemory left faults most none long cut =
     let read = none refl in
     (read.taken, omega (arith, read.within), read.took)
-read_part TextTooLong left faults ends most none long cut =
+read_part TextTooLong left faults most none long cut =
     let (taken, count, took) = long refl in
     (taken, omega (arith, count), took)
-read_part Failed left faults ends most {before} {after} none long cut =
+read_part Failed left faults most {before} {after} none long cut =
     let read = cut refl in (
       read.taken,
       omega (arith, read.within),
@@ -85,3 +94,9 @@ read_more a b c old buf n bound before now = (
   Consumes-trans a b c old (take n buf) before now,
   omega (arith, length-append old (take n buf), length-take n buf, bound),
 )
+
+-- what is kept of what a read brought
+pub kept_more : (old buf rest now : List ℕ) (n : ℕ) → n ≤ length buf → now ≡ old ++ take n (buf ++ rest)
+    → now ≡ old ++ take n buf
+kept_more old buf rest now n bound kept =
+    kept ∙ ap (λ (l : List ℕ). old ++ l) (take-append-le n buf rest bound)

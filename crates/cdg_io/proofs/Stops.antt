@@ -7,7 +7,7 @@ use Rattle.std.proofs.lemmas.Bool.{cases_lt}
 use Rattle.std.proofs.lemmas.Slice.{take-put_mid_below}
 use Rattle.std.specs.Io.KnownBytes.{Consumes, IsAtEnd}
 use Rattle.std.proofs.KnownBytes.{Consumes-trans}
-use Rattle.cdg_io.specs.Causes.{Count, FillsRoom, HasCause, Rose, RoseOnce, TellsEnd, TellsFault}
+use Rattle.cdg_io.specs.Causes.{HasCause, Rose, TellsFault}
 
 -- ---- faults
 
@@ -47,16 +47,6 @@ pub failed_cause : {T E : Type 0} (r : Result T E) (before now : ℕ) → IsErr 
 failed_cause (Ok value) before now err later rose = (cc)
 failed_cause (Err fault) before now err later rose = record { later = later; failed = rose; same = tt }
 
-pub failed_end : {E : Type 0} (r : Result ℕ E) (room : ℕ) (before now : Count) → IsErr r → now ≡ before
-    → TellsEnd room before now r
-failed_end (Ok count) room before now err same = (cc)
-failed_end (Err fault) room before now err same = record { ended = tt; goes_on = tt; failed = same }
-
-pub failed_room : {E : Type 0} (r : Result ℕ E) (room : ℕ) (before now : Count) → IsErr r → now ≡ before
-    → FillsRoom room before now r
-failed_room (Ok count) room before now err same = (cc)
-failed_room (Err fault) room before now err same = record { full = tt; short = tt; failed = same }
-
 -- ---- counts that stayed until a moment
 
 -- one more, at most the last value of a counter, is a rise
@@ -66,9 +56,6 @@ rose_by_one before now more =
 
 pub rose_since : {before mid now : ℕ} → mid ≡ before → Rose mid now → Rose before now
 rose_since {before} {mid} {now} same rose = subst (λ (n : ℕ). Rose n now) same rose
-
-pub rose_once_since : {before mid now : Count} → mid ≡ before → RoseOnce mid now → RoseOnce before now
-rose_once_since {before} {mid} {now} same rose = subst (λ (n : Count). RoseOnce n now) same rose
 
 pub later_since : {before mid now : ℕ} → mid ≡ before → mid ≤ now → before ≤ now
 later_since same later = omega (arith, same, later)

@@ -1,6 +1,6 @@
 -- What a call found and what it left.
 use Rattle.std.specs.Prelude.{ℕ, List, Option}
-use Rattle.cdg_io.specs.Causes.{Count}
+use Rattle.cdg_io.specs.Causes.{Tally}
 
 -- the bytes that an input still gives, or that an output took, where it tells them
 abbrev pub Bytes : Type 0
@@ -19,14 +19,15 @@ change see before after = record { before = see before; after = see after }
 abbrev pub from_to : {A : Type 0} → A → A → Change A
 from_to before after = record { before = before; after = after }
 
--- the bytes of an input and the count of its told ends, before and after a call
+-- the bytes of an input and its counts, before and after a call
 pub record Input : Type 0 where
   pub left : Change Bytes
-  pub ends : Change Count
+  pub counts : Change Tally
 
 -- what is seen of an input
-abbrev pub input : {S : Type 0} → (S → Bytes) → (S → Count) → S → S → Input
-input left ends before after = record { left = change left before after; ends = change ends before after }
+abbrev pub input : {S : Type 0} → (S → Bytes) → (S → Tally) → S → S → Input
+input left counts before after =
+    record { left = change left before after; counts = change counts before after }
 
 -- the bytes of an input and of an output, before and after a call
 pub record Passed : Type 0 where

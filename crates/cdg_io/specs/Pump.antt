@@ -4,7 +4,7 @@ use Rattle.std.specs.Prelude.{◌≡◌, ◌≢◌, ◌<◌, ◌≤◌, ◌+◌,
 use Rattle.std.specs.List.{concat}
 use Rattle.std.specs.declared.option.Option.{Option}
 use Rattle.std.specs.Io.KnownBytes.{Appends, Consumes, IsAtEnd}
-use Rattle.cdg_io.specs.Causes.{Count, RoseOnce, counted_up}
+use Rattle.cdg_io.specs.Causes.{Tally, Tells}
 use Rattle.cdg_io.specs.Change.{Fed, Moved}
 use Rattle.cdg_io.specs.Moves.{AppendsBetween}
 use Rattle.cdg_io.specs.Run.{run_state, run_gives}
@@ -50,25 +50,13 @@ IsUnlessFault (Err ReadFault) answer = ⊤
 IsUnlessFault (Err WriteFault) answer = ⊤
 IsUnlessFault result answer = result ≡ answer
 
--- The count of told ends rose where the input was read to its end, and nowhere else.
-abbrev pub TellsEndOf : Result Pumped PumpStop → Count → Count → Type 0
-TellsEndOf (Ok pumped) before now = RoseOnce before now
-TellsEndOf (Err (Torn unit)) before now = RoseOnce before now
-TellsEndOf (Err TooLong) before now = now ≡ before
-TellsEndOf (Err ReadFault) before now = now ≡ before
-TellsEndOf (Err WriteFault) before now = now ≡ before
-
--- A count is so many more than before, where it is kept.
-abbrev pub RoseBy : ℕ → Count → Count → Type 0
-RoseBy n before now = (n ≡ 0 → now ≡ before) × (0 < n → now ≡ counted_up n before)
-
--- One read filled each whole unit, and one the byte past the limit.
-abbrev pub FillsUnits : ℕ → Result Pumped PumpStop → Count → Count → Type 0
-FillsUnits limit (Ok pumped) before now = RoseBy pumped.units before now
-FillsUnits limit (Err (Torn unit)) before now = RoseBy unit before now
-FillsUnits limit (Err TooLong) before now = RoseBy (limit + 1) before now
-FillsUnits limit (Err ReadFault) before now = (n : ℕ) × (n ≤ limit) × RoseBy n before now
-FillsUnits limit (Err WriteFault) before now = (n : ℕ) × (n ≤ limit) × RoseBy n before now
+-- The end was told once where the input was read to it, and one read filled each whole unit and the byte past the limit.
+abbrev pub TellsUnits : ℕ → Result Pumped PumpStop → Tally → Tally → Type 0
+TellsUnits limit (Ok pumped) before now = Tells 1 pumped.units before now
+TellsUnits limit (Err (Torn unit)) before now = Tells 1 unit before now
+TellsUnits limit (Err TooLong) before now = Tells 0 (limit + 1) before now
+TellsUnits limit (Err ReadFault) before now = (n : ℕ) × (n ≤ limit) × Tells 0 n before now
+TellsUnits limit (Err WriteFault) before now = (n : ℕ) × (n ≤ limit) × Tells 0 n before now
 
 -- These bytes were taken. A stage was fed them where they are a whole unit, and nothing where the input ended before.
 pub record FeedsUnit {S : Type 0} (size : ℕ) (machine : Machine S) (fed : Fed S) (given : Option (List ℕ))

@@ -1,21 +1,16 @@
 -- What is told of an input that is read to its end.
-use Rattle.std.specs.Prelude.{◌≡◌, ℕ, ◌+◌, ◌*◌, Bool, List, length, Result, Ok, Err, IfSome, if◌then◌else◌}
+use Rattle.std.specs.Prelude.{◌≡◌, ℕ, ◌+◌, ◌*◌, List, length, Result, Err, IfSome}
 use Rattle.std.specs.declared.option.Option.{Option}
-use Rattle.cdg_io.specs.Causes.{Count, RoseOnce, TellsFault, counted_up}
-use Rattle.cdg_io.specs.Pump.{FillsUnits, IsUnlessFault, TellsEndOf, answer_of}
+use Rattle.cdg_io.specs.Causes.{Tally, TellsFault}
+use Rattle.cdg_io.specs.Pump.{IsUnlessFault, TellsUnits, answer_of}
 use Rattle.cdg_io.specs.Whole.{StopsAtFault, Telling}
 use Rattle.cdg_io.specs.declared.pumping.Pumped.{Pumped}
 use Rattle.cdg_io.specs.declared.pumping.PumpStop.{PumpStop}
 use Rattle.cdg_io.specs.declared.pumping.PumpStop.TheVariants.{ReadFault}
 
--- The end of an input was told once, unless the answer is a stop that comes before it.
-abbrev pub ToldUnless : {T E : Type 0} → (E → Bool) → Result T E → Count → Count → Type 0
-ToldUnless is_early (Ok value) before now = RoseOnce before now
-ToldUnless is_early (Err stop) before now = now ≡ (if is_early stop then before else counted_up 1 before)
-
 -- what a source tells
-abbrev pub telling : {S : Type 0} → (S → Option (List ℕ)) → (S → ℕ) → (S → Count) → (S → Count) → Telling S
-telling left faults ends fills = record { left = left; faults = faults; ends = ends; fills = fills }
+abbrev pub telling : {S : Type 0} → (S → Option (List ℕ)) → (S → ℕ) → (S → Tally) → Telling S
+telling left faults counts = record { left = left; faults = faults; counts = counts }
 
 -- An input was read that is cut into units of so many bytes, at most so many of them.
 pub record ReadsUnits {S : Type 0} (tells : Telling S) (size limit : ℕ) (before after : S)
@@ -26,6 +21,4 @@ pub record ReadsUnits {S : Type 0} (tells : Telling S) (size limit : ℕ) (befor
   pub read_fault : TellsFault ReadFault (tells.faults before) (tells.faults after) result
   pub cut : result ≡ Err ReadFault
       → StopsAtFault tells.left tells.faults (limit * size + 1) before after
-  -- the end was told once where the input was read to it, and each whole unit filled one read
-  pub ended : TellsEndOf result (tells.ends before) (tells.ends after)
-  pub rooms : FillsUnits limit result (tells.fills before) (tells.fills after)
+  pub counts : TellsUnits limit result (tells.counts before) (tells.counts after)

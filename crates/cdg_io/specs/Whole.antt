@@ -1,9 +1,11 @@
 -- What the reading of a whole input took of it where it stopped, and what the writing of a whole piece put.
-use Rattle.std.specs.Prelude.{◌≡◌, ℕ, ◌≤◌, IfOk, List, OnErr, Result, length}
-use Rattle.cdg_io.specs.Causes.{Count, FillsRoom, HasCause, RoseOnce, TellsEnd}
+use Rattle.std.specs.Prelude.{◌≡◌, ℕ, ◌≤◌, Bool, IfOk, List, OnErr, Result, false, length, true}
+use Rattle.cdg_io.specs.Causes.{HasCause, Tally, TellsRead}
 use Rattle.std.specs.Io.KnownBytes.{Consumes, IsAtEnd, Keeps}
 use Rattle.cdg_io.specs.Moves.{AppendsLess, ConsumesBelow}
 use Rattle.std.specs.declared.option.Option.{Option}
+use Rattle.cdg_io.specs.declared.whole.ReadStop.{ReadStop}
+use Rattle.cdg_io.specs.declared.whole.ReadStop.TheVariants.{NoMemory}
 
 -- known bytes begin with exactly n bytes, and lose them
 abbrev pub ConsumesExactly : Option (List ℕ) → Option (List ℕ) → ℕ → Type 0
@@ -31,21 +33,23 @@ pub record PutsUntilFault {K : Type 0} (held : K → Option (List ℕ)) (faults 
   pub quiet : faults last ≡ faults before
   pub nothing : Keeps (held last) (held after)
 
--- The input was read to its end, which came within so many bytes and was told once.
-pub record ReadsWithin {S : Type 0} (left : S → Option (List ℕ)) (ends : S → Count) (most : ℕ)
-    (before after : S) : Type 0 where
+-- The input was read to its end, which came within so many bytes.
+pub record ReadsWithin {S : Type 0} (left : S → Option (List ℕ)) (most : ℕ) (before after : S) : Type 0 where
   pub taken : List ℕ
   pub within : length taken ≤ most
   pub took : Consumes (left before) (left after) taken
   pub end : IsAtEnd (left after)
-  pub told : RoseOnce (ends before) (ends after)
 
--- what a source tells: the bytes left, and its counts of faults, of told ends and of full answers
+-- whether a stop comes before the end of the input
+abbrev pub is_early_read : ReadStop → Bool
+is_early_read NoMemory = false
+is_early_read stop = true
+
+-- what a source tells: the bytes left, its count of faults, and its counts of told ends and filled reads
 pub record Telling (S : Type 0) : Type 0 where
   pub left : S → Option (List ℕ)
   pub faults : S → ℕ
-  pub ends : S → Count
-  pub fills : S → Count
+  pub counts : S → Tally
 
 -- A call reads up to so many bytes and answers how many there were: fewer are the last of the input, or a read failed.
 pub record ReadsUpTo {S E : Type 0} (tells : Telling S) (most : ℕ) (before after : S)
@@ -54,5 +58,4 @@ pub record ReadsUpTo {S E : Type 0} (tells : Telling S) (most : ℕ) (before aft
   pub part : OnErr result (ConsumesBelow (tells.left before) (tells.left after) most)
   pub cut : OnErr result (StopsAtFault tells.left tells.faults most before after)
   pub cause : HasCause (tells.faults before) (tells.faults after) result
-  pub told : TellsEnd most (tells.ends before) (tells.ends after) result
-  pub room : FillsRoom most (tells.fills before) (tells.fills after) result
+  pub counts : TellsRead most most (tells.counts before) (tells.counts after) result

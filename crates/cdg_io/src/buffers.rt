@@ -5,13 +5,13 @@ ghost use Rattle.std.specs.Io.Buffered.{reader_inner, reader_remaining};
 ghost use Rattle.std.specs.Io.KnownBytes.{Consumes, ReadConsumes, WriteAppends, Appends, Keeps};
 ghost use Rattle.std.specs.declared.alloc.Global.{Global};
 ghost use Rattle.std.specs.declared.io.buffered.BufReader.{BufReader};
-ghost use Rattle.cdg_io.specs.Causes.{Counted, CountedReader, FillsRoom, HasCause, RoseOnce, TellsEnd, counted_after};
+ghost use Rattle.cdg_io.specs.Causes.{Counted, CountedReader, HasCause, ReadsCounted, Tells, counted_after};
 ghost use Rattle.cdg_io.specs.Change.{from_to};
 ghost use Rattle.cdg_io.specs.Moves.{TakesSome};
-ghost use Rattle.cdg_io.specs.Pump.{RoseBy, Works};
+ghost use Rattle.cdg_io.specs.Pump.{Works};
 ghost use Rattle.cdg_io.specs.Waiting.{Buffered, bytes_with_waiting};
 
-use crate::ends::{CountedWriter, Outcome, Tally, read_counted};
+use crate::ends::{CountedWriter, Counts, Outcome, read_counted};
 use crate::piece::copy_front;
 use crate::{Failed, PassedUnits, Piece, Sink, Source, UnitStage};
 use std::alloc::{AllocError, Global};
@@ -23,28 +23,23 @@ use std::marker::Model;
 pub struct BufferedSource<R: Read> {
     reader: BufReader<R>,
     faults: u64,
-    tally: Tally,
+    counts: Counts,
 }
 
 impl<R: Read> Model for BufferedSource<R> {
     ghost Value = { CountedReader (BufReader R Global) };
 
-    ghost view = { λ s. record {
-      inner = s.reader;
-      faults = s.faults;
-      ends = s.tally.ends;
-      fills = s.tally.fills;
-    } };
+    ghost view = { λ s. record { inner = s.reader; faults = s.faults; counts = s.counts } };
 }
 
 impl<R: Read> BufferedSource<R> {
     pub fn new(reader: BufReader<R>) -> Self
-        ensures { result ≡ record { inner = reader; faults = 0; ends = 0; fills = 0 } }
+        ensures { result ≡ record { inner = reader; faults = 0; counts = record { ends = 0; fills = 0 } } }
     {
         BufferedSource {
             reader,
             faults: 0,
-            tally: Tally::new(),
+            counts: Counts::new(),
         }
     }
 }
@@ -54,21 +49,14 @@ impl<R: Read> Source for BufferedSource<R> {
 
     ghost faults = { λ s. s.faults };
 
-    ghost ends = { λ s. Some s.ends };
-
-    ghost fills = { λ s. Some s.fills };
+    ghost counts = { λ s. Some s.counts };
 
     fn take(&mut self, buf: &mut [u8]) -> Result<usize, Failed>
         requires { 0 < length buf.old }
-        ensures bound { ReadsAtMost result buf.new }
-        ensures bytes { ReadConsumes (reader_remaining R.remaining self.old.inner)
-            (reader_remaining R.remaining self.new.inner) result buf.new }
-        ensures cause { HasCause self.old.faults self.new.faults result }
-        ensures end { TellsEnd 1 (Some self.old.ends) (Some self.new.ends) result }
-        ensures room { FillsRoom (length buf.old) (Some self.old.fills) (Some self.new.fills) result }
-        ensures counted { self.new.faults ≡ counted_after result self.old.faults }
+        ensures { ReadsCounted (reader_remaining R.remaining) (length buf.old) self.old self.new result
+            buf.new }
     {
-        read_counted(&mut self.reader, &mut self.faults, &mut self.tally, buf)
+        read_counted(&mut self.reader, &mut self.faults, &mut self.counts, buf)
     }
 
     /// Feeds the unit from where it stands in the buffer. Nothing is read for it.
@@ -79,9 +67,8 @@ impl<R: Read> Source for BufferedSource<R> {
             × Consumes (reader_remaining R.remaining self.old.inner)
             (reader_remaining R.remaining self.new.inner) unit
             × (stage.new ≡ G.next stage.old unit) × (given.new ≡ G.gives stage.old unit) }
-        ensures full { result ≡ true → RoseOnce (Some self.old.fills) (Some self.new.fills) }
+        ensures counts { result ≡ true → Tells 0 1 (Some self.old.counts) (Some self.new.counts) }
         ensures faults { self.new.faults ≡ self.old.faults }
-        ensures ends { Some self.new.ends ≡ Some self.old.ends }
         ensures none { result ≡ false
             → (self.new ≡ self.old) × (stage.new ≡ stage.old) × (given.new ≡ given.old) }
         ensures unread { reader_inner self.new.inner ≡ reader_inner self.old.inner }
@@ -92,7 +79,7 @@ impl<R: Read> Source for BufferedSource<R> {
         }
         stage.take_unit(&row[..G::SIZE], given);
         self.reader.consume(G::SIZE);
-        self.tally.add(G::SIZE, G::SIZE);
+        self.counts.add_full(1);
         true
     }
 
@@ -117,9 +104,8 @@ impl<R: Read> Source for BufferedSource<R> {
         ensures most { result.units ≤ most }
         ensures within { (start ≤ result.end) × (result.end ≤ length buffer.new) }
         ensures behind { drop result.end buffer.new ≡ drop result.end buffer.old }
-        ensures full { RoseBy result.units (Some self.old.fills) (Some self.new.fills) }
+        ensures counts { Tells 0 result.units (Some self.old.counts) (Some self.new.counts) }
         ensures faults { self.new.faults ≡ self.old.faults }
-        ensures ends { Some self.new.ends ≡ Some self.old.ends }
         ensures unread { reader_inner self.new.inner ≡ reader_inner self.old.inner }
     {
         let mut row = self.reader.buffer();
@@ -127,7 +113,7 @@ impl<R: Read> Source for BufferedSource<R> {
         let passed = stage.take_row(&mut row, given, buffer, start, most);
         let taken = held - row.len();
         self.reader.consume(taken);
-        self.tally.add_full(passed.units);
+        self.counts.add_full(passed.units);
         passed
     }
 }

@@ -1,5 +1,6 @@
 use Rattle.std.proofs.Common.{◌≡◌, ◌<◌, ◌≤◌, length, take, refl, sym, ◌∙◌, arith, rules, length-take-le}
-use Rattle.cdg_io.proofs.Stops.{failed_cause, failed_end, failed_room, if_no_value, on_err}
+use Rattle.cdg_io.proofs.Counting.{failed_read}
+use Rattle.cdg_io.proofs.Stops.{failed_cause, if_no_value, on_err}
 use Rattle.cdg_io.proofs.PumpSteps.{Consumes-filled}
 use Rattle.cdg_io.proofs.pumping.feed_filled.Goals as goal
 
@@ -68,8 +69,7 @@ returns-in_err-filled-clause-reads g c =
         nothing = read.cut.nothing;
       });
       cause = failed_cause _ _ _ failed read.cause.later read.cause.failed;
-      told = failed_end _ _ _ _ failed read.told.failed;
-      room = failed_room _ _ _ _ failed read.room.failed;
+      counts = failed_read _ _ _ _ _ failed read.counts.failed;
     }
 
 pub returns-then-filled-SIZE-clause-reads : goal.returns-then-filled-SIZE-clause-reads
@@ -80,8 +80,7 @@ returns-then-filled-SIZE-clause-reads g c =
       part = tt;
       cut = tt;
       cause = read.cause;
-      told = search (rules, read.told);
-      room = search (rules, read.room);
+      counts = search (rules, read.counts);
     }
 
 pub returns-clause-reads : goal.returns-clause-reads
@@ -92,6 +91,5 @@ returns-clause-reads g c =
       part = tt;
       cut = tt;
       cause = record { later = read.cause.later; failed = tt; same = read.cause.same };
-      told = search (rules, read.told);
-      room = search (rules, read.room);
+      counts = search (rules, read.counts);
     }

@@ -1,8 +1,23 @@
 use Rattle.std.proofs.Common.{◌≡◌, ◌<◌, ◌≤◌, ◌+◌, ◌∙◌, ◌++◌, drop, length, take, arith, length-append}
 use Rattle.std.proofs.lemmas.List.{length-drop, length-take}
 use Rattle.std.proofs.KnownBytes.{Consumes-trans}
-use Rattle.cdg_io.proofs.Stops.{Consumes-still, rose_once_since}
+use Rattle.cdg_io.proofs.Counting.{ends_after, ends_same, goes_on}
+use Rattle.cdg_io.proofs.Stops.{Consumes-still}
 use Rattle.cdg_io.proofs.whole.read_on.Goals as goal
+
+pub returns-in-Ok-clause-told : goal.returns-in-Ok-clause-told
+returns-in-Ok-clause-told g c =
+    ends_after _ _ _ _ c.loop-count.invariant.told
+    (goes_on c.in-Ok.ensures.counts (omega (arith, c.if-count-room.true)))
+
+pub returns-in-Ok-eq0-clause-told : goal.returns-in-Ok-eq0-clause-told
+returns-in-Ok-eq0-clause-told g c =
+    ends_after _ _ _ _ c.loop-count.invariant.told
+    (0, c.in-Ok-eq0.ensures.counts.ended (omega (arith, c.in-Ok-eq0.field-0-test)))
+
+pub returns-in-Err-clause-told : goal.returns-in-Err-clause-told
+returns-in-Err-clause-told g c =
+    ends_after _ _ _ _ c.loop-count.invariant.told (ends_same c.in-Err.ensures.counts.failed)
 
 pub returns-in-Ok-clause-too_long : goal.returns-in-Ok-clause-too_long
 returns-in-Ok-clause-too_long g c = λ _.
@@ -43,7 +58,7 @@ loop-count-preserved g c =
         omega (arith, length-append xs more, size, count, c.if-count-room.false),
         Consumes-trans _ _ _ _ _ taken c.in-Ok.ensures.bytes.0,
       );
-      told = c.in-Ok.ensures.end.goes_on (omega (arith, c.in-Ok.count-test.1)) ∙ before.told;
+      told = ends_after _ _ _ _ before.told (goes_on c.in-Ok.ensures.counts (omega (arith, c.in-Ok.count-test.1)));
       same = c.in-Ok.ensures.cause.same ∙ before.same;
     }
 
@@ -64,7 +79,6 @@ returns-in-Ok-eq0-clause-no_memory g c = λ _.
       within = omega (arith, count);
       took = Consumes-still _ _ _ _ _ _ zero taken c.in-Ok-eq0.ensures.bytes.0;
       end = c.in-Ok-eq0.ensures.bytes.1 zero some;
-      told = rose_once_since before.told (c.in-Ok-eq0.ensures.end.ended (omega (arith, zero)));
     }
 
 pub returns-in-Err-clause-cut : goal.returns-in-Err-clause-cut

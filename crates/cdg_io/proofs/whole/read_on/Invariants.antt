@@ -1,5 +1,6 @@
 use Rattle.std.proofs.Common.{◌≡◌, ◌+◌, ℕ, List, length}
 use Rattle.std.specs.Io.KnownBytes.{Consumes}
+use Rattle.cdg_io.specs.Causes.{Ends}
 use Rattle.cdg_io.proofs.whole.read_on.Given as goal
 
 abbrev pub invariant-loop-count : goal.invariant-loop-count
@@ -7,7 +8,7 @@ invariant-loop-count g l = record {
   size : length l.chunk ≡ 4096;
   taken : (xs : List ℕ) × (length xs + l.room ≡ l.most)
       × Consumes (g.S.Source.left l.initial.source) (g.S.Source.left l.source) xs;
-  told : g.S.Source.ends l.source ≡ g.S.Source.ends l.initial.source;
+  told : Ends 0 (g.S.Source.counts l.initial.source) (g.S.Source.counts l.source);
   same : g.S.Source.faults l.source ≡ g.S.Source.faults l.initial.source;
 }
 
