@@ -1,15 +1,18 @@
 -- Which answer is no other one, and what still holds of a file that is kept.
-use Rattle.std.proofs.Common.{◌≡◌, ◌≢◌, ℕ, ◌*◌, ◌<◌, ◌≤◌, List, length, sym, subst, ap, arith, ◌⊎◌, inl, inr}
-use Rattle.std.specs.Prelude.{Option, Some, None, Result, Ok, Err, IfSome, IsOk, IsErr, nat_lt, ◌==◌, ◌%◌, ◌/◌}
-use Rattle.cdg_io.specs.Causes.{Count}
+use Rattle.std.proofs.Common.{◌≡◌, ◌≢◌, ℕ, ◌*◌, ◌+◌, ◌<◌, ◌≤◌, List, length, refl, sym, subst, ap, arith, ◌⊎◌, inl, inr}
+use Rattle.std.specs.Prelude.{Option, Some, None, Result, Ok, Err, IfSome, IsOk, IsErr, nat_lt, if◌then◌else◌, ◌==◌, ◌%◌, ◌/◌}
+use Rattle.cdg_io.specs.Causes.{Tally}
 use Rattle.cdg_io.specs.Change.{Input, Passed}
-use Rattle.cdg_io.specs.Pump.{IsUnlessFault, TellsEndOf, answer_of}
+use Rattle.cdg_io.specs.Pump.{IsUnlessFault, TellsUnits, answer_of}
 use Rattle.cdg_io.specs.declared.pumping.Pumped.{Pumped}
 use Rattle.cdg_io.specs.declared.pumping.PumpStop.{PumpStop}
 use Rattle.cdg_io.specs.declared.pumping.PumpStop.TheVariants as pump_stop
 use Rattle.cdg_checkpoint.specs.Checkpoint.{Checkpoint, checkpoint_in}
 use Rattle.stream_stages.proofs.Views.{is_over, long_tests}
-use Rattle.cdg_checkpoint.specs.Resumed.{IsAcceptedBy, IsGoneOnBy, IsResumedBy, ReadsSaved, Resumes, acceptance, blocks_left}
+use Rattle.cdg_checkpoint.specs.Saved.{EndsAsSaved}
+use Rattle.cdg_checkpoint.specs.Resumed.{IsAcceptedBy, IsGoneOnBy, IsResumedBy, ReadsSaved, Resumes, acceptance, blocks_left, file_ends}
+use Rattle.cdg_checkpoint.specs.Table.{file_size}
+use Rattle.std.proofs.lemmas.Bool.{le-ltb, lt-ltb}
 use Rattle.cdg_checkpoint.specs.declared.stops.Resumed.{Resumed}
 use Rattle.cdg_checkpoint.specs.declared.stops.ResumeStop.{ResumeStop}
 use Rattle.cdg_checkpoint.specs.declared.stops.ResumeStop.TheVariants.{FirstFault, SecondFault, WriteFault, Torn, TooLong, PastEnd}
@@ -42,11 +45,27 @@ pub long_no_read : (stop : PumpStop) → stop ≡ pump_stop.TooLong → pump_sto
 long_no_read stop is = λ e. (cc)
 
 -- how the end was told by a stop that is known
-pub told_by : (stop other : PumpStop) (before now : Count) → pump_stopped stop ≡ Err other
-    → TellsEndOf (Err stop) before now
-    → TellsEndOf (Err other) before now
-told_by stop other before now is told =
-    subst (λ (r : Result Pumped PumpStop). TellsEndOf r before now) is told
+pub told_by : (limit : ℕ) (stop other : PumpStop) (before now : Tally) → pump_stopped stop ≡ Err other
+    → TellsUnits limit (Err stop) before now
+    → TellsUnits limit (Err other) before now
+told_by limit stop other before now is told =
+    subst (λ (r : Result Pumped PumpStop). TellsUnits limit r before now) is told
+
+-- and by one that is not a failed write
+pub ends_saved : (limit : ℕ) (stop : PumpStop) (before now : Tally)
+    → pump_stopped stop ≢ Err pump_stop.WriteFault → TellsUnits limit (Err stop) before now
+    → EndsAsSaved (Err stop) before now
+ends_saved limit pump_stop.ReadFault before now other told = (told.0, told.2)
+ends_saved limit pump_stop.WriteFault before now other told = absurd (other refl)
+ends_saved limit (pump_stop.Torn unit) before now other told = (unit, told)
+ends_saved limit pump_stop.TooLong before now other told = (limit + 1, told)
+
+-- how often the end is told where no more came than a file has, and where more came
+pub within_file : (size : ℕ) → size ≤ file_size → file_ends size ≡ 1
+within_file size most = ap (λ b. if b then 0 else 1) (le-ltb file_size size most)
+
+pub past_file : (size : ℕ) → file_size < size → file_ends size ≡ 0
+past_file size more = ap (λ b. if b then 0 else 1) (lt-ltb file_size size more)
 
 -- ---- The answer by the length of the rest, where a fault was met or the rest is too long.
 
@@ -176,7 +195,6 @@ reads_on first result file now kept other reads = subst (λ f. ReadsSaved first 
   taken = λ e. reads.taken (accepted_no_stop tt FirstFault);
   end = λ e. reads.end (accepted_no_stop tt FirstFault);
   told = λ e. reads.told (accepted_no_stop tt FirstFault);
-  goes_on = λ e. reads.goes_on (accepted_no_stop tt FirstFault);
   cut = λ e. absurd (other e);
   kept = λ e. absurd (other e);
   not_told = λ e. absurd (other e);
@@ -190,7 +208,6 @@ reads_stopped first stop file reads = record {
   taken = λ other. reads.taken (other_stop stop FirstFault other);
   end = λ other. reads.end (other_stop stop FirstFault other);
   told = λ other. reads.told (other_stop stop FirstFault other);
-  goes_on = λ other. reads.goes_on (other_stop stop FirstFault other);
   cut = λ e. reads.cut (same_stop stop FirstFault e);
   kept = λ e. reads.kept (same_stop stop FirstFault e);
   not_told = λ e. reads.not_told (same_stop stop FirstFault e);

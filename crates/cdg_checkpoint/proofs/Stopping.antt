@@ -2,7 +2,7 @@
 use Rattle.std.proofs.Common.{◌≡◌, ◌≢◌, ℕ, ◌+◌, ◌*◌, ◌≤◌, Bool, true, false, List, length, sym, subst}
 use Rattle.std.specs.Prelude.{Option, Some, None, Result, Ok, Err, IfSome, IsOk, nat_lt, if◌then◌else◌}
 use Rattle.std.specs.Io.KnownBytes.{IsAtEnd}
-use Rattle.cdg_io.specs.Causes.{Count, RoseOnce}
+use Rattle.cdg_io.specs.Causes.{Ends, Tally}
 use Rattle.cdg_io.specs.Change.{from_to}
 use Rattle.cdg_io.proofs.Frames.{feeding}
 use Rattle.cdg_io.specs.declared.pumping.PumpStop.{PumpStop}
@@ -79,13 +79,13 @@ gone_on_to_stop c time limit left left' taken s s' stop other fits w torn not_pa
 abbrev answered : Bool → ℕ → ℕ → Result Resumed ResumeStop
 answered past blocks bad = if past then Err (PastEnd blocks) else Ok (record { blocks = blocks; bad = bad })
 
-ends_so : (past : Bool) (blocks bad : ℕ) (before now : Count) → RoseOnce before now
+ends_so : (past : Bool) (blocks bad : ℕ) (before now : Tally) → Ends 1 before now
     → EndsAsResumed (answered past blocks bad) before now
 ends_so true blocks bad before now rose = rose
 ends_so false blocks bad before now rose = rose
 
-pub ends_as_reached : (result : Result Resumed ResumeStop) (blocks time bad : ℕ) (before now : Count)
-    → result ≡ reached blocks time bad → RoseOnce before now
+pub ends_as_reached : (result : Result Resumed ResumeStop) (blocks time bad : ℕ) (before now : Tally)
+    → result ≡ reached blocks time bad → Ends 1 before now
     → EndsAsResumed result before now
 ends_as_reached result blocks time bad before now is rose =
     subst (λ (r : Result Resumed ResumeStop). EndsAsResumed r before now) (sym is)

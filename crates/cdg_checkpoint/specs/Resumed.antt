@@ -2,8 +2,7 @@
 use Rattle.std.specs.Prelude.{◌≡◌, ◌≢◌, ℕ, ◌+◌, ◌-◌, ◌*◌, ◌/◌, ◌%◌, ◌<◌, ◌≤◌, ⊤, Bool, true, false, List, [], ◌++◌, length, map, nat_lt, if◌then◌else◌, take, drop, min, slice_index_or, Option, None, Result, Ok, Err, IfOk}
 use Rattle.std.specs.List.{range_with_len}
 use Rattle.std.specs.Io.KnownBytes.{Appends, Consumes, IsAtEnd}
-use Rattle.cdg_io.specs.Causes.{Count, RoseOnce}
-use Rattle.cdg_io.specs.Reads.{ToldUnless}
+use Rattle.cdg_io.specs.Causes.{Ends, Tally, ToldUnless}
 use Rattle.cdg_io.specs.Change.{Bytes, Change, Input, Passed}
 use Rattle.cdg_io.specs.Moves.{AppendsPrefix, ConsumesBelow}
 use Rattle.rw_code.specs.Finding.{IsFinding}
@@ -68,6 +67,10 @@ IsAcceptedBy (Err (BeforeSave blocks)) time file = IsCheckpointFile file
 IsAcceptedBy (Err FirstFault) time file = ⊤
 IsAcceptedBy (Err stop) time file = ⊥
 
+-- how often the end of an input is told of which so many bytes were taken: once where no more came than a file has
+abbrev pub file_ends : ℕ → ℕ
+file_ends size = if nat_lt file_size size then 0 else 1
+
 -- How the first input was read: this was taken of it, at most one byte more than a checkpoint has, and its
 -- end was told where there was no such byte. Where a read failed, no more than the bytes of a checkpoint were
 -- taken, and the file is what was taken until then.
@@ -76,12 +79,12 @@ pub record ReadsSaved {T : Type 0} (saved : Input) (result : Result T ResumeStop
   pub most : length file ≤ file_size + 1
   pub taken : result ≢ Err FirstFault → Consumes saved.left.before saved.left.after file
   pub end : result ≢ Err FirstFault → length file ≤ file_size → IsAtEnd saved.left.after
-  pub told : result ≢ Err FirstFault → length file ≤ file_size → RoseOnce saved.ends.before saved.ends.after
-  pub goes_on : result ≢ Err FirstFault → file_size < length file → saved.ends.after ≡ saved.ends.before
+  pub told : result ≢ Err FirstFault
+      → Ends (file_ends (length file)) saved.counts.before saved.counts.after
   pub cut : result ≡ Err FirstFault → ConsumesBelow saved.left.before saved.left.after (file_size + 1)
   pub kept : result ≡ Err FirstFault
       → Consumes saved.left.before saved.left.after file × (length file ≤ file_size)
-  pub not_told : result ≡ Err FirstFault → saved.ends.after ≡ saved.ends.before
+  pub not_told : result ≡ Err FirstFault → Ends 0 saved.counts.before saved.counts.after
 
 -- the most blocks that may follow a checkpoint
 abbrev pub blocks_left : Checkpoint → ℕ
@@ -128,7 +131,7 @@ is_before_rest_end WriteFault = false
 is_before_rest_end stop = true
 
 -- how the end of the rest is told
-abbrev pub EndsAsResumed : Result Resumed ResumeStop → Count → Count → Type 0
+abbrev pub EndsAsResumed : Result Resumed ResumeStop → Tally → Tally → Type 0
 EndsAsResumed = ToldUnless is_before_rest_end
 
 -- what is answered after so many program blocks

@@ -1,8 +1,7 @@
 -- The checkpoint of a stream.
 use Rattle.std.specs.Prelude.{◌≡◌, ℕ, ◌-◌, ◌/◌, Bool, true, false, IsTrue, List, ◌++◌, length, drop, replicate, min, Option, Result, Ok, Err}
 use Rattle.cdg_io.specs.Streams.{WholeReading, WritesAtEnd}
-use Rattle.cdg_io.specs.Causes.{Count}
-use Rattle.cdg_io.specs.Reads.{ToldUnless}
+use Rattle.cdg_io.specs.Causes.{Tally, ToldUnless}
 use Rattle.std.specs.Io.KnownBytes.{Appends}
 use Rattle.cdg_io.specs.Change.{Bytes, Change, Passed}
 use Rattle.cdg_io.specs.Moves.{AppendsPrefix}
@@ -72,5 +71,5 @@ KeepsFile lead_in taken held file (Err WriteFault) = (pumped : Pumped)
 KeepsFile lead_in taken held file (Err stop) = file.after ≡ file.before
 
 -- how the end of the input is told
-abbrev pub EndsAsSaved : Result Pumped PumpStop → Count → Count → Type 0
+abbrev pub EndsAsSaved : Result Pumped PumpStop → Tally → Tally → Type 0
 EndsAsSaved = ToldUnless is_before_end

@@ -1,7 +1,8 @@
 // A file on the heap.
 ghost use Rattle.std.specs.Prelude.{◌≡◌, ◌≤◌, ◌+◌, ◌<◌, [], ℕ, length, MatchResult, IfOk, OnOk, OnErr, take, drop};
 ghost use Rattle.std.specs.Io.KnownBytes.{Consumes, IsAtEnd};
-ghost use Rattle.cdg_io.specs.Causes.{HasCause, RoseOnce};
+ghost use Rattle.cdg_io.specs.Causes.{Ends, HasCause};
+ghost use Rattle.cdg_checkpoint.specs.Resumed.{file_ends};
 ghost use Rattle.cdg_io.specs.Moves.{ConsumesBelow};
 ghost use Rattle.cdg_checkpoint.specs.Checkpoint.{file_of, kept, standing_in};
 ghost use Rattle.cdg_checkpoint.specs.Table.{Bad, IsBadAt, IsCheckpointFile, LeadIn, Program, ToCome, file_size, number};
@@ -57,10 +58,9 @@ impl CheckpointFile {
         ensures part { OnErr result (ConsumesBelow (S.left source.old) (S.left source.new) (file_size + 1)) }
         ensures cause { HasCause (S.faults source.old) (S.faults source.new) result }
         // The end is told once, and only where the input has no more bytes than a file.
-        ensures told { OnOk result (length self.new ≤ file_size
-            → RoseOnce (S.ends source.old) (S.ends source.new)) }
-        ensures goes_on { OnOk result (file_size < length self.new → S.ends source.new ≡ S.ends source.old) }
-        ensures not_told { OnErr result (S.ends source.new ≡ S.ends source.old) }
+        ensures told { OnOk result (Ends (file_ends (length self.new)) (S.counts source.old)
+            (S.counts source.new)) }
+        ensures not_told { OnErr result (Ends 0 (S.counts source.old) (S.counts source.new)) }
     {
         self.plain.read(source)
     }

@@ -1,7 +1,8 @@
 // The bytes of a file.
 ghost use Rattle.std.specs.Prelude.{◌≡◌, ◌<◌, ◌≤◌, ◌+◌, ◌*◌, [], ◌++◌, List, ℕ, length, MatchResult, OnOk, OnErr, drop, take};
 ghost use Rattle.std.specs.Io.KnownBytes.{Consumes, IsAtEnd};
-ghost use Rattle.cdg_io.specs.Causes.{HasCause, RoseOnce};
+ghost use Rattle.cdg_io.specs.Causes.{Ends, HasCause};
+ghost use Rattle.cdg_checkpoint.specs.Resumed.{file_ends};
 ghost use Rattle.cdg_io.specs.Moves.{ConsumesBelow};
 ghost use Rattle.cdg_screen.specs.Memory.{seen};
 ghost use Rattle.raw_subcode.specs.Sizes.{symbols_a_slot};
@@ -134,10 +135,9 @@ impl PlainFile {
         ensures part { OnErr result (ConsumesBelow (S.left source.old) (S.left source.new) (file_size + 1)) }
         ensures cause { HasCause (S.faults source.old) (S.faults source.new) result }
         // The end is told once, and only where the input has no more bytes than a file.
-        ensures told { OnOk result (length self.new ≤ file_size
-            → RoseOnce (S.ends source.old) (S.ends source.new)) }
-        ensures goes_on { OnOk result (file_size < length self.new → S.ends source.new ≡ S.ends source.old) }
-        ensures not_told { OnErr result (S.ends source.new ≡ S.ends source.old) }
+        ensures told { OnOk result (Ends (file_ends (length self.new)) (S.counts source.old)
+            (S.counts source.new)) }
+        ensures not_told { OnErr result (Ends 0 (S.counts source.old) (S.counts source.new)) }
     {
         let mut chunk = [0; CHUNK];
         self.clear();

@@ -38,7 +38,7 @@ impl Checkpointer {
         requires { at ≤ last_block }
         // The checkpoint is accepted, or refused for the first reason.
         ensures accepted { IsAcceptedBy (acceptance result) at self.new.file }
-        ensures reads { ReadsSaved (input S.left S.ends saved.old saved.new) result self.new.file }
+        ensures reads { ReadsSaved (input S.left S.counts saved.old saved.new) result self.new.file }
         // Where it is refused, the rest is not touched.
         ensures rest_untouched { IsErr (acceptance result) → rest.new ≡ rest.old }
         ensures resumes { IsOk (acceptance result)
@@ -56,7 +56,7 @@ impl Checkpointer {
         ensures write_fault { TellsFault ResumeStop.WriteFault
             (K.faults out.old) (K.faults out.new) result }
         ensures rest_told { IsOk (acceptance result)
-            → EndsAsResumed result (T.ends rest.old) (T.ends rest.new) }
+            → EndsAsResumed result (T.counts rest.old) (T.counts rest.new) }
     {
         match self.accept(at, saved) {
             Ok(()) => self.show(at, rest, out),
@@ -86,7 +86,7 @@ impl Checkpointer {
             (T.faults rest.old) (T.faults rest.new) result }
         ensures write_fault { TellsFault ResumeStop.WriteFault
             (K.faults out.old) (K.faults out.new) result }
-        ensures rest_told { EndsAsResumed result (T.ends rest.old) (T.ends rest.new) }
+        ensures rest_told { EndsAsResumed result (T.counts rest.old) (T.counts rest.new) }
     {
         match self.go_on(at, rest) {
             Ok(resumed) => {
@@ -103,7 +103,7 @@ impl Checkpointer {
     /// Reads a checkpoint that is not later than a moment.
     pub(crate) fn accept<S: Source>(&mut self, at: u32, saved: &mut S) -> Result<(), ResumeStop>
         ensures accepted { IsAcceptedBy result at self.new.file }
-        ensures reads { ReadsSaved (input S.left S.ends saved.old saved.new) result self.new.file }
+        ensures reads { ReadsSaved (input S.left S.counts saved.old saved.new) result self.new.file }
         ensures fault { TellsFault ResumeStop.FirstFault
             (S.faults saved.old) (S.faults saved.new) result }
     {
@@ -149,7 +149,7 @@ impl Checkpointer {
         ensures file { self.new.file ≡ self.old.file }
         ensures fault { TellsFault ResumeStop.SecondFault
             (S.faults rest.old) (S.faults rest.new) result }
-        ensures ended { EndsAsResumed result (S.ends rest.old) (S.ends rest.new) }
+        ensures ended { EndsAsResumed result (S.counts rest.old) (S.counts rest.new) }
         ensures no_write { result ≢ Err ResumeStop.WriteFault }
         ensures no_first { result ≢ Err ResumeStop.FirstFault }
         ensures accepted { IsOk (acceptance result) }

@@ -46,7 +46,7 @@ impl Checkpointer {
         ensures untouched { IfErr result (λ stop. stop ≢ PumpStop.WriteFault → out.new ≡ out.old) }
         ensures read_fault { TellsFault PumpStop.ReadFault
             (S.faults source.old) (S.faults source.new) result }
-        ensures ended { EndsAsSaved result (S.ends source.old) (S.ends source.new) }
+        ensures ended { EndsAsSaved result (S.counts source.old) (S.counts source.new) }
         ensures write_fault { TellsFault PumpStop.WriteFault
             (K.faults out.old) (K.faults out.new) result }
     {

@@ -18,7 +18,7 @@ pub(crate) fn watch<S: Source, G: Stage<Item = [u8; BLOCK_BYTES], Out = Piece>>(
     ensures watches { (taken : List ℕ)
         × TracksBlocks limit G.next (fed S.left (source.old, stage.old) (source.new, stage.new))
         result taken }
-    ensures reads { ReadsUnits (telling S.left S.faults S.ends S.fills) block_bytes limit source.old
+    ensures reads { ReadsUnits (telling S.left S.faults S.counts) block_bytes limit source.old
         source.new result }
 {
     pump(source, limit, stage, &mut SteadySink::new())
@@ -33,7 +33,7 @@ pub(crate) fn watch_some<S: Source, G: Stage<Item = [u8; BLOCK_BYTES], Out = Pie
     ensures watches { (taken : List ℕ)
         × TracksBlocks limit G.next (fed S.left (source.old, stage.old) (source.new, stage.new))
         result taken }
-    ensures reads { ReadsUnits (telling S.left S.faults S.ends S.fills) block_bytes limit source.old
+    ensures reads { ReadsUnits (telling S.left S.faults S.counts) block_bytes limit source.old
         source.new result }
 {
     if limit > 0 {

@@ -1,6 +1,8 @@
 -- From the answer of a merger to the status of a command.
-use Rattle.std.proofs.Common.{◌≡◌, ◌≢◌, ◌≤◌, ◌==◌, ℕ, Bool, true, false, Result, Ok, Err, IsErrOf, refl, sym, subst, ◌∙◌, if◌then◌else◌, arith}
+use Rattle.std.proofs.Common.{◌≡◌, ◌≢◌, ◌≤◌, ◌==◌, ◌/◌, ℕ, Bool, true, false, Result, Ok, Err, IsErrOf, refl, sym, ap, subst, ◌∙◌, if◌then◌else◌, arith}
 use Rattle.cdg_io.specs.Causes.{Rose, TellsFault}
+use Rattle.raw_subcode.specs.Sizes.{block_bytes}
+use Rattle.rw_merge.specs.Merging.{IsAnswer}
 use Rattle.rw_merge.specs.declared.merge.Merged.{Merged}
 use Rattle.rw_merge.specs.declared.merge.MergeStop.{MergeStop}
 use Rattle.rw_merge.specs.declared.merge.MergeStop.TheVariants as merge
@@ -11,6 +13,15 @@ use Rattle.cdg_cmd.specs.declared.status.Status.{Status}
 use Rattle.cdg_cmd.specs.declared.status.Status.TheVariants.{Done, Damaged, Usage, ReadFault, WriteFault, NoMemory}
 use Rattle.cdg_cmd.proofs.Quiet.{count, silent}
 use Rattle.cdg_cmd.proofs.Quiet as quiet
+
+-- of two readings that are unequally long not equally much was taken
+pub unequal : (lead_in : ℕ) (answer : Result Merged MergeStop) (blocks one other : ℕ)
+    → answer ≡ Err (merge.Unequal blocks) → IsAnswer lead_in answer one other
+    → one ≢ other
+unequal lead_in answer blocks one other is said = λ same.
+    let differ : IsAnswer lead_in (Err (merge.Unequal blocks)) one other =
+    subst (λ (a : Result Merged MergeStop). IsAnswer lead_in a one other) is said in
+    differ.2 (ap (λ (n : ℕ). n / block_bytes) same)
 
 -- Faults
 

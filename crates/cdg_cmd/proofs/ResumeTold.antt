@@ -2,9 +2,10 @@
 use Rattle.std.proofs.Common.{◌≡◌, ◌≢◌, ◌≤◌, ◌==◌, ◌⊎◌, ℕ, Bool, true, false, List, length, Result, Ok, Err, IfErr, IsErrOf, refl, sym, subst, ◌∙◌, inl, inr, if◌then◌else◌, arith}
 use Rattle.std.specs.Prelude.{IsErr}
 use Rattle.std.specs.Io.KnownBytes.{Consumes, IsAtEnd}
-use Rattle.cdg_io.specs.Causes.{Rose, RoseOnce, TellsFault}
+use Rattle.cdg_io.specs.Causes.{Ends, Rose, TellsFault}
 use Rattle.cdg_checkpoint.specs.Table.{file_size}
-use Rattle.cdg_checkpoint.specs.Resumed.{IsAcceptedBy, acceptance}
+use Rattle.cdg_checkpoint.specs.Resumed.{IsAcceptedBy, acceptance, file_ends}
+use Rattle.cdg_checkpoint.proofs.OtherStops.{within_file}
 use Rattle.cdg_checkpoint.specs.declared.stops.Resumed.{Resumed}
 use Rattle.cdg_checkpoint.specs.declared.stops.ResumeStop.{ResumeStop}
 use Rattle.cdg_checkpoint.specs.declared.stops.ResumeStop.TheVariants as resume
@@ -81,10 +82,10 @@ module _ {T : Type 0} (x y : T) (at : ℕ) (first : Input) (file : List ℕ) whe
       → IsAcceptedBy (Ok tt) at file
       → (answer ≢ Err resume.FirstFault → Consumes first.left.before first.left.after file)
       → (answer ≢ Err resume.FirstFault → length file ≤ file_size → IsAtEnd first.left.after)
-      → (answer ≢ Err resume.FirstFault → length file ≤ file_size
-      → RoseOnce first.ends.before first.ends.after)
+      → (answer ≢ Err resume.FirstFault → Ends (file_ends (length file)) first.counts.before
+      first.counts.after)
       → (y ≡ x)
-      ⊎ (RoseOnce first.ends.before first.ends.after
+      ⊎ (Ends 1 first.counts.before first.counts.after
       × ((bytes : List ℕ) × ReadsCheckpoint at first.left bytes))
   read_file answer other accepted taken end told =
       let reads : ReadsCheckpoint at first.left file = record {
@@ -93,16 +94,20 @@ module _ {T : Type 0} (x y : T) (at : ℕ) (first : Input) (file : List ℕ) whe
         taken = taken other;
         end = end other (omega (arith, accepted.0.size));
       } in
-      inr (told other (omega (arith, accepted.0.size)), (file, reads))
+      inr (
+        subst (λ n. Ends n first.counts.before first.counts.after)
+            (within_file (length file) (omega (arith, accepted.0.size))) (told other),
+        (file, reads),
+      )
 
   pub reads_second : (answer : Result Resumed ResumeStop) → (IsErr (acceptance answer) → y ≡ x)
       → IsAcceptedBy (acceptance answer) at file
       → (answer ≢ Err resume.FirstFault → Consumes first.left.before first.left.after file)
       → (answer ≢ Err resume.FirstFault → length file ≤ file_size → IsAtEnd first.left.after)
-      → (answer ≢ Err resume.FirstFault → length file ≤ file_size
-      → RoseOnce first.ends.before first.ends.after)
+      → (answer ≢ Err resume.FirstFault → Ends (file_ends (length file)) first.counts.before
+      first.counts.after)
       → (y ≡ x)
-      ⊎ (RoseOnce first.ends.before first.ends.after
+      ⊎ (Ends 1 first.counts.before first.counts.after
       × ((bytes : List ℕ) × ReadsCheckpoint at first.left bytes))
   reads_second (Err resume.FirstFault) same accepted taken end told = inl (same refl)
   reads_second (Err (resume.BadSave byte)) same accepted taken end told = inl (same refl)

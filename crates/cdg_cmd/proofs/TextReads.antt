@@ -1,8 +1,8 @@
 -- From the stop of reading a text to the status of a command.
 use Rattle.std.proofs.Common.{◌≡◌, ◌≢◌, ◌<◌, ◌≤◌, ◌+◌, ℕ, List, [], ◌∷◌, length, None, Some, IfSome, IsErrOf, Ok, Err, refl, sym, ap, subst, arith}
-use Rattle.cdg_io.specs.Causes.{Count, TellsFault}
+use Rattle.cdg_io.specs.Causes.{Tally, TellsFault, ToldUnless}
 use Rattle.cdg_io.specs.Change.{Bytes, change, input}
-use Rattle.cdg_io.specs.Whole.{ConsumesExactly, ReadsWithin, StopsAtFault}
+use Rattle.cdg_io.specs.Whole.{ConsumesExactly, ReadsWithin, StopsAtFault, is_early_read}
 use Rattle.cdg_io.specs.declared.whole.ReadStop.{ReadStop}
 use Rattle.cdg_io.specs.declared.whole.ReadStop.TheVariants as read
 use Rattle.cue_sheet.specs.Answers.{IsCueAnswer}
@@ -24,32 +24,30 @@ use Rattle.cdg_cmd.specs.declared.status.Status.TheVariants.{Done, Damaged, Usag
 use Rattle.cdg_cmd.proofs.TextStops.{known_within, taken_at_fault}
 
 -- what is known where an input was not read whole
-pub record IsUnread {S : Type 0} (left : S → Bytes) (faults : S → ℕ) (ends : S → Count) (before after : S)
-    (stop : ReadStop) : Type 0 where
+pub record IsUnread {S : Type 0} (left : S → Bytes) (faults : S → ℕ) (before after : S) (stop : ReadStop)
+    : Type 0 where
   pub long : stop ≡ read.TooLong → IfSome (left before) (λ text. most_text_bytes < length text)
   pub one_more : stop ≡ read.TooLong → ConsumesExactly (left before) (left after) (most_text_bytes + 1)
-  pub lacking : stop ≡ read.NoMemory → ReadsWithin left ends most_text_bytes before after
+  pub lacking : stop ≡ read.NoMemory → ReadsWithin left most_text_bytes before after
   pub needed : stop ≡ read.NoMemory → IfSome (left before) (λ text. 0 < length text)
   pub cut : stop ≡ read.Failed → StopsAtFault left faults most_text_bytes before after
-  pub untold : stop ≢ read.NoMemory → ends after ≡ ends before
 
 -- the same from the clauses of `read_whole`
-pub unread : {T S : Type 0} (left : S → Bytes) (faults : S → ℕ) (ends : S → Count) (before after : S)
+pub unread : {T S : Type 0} (left : S → Bytes) (faults : S → ℕ) (before after : S)
     (stop : ReadStop)
     → (IsErrOf {T = T} (Err stop) read.TooLong → IfSome (left before) (λ text. most_text_bytes < length text))
     → (IsErrOf {T = T} (Err stop) read.TooLong
     → ConsumesExactly (left before) (left after) (most_text_bytes + 1))
-    → (IsErrOf {T = T} (Err stop) read.NoMemory → ReadsWithin left ends most_text_bytes before after)
+    → (IsErrOf {T = T} (Err stop) read.NoMemory → ReadsWithin left most_text_bytes before after)
     → (IsErrOf {T = T} (Err stop) read.NoMemory → IfSome (left before) (λ text. 0 < length text))
     → (IsErrOf {T = T} (Err stop) read.Failed → StopsAtFault left faults most_text_bytes before after)
-    → (stop ≢ read.NoMemory → ends after ≡ ends before) → IsUnread left faults ends before after stop
-unread left faults ends before after stop long one_more lacking needed cut untold = record {
+    → IsUnread left faults before after stop
+unread left faults before after stop long one_more lacking needed cut = record {
   long = λ e. long (ap Err e);
   one_more = λ e. one_more (ap Err e);
   lacking = λ e. lacking (ap Err e);
   needed = λ e. needed (ap Err e);
   cut = λ e. cut (ap Err e);
-  untold = untold;
 }
 
 -- memory is needed for a text that is not empty, and not too long
@@ -63,9 +61,9 @@ is_within : (left : Bytes) → IfSome left NeedsMemory → IfSome left (λ text.
 is_within None needed = tt
 is_within (Some text) needed = needed.1
 
-module _ {S : Type 0} (left : S → Bytes) (faults : S → ℕ) (ends : S → Count) (before after : S) where
+module _ {S : Type 0} (left : S → Bytes) (faults : S → ℕ) (before after : S) where
   abbrev Unread : ReadStop → Type 0
-  Unread stop = IsUnread left faults ends before after stop
+  Unread stop = IsUnread left faults before after stop
 
   text_at : (which : Which) (stop : ReadStop) → Unread stop
       → IsInputStop which (left before) (read_status which stop)
@@ -73,7 +71,7 @@ module _ {S : Type 0} (left : S → Bytes) (faults : S → ℕ) (ends : S → Co
   text_at which read.TooLong u = u.long refl
   text_at which read.NoMemory u =
       needs_memory (left before) (u.needed refl)
-      (known_within left ends most_text_bytes before after (u.lacking refl))
+      (known_within left most_text_bytes before after (u.lacking refl))
 
   pub no_text : (which : Which) (stop : ReadStop) (status : Status) → status ≡ read_status which stop
       → Unread stop
@@ -92,17 +90,21 @@ module _ {S : Type 0} (left : S → Bytes) (faults : S → ℕ) (ends : S → Co
   takes_unread which stop status is u =
       subst (TakesAtStop (change left before after)) (sym is) (takes which stop u)
 
-  text_ends_at : (which : Which) (stop : ReadStop) → Unread stop
-      → StopEnds (input left ends before after) (read_status which stop)
-  text_ends_at which read.Failed u = u.untold (λ e. cc)
-  text_ends_at which read.TooLong u = u.untold (λ e. cc)
-  text_ends_at which read.NoMemory u = (u.lacking refl).told
+-- how its end was told
+text_ends_at : {T S : Type 0} (left : S → Bytes) (counts : S → Tally) (before after : S) (which : Which)
+    (stop : ReadStop) → ToldUnless {T = T} is_early_read (Err stop) (counts before) (counts after)
+    → StopEnds (input left counts before after) (read_status which stop)
+text_ends_at left counts before after which read.Failed told = told
+text_ends_at left counts before after which read.TooLong told = told
+text_ends_at left counts before after which read.NoMemory told = told
 
-  pub text_ends : (which : Which) (stop : ReadStop) (status : Status) → status ≡ read_status which stop
-      → Unread stop
-      → StopEnds (input left ends before after) status
-  text_ends which stop status is u =
-      subst (StopEnds (input left ends before after)) (sym is) (text_ends_at which stop u)
+pub text_ends : {T S : Type 0} (left : S → Bytes) (counts : S → Tally) (before after : S) (which : Which)
+    (stop : ReadStop) (status : Status) → status ≡ read_status which stop
+    → ToldUnless {T = T} is_early_read (Err stop) (counts before) (counts after)
+    → StopEnds (input left counts before after) status
+text_ends {T} left counts before after which stop status is told =
+    subst (StopEnds (input left counts before after)) (sym is)
+    (text_ends_at {T = T} left counts before after which stop told)
 
 -- What holds where an input gives no text, of the cue sheet, of the script and of the file
 

@@ -1,15 +1,15 @@
--- How often a command comes to the end of an input: the count of told ends rises once, where the input is read to its
--- end, and nowhere else. Where a command makes one call, it is what the answer of this call says.
-use Rattle.std.specs.Prelude.{◌≡◌, ◌⊎◌, ℕ, List, IsErr, IsOk, Result, length}
-use Rattle.std.specs.Io.KnownBytes.{Consumes, IsAtEnd}
-use Rattle.cdg_io.specs.Causes.{Count}
+-- How often a command comes to the end of an input: it is told once, where the input is read to its end, and nowhere else. Where a command makes one call, it is what the answer of this call says.
+use Rattle.std.specs.Prelude.{◌≡◌, ◌≢◌, ◌⊎◌, ℕ, List, IsErr, IsOk, Result, Ok, Err, length}
+use Rattle.std.specs.Io.KnownBytes.{IsAtEnd}
+use Rattle.cdg_io.specs.Causes.{Ends, Tally}
 use Rattle.cdg_io.specs.Change.{Bytes, Input}
 use Rattle.cdg_checkpoint.specs.Resumed.{EndsAsResumed, IsAcceptedBy, ReadsSaved, acceptance}
 use Rattle.cdg_checkpoint.specs.declared.stops.Resumed.{Resumed}
 use Rattle.cdg_checkpoint.specs.declared.stops.ResumeStop.{ResumeStop}
-use Rattle.rw_merge.specs.Merging.{EndsBoth, Told, Untold}
+use Rattle.rw_merge.specs.Merging.{ReadsBoth, full_reads, times_told}
 use Rattle.rw_merge.specs.declared.merge.Merged.{Merged}
 use Rattle.rw_merge.specs.declared.merge.MergeStop.{MergeStop}
+use Rattle.rw_merge.specs.declared.merge.MergeStop.TheVariants.{Unequal}
 use Rattle.stream_stages.specs.Calls.{EndFirst}
 use Rattle.cue_sheet.specs.CueSheet.{CueSheet}
 use Rattle.cdg_cmd.specs.Authors.{IsSheetStop, ReadsSheet, TakesAtStop}
@@ -18,48 +18,58 @@ use Rattle.cdg_cmd.specs.declared.status.Refusal.TheVariants.{TooLong}
 use Rattle.cdg_cmd.specs.declared.status.Status.{Status}
 use Rattle.cdg_cmd.specs.declared.status.Status.TheVariants.{Refused, ReadFault, NoMemory}
 
+-- The end of an input was told so often,
+abbrev pub EndIsTold : ℕ → Input → Type 0
+EndIsTold times input = Ends times input.counts.before input.counts.after
+
+-- or nothing of it was asked for.
+abbrev pub IsUncounted : Input → Type 0
+IsUncounted input = input.counts.after ≡ input.counts.before
+
 -- The status is that of an answer, and the end of an input was told as this answer says.
-pub record EndsAs {A : Type 0} (status_of : A → Status) (told : A → Count → Count → Type 0) (input : Input)
+pub record EndsAs {A : Type 0} (status_of : A → Status) (told : A → Tally → Tally → Type 0) (input : Input)
     (status : Status) : Type 0 where
   pub answer : A
   pub status_is : status ≡ status_of answer
-  pub ended : told answer input.ends.before input.ends.after
+  pub ended : told answer input.counts.before input.counts.after
 
 -- It lists the texts of a lead-in, for which memory may be lacking before it reads and after the end.
 abbrev pub EndsAsListed : Input → Status → Type 0
 EndsAsListed input status =
-    ((status ≡ NoMemory) × (input.left.after ≡ input.left.before) × Untold input.ends)
+    ((status ≡ NoMemory) × (input.left.after ≡ input.left.before) × IsUncounted input)
     ⊎ (EndsAs play_status EndFirst input status × (status ≡ NoMemory → IsAtEnd input.left.after))
 
 -- Of an input that gives no text or file, or one that is refused: its end was told but where it is too long or a read
 -- failed.
 abbrev pub StopEnds : Input → Status → Type 0
-StopEnds input (Refused TooLong) = Untold input.ends
-StopEnds input (ReadFault which) = Untold input.ends
-StopEnds input status = Told input.ends
+StopEnds input (Refused TooLong) = EndIsTold 0 input
+StopEnds input (ReadFault which) = EndIsTold 0 input
+StopEnds input status = EndIsTold 1 input
+
+-- Of an input that is to give a text or a file: the same, or it gives one and its end was told.
+abbrev pub TextEnds : {T : Type 0} → Input → Result T Status → Type 0
+TextEnds input (Ok text) = EndIsTold 1 input
+TextEnds input (Err status) = StopEnds input status
 
 -- The cue sheet of `author` or `press` and then their second input, which may be why they stop, as may the answer to
 -- both.
 pub data TextsEnd {A : Type 0} (is_second_stop : Bytes → Status → Type 0) (status_of : A → Status)
     (sheet second : Input) (status : Status) : Type 0 where
   AtSheet : IsSheetStop sheet.left.before status → StopEnds sheet status
-      → second.left.after ≡ second.left.before → Untold second.ends
+      → second.left.after ≡ second.left.before → IsUncounted second
       → TextsEnd is_second_stop status_of sheet second status
-  AtSecond : (text : CueSheet) → ReadsSheet sheet.left text → Told sheet.ends
+  AtSecond : (text : CueSheet) → ReadsSheet sheet.left text → EndIsTold 1 sheet
       → is_second_stop second.left.before status → TakesAtStop second.left status → StopEnds second status
       → TextsEnd is_second_stop status_of sheet second status
-  AfterBoth : Told sheet.ends → IsAtEnd second.left.after → Told second.ends → (answer : A)
+  AfterBoth : EndIsTold 1 sheet → IsAtEnd second.left.after → EndIsTold 1 second → (answer : A)
       → status ≡ status_of answer → TextsEnd is_second_stop status_of sheet second status
 
 -- two readings, which are read in turn
 pub record ReadingsEnd (one other : Input) (status : Status) : Type 0 where
   pub answer : Result Merged MergeStop
   pub status_is : status ≡ merge_status answer
-  pub taken : List ℕ
-  pub other_taken : List ℕ
-  pub took : Consumes one.left.before one.left.after taken
-  pub other_took : Consumes other.left.before other.left.after other_taken
-  pub ended : EndsBoth answer (length taken) (length other_taken) one.ends other.ends
+  pub reads : ReadsBoth (λ xs ys. (blocks : ℕ) → answer ≡ Err (Unequal blocks) → length xs ≢ length ys)
+      (times_told answer) full_reads one other
 
 -- the file of a checkpoint, and the rest of its stream, which is read only where the file is accepted
 pub record ResumeEnds (at : ℕ) (saved rest : Input) (status : Status) : Type 0 where
@@ -68,13 +78,13 @@ pub record ResumeEnds (at : ℕ) (saved rest : Input) (status : Status) : Type 0
   pub file : List ℕ
   pub accepted : IsAcceptedBy (acceptance answer) at file
   pub reads : ReadsSaved saved answer file
-  pub unread : IsErr (acceptance answer) → Untold rest.ends
-  pub ended : IsOk (acceptance answer) → EndsAsResumed answer rest.ends.before rest.ends.after
+  pub unread : IsErr (acceptance answer) → IsUncounted rest
+  pub ended : IsOk (acceptance answer) → EndsAsResumed answer rest.counts.before rest.counts.after
 
 -- a command that does not read it
 abbrev pub NeverEnds : Input → Status → Type 0
-NeverEnds input status = Untold input.ends
+NeverEnds input status = IsUncounted input
 
 -- Of a command that reads no second input: the end of its first is told so.
 abbrev pub FirstEnds : (Input → Status → Type 0) → Input → Input → Status → Type 0
-FirstEnds ends one other status = ends one status × Untold other.ends
+FirstEnds ends one other status = ends one status × IsUncounted other

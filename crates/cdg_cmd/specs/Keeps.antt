@@ -1,6 +1,6 @@
 -- What a command leaves as it is.
 use Rattle.std.specs.Prelude.{◌≡◌, ◌≢◌, ◌⊎◌, ⊤}
-use Rattle.cdg_io.specs.Causes.{RoseOnce}
+use Rattle.cdg_io.specs.Causes.{Ends}
 use Rattle.cdg_io.specs.Change.{Bytes, Change, Input}
 use Rattle.cdg_cmd.specs.Profile.{AsItGoes, AtTheEnd, InTurn, MemoryUse, NoInput, ReadingOrder, SecondAfter, TakesLater, TakesNothing, WritingTime, profile}
 use Rattle.cdg_cmd.specs.declared.command.Command.{Command}
@@ -21,7 +21,7 @@ ReachesSecond order first = ⊥
 -- it may be read: in turn with the first, or only after the end of the first was told
 abbrev pub MayReachSecond : ReadingOrder → Input → Type 0
 MayReachSecond InTurn first = ⊤
-MayReachSecond (SecondAfter holds) first = RoseOnce first.ends.before first.ends.after × holds first.left
+MayReachSecond (SecondAfter holds) first = Ends 1 first.counts.before first.counts.after × holds first.left
 MayReachSecond order first = ⊥
 
 -- it reads no input

@@ -3,12 +3,12 @@
 // an author and a trial count themselves.
 ghost use Rattle.std.specs.Prelude.{◌≡◌, ◌≢◌, ◌≤◌, ◌<◌, ◌↔◌, ℕ, List, Ok, Err, IfErr, IfOk, IfSome, IsTrue, OnOk, length};
 ghost use Rattle.std.specs.Io.KnownBytes.{Appends, IsAtEnd};
-ghost use Rattle.cdg_io.specs.Causes.{HasCause, RoseOnce, TellsFault};
+ghost use Rattle.cdg_io.specs.Causes.{HasCause, TellsFault};
 ghost use Rattle.cdg_io.specs.Change.{change, input, passed};
 ghost use Rattle.cdg_io.specs.Moves.{AppendsPrefix};
 ghost use Rattle.cdg_cmd.specs.Answer.{IsListAnswer};
 ghost use Rattle.cdg_cmd.specs.Authors.{IsInputStop, IsPutFor, TakesAtStop};
-ghost use Rattle.cdg_cmd.specs.Ends.{StopEnds};
+ghost use Rattle.cdg_cmd.specs.Ends.{TextEnds};
 ghost use Rattle.cdg_cmd.specs.Presses.{IsPressedFor};
 ghost use Rattle.cdg_press.specs.Pressed.{press_of};
 ghost use Rattle.cdg_press.specs.Refusals.{IsShort};
@@ -121,7 +121,7 @@ impl CountedMemory {
         ensures untouched { IfErr result (λ stop. stop ≢ PlayStop.WriteFault → out.new ≡ out.old) }
         ensures faults { TellsStops (S.faults source.old) (S.faults source.new)
             (K.faults out.old) (K.faults out.new) result }
-        ensures ended { EndFirst result (S.ends source.old) (S.ends source.new) }
+        ensures ended { EndFirst result (S.counts source.old) (S.counts source.new) }
         ensures counted { TellsFault (play.Text fault.NoMemory) self.old self.new result }
     {
         let listed = lister.text_list(self.alloc, lead_in, form, source, out);
@@ -143,8 +143,7 @@ impl CountedMemory {
         ensures fault { TellsFault (Status.ReadFault which)
             (S.faults source.old) (S.faults source.new) result }
         ensures wants { TellsFault Status.NoMemory self.old self.new result }
-        ensures told { OnOk result (RoseOnce (S.ends source.old) (S.ends source.new)) }
-        ensures once { IfErr result (StopEnds (input S.left S.ends source.old source.new)) }
+        ensures told { TextEnds (input S.left S.counts source.old source.new) result }
     {
         match read_whole(self.alloc, source, MOST_TEXT_BYTES) {
             Ok(text) => Ok(text),

@@ -8,7 +8,7 @@ ghost use Rattle.cdg_cmd.specs.Ends.{EndsAs, ReadingsEnd, ResumeEnds};
 ghost use Rattle.cdg_cmd.specs.Faults.{TellsFaults, TellsOne, TellsWant};
 ghost use Rattle.cdg_cmd.specs.Keeps.{MayWrite, MayReadSecond};
 ghost use Rattle.cdg_cmd.specs.Stops.{pump_status, thin_status};
-ghost use Rattle.cdg_io.specs.Pump.{TellsEndOf};
+ghost use Rattle.cdg_io.specs.Pump.{TellsUnits};
 ghost use Rattle.cdg_checkpoint.specs.Saved.{EndsAsSaved};
 
 use crate::memory::CountedMemory;
@@ -35,8 +35,8 @@ pub(crate) fn run_merge<S: Source, T: Source, K: Sink>(
     ensures never { result ≢ Status.Usage }
     ensures faults { TellsFaults (call S.faults T.faults K.faults (first.old, second.old, out.old)
         (first.new, second.new, out.new)) result }
-    ensures ended { ReadingsEnd (input S.left S.ends first.old first.new)
-        (input T.left T.ends second.old second.new) result }
+    ensures ended { ReadingsEnd (input S.left S.counts first.old first.new)
+        (input T.left T.counts second.old second.new) result }
 {
     merge_status(Merger::new().run(lead_in, first, second, out))
 }
@@ -54,7 +54,7 @@ pub(crate) fn run_thin<S: Source, K: Sink>(
     ensures faults { TellsOne (change S.faults source.old source.new)
         (change K.faults out.old out.new) result }
     ensures ended { result ≢ Status.NoMemory
-        → EndsAs thin_status TellsEndOf (input S.left S.ends source.old source.new) result }
+        → EndsAs thin_status (TellsUnits most_file_packs) (input S.left S.counts source.old source.new) result }
     ensures wants { TellsWant memory.old memory.new result }
 {
     match memory.thinner() {
@@ -79,7 +79,7 @@ pub(crate) fn run_save<S: Source, K: Sink>(
     ensures faults { TellsOne (change S.faults source.old source.new)
         (change K.faults out.old out.new) result }
     ensures ended { result ≢ Status.NoMemory
-        → EndsAs pump_status EndsAsSaved (input S.left S.ends source.old source.new) result }
+        → EndsAs pump_status EndsAsSaved (input S.left S.counts source.old source.new) result }
     ensures wants { TellsWant memory.old memory.new result }
 {
     match memory.checkpointer() {
@@ -105,11 +105,11 @@ pub(crate) fn run_resume<S: Source, T: Source, K: Sink>(
     ensures never { result ≢ Status.Usage }
     ensures untouched { ¬ (MayWrite result) → out.new ≡ out.old }
     ensures second { (second.new ≡ second.old)
-        ⊎ MayReadSecond (Command.Resume at) (input S.left S.ends first.old first.new) }
+        ⊎ MayReadSecond (Command.Resume at) (input S.left S.counts first.old first.new) }
     ensures faults { TellsFaults (call S.faults T.faults K.faults (first.old, second.old, out.old)
         (first.new, second.new, out.new)) result }
-    ensures ended { result ≢ Status.NoMemory → ResumeEnds at (input S.left S.ends first.old first.new)
-        (input T.left T.ends second.old second.new) result }
+    ensures ended { result ≢ Status.NoMemory → ResumeEnds at (input S.left S.counts first.old first.new)
+        (input T.left T.counts second.old second.new) result }
     ensures wants { TellsWant memory.old memory.new result }
 {
     match memory.checkpointer() {
@@ -132,7 +132,7 @@ pub(crate) fn run_scratch<S: Source, K: Sink>(
     ensures memory { result ≢ Status.NoMemory }
     ensures faults { TellsOne (change S.faults source.old source.new)
         (change K.faults out.old out.new) result }
-    ensures ended { EndsAs pump_status TellsEndOf (input S.left S.ends source.old source.new) result }
+    ensures ended { EndsAs pump_status (TellsUnits most_units) (input S.left S.counts source.old source.new) result }
 {
     pump_status(scratch(lead_in, seed, source, out))
 }
@@ -145,7 +145,7 @@ pub(crate) fn run_planar<S: Source, K: Sink>(source: &mut S, out: &mut K) -> Sta
     ensures memory { result ≢ Status.NoMemory }
     ensures faults { TellsOne (change S.faults source.old source.new)
         (change K.faults out.old out.new) result }
-    ensures ended { EndsAs pump_status TellsEndOf (input S.left S.ends source.old source.new) result }
+    ensures ended { EndsAs pump_status (TellsUnits most_units) (input S.left S.counts source.old source.new) result }
 {
     pump_status(pump(source, MOST_UNITS, &mut PlanarForms, out))
 }
@@ -158,7 +158,7 @@ pub(crate) fn run_raw<S: Source, K: Sink>(source: &mut S, out: &mut K) -> Status
     ensures memory { result ≢ Status.NoMemory }
     ensures faults { TellsOne (change S.faults source.old source.new)
         (change K.faults out.old out.new) result }
-    ensures ended { EndsAs pump_status TellsEndOf (input S.left S.ends source.old source.new) result }
+    ensures ended { EndsAs pump_status (TellsUnits most_units) (input S.left S.counts source.old source.new) result }
 {
     pump_status(pump(source, MOST_UNITS, &mut BlockForms, out))
 }

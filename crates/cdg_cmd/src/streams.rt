@@ -31,7 +31,7 @@ pub(crate) fn run_convert<S: Source, K: Sink>(
     ensures memory { result ≢ Status.NoMemory }
     ensures faults { TellsOne (change S.faults source.old source.new)
         (change K.faults out.old out.new) result }
-    ensures ended { EndsAs play_status EndInTurn (input S.left S.ends source.old source.new) result }
+    ensures ended { EndsAs play_status EndInTurn (input S.left S.counts source.old source.new) result }
 {
     play_status(Converter::new().convert(lead_in, form, source, out))
 }
@@ -51,7 +51,7 @@ pub(crate) fn run_check<S: Source, K: Sink>(
     ensures untouched { ¬ (MayWrite result) → out.new ≡ out.old }
     ensures faults { TellsOne (change S.faults source.old source.new)
         (change K.faults out.old out.new) result }
-    ensures ended { EndsAs play_status EndFirst (input S.left S.ends source.old source.new) result }
+    ensures ended { EndsAs play_status EndFirst (input S.left S.counts source.old source.new) result }
 {
     play_status(Checker::new().check(lead_in, form, source, out))
 }
@@ -71,7 +71,7 @@ pub(crate) fn run_q<S: Source, K: Sink>(
     ensures memory { result ≢ Status.NoMemory }
     ensures faults { TellsOne (change S.faults source.old source.new)
         (change K.faults out.old out.new) result }
-    ensures ended { EndsAs play_status EndInTurn (input S.left S.ends source.old source.new) result }
+    ensures ended { EndsAs play_status EndInTurn (input S.left S.counts source.old source.new) result }
 {
     play_status(list_frames(lead_in, form, source, out))
 }
@@ -95,7 +95,7 @@ pub(crate) fn run_text<S: Source, K: Sink>(
     ensures untouched { ¬ (MayWrite result) → out.new ≡ out.old }
     ensures faults { TellsOne (change S.faults source.old source.new)
         (change K.faults out.old out.new) result }
-    ensures ended { EndsAsListed (input S.left S.ends source.old source.new) result }
+    ensures ended { EndsAsListed (input S.left S.counts source.old source.new) result }
     ensures wants { TellsWant memory.old memory.new result }
 {
     match memory.lister() {
@@ -125,7 +125,7 @@ pub(crate) fn run_screen<S: Source, K: Sink>(
     ensures faults { TellsOne (change S.faults source.old source.new)
         (change K.faults out.old out.new) result }
     ensures ended { result ≢ Status.NoMemory
-        → EndsAs play_status EndFirst (input S.left S.ends source.old source.new) result }
+        → EndsAs play_status EndFirst (input S.left S.counts source.old source.new) result }
     ensures wants { TellsWant memory.old memory.new result }
 {
     match memory.viewer() {
@@ -153,7 +153,7 @@ pub(crate) fn run_state<S: Source, K: Sink>(
     ensures faults { TellsOne (change S.faults source.old source.new)
         (change K.faults out.old out.new) result }
     ensures ended { result ≢ Status.NoMemory
-        → EndsAs play_status EndFirst (input S.left S.ends source.old source.new) result }
+        → EndsAs play_status EndFirst (input S.left S.counts source.old source.new) result }
     ensures wants { TellsWant memory.old memory.new result }
 {
     match memory.viewer() {

@@ -94,7 +94,7 @@ pub fn run<S: Source, T: Source, K: Sink, E: Sink>(
         → (first.new ≡ first.old) × (second.new ≡ second.old) × (out.new ≡ out.old)) }
     // What the command reads, writes and answers.
     ensures performs { (command : Command) → Spells command (texts words.now) → Performs command
-        (input S.left S.ends first.old first.new) (input T.left T.ends second.old second.new)
+        (input S.left S.counts first.old first.new) (input T.left T.counts second.old second.new)
         (change K.held out.old out.new) (first.old, second.old, out.old)
         (first.new, second.new, out.new) result }
     // A fault is told only where that count of faults rose, and no other count rises.
@@ -185,7 +185,7 @@ fn answer<S: Source, T: Source, K: Sink>(
     ensures untouched { result ≡ Status.Usage
         → (first.new ≡ first.old) × (second.new ≡ second.old) × (out.new ≡ out.old) }
     ensures performs { (command : Command) → Spells command (texts words.now) → Performs command
-        (input S.left S.ends first.old first.new) (input T.left T.ends second.old second.new)
+        (input S.left S.counts first.old first.new) (input T.left T.counts second.old second.new)
         (change K.held out.old out.new) (first.old, second.old, out.old)
         (first.new, second.new, out.new) result }
     ensures faults { TellsFaults (call S.faults T.faults K.faults (first.old, second.old, out.old)
@@ -208,7 +208,7 @@ fn perform<S: Source, T: Source, K: Sink>(
     requires { IsAllowed command }
     ensures never { result ≢ Status.Usage }
     ensures performs { Performs command
-        (input S.left S.ends first.old first.new) (input T.left T.ends second.old second.new)
+        (input S.left S.counts first.old first.new) (input T.left T.counts second.old second.new)
         (change K.held out.old out.new) (first.old, second.old, out.old)
         (first.new, second.new, out.new) result }
     ensures faults { TellsFaults (call S.faults T.faults K.faults (first.old, second.old, out.old)

@@ -73,7 +73,7 @@ impl Thinner {
         // thin form.
         ensures whole { IfSome (S.left source.old)
             (λ all. ThinsAll all (change K.held out.old out.new) result) }
-        ensures reads { ReadsUnits (telling S.left S.faults S.ends S.fills) symbols_a_slot most_file_packs
+        ensures reads { ReadsUnits (telling S.left S.faults S.counts) symbols_a_slot most_file_packs
             source.old source.new result }
         ensures write_fault { TellsFault PumpStop.WriteFault
             (K.faults out.old) (K.faults out.new) result }

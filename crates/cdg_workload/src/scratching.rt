@@ -134,7 +134,7 @@ pub fn scratch<S: Source, K: Sink>(
     requires { lead_in ≤ most_lead_in }
     ensures scratches { (taken : List ℕ) × Streams (scratching lead_in seed)
         (passed S.left K.held (source.old, out.old) (source.new, out.new)) result taken }
-    ensures reads { ReadsUnits (telling S.left S.faults S.ends S.fills) block_bytes most_units source.old
+    ensures reads { ReadsUnits (telling S.left S.faults S.counts) block_bytes most_units source.old
         source.new result }
     ensures write_fault { TellsFault PumpStop.WriteFault (K.faults out.old) (K.faults out.new) result }
 {

@@ -174,8 +174,8 @@ pub(crate) fn run_over<S: Source, T: Source, K: Sink>(
     out: &mut K,
 ) -> Status
     ensures performs { (command : Command) → Spells command (texts words.now) → Performs command
-        (input S.left S.ends first.old.input first.new.input)
-        (input T.left T.ends second.old.input second.new.input)
+        (input S.left S.counts first.old.input first.new.input)
+        (input T.left T.counts second.old.input second.new.input)
         (change K.held out.old out.new) (first.old.input, second.old.input, out.old)
         (first.new.input, second.new.input, out.new) result }
 {

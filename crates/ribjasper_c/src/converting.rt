@@ -187,11 +187,3 @@ pub(crate) fn stream_form(form: u32) -> Form
         form_of(form)
     }
 }
-
-/// Writes bytes to the front of a room.
-pub(crate) fn copy_front(text: &[u8], packs: &mut [u8])
-    requires { length text.now ≤ length packs.old }
-    ensures { packs.new ≡ text.now ++ drop (length text.now) packs.old }
-{
-    packs[..text.len()].copy_from_slice(text);
-}

@@ -13,9 +13,9 @@ ghost use Rattle.stream_stages.specs.TextListing.{packs_in, IsTextFault, IsTextL
 use crate::answers::{
     DONE, NO_MEMORY, REFUSED, TEXT_MALFORMED, TEXT_MISSING, TEXT_NO_SIZE, USAGE, WRITE_FAULT,
 };
-use crate::converting::{copy_front, stream_form};
+use crate::converting::stream_form;
 use block_survey::{block_at, unit_bytes};
-use cdg_io::{Failed, Sink, Stage};
+use cdg_io::{Failed, Sink, Stage, copy_front};
 use cdtext_packs::{LeadInTexts, TextFault, TextMap, lead_in_packs_are_read, write_lines};
 use disc_time::MOST_LEAD_IN;
 use raw_subcode::{BLOCK_BYTES, Block, Form, MOST_UNITS};
@@ -98,7 +98,7 @@ pub extern "C" fn ribjasper_texts(
     if lines.len() > out.len() {
         return WRITE_FAULT;
     }
-    copy_front(&lines, out);
+    copy_front(out, &lines);
     *told = Listed {
         bytes: lines.len() as u64,
         seq: 0,

@@ -1,10 +1,9 @@
 -- What a merge of two readings of a stream takes, writes and answers.
-use Rattle.std.specs.Prelude.{◌≡◌, ◌≢◌, ◌⊎◌, ℕ, ◌+◌, ◌-◌, ◌*◌, ◌/◌, ◌%◌, ◌<◌, ◌≤◌, ⊤, min, List, length, take, slice_index_or, Option, None, Result, Ok, Err, IfOk}
+use Rattle.std.specs.Prelude.{◌≡◌, ◌≢◌, ◌⊎◌, ℕ, ◌+◌, ◌-◌, ◌*◌, ◌/◌, ◌%◌, ◌<◌, ◌≤◌, ⊤, min, List, length, take, slice_index_or, nat_lt, if◌then◌else◌, Option, None, Result, Ok, Err, IfOk}
 use Rattle.std.specs.Io.KnownBytes.{Appends, Consumes, IsAtEnd}
-use Rattle.cdg_io.specs.Causes.{Count, RoseOnce}
-use Rattle.cdg_io.specs.Change.{Bytes, Change, change}
+use Rattle.cdg_io.specs.Causes.{Tells}
+use Rattle.cdg_io.specs.Change.{Bytes, Change, Input}
 use Rattle.cdg_io.specs.Moves.{AppendsBetween}
-use Rattle.cdg_io.specs.Pump.{RoseBy}
 use Rattle.raw_subcode.specs.Channels.{program_symbols}
 use Rattle.raw_subcode.specs.Sizes.{block_bytes, most_units}
 use Rattle.raw_subcode.specs.declared.form.Form.TheVariants.{Raw}
@@ -109,65 +108,37 @@ EndsSecond (Ok merged) left = IsAtEnd left
 EndsSecond (Err (SecondTorn block)) left = IsAtEnd left
 EndsSecond (Err stop) left = ⊤
 
--- The end of an input was told once,
-abbrev pub Told : Change Count → Type 0
-Told ends = RoseOnce ends.before ends.after
+-- How often the end of an input is told, of which so many bytes were taken in turn with another: once where no more
+-- were taken of it than of the other, and else not.
+abbrev pub unless_ahead : ℕ → ℕ → ℕ
+unless_ahead bytes other_bytes = if nat_lt other_bytes bytes then 0 else 1
 
--- or was not told.
-abbrev pub Untold : Change Count → Type 0
-Untold ends = ends.after ≡ ends.before
-
--- Of two inputs, of which so many bytes were taken in turn: the end of this one was told once where no more of it were
--- taken than of the other, and else not.
-abbrev pub ToldUnlessAhead : ℕ → ℕ → Change Count → Type 0
-ToldUnlessAhead bytes other_bytes ends = (bytes ≤ other_bytes → Told ends)
-    × (other_bytes < bytes → Untold ends)
-
--- How often the ends of two readings were told where a merge stopped after so many bytes of each. A block of the first
--- is asked for and then one of the second, and of neither once its end is told.
-abbrev pub EndsAtStop : MergeStop → ℕ → ℕ → Change Count → Change Count → Type 0
-EndsAtStop (Torn block) one other first second = Told first × Untold second
-EndsAtStop (SecondTorn block) one other first second = ToldUnlessAhead one other first × Told second
-EndsAtStop (Unequal blocks) one other first second = ((one < other) × Told first × Untold second)
-    ⊎ ((other < one) × Untold first × Told second)
-EndsAtStop TooLong one other first second = ToldUnlessAhead one other first × Untold second
-EndsAtStop SecondFault one other first second = ToldUnlessAhead one other first × Untold second
-EndsAtStop FirstFault one other first second = Untold first × Untold second
-EndsAtStop WriteFault one other first second = Untold first × Untold second
-
--- And where it is done both ends were told.
-abbrev pub EndsBoth : {A : Type 0} → Result A MergeStop → ℕ → ℕ → Change Count → Change Count → Type 0
-EndsBoth (Ok done) one other first second = Told first × Told second
-EndsBoth (Err stop) one other first second = EndsAtStop stop one other first second
+-- How often the ends of two readings are told where a merge is done or stops after so many bytes of each. A block of the
+-- first is asked for and then one of the second, and of neither once its end is told.
+abbrev pub times_told : {A : Type 0} → Result A MergeStop → ℕ → ℕ → ℕ × ℕ
+times_told (Ok done) one other = (1, 1)
+times_told (Err (Torn block)) one other = (1, 0)
+times_told (Err (SecondTorn block)) one other = (unless_ahead one other, 1)
+times_told (Err (Unequal blocks)) one other = (unless_ahead one other, unless_ahead other one)
+times_told (Err TooLong) one other = (unless_ahead one other, 0)
+times_told (Err SecondFault) one other = (unless_ahead one other, 0)
+times_told (Err FirstFault) one other = (0, 0)
+times_told (Err WriteFault) one other = (0, 0)
 
 -- how many reads are filled by so many bytes: one by each whole block, and one by the byte past the most
 abbrev pub full_reads : ℕ → ℕ
 full_reads bytes = bytes / block_bytes + (bytes - most_units * block_bytes)
 
--- an input that is read: its bytes, how often its end was told, and how often a read gave all that it had room for
-pub record ReadInput : Type 0 where
-  pub left : Change Bytes
-  pub ends : Change Count
-  pub fills : Change Count
-
--- what is seen of it
-abbrev pub read_input : {S : Type 0} → (S → Bytes) → (S → Count) → (S → Count) → S → S → ReadInput
-read_input left ends fills before after = record {
-  left = change left before after;
-  ends = change ends before after;
-  fills = change fills before after;
-}
-
 -- Of two inputs these bytes were taken, of which the first holds; of so many bytes of each the second says how often the
 -- ends were told, and the third how many reads were filled.
-pub record ReadsBoth (holds : List ℕ → List ℕ → Type 0)
-    (ends : ℕ → ℕ → Change Count → Change Count → Type 0) (reads : ℕ → ℕ)
-    (first second : ReadInput) : Type 0 where
+pub record ReadsBoth (holds : List ℕ → List ℕ → Type 0) (told : ℕ → ℕ → ℕ × ℕ) (reads : ℕ → ℕ)
+    (first second : Input) : Type 0 where
   pub taken : List ℕ
   pub other_taken : List ℕ
   pub took : Consumes first.left.before first.left.after taken
   pub other_took : Consumes second.left.before second.left.after other_taken
   pub said : holds taken other_taken
-  pub ended : ends (length taken) (length other_taken) first.ends second.ends
-  pub filled : RoseBy (reads (length taken)) first.fills.before first.fills.after
-  pub other_filled : RoseBy (reads (length other_taken)) second.fills.before second.fills.after
+  pub counts : Tells (told (length taken) (length other_taken)).0 (reads (length taken)) first.counts.before
+      first.counts.after
+  pub other_counts : Tells (told (length taken) (length other_taken)).1 (reads (length other_taken))
+      second.counts.before second.counts.after

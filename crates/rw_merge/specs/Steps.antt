@@ -6,10 +6,10 @@ use Rattle.raw_subcode.specs.Channels.{symbols_of}
 use Rattle.rw_interleave.specs.Gathering.{gather_next, gather_gives}
 use Rattle.cdg_io.specs.Run.{run_state, run_gives}
 use Rattle.rw_merge.specs.Agreement.{IsAgreement}
-use Rattle.cdg_io.specs.Causes.{Count, FillsRoom, HasCause, Rose, TellsEnd}
-use Rattle.cdg_io.specs.Change.{Change}
+use Rattle.cdg_io.specs.Causes.{HasCause, Rose, TellsRead}
+use Rattle.cdg_io.specs.Change.{Change, Input}
 use Rattle.cdg_io.specs.Moves.{ConsumesBelow}
-use Rattle.rw_merge.specs.Merging.{EndsAtStop, EndsBoth, ReadInput, ReadsBoth, Told, Untold}
+use Rattle.rw_merge.specs.Merging.{ReadsBoth, times_told}
 use Rattle.rw_merge.specs.declared.merge.Merged.{Merged}
 use Rattle.rw_merge.specs.declared.merge.MergeStop.{MergeStop}
 use Rattle.rw_merge.specs.declared.merge.MergeStop.TheVariants.{FirstFault, SecondFault, WriteFault, TooLong, Torn, SecondTorn, Unequal}
@@ -75,27 +75,26 @@ IsEndRead (Err FirstFault) first second = (first.bytes ≡ []) × (second.bytes 
 IsEndRead (Err SecondFault) first second = (first.bytes ≡ []) × (second.bytes ≡ [])
 IsEndRead (Err stop) first second = ⊥
 
--- How often the ends of both inputs were told by then.
-abbrev pub EndsOfPair : Result Bool MergeStop → ℕ → ℕ → Change Count → Change Count → Type 0
-EndsOfPair (Ok true) one other first second = Untold first × Untold second
-EndsOfPair (Ok false) one other first second = Told first × Told second
-EndsOfPair (Err stop) one other first second = EndsAtStop stop one other first second
+-- how often the ends of both inputs were told by then
+abbrev pub told_of_pair : Result Bool MergeStop → ℕ → ℕ → ℕ × ℕ
+told_of_pair (Ok true) one other = (0, 0)
+told_of_pair result one other = times_told result one other
 
 -- A pair of blocks was asked for after so many: what was read, and where both are whole, that these are the blocks.
-abbrev pub ReadsPair : ℕ → Result Bool MergeStop → List ℕ → List ℕ → ReadInput → ReadInput → Type 0
+abbrev pub ReadsPair : ℕ → Result Bool MergeStop → List ℕ → List ℕ → Input → Input → Type 0
 ReadsPair block result one other first second = ReadsBoth
     (λ xs ys. IsPairRead block result (taken_of xs first.left.after) (taken_of ys second.left.after)
     × (result ≡ Ok true → (xs ≡ one) × (ys ≡ other)))
-    (EndsOfPair result) (λ bytes. bytes / block_bytes) first second
+    (told_of_pair result) (λ bytes. bytes / block_bytes) first second
 
 -- A byte of each was asked for, where nothing more may follow.
-abbrev pub ReadsNoMore : Result (Unit {0}) MergeStop → ReadInput → ReadInput → Type 0
+abbrev pub ReadsNoMore : Result (Unit {0}) MergeStop → Input → Input → Type 0
 ReadsNoMore result first second = ReadsBoth
     (λ xs ys. IsEndRead result (taken_of xs first.left.after) (taken_of ys second.left.after))
-    (EndsBoth result) (λ bytes. bytes) first second
+    (times_told result) (λ bytes. bytes) first second
 
 -- So many bytes of an input were asked for: these came, the last of it where they are fewer, or a read failed.
-pub record AsksFor {E : Type 0} (size : ℕ) (input : ReadInput) (faults : Change ℕ) (result : Result ℕ E)
+pub record AsksFor {E : Type 0} (size : ℕ) (input : Input) (faults : Change ℕ) (result : Result ℕ E)
     (room : List ℕ) : Type 0 where
   pub size_is : length room ≡ size
   pub within : IfOk result (λ n. n ≤ size)
@@ -103,8 +102,7 @@ pub record AsksFor {E : Type 0} (size : ℕ) (input : ReadInput) (faults : Chang
   pub end : IfOk result (λ n. n < size → IsAtEnd input.left.after)
   pub part : OnErr result (ConsumesBelow input.left.before input.left.after size)
   pub cause : HasCause faults.before faults.after result
-  pub told : TellsEnd size input.ends.before input.ends.after result
-  pub filled : FillsRoom size input.fills.before input.fills.after result
+  pub counts : TellsRead size size input.counts.before input.counts.after result
 
 -- A count of faults rose,
 abbrev pub Rises : Change ℕ → Type 0

@@ -4,10 +4,10 @@ ghost use Rattle.std.specs.List.{concat};
 ghost use Rattle.std.specs.declared.option.Option.{Option};
 ghost use Rattle.disc_time.specs.Counts.{most_lead_in};
 ghost use Rattle.cdg_io.specs.Causes.{TellsFault};
-ghost use Rattle.cdg_io.specs.Change.{change};
+ghost use Rattle.cdg_io.specs.Change.{change, input};
 ghost use Rattle.rw_interleave.specs.Stream.{bad_count};
 ghost use Rattle.rw_interleave.specs.Texts.{cdg_bytes};
-ghost use Rattle.rw_merge.specs.Merging.{EndsBoth, EndsSecond, FirstIsAtEnd, IsAnswer, IsMergedText, Merges, ReadsBoth, full_reads, read_input};
+ghost use Rattle.rw_merge.specs.Merging.{EndsSecond, FirstIsAtEnd, IsAnswer, IsMergedText, Merges, ReadsBoth, full_reads, times_told};
 ghost use Rattle.rw_merge.specs.Readings.{IsDamagedTwice, IsReadTwice, MergeRestores};
 ghost use Rattle.rw_merge.specs.Steps.{AreAgreements, CountsFaults, leading_slots, window_after, words_after};
 ghost use Rattle.raw_subcode.specs.Sizes.{slots_a_block};
@@ -118,9 +118,9 @@ impl Merger {
         out: &mut K,
     ) -> Result<Merged, MergeStop>
         requires { lead_in ≤ most_lead_in }
-        ensures merges { ReadsBoth (Merges lead_in (change K.held out.old out.new) result) (EndsBoth result)
-            full_reads (read_input S.left S.ends S.fills first.old first.new)
-            (read_input T.left T.ends T.fills second.old second.new) }
+        ensures merges { ReadsBoth (Merges lead_in (change K.held out.old out.new) result) (times_told result)
+            full_reads (input S.left S.counts first.old first.new)
+            (input T.left T.counts second.old second.new) }
         // Every pack comes back where both readings together have enough of each word.
         ensures restores { IfSome (S.left first.old) (λ xs. IfSome (T.left second.old) (λ ys.
             (blocks : ℕ) (packs : List (List ℕ)) → IsReadTwice lead_in blocks packs xs ys
@@ -158,9 +158,9 @@ impl Merger {
         requires lead_in { lead_in ≤ most_lead_in }
         requires first { self.old.first ≡ [] }
         requires second { self.old.second ≡ [] }
-        ensures merges { ReadsBoth (Merges lead_in (change K.held out.old out.new) result) (EndsBoth result)
-            full_reads (read_input S.left S.ends S.fills first.old first.new)
-            (read_input T.left T.ends T.fills second.old second.new) }
+        ensures merges { ReadsBoth (Merges lead_in (change K.held out.old out.new) result) (times_told result)
+            full_reads (input S.left S.counts first.old first.new)
+            (input T.left T.counts second.old second.new) }
         ensures answer { IfSome (S.left first.old) (λ xs. IfSome (T.left second.old) (λ ys.
             IsAnswer lead_in result (length xs) (length ys))) }
         ensures ends { FirstIsAtEnd result (S.left first.new) × EndsSecond result (T.left second.new) }

@@ -1,8 +1,7 @@
 // Pairs of blocks, one of each input, in turn.
 ghost use Rattle.std.specs.Prelude.{◌≡◌};
 ghost use Rattle.std.specs.Io.KnownBytes.{Keeps};
-ghost use Rattle.cdg_io.specs.Change.{change};
-ghost use Rattle.rw_merge.specs.Merging.{read_input};
+ghost use Rattle.cdg_io.specs.Change.{change, input};
 ghost use Rattle.rw_merge.specs.Steps.{CountsReadFaults, ReadsNoMore, ReadsPair};
 
 use crate::blocks::{next_block, next_byte};
@@ -23,8 +22,8 @@ pub(crate) fn next_pair<S: Source, T: Source, K: Sink>(
     out: &mut K,
 ) -> Result<bool, MergeStop>
     ensures pair { ReadsPair block result one.new other.new
-        (read_input S.left S.ends S.fills first.old first.new)
-        (read_input T.left T.ends T.fills second.old second.new) }
+        (input S.left S.counts first.old first.new)
+        (input T.left T.counts second.old second.new) }
     ensures faults { CountsReadFaults result (change S.faults first.old first.new)
         (change T.faults second.old second.new) }
     ensures keeps { Keeps (K.held out.old) (K.held out.new) }
@@ -61,8 +60,8 @@ pub(crate) fn nothing_follows<S: Source, T: Source>(
     first: &mut S,
     second: &mut T,
 ) -> Result<(), MergeStop>
-    ensures end { ReadsNoMore result (read_input S.left S.ends S.fills first.old first.new)
-        (read_input T.left T.ends T.fills second.old second.new) }
+    ensures end { ReadsNoMore result (input S.left S.counts first.old first.new)
+        (input T.left T.counts second.old second.new) }
     ensures faults { CountsReadFaults result (change S.faults first.old first.new)
         (change T.faults second.old second.new) }
 {

@@ -1,12 +1,12 @@
 -- How the end of an input is told by a player.
-use Rattle.std.proofs.Common.{◌≡◌, ◌≢◌, ℕ, Bool, true, false, if◌then◌else◌, List, Result, Ok, Err, IfErr, refl, sym, subst}
+use Rattle.std.proofs.Common.{◌≡◌, ◌≢◌, ◌+◌, ℕ, Bool, true, false, if◌then◌else◌, List, Result, Ok, Err, IfErr, refl, sym, subst}
 use Rattle.std.specs.Prelude.{nat_lt}
-use Rattle.cdg_io.specs.Pump.{TellsEndOf}
+use Rattle.cdg_io.specs.Pump.{TellsUnits}
 use Rattle.cdg_io.specs.declared.pumping.Pumped.{Pumped}
 use Rattle.cdg_io.specs.declared.pumping.PumpStop.{PumpStop}
 use Rattle.cdg_io.specs.declared.pumping.PumpStop.TheVariants as pump
 use Rattle.stream_stages.specs.Calls.{EndFirst, EndInTurn, IsListStop, IsMomentStop, IsStreamStop}
-use Rattle.cdg_io.specs.Causes.{Count, RoseOnce}
+use Rattle.cdg_io.specs.Causes.{Ends, Tally}
 use Rattle.cdtext_packs.specs.declared.lead_in_texts.LeadInTexts.{LeadInTexts}
 use Rattle.std.specs.declared.option.Option.{Option}
 use Rattle.stream_stages.specs.Watch.{WritesTexts, play_stop, viewed}
@@ -20,19 +20,20 @@ pump_error stop = Err stop
 abbrev play_error : PlayStop → Result Played PlayStop
 play_error stop = Err stop
 
-ends_in_turn : (stop : PumpStop) (before now : Count) → TellsEndOf (pump_error stop) before now
+ends_in_turn : (limit : ℕ) (stop : PumpStop) (before now : Tally) → TellsUnits limit (pump_error stop) before now
     → EndInTurn (play_error (play_stop stop)) before now
-ends_in_turn pump.ReadFault before now told = told
-ends_in_turn pump.WriteFault before now told = told
-ends_in_turn (pump.Torn unit) before now told = told
-ends_in_turn pump.TooLong before now told = told
+ends_in_turn limit pump.ReadFault before now told = (told.0, told.2)
+ends_in_turn limit pump.WriteFault before now told = (told.0, told.2)
+ends_in_turn limit (pump.Torn unit) before now told = (unit, told)
+ends_in_turn limit pump.TooLong before now told = (limit + 1, told)
 
 -- where a call stopped that writes while it reads
-pub ends_stopped : (stop : PumpStop) (answer : PlayStop) (before now : Count) → answer ≡ play_stop stop
-    → TellsEndOf (pump_error stop) before now
+pub ends_stopped : (limit : ℕ) (stop : PumpStop) (answer : PlayStop) (before now : Tally)
+    → answer ≡ play_stop stop → TellsUnits limit (pump_error stop) before now
     → EndInTurn (play_error answer) before now
-ends_stopped stop answer before now is told =
-    subst (λ (s : PlayStop). EndInTurn (play_error s) before now) (sym is) (ends_in_turn stop before now told)
+ends_stopped limit stop answer before now is told =
+    subst (λ (s : PlayStop). EndInTurn (play_error s) before now) (sym is)
+    (ends_in_turn limit stop before now told)
 
 -- a pump asks for no moment
 pub stops_stream : (stop : PumpStop) → IsStreamStop (play_stop stop)
@@ -44,21 +45,22 @@ stops_stream pump.TooLong = tt
 pub stops_played : (stop : PumpStop) (answer : PlayStop) → answer ≡ play_stop stop → IsStreamStop answer
 stops_played stop answer is = subst IsStreamStop (sym is) (stops_stream stop)
 
-pub ends_first : (stop : PumpStop) (before now : Count) → pump_error stop ≢ pump_error pump.WriteFault
-    → TellsEndOf (pump_error stop) before now
+ends_first : (limit : ℕ) (stop : PumpStop) (before now : Tally)
+    → pump_error stop ≢ pump_error pump.WriteFault → TellsUnits limit (pump_error stop) before now
     → EndFirst (play_error (play_stop stop)) before now
-ends_first pump.ReadFault before now other told = told
-ends_first pump.WriteFault before now other told = absurd (other refl)
-ends_first (pump.Torn unit) before now other told = told
-ends_first pump.TooLong before now other told = told
+ends_first limit pump.ReadFault before now other told = (told.0, told.2)
+ends_first limit pump.WriteFault before now other told = absurd (other refl)
+ends_first limit (pump.Torn unit) before now other told = (unit, told)
+ends_first limit pump.TooLong before now other told = (limit + 1, told)
 
 -- where a call stopped before it read all
-pub ends_unread : (stop : PumpStop) (answer : PlayStop) (before now : Count) → answer ≡ play_stop stop
-    → pump_error stop ≢ pump_error pump.WriteFault → TellsEndOf (pump_error stop) before now
+pub ends_unread : (limit : ℕ) (stop : PumpStop) (answer : PlayStop) (before now : Tally)
+    → answer ≡ play_stop stop → pump_error stop ≢ pump_error pump.WriteFault
+    → TellsUnits limit (pump_error stop) before now
     → EndFirst (play_error answer) before now
-ends_unread stop answer before now is other told =
+ends_unread limit stop answer before now is other told =
     subst (λ (s : PlayStop). EndFirst (play_error s) before now) (sym is)
-    (ends_first stop before now other told)
+    (ends_first limit stop before now other told)
 
 -- a call that lists texts may stop where a pump does
 stops_at_list : (stop : PumpStop) → IsListStop (play_stop stop)
@@ -90,8 +92,8 @@ viewed_stops blocks time bad = stops_view (nat_lt blocks time) blocks bad
 
 -- once all was read
 pub ends_texts : (s : LeadInTexts) (blocks : ℕ) (held held' : Option (List ℕ))
-    (result : Result Played PlayStop) (before now : Count)
-    → WritesTexts s blocks held held' result → RoseOnce before now → EndFirst result before now
+    (result : Result Played PlayStop) (before now : Tally)
+    → WritesTexts s blocks held held' result → Ends 1 before now → EndFirst result before now
 ends_texts s blocks held held' (Ok played) before now writes told = told
 ends_texts s blocks held held' (Err (Text fault)) before now writes told = told
 ends_texts s blocks held held' (Err WriteFault) before now writes told = told

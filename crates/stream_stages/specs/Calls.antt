@@ -3,8 +3,7 @@
 -- `writes bytes text bad` says of some bytes, whole units and maybe a rest of a unit, which text is written for the
 -- units, and how many words or frames are bad.
 use Rattle.std.specs.Prelude.{◌≡◌, ◌≢◌, ℕ, ◌-◌, ◌*◌, ◌/◌, ◌%◌, ◌<◌, ◌≤◌, ⊤, Bool, true, false, IsTrue, List, length, Result, Ok, Err}
-use Rattle.cdg_io.specs.Causes.{Count}
-use Rattle.cdg_io.specs.Reads.{ToldUnless}
+use Rattle.cdg_io.specs.Causes.{Tally, ToldUnless}
 use Rattle.cdg_io.specs.Streams.{Reading, WholeReading}
 use Rattle.raw_subcode.specs.Channels.{unit_size}
 use Rattle.raw_subcode.specs.Sizes.{most_units}
@@ -77,11 +76,11 @@ IsListStop (Text fault) = ⊤
 IsListStop stop = IsStreamStop stop
 
 -- how the end of the input is told by a call that writes while it reads,
-abbrev pub EndInTurn : Result Played PlayStop → Count → Count → Type 0
+abbrev pub EndInTurn : Result Played PlayStop → Tally → Tally → Type 0
 EndInTurn = ToldUnless is_early_in_turn
 
 -- and by one that writes nothing before it read all
-abbrev pub EndFirst : Result Played PlayStop → Count → Count → Type 0
+abbrev pub EndFirst : Result Played PlayStop → Tally → Tally → Type 0
 EndFirst = ToldUnless is_early
 
 -- the answer to an input of so many bytes that is read and written without a fault

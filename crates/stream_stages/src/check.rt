@@ -76,7 +76,7 @@ impl Checker {
         ensures untouched { IfErr result (λ stop. stop ≢ PlayStop.WriteFault → out.new ≡ out.old) }
         ensures faults { TellsStops (S.faults source.old) (S.faults source.new)
             (K.faults out.old) (K.faults out.new) result }
-        ensures ended { EndFirst result (S.ends source.old) (S.ends source.new) }
+        ensures ended { EndFirst result (S.counts source.old) (S.counts source.new) }
     {
         self.begin_check(lead_in, form);
         match watch(form, source, &mut self.checks) {

@@ -81,7 +81,7 @@ impl Converter {
             IsAnsweredBy result (unit_size form) (length all)) }
         ensures faults { TellsStops (S.faults source.old) (S.faults source.new)
             (K.faults out.old) (K.faults out.new) result }
-        ensures ended { EndInTurn result (S.ends source.old) (S.ends source.new) }
+        ensures ended { EndInTurn result (S.counts source.old) (S.counts source.new) }
     {
         damaged_streams_give_packs();
         self.begin(lead_in, form);

@@ -46,7 +46,7 @@ pub fn list_frames<S: Source, K: Sink>(
     ensures answer { IfSome (S.left source.old) (λ all. IsAnsweredBy result (unit_size form) (length all)) }
     ensures faults { TellsStops (S.faults source.old) (S.faults source.new)
         (K.faults out.old) (K.faults out.new) result }
-    ensures ended { EndInTurn result (S.ends source.old) (S.ends source.new) }
+    ensures ended { EndInTurn result (S.counts source.old) (S.counts source.new) }
 {
     let mut lines = SectorBlocks {
         blocks: QLines { block: 0, bad: 0 },
@@ -111,7 +111,7 @@ impl TextLister {
         ensures untouched { IfErr result (λ stop. stop ≢ PlayStop.WriteFault → out.new ≡ out.old) }
         ensures faults { TellsStops (S.faults source.old) (S.faults source.new)
             (K.faults out.old) (K.faults out.new) result }
-        ensures ended { EndFirst result (S.ends source.old) (S.ends source.new) }
+        ensures ended { EndFirst result (S.counts source.old) (S.counts source.new) }
     {
         lead_in_packs_are_read();
         self.texts.blocks.begin(lead_in);

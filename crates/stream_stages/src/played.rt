@@ -71,7 +71,7 @@ pub fn pump_blocks<S: Source, G: Stage<Item = [u8; BLOCK_BYTES], Out = Piece>, K
         (record { next = on_units form G.next; gives = on_units form G.gives })
         (moved S.left K.held (source.old, stages.old.blocks, out.old)
         (source.new, stages.new.blocks, out.new)) result taken }
-    ensures reads { ReadsUnits (telling S.left S.faults S.ends S.fills) (unit_size form) most_units source.old
+    ensures reads { ReadsUnits (telling S.left S.faults S.counts) (unit_size form) most_units source.old
         source.new result }
     ensures write_fault { TellsFault PumpStop.WriteFault (K.faults out.old) (K.faults out.new) result }
 {
@@ -89,7 +89,7 @@ pub fn watch<S: Source, G: Stage<Item = [u8; BLOCK_BYTES], Out = Piece>>(
 ) -> Result<Pumped, PumpStop>
     ensures watches { (taken : List ℕ) × Watches form G.next
         (fed S.left (source.old, stages.old.blocks) (source.new, stages.new.blocks)) result taken }
-    ensures reads { ReadsUnits (telling S.left S.faults S.ends S.fills) (unit_size form) most_units source.old
+    ensures reads { ReadsUnits (telling S.left S.faults S.counts) (unit_size form) most_units source.old
         source.new result }
 {
     pump_blocks(form, source, stages, &mut SteadySink::new())

@@ -79,7 +79,7 @@ impl Viewer {
         ensures untouched { IfErr result (λ stop. stop ≢ PlayStop.WriteFault → out.new ≡ out.old) }
         ensures faults { TellsStops (S.faults source.old) (S.faults source.new)
             (K.faults out.old) (K.faults out.new) result }
-        ensures ended { EndFirst result (S.ends source.old) (S.ends source.new) }
+        ensures ended { EndFirst result (S.counts source.old) (S.counts source.new) }
     {
         match self.view(lead_in, form, at, source) {
             Ok(played) => {
@@ -116,7 +116,7 @@ impl Viewer {
         ensures untouched { IfErr result (λ stop. stop ≢ PlayStop.WriteFault → out.new ≡ out.old) }
         ensures faults { TellsStops (S.faults source.old) (S.faults source.new)
             (K.faults out.old) (K.faults out.new) result }
-        ensures ended { EndFirst result (S.ends source.old) (S.ends source.new) }
+        ensures ended { EndFirst result (S.counts source.old) (S.counts source.new) }
     {
         match self.view(lead_in, form, at, source) {
             Ok(played) => {
@@ -148,7 +148,7 @@ impl Viewer {
             IsShownBy result lead_in at (unit_size form) (length all)) }
         ensures read_fault { TellsFault PlayStop.ReadFault
             (S.faults source.old) (S.faults source.new) result }
-        ensures ended { EndFirst result (S.ends source.old) (S.ends source.new) }
+        ensures ended { EndFirst result (S.counts source.old) (S.counts source.new) }
     {
         self.begin_view(lead_in, form, at);
         match watch(form, source, &mut self.views) {

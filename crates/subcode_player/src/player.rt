@@ -86,7 +86,7 @@ impl Player {
             IsAnsweredBy result (unit_size form) (length all)) }
         ensures faults { TellsStops (S.faults source.old) (S.faults source.new)
             (K.faults out.old) (K.faults out.new) result }
-        ensures ended { EndInTurn result (S.ends source.old) (S.ends source.new) }
+        ensures ended { EndInTurn result (S.counts source.old) (S.counts source.new) }
     {
         self.converter.convert(lead_in, form, source, out)
     }
@@ -122,7 +122,7 @@ impl Player {
         ensures untouched { IfErr result (λ stop. stop ≢ PlayStop.WriteFault → out.new ≡ out.old) }
         ensures faults { TellsStops (S.faults source.old) (S.faults source.new)
             (K.faults out.old) (K.faults out.new) result }
-        ensures ended { EndFirst result (S.ends source.old) (S.ends source.new) }
+        ensures ended { EndFirst result (S.counts source.old) (S.counts source.new) }
     {
         self.viewer.screen_at(lead_in, form, at, source, out)
     }
@@ -150,7 +150,7 @@ impl Player {
         ensures untouched { IfErr result (λ stop. stop ≢ PlayStop.WriteFault → out.new ≡ out.old) }
         ensures faults { TellsStops (S.faults source.old) (S.faults source.new)
             (K.faults out.old) (K.faults out.new) result }
-        ensures ended { EndFirst result (S.ends source.old) (S.ends source.new) }
+        ensures ended { EndFirst result (S.counts source.old) (S.counts source.new) }
     {
         self.viewer.state_at(lead_in, form, at, source, out)
     }
@@ -184,7 +184,7 @@ impl Player {
         ensures untouched { IfErr result (λ stop. stop ≢ PlayStop.WriteFault → out.new ≡ out.old) }
         ensures faults { TellsStops (S.faults source.old) (S.faults source.new)
             (K.faults out.old) (K.faults out.new) result }
-        ensures ended { EndFirst result (S.ends source.old) (S.ends source.new) }
+        ensures ended { EndFirst result (S.counts source.old) (S.counts source.new) }
     {
         self.checker.check(lead_in, form, source, out)
     }
@@ -208,7 +208,7 @@ impl Player {
             IsAnsweredBy result (unit_size form) (length all)) }
         ensures faults { TellsStops (S.faults source.old) (S.faults source.new)
             (K.faults out.old) (K.faults out.new) result }
-        ensures ended { EndInTurn result (S.ends source.old) (S.ends source.new) }
+        ensures ended { EndInTurn result (S.counts source.old) (S.counts source.new) }
         ensures player { self.new ≡ self.old }
     {
         list_frames(lead_in, form, source, out)
@@ -244,7 +244,7 @@ impl Player {
         ensures untouched { IfErr result (λ stop. stop ≢ PlayStop.WriteFault → out.new ≡ out.old) }
         ensures faults { TellsStops (S.faults source.old) (S.faults source.new)
             (K.faults out.old) (K.faults out.new) result }
-        ensures ended { EndFirst result (S.ends source.old) (S.ends source.new) }
+        ensures ended { EndFirst result (S.counts source.old) (S.counts source.new) }
     {
         self.lister.text_list(alloc, lead_in, form, source, out)
     }

@@ -1,4 +1,4 @@
-use Rattle.cdg_cmd.proofs.MergeTold.{never_memory, never_usage, told}
+use Rattle.cdg_cmd.proofs.MergeTold.{never_memory, never_usage, told, unequal}
 use Rattle.cdg_cmd.proofs.packs.run_merge.Goals as goal
 
 pub returns-clause-does : goal.returns-clause-does
@@ -34,9 +34,13 @@ returns-clause-ended g c =
     record {
       answer = c.run.result;
       status_is = c.merge_status.ensures;
-      taken = all.taken;
-      other_taken = all.other_taken;
-      took = all.took;
-      other_took = all.other_took;
-      ended = all.ended;
+      reads = record {
+        taken = all.taken;
+        other_taken = all.other_taken;
+        took = all.took;
+        other_took = all.other_took;
+        said = λ blocks is. unequal c.args.lead_in c.run.result blocks _ _ is all.said.answer;
+        counts = all.counts;
+        other_counts = all.other_counts;
+      };
     }

@@ -27,7 +27,7 @@ returns-in-Ok-clause-untouched g c =
 pub returns-in-Ok-clause-second : goal.returns-in-Ok-clause-second
 returns-in-Ok-clause-second g c =
     let done = c.resume.ensures in
-    let first = input g.S.Source.left g.S.Source.ends c.args.first.now c.resume.new.saved in
+    let first = input g.S.Source.left g.S.Source.counts c.args.first.now c.resume.new.saved in
     reads_second _ _ c.args.at first c.resume.new.self.file c.resume.result done.rest_untouched done.accepted
     done.reads.taken done.reads.end done.reads.told
 
@@ -40,7 +40,7 @@ returns-in-Ok-clause-ended g c = λ found.
       file = c.resume.new.self.file;
       accepted = done.accepted;
       reads = done.reads;
-      unread = λ refused. ap g.T.Source.ends (done.rest_untouched refused);
+      unread = λ refused. ap g.T.Source.counts (done.rest_untouched refused);
       ended = done.rest_told;
     }
 

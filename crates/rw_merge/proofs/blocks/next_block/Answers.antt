@@ -20,10 +20,10 @@ returns-then-feed_at_hand-clause-asks g c =
       end = λ short. absurd (omega (arith, short));
       part = tt;
       cause = record { later = omega (arith, fed.faults); failed = tt; same = fed.faults };
-      told = record { ended = λ short. absurd (omega (arith, short)); goes_on = λ _. fed.ends; failed = tt };
-      filled = record {
-        full = λ _. fed.full c.if-feed_at_hand.true;
-        short = λ short. absurd (omega (arith, short));
+      counts = record {
+        ended = λ short. absurd (omega (arith, short));
+        part = λ all short. absurd (omega (arith, all, short));
+        full = λ _. fed.counts c.if-feed_at_hand.true;
         failed = tt;
       };
     }
@@ -31,6 +31,6 @@ returns-then-feed_at_hand-clause-asks g c =
 pub returns-clause-asks : goal.returns-clause-asks
 returns-clause-asks g c =
     let done = c.fill.ensures in
-    asks_as g.S.Source.left g.S.Source.ends g.S.Source.fills g.S.Source.faults _ _ _ c.fill.result 96
+    asks_as g.S.Source.left g.S.Source.counts g.S.Source.faults _ _ _ c.fill.result 96
     c.args.block.now c.fill.new.buf (c.feed_at_hand.ensures.none c.if-feed_at_hand.false).0 c.told-block
     (c.fill.auto.buf ∙ c.told-block) done.ok done.end done.reads

@@ -5,12 +5,12 @@ use Rattle.rw_merge.proofs.pairs.next_pair.Goals.{else-from_first-gt0-via-then-f
 use Rattle.rw_merge.proofs.pairs.next_pair.Goals.{else-from_second-gt0-via-then-from_second-gt0+else-from_second-lt-BLOCK_BYTES, else-from_second-gt0-via-else-from_second-gt0}
 
 pub returns-in-Err-clause-pair : goal.returns-in-Err-clause-pair
-returns-in-Err-clause-pair g c = first_failed c.args.block _ _ _ _ _ c.in-Err.ensures.asks
+returns-in-Err-clause-pair g c = first_failed c.args.block _ _ _ _ c.in-Err.ensures.asks
 
 pub returns-then-from_first-lt-BLOCK_BYTES-clause-pair
     : goal.returns-then-from_first-lt-BLOCK_BYTES-clause-pair
 returns-then-from_first-lt-BLOCK_BYTES-clause-pair g c =
-    first_torn c.args.block _ _ _ _ c.in-Ok.count c.in-Ok.ensures.asks c.if-from_first-gt0.true
+    first_torn c.args.block _ _ _ c.in-Ok.count c.in-Ok.ensures.asks c.if-from_first-gt0.true
     c.if-from_first-lt-BLOCK_BYTES.true
 
 pub returns-in-Err-next_block-clause-pair : goal.returns-in-Err-next_block-clause-pair

@@ -4,10 +4,10 @@ use Rattle.rw_merge.proofs.pairs.nothing_follows.Goals as goal
 
 pub returns-in-Ok-clause-end : goal.returns-in-Ok-clause-end
 returns-in-Ok-clause-end g c =
-    first_goes_on _ _ _ c.in-Ok.field-0 c.in-Ok.ensures.1 c.in-Ok.field-0-test.1
+    first_goes_on _ _ c.in-Ok.field-0 c.in-Ok.ensures.1 c.in-Ok.field-0-test.1
 
 pub returns-in-Err-clause-end : goal.returns-in-Err-clause-end
-returns-in-Err-clause-end g c = end_of_first_failed _ _ _ _ c.in-Err.ensures.1
+returns-in-Err-clause-end g c = end_of_first_failed _ _ _ c.in-Err.ensures.1
 
 pub returns-in-Ok-eq0-next_byte-clause-end : goal.returns-in-Ok-eq0-next_byte-clause-end
 returns-in-Ok-eq0-next_byte-clause-end g c =

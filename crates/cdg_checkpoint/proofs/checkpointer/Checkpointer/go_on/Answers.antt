@@ -96,7 +96,8 @@ returns-in-TooLong-clause-goes_on g c =
 
 pub returns-in-Ok-clause-ended : goal.returns-in-Ok-clause-ended
 returns-in-Ok-clause-ended g c =
-    ends_as_reached c.resumed.result _ c.args.at _ _ _ c.resumed.ensures.answer c.in-Ok.ensures.reads.ended
+    ends_as_reached c.resumed.result _ c.args.at _ _ _ c.resumed.ensures.answer
+    (_, c.in-Ok.ensures.reads.counts)
 
 pub returns-in-Ok-clause-no_write : goal.returns-in-Ok-clause-no_write
 returns-in-Ok-clause-no_write g c =
@@ -152,9 +153,12 @@ returns-in-ReadFault-clause-fault g c = record {
 }
 
 pub returns-in-ReadFault-clause-ended : goal.returns-in-ReadFault-clause-ended
-returns-in-ReadFault-clause-ended g c = let (taken, w) = c.in-Err.ensures.watches in
-    told_by c.in-Err.stop _ _ _ (is_read c.in-Err.stop c.in-ReadFault.is w.no_write)
-    c.in-Err.ensures.reads.ended
+returns-in-ReadFault-clause-ended g c =
+    let (taken, w) = c.in-Err.ensures.watches in
+    let told =
+    told_by _ c.in-Err.stop _ _ _ (is_read c.in-Err.stop c.in-ReadFault.is w.no_write)
+    c.in-Err.ensures.reads.counts in
+    (told.0, told.2)
 
 pub returns-in-ReadFault-clause-no_write : goal.returns-in-ReadFault-clause-no_write
 returns-in-ReadFault-clause-no_write g c = second_no_write
@@ -179,7 +183,7 @@ returns-in-Torn-clause-fault g c = record {
 
 pub returns-in-Torn-clause-ended : goal.returns-in-Torn-clause-ended
 returns-in-Torn-clause-ended g c =
-    told_by c.in-Err.stop _ _ _ (ap error c.in-Torn.is) c.in-Err.ensures.reads.ended
+    (_, told_by _ c.in-Err.stop _ _ _ (ap error c.in-Torn.is) c.in-Err.ensures.reads.counts)
 
 pub returns-in-Torn-clause-no_write : goal.returns-in-Torn-clause-no_write
 returns-in-Torn-clause-no_write g c = torn_no_write _
@@ -208,7 +212,7 @@ returns-in-TooLong-clause-fault g c = record {
 
 pub returns-in-TooLong-clause-ended : goal.returns-in-TooLong-clause-ended
 returns-in-TooLong-clause-ended g c =
-    told_by c.in-Err.stop _ _ _ (ap error c.in-TooLong.is) c.in-Err.ensures.reads.ended
+    (_, told_by _ c.in-Err.stop _ _ _ (ap error c.in-TooLong.is) c.in-Err.ensures.reads.counts)
 
 pub returns-in-TooLong-clause-no_write : goal.returns-in-TooLong-clause-no_write
 returns-in-TooLong-clause-no_write g c = long_no_write

@@ -104,11 +104,11 @@ returns-in-Err-clause-write_fault g c = record {
 
 pub returns-in-Ok-clause-reads : goal.returns-in-Ok-clause-reads
 returns-in-Ok-clause-reads g c =
-    let first = input g.S.Source.left g.S.Source.ends c.args.saved.now c.accept.new.saved in
+    let first = input g.S.Source.left g.S.Source.counts c.args.saved.now c.accept.new.saved in
     reads_on first c.show.result c.accept.new.self.file c.show.new.self.file c.show.ensures.file
     c.show.ensures.no_first c.in-Ok.ensures.reads
 
 pub returns-in-Err-clause-reads : goal.returns-in-Err-clause-reads
 returns-in-Err-clause-reads g c =
-    let first = input g.S.Source.left g.S.Source.ends c.args.saved.now c.accept.new.saved in
+    let first = input g.S.Source.left g.S.Source.counts c.args.saved.now c.accept.new.saved in
     reads_stopped first c.in-Err.stop c.accept.new.self.file c.in-Err.ensures.reads

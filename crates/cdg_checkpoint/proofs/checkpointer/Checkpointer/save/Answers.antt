@@ -1,5 +1,17 @@
 use Rattle.cdg_checkpoint.proofs.SavedStreams.{keeps_cut, keeps_done, keeps_stop, saves_done, saves_cut}
+use Rattle.cdg_checkpoint.proofs.OtherStops.{ends_saved}
 use Rattle.cdg_checkpoint.proofs.checkpointer.Checkpointer.save.Goals as goal
+
+pub returns-in-Ok-put_all-clause-ended : goal.returns-in-Ok-put_all-clause-ended
+returns-in-Ok-put_all-clause-ended g c = (_, c.in-Ok.ensures.reads.counts)
+
+pub returns-in-Err-put_all-clause-ended : goal.returns-in-Err-put_all-clause-ended
+returns-in-Err-put_all-clause-ended g c = (_, c.in-Ok.ensures.reads.counts)
+
+pub returns-in-Err-clause-ended : goal.returns-in-Err-clause-ended
+returns-in-Err-clause-ended g c =
+    let (taken, w) = c.in-Err.ensures.watches in
+    ends_saved _ c.in-Err.stop _ _ w.no_write c.in-Err.ensures.reads.counts
 
 pub returns-in-Ok-put_all-clause-saves : goal.returns-in-Ok-put_all-clause-saves
 returns-in-Ok-put_all-clause-saves g c =

@@ -1,5 +1,6 @@
 use Rattle.std.proofs.Common.{◌≡◌, ◌≤◌, ◌-◌, length}
 use Rattle.std.specs.Io.KnownBytes.{Consumes}
+use Rattle.cdg_io.specs.Causes.{Ends}
 use Rattle.cdg_checkpoint.proofs.plain_file.PlainFile.read.Given as goal
 
 abbrev pub invariant-loop-self : goal.invariant-loop-self
@@ -7,7 +8,7 @@ invariant-loop-self g l = record {
   room : length l.chunk ≡ 4096;
   within : length l.self ≤ 65046;
   taken : Consumes (g.S.Source.left l.initial.source) (g.S.Source.left l.source) l.self;
-  told : g.S.Source.ends l.source ≡ g.S.Source.ends l.initial.source;
+  told : Ends 0 (g.S.Source.counts l.initial.source) (g.S.Source.counts l.source);
   same : g.S.Source.faults l.source ≡ g.S.Source.faults l.initial.source;
 }
 

@@ -3,9 +3,10 @@ use Rattle.std.specs.Prelude.{Bool}
 use Rattle.std.specs.Io.KnownBytes.{Appends}
 use Rattle.std.proofs.KnownBytes.{Consumes-trans}
 use Rattle.raw_subcode.specs.Sizes.{most_units}
-use Rattle.cdg_io.proofs.Stops.{later_since, rose_once_since, rose_since}
+use Rattle.cdg_io.proofs.Counting.{none_more}
+use Rattle.cdg_io.proofs.Stops.{later_since, rose_since}
 use Rattle.rw_merge.proofs.Faults.{counted_last}
-use Rattle.rw_merge.proofs.Ends.{block_more, blocks_filled, byte_filled_after, stop_since}
+use Rattle.rw_merge.proofs.Ends.{block_more, blocks_filled, byte_filled_after, first_since, second_since}
 use Rattle.rw_merge.proofs.Stops.{first_at_end, first_at_end_after, second_at_end, second_at_end_after, write_answer}
 use Rattle.rw_merge.proofs.Working.{works_kept, both_of_whole, end_of_whole, end_stops, ends, pair_found, pair_of_whole, pair_stops, short_end, short_pair, skipped_as, works_more, works_none, write_stops}
 use Rattle.rw_merge.proofs.merge.Merger.merge_pairs.Goals as goal
@@ -18,10 +19,8 @@ loop-block-init g c = record {
   no_first_fault = refl;
   no_second_fault = refl;
   no_write_fault = refl;
-  first_told = refl;
-  second_told = refl;
-  first_rooms = ((λ _. refl), λ some. absurd (omega (arith, some)));
-  second_rooms = ((λ _. refl), λ some. absurd (omega (arith, some)));
+  counts = none_more _;
+  other_counts = none_more _;
 }
 
 pub returns-in-Ok-false-clause-merges : goal.returns-in-Ok-false-clause-merges
@@ -40,16 +39,12 @@ returns-in-Ok-false-clause-merges g c =
       said =
           ends c.args.lead_in c.loop-block.block _ _ _ _ _ _ _ _ _ _ xs ys _ _ works none none'
           (omega (arith, c.loop-block-test.true)) c.saturating_sub.ensures;
-      ended = (
-        rose_once_since before.first_told pair.ended.0,
-        rose_once_since before.second_told pair.ended.1,
-      );
-      filled =
-          blocks_filled c.loop-block.block xs _ _ _ _ sizes.first_size (omega (arith, ap length none))
-          c.loop-block-test.true before.first_rooms pair.filled;
-      other_filled =
-          blocks_filled c.loop-block.block ys _ _ _ _ sizes.second_size (omega (arith, ap length none'))
-          c.loop-block-test.true before.second_rooms pair.other_filled;
+      counts =
+          blocks_filled c.loop-block.block _ _ xs _ _ _ _ sizes.first_size (omega (arith, ap length none))
+          c.loop-block-test.true before.counts refl pair.counts;
+      other_counts =
+          blocks_filled c.loop-block.block _ _ ys _ _ _ _ sizes.second_size (omega (arith, ap length none'))
+          c.loop-block-test.true before.other_counts refl pair.other_counts;
     }
 
 pub returns-in-Ok-false-clause-answer : goal.returns-in-Ok-false-clause-answer
@@ -70,6 +65,10 @@ returns-in-Err-clause-merges g c =
     let sizes = works.is_found in
     let pair = c.in-Err.ensures.pair in
     let short = short_pair c.loop-block.block _ _ c.in-Err.stop _ _ pair.said.0 in
+    let first : length (xs ++ pair.taken) ≡ c.loop-block.block * 96 + length pair.taken =
+    omega (arith, length-append xs pair.taken, sizes.first_size) in
+    let second : length (ys ++ pair.other_taken) ≡ c.loop-block.block * 96 + length pair.other_taken =
+    omega (arith, length-append ys pair.other_taken, sizes.second_size) in
     record {
       taken = xs ++ pair.taken;
       other_taken = ys ++ pair.other_taken;
@@ -78,16 +77,14 @@ returns-in-Err-clause-merges g c =
       said =
           pair_stops c.args.lead_in c.loop-block.block _ _ _ _ _ _ _ _ _ _ _ xs ys _ _ c.in-Err.stop works
           pair.said.0 c.loop-block-test.true;
-      ended =
-          stop_since _ _ _ _ _ _ before.first_told before.second_told (c.loop-block.block * 96) _ _ _ _
-          (omega (arith, length-append xs pair.taken, sizes.first_size))
-          (omega (arith, length-append ys pair.other_taken, sizes.second_size)) c.in-Err.stop pair.ended;
-      filled =
-          blocks_filled c.loop-block.block xs _ _ _ _ sizes.first_size short.first
-          c.loop-block-test.true before.first_rooms pair.filled;
-      other_filled =
-          blocks_filled c.loop-block.block ys _ _ _ _ sizes.second_size short.second
-          c.loop-block-test.true before.second_rooms pair.other_filled;
+      counts =
+          blocks_filled c.loop-block.block _ _ xs _ _ _ _ sizes.first_size short.first
+          c.loop-block-test.true before.counts
+          (first_since (c.loop-block.block * 96) _ _ _ _ first second c.in-Err.stop) pair.counts;
+      other_counts =
+          blocks_filled c.loop-block.block _ _ ys _ _ _ _ sizes.second_size short.second
+          c.loop-block-test.true before.other_counts
+          (second_since (c.loop-block.block * 96) _ _ _ _ first second c.in-Err.stop) pair.other_counts;
     }
 
 pub returns-in-Err-clause-answer : goal.returns-in-Err-clause-answer
@@ -116,17 +113,12 @@ returns-in-Ok-nothing_follows-clause-merges g c =
       said =
           ends c.args.lead_in c.loop-block.block _ _ _ _ _ _ _ _ _ _ xs ys _ _ works none none'
           (omega (arith, c.loop-block.auto.block-end)) (omega (arith, all));
-      ended = (
-        rose_once_since before.first_told pair.ended.0,
-        rose_once_since before.second_told pair.ended.1,
-      );
-      filled =
-          byte_filled_after c.loop-block.block xs _ _ _ _ sizes.first_size (omega (arith, ap length none)) all
-          before.first_rooms pair.filled;
-      other_filled =
-          byte_filled_after c.loop-block.block ys _ _ _ _ sizes.second_size (omega (arith, ap length none'))
-          all
-          before.second_rooms pair.other_filled;
+      counts =
+          byte_filled_after c.loop-block.block _ _ xs _ _ _ _ sizes.first_size
+          (omega (arith, ap length none)) all before.counts refl pair.counts;
+      other_counts =
+          byte_filled_after c.loop-block.block _ _ ys _ _ _ _ sizes.second_size
+          (omega (arith, ap length none')) all before.other_counts refl pair.other_counts;
     }
 
 pub returns-in-Ok-nothing_follows-clause-answer : goal.returns-in-Ok-nothing_follows-clause-answer
@@ -147,6 +139,10 @@ returns-in-Err-nothing_follows-clause-merges g c =
     let sizes = works.is_found in
     let pair = c.in-Err-nothing_follows.ensures.end in
     let short = short_end _ _ c.in-Err-nothing_follows.stop _ _ pair.said in
+    let first : length (xs ++ pair.taken) ≡ c.loop-block.block * 96 + length pair.taken =
+    omega (arith, length-append xs pair.taken, sizes.first_size) in
+    let second : length (ys ++ pair.other_taken) ≡ c.loop-block.block * 96 + length pair.other_taken =
+    omega (arith, length-append ys pair.other_taken, sizes.second_size) in
     let all : c.loop-block.block ≡ most_units =
     omega (arith, c.loop-block.auto.block-end, c.loop-block-test.false) in
     record {
@@ -157,17 +153,15 @@ returns-in-Err-nothing_follows-clause-merges g c =
       said =
           end_stops c.args.lead_in c.loop-block.block _ _ _ _ _ _ _ _ _ _ _ xs ys _ _
           c.in-Err-nothing_follows.stop works pair.said all;
-      ended =
-          stop_since _ _ _ _ _ _ before.first_told before.second_told (c.loop-block.block * 96) _ _ _ _
-          (omega (arith, length-append xs pair.taken, sizes.first_size))
-          (omega (arith, length-append ys pair.other_taken, sizes.second_size))
-          c.in-Err-nothing_follows.stop pair.ended;
-      filled =
-          byte_filled_after c.loop-block.block xs _ _ _ _ sizes.first_size short.0 all
-          before.first_rooms pair.filled;
-      other_filled =
-          byte_filled_after c.loop-block.block ys _ _ _ _ sizes.second_size short.1 all
-          before.second_rooms pair.other_filled;
+      counts =
+          byte_filled_after c.loop-block.block _ _ xs _ _ _ _ sizes.first_size short.0 all before.counts
+          (first_since (c.loop-block.block * 96) _ _ _ _ first second c.in-Err-nothing_follows.stop)
+          pair.counts;
+      other_counts =
+          byte_filled_after c.loop-block.block _ _ ys _ _ _ _ sizes.second_size short.1 all
+          before.other_counts
+          (second_since (c.loop-block.block * 96) _ _ _ _ first second c.in-Err-nothing_follows.stop)
+          pair.other_counts;
     }
 
 pub returns-in-Err-nothing_follows-clause-answer : goal.returns-in-Err-nothing_follows-clause-answer
@@ -202,13 +196,12 @@ returns-in-Err-put_all-clause-merges g c =
       said =
           write_stops c.args.lead_in c.loop-block.block _ _ _ _ _ _ _ _ _ _ _ _ _ xs ys _ _ _ works u_size
           v_size c.if-block-lead_in.true c.loop-block-test.true found c.in-Err-put_all.ensures.part;
-      ended = (pair.ended.0 ∙ before.first_told, pair.ended.1 ∙ before.second_told);
-      filled =
-          blocks_filled c.loop-block.block xs _ _ _ _ sizes.first_size (omega (arith, u_size))
-          c.loop-block-test.true before.first_rooms pair.filled;
-      other_filled =
-          blocks_filled c.loop-block.block ys _ _ _ _ sizes.second_size (omega (arith, v_size))
-          c.loop-block-test.true before.second_rooms pair.other_filled;
+      counts =
+          blocks_filled c.loop-block.block _ _ xs _ _ _ _ sizes.first_size (omega (arith, u_size))
+          c.loop-block-test.true before.counts refl pair.counts;
+      other_counts =
+          blocks_filled c.loop-block.block _ _ ys _ _ _ _ sizes.second_size (omega (arith, v_size))
+          c.loop-block-test.true before.other_counts refl pair.other_counts;
     }
 
 pub loop-block-preserved : goal.loop-block-preserved
@@ -221,8 +214,8 @@ loop-block-preserved g c =
     let vs = pair.other_taken in
     let (read, whole) = pair.said in
     let (u_is, v_is) = whole refl in
-    let first_rooms = block_more c.loop-block.block us _ _ _ read.0 before.first_rooms pair.filled in
-    let second_rooms = block_more c.loop-block.block vs _ _ _ read.1 before.second_rooms pair.other_filled in
+    let counts = block_more c.loop-block.block us _ _ _ read.0 before.counts pair.counts in
+    let other_counts = block_more c.loop-block.block vs _ _ _ read.1 before.other_counts pair.other_counts in
     elim c.if-block-lead_in.branch [
       | then-block-lead_in+in-Ok w ↦
           let first_is = ap (λ s. s.first) w.self-is in
@@ -252,10 +245,8 @@ loop-block-preserved g c =
                 ap g.K.Sink.faults w.out-is
                 ∙ w.in-Ok.ensures.cause.same
                 ∙ (c.in-Ok-true.ensures.no_write_fault ∙ before.no_write_fault);
-            first_told = pair.ended.0 ∙ before.first_told;
-            second_told = pair.ended.1 ∙ before.second_told;
-            first_rooms = first_rooms;
-            second_rooms = second_rooms;
+            counts = counts;
+            other_counts = other_counts;
           }
       | else-block-lead_in w ↦
           let held = ap g.K.Sink.held w.out-is in
@@ -273,10 +264,8 @@ loop-block-preserved g c =
             no_second_fault = c.in-Ok-true.ensures.faults.1 ∙ before.no_second_fault;
             no_write_fault =
                 ap g.K.Sink.faults w.out-is ∙ (c.in-Ok-true.ensures.no_write_fault ∙ before.no_write_fault);
-            first_told = pair.ended.0 ∙ before.first_told;
-            second_told = pair.ended.1 ∙ before.second_told;
-            first_rooms = first_rooms;
-            second_rooms = second_rooms;
+            counts = counts;
+            other_counts = other_counts;
           }
     ]
 

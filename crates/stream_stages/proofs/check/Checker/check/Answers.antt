@@ -49,5 +49,5 @@ returns-in-Err-clause-stops g c = stops_played c.in-Err.stop c.play_stop.result 
 pub returns-in-Err-clause-ended : goal.returns-in-Err-clause-ended
 returns-in-Err-clause-ended g c =
     let (taken, w) = c.in-Err.ensures.watches in
-    ends_unread c.in-Err.stop c.play_stop.result _ _ c.play_stop.ensures w.no_write
-    c.in-Err.ensures.reads.ended
+    ends_unread _ c.in-Err.stop c.play_stop.result _ _ c.play_stop.ensures w.no_write
+    c.in-Err.ensures.reads.counts

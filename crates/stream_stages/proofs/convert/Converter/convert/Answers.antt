@@ -62,7 +62,7 @@ returns-in-Ok-clause-answer g c =
     answered_done (unit_size c.args.form) _ c.played.result _ c.in-Ok.ensures.reads.answer
 
 pub returns-in-Ok-clause-ended : goal.returns-in-Ok-clause-ended
-returns-in-Ok-clause-ended g c = c.in-Ok.ensures.reads.ended
+returns-in-Ok-clause-ended g c = (_, c.in-Ok.ensures.reads.counts)
 
 pub returns-in-Err-clause-answer : goal.returns-in-Err-clause-answer
 returns-in-Err-clause-answer g c =
@@ -73,4 +73,4 @@ returns-in-Err-clause-stops g c = stops_played c.in-Err.stop c.play_stop.result 
 
 pub returns-in-Err-clause-ended : goal.returns-in-Err-clause-ended
 returns-in-Err-clause-ended g c =
-    ends_stopped c.in-Err.stop c.play_stop.result _ _ c.play_stop.ensures c.in-Err.ensures.reads.ended
+    ends_stopped _ c.in-Err.stop c.play_stop.result _ _ c.play_stop.ensures c.in-Err.ensures.reads.counts

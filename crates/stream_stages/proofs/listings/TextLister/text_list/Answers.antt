@@ -45,7 +45,7 @@ pub returns-in-Ok-clause-ended : goal.returns-in-Ok-clause-ended
 returns-in-Ok-clause-ended g c =
     ends_texts c.watch.new.stages.blocks _ (g.K.Sink.held c.args.out.now)
     (g.K.Sink.held c.write_texts.new.out) c.write_texts.result _ _ c.write_texts.ensures.writes
-    c.in-Ok.ensures.reads.ended
+    (_, c.in-Ok.ensures.reads.counts)
 
 pub returns-in-Err-clause-stops : goal.returns-in-Err-clause-stops
 returns-in-Err-clause-stops g c = stops_unread c.in-Err.stop c.play_stop.result c.play_stop.ensures
@@ -53,8 +53,8 @@ returns-in-Err-clause-stops g c = stops_unread c.in-Err.stop c.play_stop.result 
 pub returns-in-Err-clause-ended : goal.returns-in-Err-clause-ended
 returns-in-Err-clause-ended g c =
     let (taken, w) = c.in-Err.ensures.watches in
-    ends_unread c.in-Err.stop c.play_stop.result _ _ c.play_stop.ensures w.no_write
-    c.in-Err.ensures.reads.ended
+    ends_unread _ c.in-Err.stop c.play_stop.result _ _ c.play_stop.ensures w.no_write
+    c.in-Err.ensures.reads.counts
 
 pub returns-in-Err-clause-lists : goal.returns-in-Err-clause-lists
 returns-in-Err-clause-lists g c =
