@@ -68,7 +68,8 @@ clause `ensures name { .. }` holds after every call. In it:
 | `x.0`, `x.1`, `x.name` | a part of a tuple, by its place, and a part of a record, by its name |
 | `S.left first.old` | the bytes that a source still gives, where it tells them: `Some` list or `None` |
 | `K.held out.old` | the bytes that a sink took so far, where it tells them |
-| `S.faults`, `S.ends` | how often a read has failed, and how often the end was told |
+| `S.faults` | how often a read has failed |
+| `S.counts` | how often the end was told and a read filled its room, where the source counts that |
 | `(x : A) → P`, `(x y : A) → P` | for every x (and y) of A, P |
 | `(x : A) × P` | there is an x of A with P |
 | `a ≡ b`, `a ≢ b` | a equals b, a does not |

@@ -60,6 +60,12 @@ ends_saved limit pump_stop.WriteFault before now other told = absurd (other refl
 ends_saved limit (pump_stop.Torn unit) before now other told = (unit, told)
 ends_saved limit pump_stop.TooLong before now other told = (limit + 1, told)
 
+-- a failed read says nothing of the length
+pub unanswered : (limit : ℕ) (left : Option (List ℕ))
+    → IfSome left (λ all. IsUnlessFault (pump_stopped pump_stop.ReadFault) (answer_of 96 limit (length all)))
+unanswered limit None = tt
+unanswered limit (Some all) = tt
+
 -- how often the end is told where no more came than a file has, and where more came
 pub within_file : (size : ℕ) → size ≤ file_size → file_ends size ≡ 1
 within_file size most = ap (λ b. if b then 0 else 1) (le-ltb file_size size most)

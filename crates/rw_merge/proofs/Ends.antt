@@ -1,10 +1,10 @@
 -- How often the ends of both inputs were told and reads of them filled, since the beginning.
-use Rattle.std.proofs.Common.{◌≡◌, ◌++◌, ◌+◌, ◌*◌, ◌/◌, ◌<◌, ◌≤◌, ◌∙◌, ℕ, List, length, Result, Err, refl, sym, subst, ap, ap₂, inl, inr, arith, length-append, if◌then◌else◌, nat_lt}
+use Rattle.std.proofs.Common.{◌≡◌, ◌++◌, ◌+◌, ◌*◌, ◌/◌, ◌<◌, ◌≤◌, ◌∙◌, ℕ, List, length, refl, sym, subst, ap, inl, inr, arith, length-append, if◌then◌else◌, nat_lt}
 use Rattle.std.proofs.lemmas.Bool.{cases_lt, le-ltb, lt-ltb}
 use Rattle.cdg_io.specs.Causes.{Tally, Tells}
 use Rattle.cdg_io.proofs.Counting.{tells_after}
 use Rattle.raw_subcode.specs.Sizes.{most_units}
-use Rattle.rw_merge.specs.Merging.{full_reads, times_told, unless_ahead}
+use Rattle.rw_merge.specs.Merging.{full_reads, told_at_stop, unless_ahead}
 use Rattle.rw_merge.specs.declared.merge.MergeStop.{MergeStop}
 use Rattle.rw_merge.specs.declared.merge.MergeStop.TheVariants.{FirstFault, SecondFault, WriteFault, TooLong, Torn, SecondTorn, Unequal}
 
@@ -19,13 +19,12 @@ not_ahead bytes other most = ap (λ b. if b then 0 else 1) (le-ltb other bytes m
 -- as much was taken of both before
 ahead_since : (base u v a b : ℕ) → a ≡ base + u → b ≡ base + v → unless_ahead u v ≡ unless_ahead a b
 ahead_since base u v a b a_is b_is = elim (cases_lt v u) [
-  inl more ↦ ahead u v more ∙ sym (ahead a b (omega (arith, more, a_is, b_is)))
+  | inl more ↦ ahead u v more ∙ sym (ahead a b (omega (arith, more, a_is, b_is)))
   | inr most ↦ not_ahead u v most ∙ sym (not_ahead a b (omega (arith, most, a_is, b_is)))
 ]
 
-module _ {A B : Type 0} (base a b u v : ℕ) (a_is : a ≡ base + u) (b_is : b ≡ base + v) where
-  pub first_since : (stop : MergeStop)
-      → (times_told {A = A} (Err stop) u v).0 ≡ (times_told {A = B} (Err stop) a b).0
+module _ (base a b u v : ℕ) (a_is : a ≡ base + u) (b_is : b ≡ base + v) where
+  pub first_since : (stop : MergeStop) → (told_at_stop stop u v).0 ≡ (told_at_stop stop a b).0
   first_since FirstFault = refl
   first_since WriteFault = refl
   first_since (Torn block) = refl
@@ -34,8 +33,7 @@ module _ {A B : Type 0} (base a b u v : ℕ) (a_is : a ≡ base + u) (b_is : b �
   first_since (SecondTorn block) = ahead_since base u v a b a_is b_is
   first_since (Unequal blocks) = ahead_since base u v a b a_is b_is
 
-  pub second_since : (stop : MergeStop)
-      → (times_told {A = A} (Err stop) u v).1 ≡ (times_told {A = B} (Err stop) a b).1
+  pub second_since : (stop : MergeStop) → (told_at_stop stop u v).1 ≡ (told_at_stop stop a b).1
   second_since FirstFault = refl
   second_since WriteFault = refl
   second_since (Torn block) = refl
@@ -55,7 +53,7 @@ told_as ends ends' fills fills' before now one other told =
 pub block_more : (block : ℕ) (us : List ℕ) (before now last : Tally) → length us ≡ 96
     → Tells 0 block before now → Tells 0 (length us / 96) now last
     → Tells 0 (block + 1) before last
-block_more block us before now last size told more = 
+block_more block us before now last size told more =
     told_as _ _ _ _ before last refl (omega (arith, size)) (tells_after _ _ _ before now last told more)
 
 -- a block more was asked for

@@ -72,7 +72,7 @@ module _ {E : Type 0} {size n : ℕ} {input : Input} {faults : Change ℕ} {room
   -- or a read filled
   filled : (times k : ℕ) → size ≤ n → times ≡ 0 → k ≡ 1
       → Tells times k input.counts.before input.counts.after
-  filled times k full never one = 
+  filled times k full never one =
       told_as 0 times 1 k _ _ (omega (arith, never)) (omega (arith, one)) (a.counts.full full)
 
 module _ {E : Type 0} {n : ℕ} {input : Input} {faults : Change ℕ} {room : List ℕ}

@@ -113,17 +113,21 @@ EndsSecond (Err stop) left = ⊤
 abbrev pub unless_ahead : ℕ → ℕ → ℕ
 unless_ahead bytes other_bytes = if nat_lt other_bytes bytes then 0 else 1
 
--- How often the ends of two readings are told where a merge is done or stops after so many bytes of each. A block of the
--- first is asked for and then one of the second, and of neither once its end is told.
+-- How often the ends of two readings are told where a merge stops after so many bytes of each. A block of the first is
+-- asked for and then one of the second, and of neither once its end is told.
+abbrev pub told_at_stop : MergeStop → ℕ → ℕ → ℕ × ℕ
+told_at_stop (Torn block) one other = (1, 0)
+told_at_stop (SecondTorn block) one other = (unless_ahead one other, 1)
+told_at_stop (Unequal blocks) one other = (unless_ahead one other, unless_ahead other one)
+told_at_stop TooLong one other = (unless_ahead one other, 0)
+told_at_stop SecondFault one other = (unless_ahead one other, 0)
+told_at_stop FirstFault one other = (0, 0)
+told_at_stop WriteFault one other = (0, 0)
+
+-- And where it is done both are told.
 abbrev pub times_told : {A : Type 0} → Result A MergeStop → ℕ → ℕ → ℕ × ℕ
 times_told (Ok done) one other = (1, 1)
-times_told (Err (Torn block)) one other = (1, 0)
-times_told (Err (SecondTorn block)) one other = (unless_ahead one other, 1)
-times_told (Err (Unequal blocks)) one other = (unless_ahead one other, unless_ahead other one)
-times_told (Err TooLong) one other = (unless_ahead one other, 0)
-times_told (Err SecondFault) one other = (unless_ahead one other, 0)
-times_told (Err FirstFault) one other = (0, 0)
-times_told (Err WriteFault) one other = (0, 0)
+times_told (Err stop) one other = told_at_stop stop one other
 
 -- how many reads are filled by so many bytes: one by each whole block, and one by the byte past the most
 abbrev pub full_reads : ℕ → ℕ
