@@ -1,5 +1,5 @@
 -- How often the ends of both inputs were told and reads of them filled, since the beginning.
-use Rattle.std.proofs.Common.{◌≡◌, ◌++◌, ◌+◌, ◌*◌, ◌/◌, ◌<◌, ◌≤◌, ◌∙◌, ℕ, List, length, refl, sym, subst, ap, inl, inr, arith, length-append, if◌then◌else◌, nat_lt}
+use Rattle.std.proofs.Common.{◌≡◌, ◌++◌, ◌+◌, ◌*◌, ◌/◌, ◌<◌, ◌≤◌, ◌∙◌, ℕ, List, length, refl, sym, subst, ap, inl, inr, arith, length-append, if◌then◌else◌}
 use Rattle.std.proofs.lemmas.Bool.{cases_lt, le-ltb, lt-ltb}
 use Rattle.cdg_io.specs.Causes.{Tally, Tells}
 use Rattle.cdg_io.proofs.Counting.{tells_after}
