@@ -3,7 +3,10 @@
 
 Says beforehand how long it will take, and as it goes which library of how many is proved. What is proved
 is kept in crates/*/out, so a call that was stopped is gone on with by the next. `rt run` of the crates
-themselves looks at all of it again, so nothing here is taken on trust."""
+themselves looks at all of it again, so nothing here is taken on trust.
+
+What each crate takes of a processor stands in seconds.tsv: the crate with the dearest chain above it comes first. A run from
+nothing writes that table anew with --write."""
 from __future__ import annotations
 
 import argparse
@@ -23,7 +26,10 @@ ROOT = pathlib.Path(__file__).resolve().parents[2]
 site.addsitedir(str(ROOT / "tools" / "shared"))
 from rattle import graph as graph  # noqa: E402
 
-# How many lines of code and proofs a processor works off in a second, and the seconds that any crate takes.
+# The processor seconds that each crate took once.
+TABLE = ROOT / "tools" / "build" / "seconds.tsv"
+# For a crate that is not in it: how many lines of code and proofs a processor works off in a second, and the seconds that any
+# crate takes.
 LINES_A_SECOND, LEAST_SECONDS = 45, 10
 # How many seconds of work weigh as much as that: what this run shows by and by counts for more.
 LEARNT_SECONDS = 60
@@ -70,9 +76,27 @@ def kept(name: str) -> str:
     return file.read_text() if file.exists() else ""
 
 
-def seconds_of(name: str) -> float:
+def read_table(file: pathlib.Path) -> dict[str, float]:
+    """The seconds of each crate, from lines of a name, a tab and a number."""
+    rows = (line.split("\t") for line in file.read_text().splitlines()) if file.exists() else ()
+    return {name: float(seconds) for name, seconds in rows}
+
+
+def write_table(file: pathlib.Path, seconds: dict[str, float]) -> None:
+    file.write_text("".join(f"{name}\t{seconds[name]:.0f}\n" for name in sorted(seconds)))
+
+
+def seconds_by_lines(name: str) -> float:
     lines = sum(file.read_bytes().count(b"\n") for file in files_of(name))
     return LEAST_SECONDS + lines / LINES_A_SECOND
+
+
+def run_measured(words: list[str], folder: pathlib.Path, log: IO[str]) -> tuple[int, float]:
+    """Runs a command; its status, and the processor seconds of all that it started."""
+    ran = subprocess.Popen(words, cwd=folder, stdin=subprocess.DEVNULL, stdout=log, stderr=subprocess.STDOUT)
+    _, status, used = os.wait4(ran.pid, 0)
+    ran.returncode = os.waitstatus_to_exitcode(status)
+    return ran.returncode, used.ru_utime + used.ru_stime
 
 
 def spoken(seconds: float) -> str:
@@ -139,7 +163,8 @@ class Proving:
         self.below, self.made, self.lanes = below, made, lanes
         self.done = {it for it in names if kept(it) == made[it]}
         self.left = [it for it in names if it not in self.done]
-        self.cost = {it: seconds_of(it) for it in self.left}
+        table = read_table(TABLE)
+        self.cost = {it: table.get(it) or seconds_by_lines(it) for it in self.left}
         # The longest chain from a crate upwards decides what is proved first.
         self.chain = dict(self.cost)
         for name in reversed(self.left):
@@ -153,6 +178,8 @@ class Proving:
         self.used: dict[str, int] = {}
         # The seconds that what was proved here took, and those that were reckoned for it.
         self.took, self.reckoned = 0.0, 0.0
+        # The processor seconds of each crate that was proved here.
+        self.measured: dict[str, float] = {}
         self.news = threading.Condition()
 
     def pace(self) -> float:
@@ -175,9 +202,8 @@ class Proving:
         os.makedirs(folder / "out", exist_ok=True)
         room = room_of(name, self.below)
         with open(folder / "out" / "proving.log", "w") as log:
-            ran = subprocess.run(["rt", "lib", "--jobs", str(jobs)], cwd=room / "crates" / name,
-                                 stdin=subprocess.DEVNULL, stdout=log, stderr=subprocess.STDOUT)
-            is_well = not ran.returncode
+            status, used = run_measured(["rt", "lib", "--jobs", str(jobs)], room / "crates" / name, log)
+            is_well = not status
         give_back(name, room)
         if is_well:
             (folder / "out" / "proved").write_text(self.made[name])
@@ -187,6 +213,7 @@ class Proving:
             self.took, self.reckoned = self.took + took, self.reckoned + self.cost[name]
             if is_well:
                 self.done.add(name)
+                self.measured[name] = used
                 left = spoken(self.seconds_left())
                 print(f"[{len(self.done)}/{self.total}] {name} is proved ({spoken(took)}); about {left} left", flush=True)
             else:
@@ -243,14 +270,19 @@ def main() -> int:
         description="Proves the libraries that crates stand on, independent ones side by side."
     )
     parser.add_argument("crates", nargs="+", choices=below, metavar="CRATE", help="a crate of the repository")
-    names = libraries(below, parser.parse_args().crates)
+    parser.add_argument("--write", action="store_true", help="write what was proved into the table; after `make clean` alone")
+    words = parser.parse_args()
+    names = libraries(below, words.crates)
     _lock = alone()
     proving = Proving(names, below, stamps(names, below), lanes())
     if proving.left:
         number, how_long = len(proving.left), spoken(proving.seconds_left())
         print(f"proving {number} of {len(names)} crates, {proving.lanes} at a time: about {how_long}", flush=True)
     try:
-        return 0 if proving.run() else 1
+        is_well = proving.run()
+        if words.write:
+            write_table(TABLE, {**read_table(TABLE), **proving.measured})
+        return 0 if is_well else 1
     except KeyboardInterrupt:
         print("stopped; the next call goes on from here")
         return 130

@@ -5,6 +5,7 @@ import subprocess
 import sys
 import tempfile
 import unittest
+import unittest.mock
 
 import prove_crates
 
@@ -57,6 +58,30 @@ class OrderTest(unittest.TestCase):
     def test_all_that_a_crate_stands_on_is_below_it(self) -> None:
         below: dict[str, list[str]] = {"low": [], "high": ["low"]}
         self.assertEqual(prove_crates.all_below("high", below), {"low", "high"})
+
+    def test_a_crate_with_a_dear_chain_above_it_comes_first(self) -> None:
+        below: dict[str, list[str]] = {"dear": [], "low": [], "high": ["low"]}
+        with tempfile.TemporaryDirectory() as folder:
+            table = pathlib.Path(folder) / "seconds.tsv"
+            prove_crates.write_table(table, {"dear": 60, "low": 20, "high": 50.4})
+            with unittest.mock.patch.object(prove_crates, "TABLE", table):
+                proving = prove_crates.Proving(list(below), below, dict.fromkeys(below, "a stamp"), 1)
+        self.assertEqual(proving.chain, {"dear": 60, "low": 70, "high": 50})
+
+
+class TableTest(unittest.TestCase):
+    def test_it_names_crates_of_the_repository(self) -> None:
+        seconds = prove_crates.read_table(prove_crates.TABLE)
+        self.assertLessEqual(seconds.keys(), prove_crates.graph().keys())
+        self.assertTrue(all(it > 0 for it in seconds.values()))
+
+    def test_a_command_is_measured_with_all_that_it_starts(self) -> None:
+        code = "sum(range(3_000_000))"
+        inner = f"import subprocess, sys; subprocess.run([sys.executable, '-c', '{code}']); sys.exit(3)"
+        with tempfile.TemporaryFile("w+") as log:
+            status, used = prove_crates.run_measured([sys.executable, "-c", inner], prove_crates.ROOT, log)
+        self.assertEqual(status, 3)
+        self.assertGreater(used, 0.01)
 
 
 if __name__ == "__main__":

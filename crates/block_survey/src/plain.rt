@@ -3,7 +3,7 @@ use disc_time::CATALOGUE_DIGITS;
 
 /// A frame of the Q channel. Times are blocks, below 450,000.
 #[repr(C)]
-#[derive(Clone, Copy, PartialEq, Eq, Debug)]
+#[derive(Clone, Copy)]
 pub struct PlainFrame {
     /// 0 a place in the program area; 1 to 4 an entry of the table of contents: a track, the first track, the
     /// last track, the lead-out; 5 the catalogue number; 6 the recording code of a track; 7 bits with no fields of

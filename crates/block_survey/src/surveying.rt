@@ -19,7 +19,7 @@ pub const NO_TIME: u32 = u32::MAX;
 
 /// What is found of a block of a stream.
 #[repr(C)]
-#[derive(Clone, Copy, PartialEq, Eq, Debug)]
+#[derive(Clone, Copy)]
 pub struct BlockRow {
     /// The absolute time of a frame of the program area, in blocks, or `NO_TIME`.
     pub absolute: u32,

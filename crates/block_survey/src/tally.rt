@@ -18,7 +18,7 @@ use rw_code::Word;
 
 /// What came with blocks. A count stays at its last value, 18,446,744,073,709,551,615.
 #[repr(C)]
-#[derive(Clone, Copy, PartialEq, Eq, Debug)]
+#[derive(Clone, Copy)]
 pub struct PlayerTally {
     pub blocks: u64,
     pub clean: u64,

@@ -3,7 +3,7 @@ ghost use Rattle.std.specs.Prelude.{◌≡◌, ◌≤◌, ◌+◌, ◌<◌, leng
 ghost use Rattle.cdg_checkpoint.specs.Table.{Bad, LeadIn, Program, ToCome, file_size, number, number_at};
 
 /// How far a stream was read.
-#[derive(Clone, Copy, Debug, PartialEq, Eq)]
+#[derive(Clone, Copy)]
 pub struct StreamCounts {
     /// The blocks of the lead-in that are still to come, at most 450,000.
     pub to_come: u32,

@@ -6,7 +6,7 @@ ghost use Rattle.cdg_instructions.specs.Instruction.{InRange};
 use crate::Instr;
 
 /// What an instruction does, as one of few kinds.
-#[derive(Clone, Copy, Debug, PartialEq, Eq)]
+#[derive(Clone, Copy)]
 pub enum Effect {
     /// All stays as it is.
     Nothing,
@@ -25,7 +25,7 @@ pub enum Effect {
 }
 
 /// A tile as it is drawn.
-#[derive(Clone, Copy, Debug, PartialEq, Eq)]
+#[derive(Clone, Copy)]
 pub struct DrawnTile {
     /// 0 to 31. Rows 0 to 17 are on the memory.
     pub row: u8,
@@ -40,7 +40,7 @@ pub struct DrawnTile {
 }
 
 /// A move of the memory.
-#[derive(Clone, Copy, Debug, PartialEq, Eq)]
+#[derive(Clone, Copy)]
 pub struct Scrolling {
     /// 0: no move across, 1: right by 6 pixels, 2: left by 6 pixels.
     pub across: u8,

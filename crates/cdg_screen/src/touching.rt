@@ -8,7 +8,7 @@ use crate::memory::is_on_memory;
 use cdg_instructions::{DrawnTile, Effect, Instr};
 
 /// What an instruction can change.
-#[derive(Clone, Copy, Debug, PartialEq, Eq)]
+#[derive(Clone, Copy)]
 pub enum Touched {
     Nothing,
     /// Pixels of a tile of the memory: row 0 to 17, column 0 to 49. The screen shows it moved by the offsets.

@@ -12,7 +12,7 @@ use text_lines::MOST_TEXT_BYTES;
 
 /// An index line of a sheet, with what the sheet says of its track. Times are blocks, 75 a second.
 #[repr(C)]
-#[derive(Clone, Copy, PartialEq, Eq, Debug)]
+#[derive(Clone, Copy)]
 pub struct SheetRow {
     /// Its time in the file.
     pub time: u32,

@@ -12,7 +12,7 @@ use std::alloc::{AllocError, Global};
 
 /// A picture of a script in a plan, as programs in C hold it. Times are blocks of the program.
 #[repr(C)]
-#[derive(Clone, Copy, PartialEq, Eq, Debug)]
+#[derive(Clone, Copy)]
 pub struct PlannedRow {
     /// The line of the script on which its `show` stands, counted from 1.
     pub line: u32,

@@ -9,7 +9,7 @@ use crate::stops::PlanStop;
 use std::alloc::Global;
 use subcode_author::accept_disc;
 
-#[derive(Clone, Copy, PartialEq, Eq, Debug)]
+#[derive(Clone, Copy)]
 pub struct PlannedDisc {
     /// How many pictures its script shows.
     pub pictures: u32,

@@ -5,7 +5,7 @@ use picture_script::ScriptWhy;
 use subcode_author::AuthorStop;
 
 /// Why a sheet gives no rows.
-#[derive(Clone, Copy, PartialEq, Eq, Debug)]
+#[derive(Clone, Copy)]
 pub enum SheetStop {
     /// It has more than 64 MiB.
     TooLong,
@@ -17,7 +17,7 @@ pub enum SheetStop {
 }
 
 /// Why a sheet gives no text.
-#[derive(Clone, Copy, PartialEq, Eq, Debug)]
+#[derive(Clone, Copy)]
 pub enum TextStop {
     /// It has more than 64 MiB.
     TooLong,
@@ -30,7 +30,7 @@ pub enum TextStop {
 }
 
 /// Why a disc has no plan. Of several reasons the first in this order is given.
-#[derive(Clone, Copy, PartialEq, Eq, Debug)]
+#[derive(Clone, Copy)]
 pub enum PlanStop {
     /// The sheet has more than 67,108,864 bytes.
     SheetTooLong,

@@ -12,7 +12,7 @@ use picture_script::ScriptWhy;
 use subcode_author::AuthorStop;
 
 #[repr(C)]
-#[derive(Clone, Copy, PartialEq, Eq, Debug)]
+#[derive(Clone, Copy)]
 pub struct ToldSheet {
     /// How many index lines it has, at most 9,900.
     pub rows: u32,
@@ -60,7 +60,7 @@ pub fn told_refusal(line: u32, why: CueWhy) -> ToldSheet
 }
 
 #[repr(C)]
-#[derive(Clone, Copy, PartialEq, Eq, Debug)]
+#[derive(Clone, Copy)]
 pub struct ToldPlan {
     /// How many pictures the script shows, where there is a plan or no room for it.
     pub pictures: u32,

@@ -1,7 +1,7 @@
 // A part of the screen.
 
 /// A rectangle of the screen, in pixels.
-#[derive(Clone, Copy, Debug, PartialEq, Eq)]
+#[derive(Clone, Copy)]
 pub struct ScreenPart {
     /// How far from the left it begins.
     pub left: usize,

@@ -16,7 +16,7 @@ use std::alloc::{AllocError, Global};
 use std::marker::Model;
 
 /// What is planned for a picture, whether it is in time or not. Times are blocks of the program.
-#[derive(Clone, Copy, PartialEq, Eq, Debug)]
+#[derive(Clone, Copy)]
 pub struct PlanRow {
     /// When it is ready.
     pub ready: u32,

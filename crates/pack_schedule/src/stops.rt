@@ -2,7 +2,7 @@
 use std::alloc::{AllocError, AllocFailed};
 
 /// The first picture that cannot be ready, the packs that it needs and those that are free for it.
-#[derive(Clone, Copy, PartialEq, Eq, Debug)]
+#[derive(Clone, Copy)]
 pub struct LatePicture {
     pub picture: u32,
     pub need: u32,

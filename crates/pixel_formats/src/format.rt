@@ -3,7 +3,7 @@ ghost use Rattle.std.specs.Prelude.{◌≡◌, ◌≤◌};
 ghost use Rattle.pixel_formats.specs.Formats.{pixel_size};
 
 /// How a pixel is written.
-#[derive(Clone, Copy, Debug, PartialEq, Eq)]
+#[derive(Clone, Copy)]
 pub enum PixelFormat {
     /// A byte: the number of its colour, 0 to 15.
     Indexed,

@@ -6,7 +6,7 @@ use cdg_io::{Piece, Stage};
 use raw_subcode::{BLOCK_BYTES, Block};
 
 /// Gives the planar form of each block of 96 bytes.
-#[derive(Clone, Copy, Debug, PartialEq, Eq)]
+#[derive(Clone, Copy)]
 pub struct PlanarForms;
 
 impl Stage for PlanarForms {
@@ -28,7 +28,7 @@ impl Stage for PlanarForms {
 }
 
 /// Gives the block of each planar form of 96 bytes.
-#[derive(Clone, Copy, Debug, PartialEq, Eq)]
+#[derive(Clone, Copy)]
 pub struct BlockForms;
 
 impl Stage for BlockForms {

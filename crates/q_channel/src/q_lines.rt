@@ -17,7 +17,7 @@ use raw_subcode::{BLOCK_BYTES, Block, MOST_UNITS};
 const LAST: u32 = MOST_UNITS - 1;
 
 /// Gives the line of the Q channel of each block, and counts the frames that are refused.
-#[derive(Clone, Copy, Debug, PartialEq, Eq)]
+#[derive(Clone, Copy)]
 pub struct QLines {
     /// The number of the next block.
     pub block: u32,

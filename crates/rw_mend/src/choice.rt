@@ -10,7 +10,7 @@ use crate::agreements::agreed;
 use rw_code::Pack;
 
 /// Where a mended codeword comes from.
-#[derive(Clone, Copy, Debug, PartialEq, Eq)]
+#[derive(Clone, Copy)]
 pub enum WordSource {
     /// The reading with this number gives it.
     Reading(u8),

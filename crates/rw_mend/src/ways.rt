@@ -6,7 +6,7 @@ use crate::choice::votes;
 use crate::{Mended, Voice, WordSource};
 
 /// Where the codeword of a word of two readings comes from.
-#[derive(Clone, Copy, Debug, PartialEq, Eq)]
+#[derive(Clone, Copy)]
 pub(crate) enum Way {
     /// Both readings give it.
     Both,

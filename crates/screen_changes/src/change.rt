@@ -9,7 +9,7 @@ use cdg_screen::{Touched, untouched_stays};
 /// A rectangle of the screen, in which pixels may change, and whether colours of the table or levels may. It holds no
 /// pixel where `left` is 300.
 #[repr(C)]
-#[derive(Clone, Copy, PartialEq, Eq, Debug)]
+#[derive(Clone, Copy)]
 pub struct ScreenChange {
     /// The first pixel from the left.
     pub left: u32,

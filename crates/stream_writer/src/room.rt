@@ -13,7 +13,7 @@ use cue_sheet::{CueText, Sheet};
 use toc_model::toc_need;
 
 /// Why a lead-in has no room for the texts of a sheet or for the table of contents.
-#[derive(Clone, Copy, PartialEq, Eq, Debug)]
+#[derive(Clone, Copy)]
 pub enum LeadInStop {
     /// The texts need so many packs, and 256 are the most.
     TextTooLong { packs: u32 },
