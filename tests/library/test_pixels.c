@@ -143,6 +143,7 @@ static void pixels(void)
         CHECK(ribjasper_player_draw(&player, pack) == 0);
         check_part(&player, n % 7, x, y, any(301 - x), any(217 - y), any(20), any(30));
     }
+    CHECK(ribjasper_player_pixels(&player, 7, 0, 0, 1, 1, out, 4, 4) == RIBJASPER_REFUSED);
     for (n = 0; n < 5; n++) {
         CHECK(ribjasper_player_pixels(&player, 7 + huge[n] % 1000, 0, 0, 1, 1, out, 4, 4) == RIBJASPER_REFUSED);
         CHECK(ribjasper_player_pixels(&player, huge[n], 0, 0, 1, 1, out, 4, 4) == RIBJASPER_REFUSED);

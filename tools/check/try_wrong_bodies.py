@@ -49,7 +49,7 @@ def edits_of(crate: Any) -> list[str]:
 def tried(rt: ModuleType, crate: Any) -> list[str]:
     """Tries the wrong bodies of a crate, prints what comes of each, and returns those that are not refused."""
     began, edits = time.monotonic(), edits_of(crate)
-    failed = []
+    refused, failed = (rt.REFUSED, rt.AT_LIMIT), []
     with tempfile.TemporaryDirectory(prefix="ribjasper-edits-") as room:
         kept = os.path.join(room, "kept")
         if (Path(crate.folder) / "out" / "incremental").is_dir():
@@ -58,11 +58,11 @@ def tried(rt: ModuleType, crate: Any) -> list[str]:
             os.mkdir(kept)
         is_proved = not rt.checked(crate, {}, FLAGS, kept).returncode
         for edit in edits:
-            is_refused, said = rt.must_fail(crate, edit, FLAGS, kept) if is_proved else (False, "")
-            if not is_refused:
-                is_refused, said = rt.must_fail(crate, edit, FLAGS)
+            outcome, said = rt.must_fail(crate, edit, FLAGS, kept) if is_proved else ("", "")
+            if outcome not in refused:
+                outcome, said = rt.must_fail(crate, edit, FLAGS)
             print(said, flush=True)
-            failed += [] if is_refused else [edit]
+            failed += [] if outcome in refused else [edit]
     print(f"{crate.name}: {len(edits) - len(failed)} of {len(edits)} refused in {time.monotonic() - began:.0f} seconds", flush=True)
     return failed
 
