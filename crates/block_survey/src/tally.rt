@@ -2,7 +2,7 @@
 ghost use Rattle.std.specs.Prelude.{◌≡◌, ◌≤◌, ◌∷◌, [], List, ℕ, length};
 ghost use Rattle.raw_subcode.specs.declared.form.Form.{Form};
 ghost use Rattle.block_survey.specs.Rows.{bad_words, reading_in, wrong_count};
-ghost use Rattle.live_player.specs.Lives.{Given, HasPlayed};
+ghost use Rattle.live_player.specs.Lives.{Given, HasPlayed, PlaysOn};
 ghost use Rattle.live_player.specs.Lives.Given.{Fed};
 ghost use Rattle.live_player.specs.Steps.{TakesBlock, words_come};
 ghost use Rattle.stream_stages.specs.Steps.{words_give};
@@ -119,9 +119,7 @@ pub fn feed_and_count(live: &mut LivePlayer, block: &[u8; BLOCK_BYTES], tally: &
     ensures takes { TakesBlock block.now live.old live.new }
     ensures counts { tally.new ≡ tallied live.old.words.form
         (words_come (words_give live.old.words block.now)) block.now tally.old }
-    ensures fed { (form : Form) (lead_in : ℕ) (given : List Given)
-        → HasPlayed form lead_in given live.old
-        → HasPlayed form lead_in (Fed block.now ∷ given) live.new }
+    ensures fed { PlaysOn (Fed block.now ∷ []) live.old live.new }
     // Where the tally is that of the player's stream so far, it is that of the stream with this block.
     ensures tallies { (form : Form) (lead_in : ℕ) (given : List Given)
         → HasPlayed form lead_in given live.old → IsTallyOf form lead_in given tally.old

@@ -1,5 +1,6 @@
 pub mod Table
 pub mod Checkpoint
+pub mod Reading
 pub mod Tracked
 pub mod Saved
 pub mod Keeping

@@ -2,7 +2,7 @@
 use Rattle.std.specs.Prelude.{◌≡◌, ◌≢◌, ℕ, ◌+◌, ◌-◌, ◌*◌, ◌/◌, ◌%◌, ◌<◌, ◌≤◌, ⊤, Bool, true, false, List, [], ◌++◌, length, map, nat_lt, if◌then◌else◌, take, drop, min, slice_index_or, Option, None, Result, Ok, Err, IfOk}
 use Rattle.std.specs.List.{range_with_len}
 use Rattle.std.specs.Io.KnownBytes.{Appends, Consumes, IsAtEnd}
-use Rattle.cdg_io.specs.Causes.{Ends, Tally, ToldUnless}
+use Rattle.cdg_io.specs.Causes.{Ends, Tally, TellsFault, ToldUnless}
 use Rattle.cdg_io.specs.Change.{Bytes, Change, Input, Passed}
 use Rattle.cdg_io.specs.Moves.{AppendsPrefix, ConsumesBelow}
 use Rattle.rw_code.specs.Finding.{IsFinding}
@@ -193,3 +193,10 @@ as_played (Err (Torn block)) = Err (play.Torn block)
 as_played (Err TooLong) = Err play.TooLong
 as_played (Err (PastEnd blocks)) = Err (play.PastEnd blocks)
 as_played (Err stop) = Err play.ReadFault
+
+-- What a call that resumes tells of the faults of both inputs and of the output: each where its count rose, and nowhere
+-- else.
+pub record TellsResume {T : Type 0} (saved rest out : Change ℕ) (result : Result T ResumeStop) : Type 0 where
+  pub first : TellsFault FirstFault saved.before saved.after result
+  pub second : TellsFault SecondFault rest.before rest.after result
+  pub write : TellsFault WriteFault out.before out.after result

@@ -1,10 +1,24 @@
-// What saves and resumes.
-ghost use Rattle.std.specs.Prelude.{IfOk};
-ghost use Rattle.cdg_checkpoint.specs.Keeping.{HasReadNothing};
+// What saves and resumes, and the checkpoint after a stream.
+ghost use Rattle.std.specs.Prelude.{IfOk, ◌≡◌, ◌≢◌, ◌≤◌, ◌-◌, List, ℕ, length, min, IfSome, IfErr, Err};
+ghost use Rattle.cdg_checkpoint.specs.Keeping.{HasReadNothing, IsKept};
+ghost use Rattle.disc_time.specs.Counts.{most_lead_in};
+ghost use Rattle.cdg_io.specs.Causes.{TellsFault};
+ghost use Rattle.std.specs.Io.KnownBytes.{Consumes};
+ghost use Rattle.cdg_io.specs.Change.{change, from_to, passed};
+ghost use Rattle.cdg_io.specs.Pump.{IsUnlessFault, answer_of};
+ghost use Rattle.raw_subcode.specs.Sizes.{block_bytes, most_units};
+ghost use Rattle.rw_interleave.specs.Interleave.{whole_packs};
+ghost use Rattle.cdg_screen.specs.Standing.{blank};
+ghost use Rattle.stream_stages.specs.Steps.{fresh_words};
+ghost use Rattle.stream_stages.specs.Stages.{painting_of, words_of};
+ghost use Rattle.cdg_checkpoint.specs.Saved.{EndsAsSaved, KeepsFile, Saves};
 
-use crate::CheckpointFile;
-use cdg_io::Then;
+use crate::watch::watch;
+use crate::{CheckpointFile, StreamCounts};
+use cdg_io::{Failed, PumpStop, Pumped, Sink, Source, Then, put_all};
 use cdg_screen::Screen;
+use raw_subcode::{Form, MOST_UNITS};
+use rw_interleave::whole_packs;
 use std::alloc::{AllocError, Global};
 use stream_stages::{BlockWords, Painting};
 
@@ -36,5 +50,79 @@ impl Checkpointer {
             words: Then::new(BlockWords::new(), painting),
             file: CheckpointFile::start(alloc)?,
         })
+    }
+
+    /// Writes the checkpoint after a stream of raw blocks, once it was read to its end. `lead_in` is at most
+    /// 450,000 blocks.
+    ///
+    /// # Errors
+    /// `Torn`, `TooLong` and `ReadFault` as the input says: then nothing is written. After `WriteFault` the
+    /// sink holds a prefix.
+    pub fn save<S: Source, K: Sink>(
+        &mut self,
+        lead_in: u32,
+        source: &mut S,
+        out: &mut K,
+    ) -> Result<Pumped, PumpStop>
+        requires { lead_in ≤ most_lead_in }
+        ensures saves { (taken : List ℕ) × Saves lead_in
+            (passed S.left K.held (source.old, out.old) (source.new, out.new)) result taken }
+        // The file that was put is kept, and none is changed before the input was read to its end.
+        ensures file { (taken : List ℕ) × Consumes (S.left source.old) (S.left source.new) taken
+            × KeepsFile lead_in taken (change K.held out.old out.new) (from_to self.old.file self.new.file)
+            result }
+        // Where nothing failed, the answer is that of the whole input's length.
+        ensures answer { IfSome (S.left source.old)
+            (λ all. IsUnlessFault result (answer_of block_bytes most_units (length all))) }
+        // Where the output is not written it is as it was.
+        ensures untouched { IfErr result (λ stop. stop ≢ PumpStop.WriteFault → out.new ≡ out.old) }
+        ensures read_fault { TellsFault PumpStop.ReadFault
+            (S.faults source.old) (S.faults source.new) result }
+        ensures ended { EndsAsSaved result (S.counts source.old) (S.counts source.new) }
+        ensures write_fault { TellsFault PumpStop.WriteFault
+            (K.faults out.old) (K.faults out.new) result }
+    {
+        self.begin(lead_in);
+        match watch(MOST_UNITS, source, &mut self.words) {
+            Ok(pumped) => {
+                self.keep(pumped, lead_in);
+                match put_all(out, self.file.bytes()) {
+                    Ok(()) => Ok(pumped),
+                    Err(Failed) => Err(PumpStop::WriteFault),
+                }
+            }
+            Err(stop) => Err(stop),
+        }
+    }
+
+    // Brings back the state before a stream, all of whose packs are drawn.
+    fn begin(&mut self, lead_in: u32)
+        ensures words { words_of self.new.words ≡ fresh_words Form.Raw lead_in }
+        ensures left { (painting_of self.new.words).left ≡ whole_packs most_units }
+        ensures bad { (painting_of self.new.words).bad ≡ 0 }
+        ensures blank { (painting_of self.new.words).screen ≡ blank }
+        ensures file { self.new.file ≡ self.old.file }
+    {
+        self.words.first.begin(lead_in, Form::Raw);
+        let painting = &mut self.words.second;
+        painting.left = whole_packs(MOST_UNITS);
+        painting.bad = 0;
+        painting.screen.reset();
+    }
+
+    // Composes the file of what was read of a stream.
+    fn keep(&mut self, pumped: Pumped, lead_in: u32)
+        ensures { IsKept pumped.units lead_in self.old.words self.new.file }
+    {
+        let read = pumped.units.min(lead_in);
+        let painting = &self.words.second;
+        let counts = StreamCounts {
+            to_come: lead_in - read,
+            lead_in: read,
+            program: pumped.units - read,
+            bad: painting.bad,
+        };
+        let slots = self.words.first.gather.symbols();
+        self.file.compose(&counts, &slots, &painting.screen);
     }
 }

@@ -1,11 +1,10 @@
 // A file on the heap.
-ghost use Rattle.std.specs.Prelude.{◌≡◌, ◌≤◌, ◌+◌, ◌<◌, [], ℕ, length, MatchResult, IfOk, OnOk, OnErr, take, drop};
-ghost use Rattle.std.specs.Io.KnownBytes.{Consumes, IsAtEnd};
-ghost use Rattle.cdg_io.specs.Causes.{Ends, HasCause};
+ghost use Rattle.std.specs.Prelude.{◌≡◌, ◌≤◌, ◌+◌, ◌<◌, [], ℕ, length, MatchResult, IfOk, OnOk, OnErr};
+ghost use Rattle.cdg_io.specs.Causes.{Ends};
 ghost use Rattle.cdg_checkpoint.specs.Resumed.{file_ends};
-ghost use Rattle.cdg_io.specs.Moves.{ConsumesBelow};
 ghost use Rattle.cdg_checkpoint.specs.Checkpoint.{file_of, kept, standing_in};
 ghost use Rattle.cdg_checkpoint.specs.Table.{Bad, IsBadAt, IsCheckpointFile, LeadIn, Program, ToCome, file_size, number};
+ghost use Rattle.cdg_checkpoint.specs.Reading.{ReadsCheckpointFile};
 
 use crate::StreamCounts;
 use crate::plain_file::{PlainFile, SLOTS_BYTES};
@@ -50,13 +49,7 @@ impl CheckpointFile {
     /// # Errors
     /// `Failed` where a read failed.
     pub fn read<S: Source>(&mut self, source: &mut S) -> Result<(), Failed>
-        // After a read that failed the file is what was taken until then.
-        ensures taken { Consumes (S.left source.old) (S.left source.new) self.new }
-        ensures most { length self.new ≤ file_size + 1 }
-        ensures fewer { OnErr result (length self.new ≤ file_size) }
-        ensures end { OnOk result (length self.new ≤ file_size → IsAtEnd (S.left source.new)) }
-        ensures part { OnErr result (ConsumesBelow (S.left source.old) (S.left source.new) (file_size + 1)) }
-        ensures cause { HasCause (S.faults source.old) (S.faults source.new) result }
+        ensures reads { ReadsCheckpointFile S.left S.faults source.old source.new self.new result }
         // The end is told once, and only where the input has no more bytes than a file.
         ensures told { OnOk result (Ends (file_ends (length self.new)) (S.counts source.old)
             (S.counts source.new)) }

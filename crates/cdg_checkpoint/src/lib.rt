@@ -11,7 +11,6 @@ mod laws;
 mod plain_file;
 mod restoring;
 mod resuming;
-mod saving;
 mod stops;
 mod watch;
 

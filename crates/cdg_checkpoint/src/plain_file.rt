@@ -1,14 +1,13 @@
 // The bytes of a file.
 ghost use Rattle.std.specs.Prelude.{◌≡◌, ◌<◌, ◌≤◌, ◌+◌, ◌*◌, [], ◌++◌, List, ℕ, length, MatchResult, OnOk, OnErr, drop, take};
-ghost use Rattle.std.specs.Io.KnownBytes.{Consumes, IsAtEnd};
-ghost use Rattle.cdg_io.specs.Causes.{Ends, HasCause};
+ghost use Rattle.cdg_io.specs.Causes.{Ends};
 ghost use Rattle.cdg_checkpoint.specs.Resumed.{file_ends};
-ghost use Rattle.cdg_io.specs.Moves.{ConsumesBelow};
 ghost use Rattle.cdg_screen.specs.Memory.{seen};
 ghost use Rattle.raw_subcode.specs.Sizes.{symbols_a_slot};
 ghost use Rattle.rw_interleave.specs.Interleave.{packs_kept_back};
 ghost use Rattle.cdg_checkpoint.specs.Checkpoint.{checkpoint_in, standing_in};
 ghost use Rattle.cdg_checkpoint.specs.Table.{Bad, IsBadAt, IsCheckpointFile, LeadIn, Program, ToCome, file_size, number};
+ghost use Rattle.cdg_checkpoint.specs.Reading.{ReadsCheckpointFile};
 
 use crate::StreamCounts;
 use crate::checking::judge;
@@ -127,13 +126,7 @@ impl PlainFile {
     /// # Errors
     /// `Failed` where a read failed.
     pub fn read<S: Source>(&mut self, source: &mut S) -> Result<(), Failed>
-        // After a read that failed the file is what was taken until then.
-        ensures taken { Consumes (S.left source.old) (S.left source.new) self.new }
-        ensures most { length self.new ≤ file_size + 1 }
-        ensures fewer { OnErr result (length self.new ≤ file_size) }
-        ensures end { OnOk result (length self.new ≤ file_size → IsAtEnd (S.left source.new)) }
-        ensures part { OnErr result (ConsumesBelow (S.left source.old) (S.left source.new) (file_size + 1)) }
-        ensures cause { HasCause (S.faults source.old) (S.faults source.new) result }
+        ensures reads { ReadsCheckpointFile S.left S.faults source.old source.new self.new result }
         // The end is told once, and only where the input has no more bytes than a file.
         ensures told { OnOk result (Ends (file_ends (length self.new)) (S.counts source.old)
             (S.counts source.new)) }

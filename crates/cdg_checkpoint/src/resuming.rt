@@ -1,5 +1,5 @@
 // Playing that goes on from a checkpoint.
-ghost use Rattle.std.specs.Prelude.{◌≡◌, ◌≢◌, ◌≤◌, ◌<◌, ◌+◌, ◌-◌, ◌^◌, List, ℕ, [], length, IfSome, IfErr, IsErr, IsErrOf, IsOk, Err};
+ghost use Rattle.std.specs.Prelude.{◌≡◌, ◌≢◌, ◌≤◌, ◌<◌, ◌+◌, ◌-◌, ◌^◌, List, ℕ, [], length, IfSome, IfErr, IsErr, IsOk, Err};
 ghost use Rattle.disc_time.specs.Counts.{last_block};
 ghost use Rattle.cdg_io.specs.Causes.{TellsFault};
 ghost use Rattle.cdg_io.specs.Change.{change, input, passed};
@@ -8,7 +8,7 @@ ghost use Rattle.rw_interleave.specs.Gathering.{gather_next};
 ghost use Rattle.cdg_checkpoint.specs.Table.{IsCheckpointFile};
 ghost use Rattle.cdg_checkpoint.specs.Checkpoint.{checkpoint_in, standing_in};
 ghost use Rattle.stream_stages.specs.Stages.{painting_of, words_of};
-ghost use Rattle.cdg_checkpoint.specs.Resumed.{GoesOn, IsAcceptedBy, IsGoneOnBy, IsResumedBy, ReadsSaved, Resumes, acceptance, EndsAsResumed, packs_until, reached, saved_slots, time_after};
+ghost use Rattle.cdg_checkpoint.specs.Resumed.{GoesOn, IsAcceptedBy, IsGoneOnBy, IsResumedBy, ReadsSaved, Resumes, acceptance, EndsAsResumed, packs_until, reached, saved_slots, time_after, TellsResume};
 
 use crate::watch::watch_some;
 use crate::{Checkpointer, PlainFile, ResumeStop, Resumed, StreamCounts};
@@ -49,12 +49,8 @@ impl Checkpointer {
             (λ all. IsResumedBy result (checkpoint_in self.new.file) at (length all)) }
         // Where the output is not written it is as it was.
         ensures untouched { IfErr result (λ stop. stop ≢ ResumeStop.WriteFault → out.new ≡ out.old) }
-        ensures first_fault { TellsFault ResumeStop.FirstFault
-            (S.faults saved.old) (S.faults saved.new) result }
-        ensures second_fault { TellsFault ResumeStop.SecondFault
-            (T.faults rest.old) (T.faults rest.new) result }
-        ensures write_fault { TellsFault ResumeStop.WriteFault
-            (K.faults out.old) (K.faults out.new) result }
+        ensures faults { TellsResume (change S.faults saved.old saved.new) (change T.faults rest.old rest.new)
+            (change K.faults out.old out.new) result }
         ensures rest_told { IsOk (acceptance result)
             → EndsAsResumed result (T.counts rest.old) (T.counts rest.new) }
     {

@@ -1,5 +1,5 @@
 // A stage at work on the blocks of a whole input, of which nothing is written.
-ghost use Rattle.std.specs.Prelude.{◌≡◌, ◌≤◌, List, ℕ};
+ghost use Rattle.std.specs.Prelude.{◌≤◌, List, ℕ};
 ghost use Rattle.cdg_io.specs.Change.{fed};
 ghost use Rattle.cdg_io.specs.Reads.{ReadsUnits, telling};
 ghost use Rattle.raw_subcode.specs.Sizes.{block_bytes};

@@ -1,3 +1,4 @@
 pub mod Pressed
 pub mod Refusals
 pub mod Stops
+pub mod Written

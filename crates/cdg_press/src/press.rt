@@ -1,15 +1,11 @@
 // Pressing a file into a stream.
-ghost use Rattle.std.specs.Prelude.{◌≡◌, ◌≢◌, ◌≤◌, ◌<◌, [], List, ℕ, IfErr, IfOk, OnOk, Err, MatchOption};
+ghost use Rattle.std.specs.Prelude.{◌≡◌, ◌≢◌, ◌≤◌, ◌<◌, [], IfErr, IfOk, OnOk, Err, MatchOption};
 ghost use Rattle.disc_time.specs.Counts.{most_lead_in, most_program};
-ghost use Rattle.std.specs.Io.KnownBytes.{Appends};
-ghost use Rattle.cdg_io.specs.Causes.{TellsFault};
-ghost use Rattle.cdg_io.specs.Change.{change};
-ghost use Rattle.cdg_io.specs.Moves.{AppendsPrefix};
 ghost use Rattle.toc_model.specs.Places.{layout_of};
-ghost use Rattle.stream_writer.specs.Given.{PutsStreamPart, framing_of};
 ghost use Rattle.stream_writer.specs.Needs.{text_packs, HasLayout, HasRoom};
-ghost use Rattle.cdg_press.specs.Pressed.{file_begin, IsPackAfter, IsPressed, press_of};
+ghost use Rattle.cdg_press.specs.Pressed.{press_of};
 ghost use Rattle.cdg_press.specs.Refusals.{HasNoGap, IsFirstGap, IsPressable, IsPressStop, IsShort};
+ghost use Rattle.cdg_press.specs.Written.{WritesPressed};
 
 use crate::file::{FileSource, whole_packs_of};
 use crate::laws::pressable_files_have_streams;
@@ -51,26 +47,11 @@ pub fn press_stream<K: Sink>(
     requires lead_in { lead_in ≤ most_lead_in }
     requires audio { length ≤ most_program }
     requires file { IsShort cdg.now }
-    // A pressed stream was written.
-    ensures pressed { OnOk result ((bytes : List ℕ) × (packs : List (List ℕ))
-        × IsPressed (press_of sheet.now cdg.now lead_in length) bytes packs
-        × Appends (K.held out.old) (K.held out.new) bytes) }
     ensures accepted { OnOk result (IsPressable sheet.now cdg.now lead_in length) }
-
-    // Why none was written, and then nothing was.
+    // Why no stream was written.
     ensures stop { IfErr result (IsPressStop sheet.now cdg.now lead_in length) }
-    ensures untouched { IfErr result (λ stop. stop ≢ PressStop.WriteFault → out.new ≡ out.old) }
-
-    // A write failed, and a prefix of the lead-in and of program blocks with packs of the file was written.
-    ensures write_fault { TellsFault PressStop.WriteFault
-        (K.faults out.old) (K.faults out.new) result }
-    ensures part { result ≡ Err PressStop.WriteFault → (n : ℕ) × (packs : List (List ℕ))
-        × PutsStreamPart (framing_of (layout_of sheet.now length) (text_packs sheet.now) lead_in)
-        (IsPackAfter file_begin cdg.now) (change K.held out.old out.new) n packs }
-    // What stands then is a prefix of a pressed stream.
-    ensures prefix { result ≡ Err PressStop.WriteFault → (bytes : List ℕ) × (packs : List (List ℕ))
-        × IsPressed (press_of sheet.now cdg.now lead_in length) bytes packs
-        × AppendsPrefix (K.held out.old) (K.held out.new) bytes }
+    ensures written { WritesPressed K.held K.faults (press_of sheet.now cdg.now lead_in length)
+        out.old out.new result }
 {
     // Laws: what is not refused has a stream, since the tracks of every sheet are in order.
     pressable_files_have_streams();

@@ -90,6 +90,11 @@ pub record HasPlayed (form : Form) (lead_in : ℕ) (given : List Given) (player 
   pub counted : player.blocks ≡ min (length (blocks_in given)) (2 ^ 32 - 1)
   pub bad : player.bad ≡ min (bad_words_in form lead_in (blocks_in given)) (2 ^ 32 - 1)
 
+-- Whatever a player was given, it was given this too since, the last one first.
+abbrev pub PlaysOn : List Given → LivePlayer → LivePlayer → Type 0
+PlaysOn more before after = (form : Form) (lead_in : ℕ) (given : List Given)
+    → HasPlayed form lead_in given before → HasPlayed form lead_in (more ++ given) after
+
 -- what these blocks show: all packs that came with them, each read as the codeword near it, drawn in turn on a blank
 -- screen
 pub record IsLiveView (form : Form) (lead_in : ℕ) (blocks : List (List ℕ)) (now : Standing) : Type 0 where

@@ -2,7 +2,7 @@
 use Rattle.std.specs.Prelude.{◌≡◌, ◌+◌, ◌*◌, ◌<◌, ◌≤◌, ℕ, List, slice_index}
 use Rattle.cdg_instructions.specs.Sizes.{screen_height, screen_width}
 use Rattle.cdg_screen.specs.Standing.{Standing, screen_pixel}
-use Rattle.live_player.specs.declared.part.ScreenPart.{ScreenPart}
+use Rattle.live_player.specs.declared.looking.ScreenPart.{ScreenPart}
 
 -- all of a part is on the screen
 abbrev pub IsOnScreen : ScreenPart → Type 0

@@ -4,11 +4,9 @@
 mod drawing;
 mod live;
 mod looking;
-mod part;
 mod saving;
 
 pub use drawing::play;
 pub use live::LivePlayer;
-pub use looking::{PICTURE_BYTES, part_of_screen};
-pub use part::ScreenPart;
+pub use looking::{PICTURE_BYTES, ScreenPart, part_of_screen};
 pub use saving::a_saved_player_goes_on;

@@ -4,14 +4,13 @@ ghost use Rattle.cdg_instructions.specs.Sizes.{colour_values, screen_height, scr
 ghost use Rattle.cdg_screen.specs.Standing.{blank, screen_pixel, standing_after};
 ghost use Rattle.raw_subcode.specs.declared.form.Form.{Form};
 ghost use Rattle.stream_stages.specs.Steps.{words_next, words_give};
-ghost use Rattle.live_player.specs.Lives.{Given, bad_counted, blocks_in, drawn_for, instruction_of, packs_given, picture_byte, picture_bytes, standing_on, stream_words, HasPlayed, IsLiveView, IsLiveViewAt};
+ghost use Rattle.live_player.specs.Lives.{Given, bad_counted, blocks_in, drawn_for, instruction_of, packs_given, picture_byte, picture_bytes, standing_on, stream_words, HasPlayed, IsLiveView, IsLiveViewAt, PlaysOn};
 ghost use Rattle.live_player.specs.Lives.Given.{Drawn, Fed};
 ghost use Rattle.live_player.specs.Parts.{HasRoomFor, IsOnScreen, ShowsPart};
 ghost use Rattle.live_player.specs.Steps.{DrawsPack, TakesBlock, words_come};
 
 use crate::drawing::play;
-use crate::looking::{self, PICTURE_BYTES};
-use crate::part::ScreenPart;
+use crate::looking::{self, PICTURE_BYTES, ScreenPart};
 use arrayvec::ArrayVec;
 use cdg_instructions::SCREEN_PIXELS;
 use cdg_screen::PlainScreen;
@@ -78,9 +77,7 @@ impl LivePlayer {
         // Whatever it was given before,
         ensures takes { TakesBlock block.now self.old self.new }
         // and where that is known.
-        ensures fed { (form : Form) (lead_in : ℕ) (given : List Given)
-            → HasPlayed form lead_in given self.old
-            → HasPlayed form lead_in (Fed block.now ∷ given) self.new }
+        ensures fed { PlaysOn (Fed block.now ∷ []) self.old self.new }
     {
         self.step(block);
     }
@@ -89,9 +86,7 @@ impl LivePlayer {
     pub fn take(&mut self, block: &[u8; BLOCK_BYTES]) -> ArrayVec<Word, 4>
         ensures takes { TakesBlock block.now self.old self.new }
         ensures gives { result.items ≡ words_come (words_give self.old.words block.now) }
-        ensures fed { (form : Form) (lead_in : ℕ) (given : List Given)
-            → HasPlayed form lead_in given self.old
-            → HasPlayed form lead_in (Fed block.now ∷ given) self.new }
+        ensures fed { PlaysOn (Fed block.now ∷ []) self.old self.new }
         ensures words { (form : Form) (lead_in : ℕ) (given : List Given)
             → HasPlayed form lead_in given self.old
             → stream_words form lead_in (blocks_in given ++ block.now ∷ [])
@@ -121,9 +116,7 @@ impl LivePlayer {
     /// and the parity has no part in it. The stream goes on as if the pack were not there.
     pub fn draw(&mut self, pack: &[u8; SYMBOLS])
         ensures draws { DrawsPack pack.now self.old self.new }
-        ensures drawn { (form : Form) (lead_in : ℕ) (given : List Given)
-            → HasPlayed form lead_in given self.old
-            → HasPlayed form lead_in (Drawn pack.now ∷ given) self.new }
+        ensures drawn { PlaysOn (Drawn pack.now ∷ []) self.old self.new }
     {
         looking::draw(&mut self.screen, pack);
     }

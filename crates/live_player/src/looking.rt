@@ -7,10 +7,20 @@ ghost use Rattle.cdg_screen.specs.Texts.{colour_bytes};
 ghost use Rattle.live_player.specs.Lives.{instruction_of, picture_byte, picture_bytes};
 ghost use Rattle.live_player.specs.Parts.{HasRoomFor, IsOnScreen, ShowsPart};
 
-use crate::part::ScreenPart;
 use cdg_instructions::{SCREEN_HEIGHT, SCREEN_PIXELS, SCREEN_WIDTH, read_word};
 use cdg_screen::PlainScreen;
 use rw_code::{SYMBOLS, Word};
+
+/// A rectangle of the screen, in pixels.
+#[derive(Clone, Copy)]
+pub struct ScreenPart {
+    /// How far from the left it begins.
+    pub left: usize,
+    /// How far from the top it begins.
+    pub top: usize,
+    pub width: usize,
+    pub height: usize,
+}
 
 /// How many bytes a picture has: red, green and blue of each pixel.
 pub const PICTURE_BYTES: usize = 3 * SCREEN_PIXELS;

@@ -1,5 +1,5 @@
 // A player that is saved, and one that goes back to where another was saved.
-ghost use Rattle.std.specs.Prelude.{◌≡◌, ◌≤◌, [], List, ℕ, length};
+ghost use Rattle.std.specs.Prelude.{◌≡◌, ◌≤◌, List, ℕ, length};
 ghost use Rattle.disc_time.specs.Counts.{most_lead_in};
 ghost use Rattle.raw_subcode.specs.Sizes.{most_units};
 ghost use Rattle.raw_subcode.specs.declared.form.Form.{Form};

@@ -28,6 +28,12 @@ pub record IsByte (words : Words) (text : List ℕ) (p framed read byte : ℕ) :
   pub channels : byte / 64 ≡ framed / 64
   pub symbol : IsSymbol words text p read (byte % 64)
 
+-- block b of the stream: each byte of it is one, where these are the bytes of blocks for P and Q and for other symbols
+abbrev pub IsBlock : Words → List ℕ → ℕ → List ℕ → List ℕ → List ℕ → Type 0
+IsBlock words text b framed read block = (k : ℕ) → k < block_bytes
+    → IsByte words text (block_bytes * b + k) (slice_index framed k) (slice_index read k)
+    (slice_index block k)
+
 -- there is a source for each word
 abbrev pub HaveSources : Words → Type 0
 HaveSources words = words.count ≤ length words.sources.now

@@ -3,7 +3,7 @@ ghost use Rattle.std.specs.Prelude.{◌≡◌, ◌≢◌, true, ◌<◌, ◌≤�
 ghost use Rattle.raw_subcode.specs.Sizes.{block_bytes, most_units, symbols_a_slot};
 ghost use Rattle.rw_interleave.specs.Interleave.{swapped};
 ghost use Rattle.rw_mend.specs.Tallies.{no_source};
-ghost use Rattle.mended_stream.specs.Symbols.{AreMendedUnder, HasWordText, HaveSources, IsByte, IsSymbol};
+ghost use Rattle.mended_stream.specs.Symbols.{AreMendedUnder, HasWordText, HaveSources, IsBlock, IsSymbol};
 
 use raw_subcode::{BLOCK_BYTES, SLOTS_A_BLOCK, SYMBOLS_A_SLOT};
 use rw_interleave::{PACKS_KEPT_BACK, place};
@@ -71,9 +71,7 @@ impl<'a> Words<'a> {
         requires number { b ≤ most_units }
         requires framed { length framed.now ≡ block_bytes }
         requires read { length read.now ≡ block_bytes }
-        ensures { (k : ℕ) → k < block_bytes
-            → IsByte self.now text.now (block_bytes * b + k) (slice_index framed.now k)
-            (slice_index read.now k) (slice_index result k) }
+        ensures { IsBlock self.now text.now b framed.now read.now result }
     {
         if self.are_all_mended(b) {
             self.mended_block(text, b, framed)
@@ -88,9 +86,7 @@ impl<'a> Words<'a> {
         requires number { b ≤ most_units }
         requires mended { AreMendedUnder self.now b }
         requires framed { length framed.now ≡ block_bytes }
-        ensures { (read : List ℕ) (k : ℕ) → k < block_bytes
-            → IsByte self.now text.now (block_bytes * b + k) (slice_index framed.now k)
-            (slice_index read k) (slice_index result k) }
+        ensures { (read : List ℕ) → IsBlock self.now text.now b framed.now read result }
     {
         let first = SLOTS_A_BLOCK * (b - self.lead_in) - PACKS_KEPT_BACK;
         let row = &text[SYMBOLS_A_SLOT * first..SYMBOLS_A_SLOT * (first + WORDS_UNDER)];
@@ -128,9 +124,7 @@ impl<'a> Words<'a> {
         requires number { b ≤ most_units }
         requires framed { length framed.now ≡ block_bytes }
         requires read { length read.now ≡ block_bytes }
-        ensures { (k : ℕ) → k < block_bytes
-            → IsByte self.now text.now (block_bytes * b + k) (slice_index framed.now k)
-            (slice_index read.now k) (slice_index result k) }
+        ensures { IsBlock self.now text.now b framed.now read.now result }
     {
         let mut block = [0; BLOCK_BYTES];
         for k in 0..BLOCK_BYTES {

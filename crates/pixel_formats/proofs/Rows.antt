@@ -10,7 +10,7 @@ use borrow.Rule.Slice.PartMut.{put_mid}
 use lib.Lanes.{put_chunk}
 use Rattle.cdg_screen.specs.Standing.{Standing, screen_pixel}
 use Rattle.cdg_screen.proofs.WholeRows.{else_before, else_behind, length-part, piece_put, then_within}
-use Rattle.live_player.specs.declared.part.ScreenPart.{ScreenPart}
+use Rattle.live_player.specs.declared.looking.ScreenPart.{ScreenPart}
 use Rattle.live_player.specs.Parts.{ShowsPart}
 use Rattle.pixel_formats.specs.Formats.{pixel_bytes, pixel_size, shown_bytes, AreLineBytes, ShowsPixels}
 use Rattle.pixel_formats.specs.declared.format.PixelFormat.{PixelFormat}

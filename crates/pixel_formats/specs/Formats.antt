@@ -2,7 +2,7 @@
 use Rattle.std.specs.Prelude.{◌≡◌, ◌+◌, ◌-◌, ◌*◌, ◌/◌, ◌%◌, ◌<◌, ◌≤◌, ℕ, List, [], ◌∷◌, ◌++◌, reverse, length, take, slice_index, slice_index_or}
 use Rattle.cdg_screen.specs.Standing.{Standing, screen_pixel}
 use Rattle.cdg_screen.specs.Texts.{colour_bytes}
-use Rattle.live_player.specs.declared.part.ScreenPart.{ScreenPart}
+use Rattle.live_player.specs.declared.looking.ScreenPart.{ScreenPart}
 use Rattle.pixel_formats.specs.declared.format.PixelFormat.{PixelFormat}
 use Rattle.pixel_formats.specs.declared.format.PixelFormat.TheVariants.{Indexed, Rgb, Rgba, Bgra, RgbaLevels, BgraLevels, Rgb565}
 

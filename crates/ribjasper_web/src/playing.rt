@@ -1,7 +1,7 @@
 // A player that a page feeds.
-ghost use Rattle.std.specs.Prelude.{◌≡◌, ◌-◌, ◌/◌, ◌&&◌, ◌∷◌, [], if◌then◌else◌, nat_le, nat_lt, List, ℕ, length, pos, negsuc};
+ghost use Rattle.std.specs.Prelude.{◌≡◌, ◌/◌, ◌&&◌, ◌∷◌, [], if◌then◌else◌, nat_le, nat_lt, List, ℕ, length, pos, negsuc};
 ghost use Rattle.disc_time.specs.Counts.{most_lead_in};
-ghost use Rattle.live_player.specs.Lives.{Given, HasPlayed};
+ghost use Rattle.live_player.specs.Lives.{Given, HasPlayed, PlaysOn};
 ghost use Rattle.live_player.specs.Lives.Given.{Drawn, Fed};
 ghost use Rattle.live_player.specs.Steps.{DrawsPack, TakesBlock};
 ghost use Rattle.raw_subcode.specs.Channels.{blocks_of, unit_size};
@@ -60,9 +60,7 @@ pub extern "C" fn ribjasper_web_begin(player: &mut WebPlayer, form: u32, lead_in
 #[unsafe(no_mangle)]
 pub extern "C" fn ribjasper_web_feed(player: &mut WebPlayer, block: &[u8; BLOCK_BYTES])
     ensures takes { TakesBlock block.now (player_of player.old) (player_of player.new) }
-    ensures fed { (form : Form) (lead_in : ℕ) (given : List Given)
-        → HasPlayed form lead_in given (player_of player.old)
-        → HasPlayed form lead_in (Fed block.now ∷ given) (player_of player.new) }
+    ensures fed { PlaysOn (Fed block.now ∷ []) (player_of player.old) (player_of player.new) }
 {
     player.step(block);
 }
@@ -90,9 +88,7 @@ pub extern "C" fn ribjasper_web_feed_all(player: &mut WebPlayer, form: u32, stre
 #[unsafe(no_mangle)]
 pub extern "C" fn ribjasper_web_draw(player: &mut WebPlayer, pack: &[u8; SYMBOLS])
     ensures draws { DrawsPack pack.now (player_of player.old) (player_of player.new) }
-    ensures drawn { (form : Form) (lead_in : ℕ) (given : List Given)
-        → HasPlayed form lead_in given (player_of player.old)
-        → HasPlayed form lead_in (Drawn pack.now ∷ given) (player_of player.new) }
+    ensures drawn { PlaysOn (Drawn pack.now ∷ []) (player_of player.old) (player_of player.new) }
 {
     player.screen.obey(&read_pack(pack));
 }

@@ -1,9 +1,8 @@
 // A player that is fed a block and answers with the packs that came with it.
-ghost use Rattle.std.specs.Prelude.{◌≡◌, ◌≤◌, ◌∷◌, List, ℕ, pos, length};
-ghost use Rattle.live_player.specs.Lives.{Given, HasPlayed};
+ghost use Rattle.std.specs.Prelude.{◌≡◌, ◌≤◌, ◌∷◌, [], pos, length};
+ghost use Rattle.live_player.specs.Lives.{PlaysOn};
 ghost use Rattle.live_player.specs.Lives.Given.{Fed};
 ghost use Rattle.live_player.specs.Steps.{TakesBlock, words_come};
-ghost use Rattle.raw_subcode.specs.declared.form.Form.{Form};
 ghost use Rattle.stream_stages.specs.Steps.{words_give};
 ghost use Rattle.ribjasper_web.specs.Packs.{AreTakenAs, IsTakenAs};
 ghost use Rattle.ribjasper_web.specs.Players.{player_of};
@@ -30,9 +29,7 @@ pub extern "C" fn ribjasper_web_take(
     packs: &mut [WebPack; 4],
 ) -> i32
     ensures takes { TakesBlock block.now (player_of player.old) (player_of player.new) }
-    ensures fed { (form : Form) (lead_in : ℕ) (given : List Given)
-        → HasPlayed form lead_in given (player_of player.old)
-        → HasPlayed form lead_in (Fed block.now ∷ given) (player_of player.new) }
+    ensures fed { PlaysOn (Fed block.now ∷ []) (player_of player.old) (player_of player.new) }
     ensures count { result ≡ pos (length (words_come (words_give (player_of player.old).words block.now))) }
     ensures packs { AreTakenAs (words_come (words_give (player_of player.old).words block.now))
         packs.old packs.new }

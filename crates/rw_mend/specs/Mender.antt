@@ -1,11 +1,11 @@
 -- What is known while the words of readings are come to in turn.
-use Rattle.std.specs.Prelude.{◌≡◌, ℕ, ◌+◌, ◌-◌, ◌/◌, ◌%◌, ◌<◌, ◌≤◌, nat_lt, if◌then◌else◌, List, [], length, slice_index_or}
+use Rattle.std.specs.Prelude.{◌≡◌, ℕ, ◌+◌, ◌-◌, ◌/◌, ◌%◌, ◌<◌, ◌≤◌, nat_lt, if◌then◌else◌, List, [], length, take, slice_index_or}
 use Rattle.raw_subcode.specs.Sizes.{block_bytes}
 use Rattle.rw_interleave.specs.Interleave.{whole_packs}
 use Rattle.rw_mend.specs.Choice.{voice_of_reading}
 use Rattle.rw_mend.specs.Drops.{AreDropCounts, IsSaid}
 use Rattle.rw_mend.specs.Readings.{AreHeldReadings, programs_in, size_in}
-use Rattle.rw_mend.specs.Rows.{AreFollowed, AreLastMissed, AreTrails, IsRow}
+use Rattle.rw_mend.specs.Rows.{AreFollowed, AreLastMissed, AreTrails, IsRow, is_left}
 use Rattle.rw_mend.specs.declared.rows.GivenRow.{GivenRow}
 use Rattle.rw_mend.specs.declared.readings.Readings.{Readings}
 use Rattle.rw_mend.specs.declared.mender.Mender.{Mender}
@@ -19,6 +19,13 @@ no_given_row = record { voices = [] }
 abbrev pub voices_at : Mender → ℕ → List Voice
 voices_at mender n = if nat_lt (n - 7) mender.last_missed then mender.said
     else (slice_index_or mender.rows (n % 8) no_given_row).voices
+
+-- Of each reading one more is counted where what it gives at word n counts for nothing.
+abbrev pub CountsLeft : List GivenRow → ℕ → ℕ → List ℕ → List ℕ → List ℕ → Type 0
+CountsLeft rows count n missed before after = (r : ℕ) → r < count → slice_index_or after r 0
+    ≡ slice_index_or before r 0 + (if is_left (slice_index_or missed r 0) n
+    (voice_of_reading (take count ((slice_index_or rows (n % 8) no_given_row).voices)) r)
+    then 1 else 0)
 
 -- The words before `heard` were heard, and of those from n on the rows are kept.
 pub record IsHearing (readings : Readings) (n : ℕ) (mender : Mender) : Type 0 where

@@ -1,5 +1,5 @@
 -- Readings of a stream, mended word by word.
-use Rattle.std.specs.Prelude.{◌≡◌, ◌==◌, ℕ, ◌-◌, ◌*◌, ◌/◌, ◌<◌, Bool, true, false, if◌then◌else◌, List, [], ◌∷◌, ◌++◌, length, drop, flat_map, count_by, slice_index_or, is_none, Option, Some, None}
+use Rattle.std.specs.Prelude.{◌≡◌, ◌==◌, ℕ, ◌-◌, ◌*◌, ◌/◌, ◌<◌, ◌≤◌, Bool, true, false, if◌then◌else◌, List, [], ◌∷◌, ◌++◌, length, drop, flat_map, count_by, slice_index_or, is_none, Option, Some, None}
 use Rattle.raw_subcode.specs.Sizes.{block_bytes, symbols_a_slot}
 use Rattle.rw_code.specs.Packs.{idle_pack}
 use Rattle.rw_interleave.specs.Interleave.{whole_packs}
@@ -30,6 +30,10 @@ mended_bytes None = idle_pack
 -- the text of what is found, 24 bytes for each word
 abbrev pub mended_text : List (Option Mended) → List ℕ
 mended_text found = flat_map mended_bytes found
+
+-- a text has room for the words of so many blocks
+abbrev pub HasWordRoom : ℕ → List ℕ → Type 0
+HasWordRoom blocks text = symbols_a_slot * whole_packs blocks ≤ length text
 
 -- ---- Two readings.
 

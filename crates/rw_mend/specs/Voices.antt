@@ -1,13 +1,19 @@
 -- What a reading of a word gives.
-use Rattle.std.specs.Prelude.{ℕ, ◌==◌, ◌&&◌, Bool, false, not, if◌then◌else◌, List, Option, Some, None}
-use Rattle.rw_code.specs.Codeword.{differences}
+use Rattle.std.specs.Prelude.{◌≡◌, ℕ, ◌==◌, ◌&&◌, Bool, false, not, if◌then◌else◌, List, Option, Some, None, IfSome}
+use Rattle.rw_code.specs.Codeword.{Reads, differences}
 use Rattle.rw_code.specs.Finding.{finding}
 use Rattle.rw_code.specs.Packs.{idle_pack}
+use Rattle.rw_code.specs.declared.correction.Fixed.{Fixed}
 use Rattle.rw_mend.specs.declared.voices.Coverage.{Coverage}
 use Rattle.rw_mend.specs.declared.voices.Coverage.TheVariants.{Partly, Unread}
 use Rattle.rw_mend.specs.declared.voices.WordReading.{WordReading}
 use Rattle.rw_mend.specs.declared.voices.Voice.{Voice}
 use Rattle.rw_mend.specs.declared.voices.Voice.TheVariants.{Silent, Lost, Near}
+
+-- where a codeword is given, the word is read as it, and its wrong symbols are counted
+abbrev pub GivesNear : List ℕ → Option Fixed → Type 0
+GivesNear word given =
+    IfSome given (λ fixed. Reads word fixed.pack × (fixed.wrong ≡ differences word fixed.pack))
 
 -- whether a codeword is the idle pack
 abbrev pub is_idle_pack : List ℕ → Bool

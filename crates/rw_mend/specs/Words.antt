@@ -1,5 +1,5 @@
 -- The words of a program, as they were read.
-use Rattle.std.specs.Prelude.{◌==◌, ◌&&◌, ℕ, ◌+◌, ◌-◌, ◌*◌, ◌/◌, Bool, not, if◌then◌else◌, List, [], map, drop, slice_range, slice_index_or, is_ok}
+use Rattle.std.specs.Prelude.{◌==◌, ◌&&◌, ℕ, ◌+◌, ◌-◌, ◌*◌, ◌/◌, ◌≤◌, Bool, not, if◌then◌else◌, List, [], map, drop, slice_range, slice_index_or, is_ok}
 use Rattle.std.specs.List.{list_all, list_any, range_with_len}
 use Rattle.raw_subcode.specs.Channels.{q_bits, symbols_of}
 use Rattle.raw_subcode.specs.Sizes.{block_bytes}
@@ -18,6 +18,10 @@ program_of lead_in bytes = drop (block_bytes * lead_in) bytes
 -- a block of the program
 abbrev pub block_at : List ℕ → ℕ → List ℕ
 block_at program b = slice_range program (block_bytes * b) (block_bytes * b + block_bytes)
+
+-- a program of so many bytes has all blocks under word n
+abbrev pub HoldsWord : ℕ → ℕ → Type 0
+HoldsWord n size = block_bytes * ((n + 7) / 4) + block_bytes ≤ size
 
 -- whether a block is without symbols: all are 0
 abbrev pub is_blank_block : List ℕ → Bool

@@ -1,7 +1,7 @@
 // Which blocks under a word are empty.
 ghost use Rattle.std.specs.Prelude.{true, ◌≡◌, ◌≢◌, ◌==◌, ◌≤◌, ◌<◌, ◌+◌, ◌-◌, ◌*◌, ◌/◌, ◌%◌, ◌^◌, List, ℕ, length, if◌then◌else◌};
 ghost use Rattle.std.specs.List.{list_all};
-ghost use Rattle.rw_mend.specs.Words.{block_at, blocks_under, coverage_of, is_blank_block, is_empty_block};
+ghost use Rattle.rw_mend.specs.Words.{HoldsWord, block_at, blocks_under, coverage_of, is_blank_block, is_empty_block};
 ghost use Rattle.rw_mend.specs.Trails.{IsTrail};
 ghost use Rattle.raw_subcode.specs.Sizes.{block_bytes};
 
@@ -37,7 +37,7 @@ impl Trail {
     /// Comes to word n of a program from the word before it.
     pub(crate) fn advance(&mut self, program: &[u8], n: usize)
         requires before { 0 < n → IsTrail program.now (n - 1) self.old }
-        requires within { block_bytes * ((n + 7) / 4) + block_bytes ≤ length program.now }
+        requires within { HoldsWord n (length program.now) }
         ensures { IsTrail program.now n self.new }
     {
         if n == 0 {

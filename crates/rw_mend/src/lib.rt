@@ -4,7 +4,6 @@
 mod agreements;
 mod choice;
 mod cover;
-mod following;
 mod laws;
 mod many;
 mod mender;

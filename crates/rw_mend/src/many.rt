@@ -1,11 +1,12 @@
 // Any number of readings of a stream in memory.
-ghost use Rattle.std.specs.Prelude.{◌≡◌, ◌≤◌, ◌<◌, ◌+◌, ◌-◌, ◌*◌, ◌/◌, ◌%◌, ◌++◌, List, ℕ, length};
-ghost use Rattle.raw_subcode.specs.Sizes.{block_bytes, most_units, symbols_a_slot};
+ghost use Rattle.std.specs.Prelude.{◌≡◌, ◌≤◌, ◌<◌, ◌-◌, ◌*◌, ◌/◌, ◌%◌, ◌++◌, List, ℕ, length};
+ghost use Rattle.raw_subcode.specs.Sizes.{block_bytes, most_units};
 ghost use Rattle.rw_interleave.specs.Interleave.{whole_packs};
 ghost use Rattle.rw_mend.specs.Drops.{AreDropCounts};
 ghost use Rattle.rw_mend.specs.Many.{AreAllMendedInto};
 ghost use Rattle.rw_mend.specs.Readings.{AreHeldReadings, programs_in, size_in};
 ghost use Rattle.rw_mend.specs.Steps.{AreTold, IsMendedTo};
+ghost use Rattle.rw_mend.specs.Streams.{HasWordRoom};
 
 use crate::mend;
 use crate::mender::Mender;
@@ -29,8 +30,7 @@ pub fn mend_readings(
     requires equal { length readings.now ≡ count * (length readings.now / count) }
     requires whole { (length readings.now / count) % block_bytes ≡ 0 }
     requires short { length readings.now / count ≤ block_bytes * most_units }
-    requires room { symbols_a_slot * whole_packs
-        (length readings.now / count / block_bytes - lead_in) ≤ length packs.old }
+    requires room { HasWordRoom (length readings.now / count / block_bytes - lead_in) packs.old }
     ensures { AreAllMendedInto count lead_in readings.now packs.old packs.new sources.old sources.new result }
 {
     let size = readings.len() / count;
@@ -58,8 +58,7 @@ fn mend_split(
     requires equal { length others.now ≡ length first.now * (count - 1) }
     requires whole { length first.now % block_bytes ≡ 0 }
     requires short { length first.now ≤ block_bytes * most_units }
-    requires room { symbols_a_slot * whole_packs
-        (length first.now / block_bytes - lead_in) ≤ length packs.old }
+    requires room { HasWordRoom (length first.now / block_bytes - lead_in) packs.old }
     ensures { (readings : List ℕ) → length readings / count ≡ length first.now
         → readings ≡ first.now ++ others.now
         → AreAllMendedInto count lead_in readings packs.old packs.new sources.old sources.new result }
@@ -77,7 +76,7 @@ fn mend_split(
 fn mend_all(readings: &Readings, packs: &mut [u8], sources: &mut [u8]) -> Tallies
     requires readings { AreHeldReadings readings.now }
     requires few { size_in readings.now ≤ block_bytes * most_units }
-    requires room { symbols_a_slot * whole_packs (size_in readings.now / block_bytes) ≤ length packs.old }
+    requires room { HasWordRoom (size_in readings.now / block_bytes) packs.old }
     ensures mended { IsMendedTo readings.now (whole_packs (size_in readings.now / block_bytes))
         (whole_packs (size_in readings.now / block_bytes)) packs.old packs.new
         (AreTold sources.old (whole_packs (size_in readings.now / block_bytes)) sources.new result) }

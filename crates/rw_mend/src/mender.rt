@@ -1,11 +1,12 @@
 // The words of some readings in turn.
-ghost use Rattle.std.specs.Prelude.{◌≡◌, ◌⊎◌, ◌<◌, ◌≤◌, ◌+◌, ◌-◌, ◌*◌, ◌/◌, ◌%◌, ℕ, length, take, slice_index_or, slice_set, if◌then◌else◌};
+ghost use Rattle.std.specs.Prelude.{◌≡◌, ◌⊎◌, ◌<◌, ◌≤◌, ◌+◌, ◌-◌, ◌*◌, ◌/◌, ◌%◌, ℕ, length, take, slice_index_or, slice_set};
 ghost use Rattle.raw_subcode.specs.Sizes.{block_bytes, most_units};
 ghost use Rattle.rw_mend.specs.Choice.{voice_of_reading};
-ghost use Rattle.rw_mend.specs.Mender.{HasComeTo, IsHearing, no_given_row, voices_at};
+ghost use Rattle.rw_mend.specs.Mender.{CountsLeft, HasComeTo, IsHearing, no_given_row, voices_at};
 ghost use Rattle.rw_mend.specs.Readings.{AreHeldReadings, programs_in, size_in};
-ghost use Rattle.rw_mend.specs.Rows.{AreFollowed, AreLastMissed, AreTrails, IsRow, is_left, said_after};
+ghost use Rattle.rw_mend.specs.Rows.{AreFollowed, AreLastMissed, AreTrails, IsRow, said_after};
 ghost use Rattle.rw_mend.specs.declared.rows.GivenRow.{GivenRow};
+ghost use Rattle.rw_mend.specs.Words.{HoldsWord};
 
 use crate::Voice;
 use crate::choice::MOST_READINGS;
@@ -132,7 +133,7 @@ fn hear_next(
     rows: &mut [GivenRow],
 )
     requires readings { AreHeldReadings readings.now }
-    requires within { block_bytes * ((m + 7) / 4) + block_bytes ≤ size_in readings.now }
+    requires within { HoldsWord m (size_in readings.now) }
     requires trails_size { length trails.old ≡ 254 }
     requires missed_size { length missed.old ≡ 254 }
     requires same_size { length same_from.old ≡ 254 }
@@ -181,10 +182,7 @@ fn say_next(
     ensures said { n - 7 < last_missed → (r : ℕ) → r < count → voice_of_reading said.new r
         ≡ said_after (slice_index_or missed.now r 0) n
         (voice_of_reading (take count ((slice_index_or rows.now (n % 8) no_given_row).voices)) r) }
-    ensures dropped { (r : ℕ) → r < count → slice_index_or dropped.new r 0
-        ≡ slice_index_or dropped.old r 0 + (if is_left (slice_index_or missed.now r 0) n
-        (voice_of_reading (take count ((slice_index_or rows.now (n % 8) no_given_row).voices)) r)
-        then 1 else 0) }
+    ensures dropped { CountsLeft rows.now count n missed.now dropped.old dropped.new }
 {
     if may_be_left(last_missed, n) {
         say_near(rows, count, n, missed, said, dropped);
@@ -212,10 +210,7 @@ fn say_near(
     ensures said { (r : ℕ) → r < count → voice_of_reading said.new r
         ≡ said_after (slice_index_or missed.now r 0) n
         (voice_of_reading (take count ((slice_index_or rows.now (n % 8) no_given_row).voices)) r) }
-    ensures dropped { (r : ℕ) → r < count → slice_index_or dropped.new r 0
-        ≡ slice_index_or dropped.old r 0 + (if is_left (slice_index_or missed.now r 0) n
-        (voice_of_reading (take count ((slice_index_or rows.now (n % 8) no_given_row).voices)) r)
-        then 1 else 0) }
+    ensures dropped { CountsLeft rows.now count n missed.now dropped.old dropped.new }
 {
     let given = rows[n % KEPT].voices(count);
     say_all(given, missed, n, said);

@@ -1,6 +1,11 @@
-// Readings of one stream in memory.
-ghost use Rattle.std.specs.Prelude.{◌≡◌, ◌<◌, length};
+// Readings of one stream in memory, and from which block on one is the same as the first.
+ghost use Rattle.std.specs.Prelude.{◌≡◌, ◌<◌, length, true, ◌≤◌, ◌+◌, ◌*◌, ◌/◌};
 ghost use Rattle.rw_mend.specs.Readings.{AreHeldReadings, program_in, size_in};
+ghost use Rattle.rw_mend.specs.Trails.{AreSameFrom};
+ghost use Rattle.rw_mend.specs.Words.{HoldsWord, block_at};
+ghost use Rattle.raw_subcode.specs.Sizes.{block_bytes};
+
+use raw_subcode::{BLOCK_BYTES, SLOTS_A_BLOCK};
 
 /// Readings of equal length: the first, and all others one behind another.
 #[derive(Clone, Copy)]
@@ -28,4 +33,47 @@ impl<'a> Readings<'a> {
         let others = &self.others[size * (r - 1)..];
         &others[self.start..size]
     }
+}
+
+/// Comes to word n from the word before it, with a block from which on all blocks of a program up to the last one under
+/// the word are those of the first.
+#[inline]
+#[tactic(auto, using(crate::proofs::Alike::followed_on, crate::proofs::Alike::followed_anew))]
+pub(crate) fn follow(first: &[u8], program: &[u8], n: usize, same_from: &mut usize)
+    requires size { length first.now ≡ length program.now }
+    requires within { HoldsWord n (length program.now) }
+    requires before { AreSameFrom first.now program.now ((n + 6) / 4 + 1) same_from.old }
+    ensures { AreSameFrom first.now program.now ((n + 7) / 4 + 1) same_from.new }
+{
+    if n % SLOTS_A_BLOCK == 1 {
+        let last = n / SLOTS_A_BLOCK + 2;
+        if !is_same_at(first, program, last) {
+            *same_from = last + 1;
+        }
+    }
+}
+
+// Whether a block of a program is that of the first.
+#[inline]
+fn is_same_at(first: &[u8], program: &[u8], b: usize) -> bool
+    requires first { block_bytes * b + block_bytes ≤ length first.now }
+    requires program { block_bytes * b + block_bytes ≤ length program.now }
+    ensures { result ≡ true → block_at program.now b ≡ block_at first.now b }
+{
+    let at = BLOCK_BYTES * b;
+    are_same(&first[at..at + BLOCK_BYTES], &program[at..at + BLOCK_BYTES])
+}
+
+// Whether all bytes of two blocks are the same: all are looked at, which is faster than to stop at the first.
+#[inline]
+fn are_same(one: &[u8], other: &[u8]) -> bool
+    requires one { length one.now ≡ block_bytes }
+    requires other { length other.now ≡ block_bytes }
+    ensures { result ≡ true → other.now ≡ one.now }
+{
+    let mut same = true;
+    for k in 0..BLOCK_BYTES {
+        same &= one[k] == other[k];
+    }
+    same
 }

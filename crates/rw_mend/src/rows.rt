@@ -1,7 +1,7 @@
 // The words of some readings in turn.
 ghost use Rattle.std.specs.Prelude.{◌≡◌, ◌⊎◌, ◌<◌, ◌≤◌, ◌+◌, ◌-◌, ◌*◌, ◌/◌, nat_lt, List, ℕ, length, slice_index, slice_index_or, take, if◌then◌else◌};
 ghost use Rattle.raw_subcode.specs.Channels.{symbols_of};
-ghost use Rattle.raw_subcode.specs.Sizes.{block_bytes, symbols_a_slot};
+ghost use Rattle.raw_subcode.specs.Sizes.{symbols_a_slot};
 ghost use Rattle.rw_code.specs.Sizes.{word_symbols};
 ghost use Rattle.rw_interleave.specs.Interleave.{place, word_of};
 ghost use Rattle.std.specs.List.{list_any};
@@ -9,13 +9,12 @@ ghost use Rattle.rw_mend.specs.Choice.{voice_of_reading};
 ghost use Rattle.rw_mend.specs.Voices.{is_clean_graphics, voice_of};
 ghost use Rattle.rw_mend.specs.Readings.{AreHeldReadings, program_in, programs_in, size_in};
 ghost use Rattle.rw_mend.specs.Trails.{AreSameFrom, IsTrail};
-ghost use Rattle.rw_mend.specs.Words.{reading_at};
+ghost use Rattle.rw_mend.specs.Words.{HoldsWord, reading_at};
 ghost use Rattle.rw_mend.specs.Rows.{AreFollowed, AreLastMissed, AreTrails, IsRow, is_left, no_trail, said_after};
 
 use crate::choice::MOST_READINGS;
 use crate::cover::Trail;
-use crate::following::follow;
-use crate::readings::Readings;
+use crate::readings::{Readings, follow};
 use crate::voices::{hear_blank, hear_likely};
 use crate::{Voice, WordReading};
 use raw_subcode::SLOTS_A_BLOCK;
@@ -60,7 +59,7 @@ pub(crate) fn hear_all(
     requires readings { AreHeldReadings readings.now }
     requires trails_size { readings.now.count ≤ length trails.old }
     requires same_size { readings.now.count ≤ length same_from.old }
-    requires within { block_bytes * ((n + 7) / 4) + block_bytes ≤ size_in readings.now }
+    requires within { HoldsWord n (size_in readings.now) }
     requires trails { 0 < n → AreTrails (programs_in readings.now) (n - 1) trails.old }
     requires same { AreFollowed readings.now ((n + 6) / 4 + 1) same_from.old }
     ensures trails_size { length trails.new ≡ length trails.old }
@@ -105,7 +104,7 @@ fn hear_others(
     requires trails_size { readings.now.count ≤ length trails.old }
     requires row_size { length row.old.voices ≡ 254 }
     requires same_size { readings.now.count ≤ length same_from.old }
-    requires within { block_bytes * ((n + 7) / 4) + block_bytes ≤ size_in readings.now }
+    requires within { HoldsWord n (size_in readings.now) }
     requires trails { (r : ℕ) → 0 < n → 0 < r → r < readings.now.count
         → IsTrail (program_in readings.now r) (n - 1) (slice_index_or trails.old r no_trail) }
     requires same { AreFollowed readings.now ((n + 6) / 4 + 1) same_from.old }
@@ -145,7 +144,7 @@ fn hear_beside(
     same_from: &mut usize,
     voice: &mut Voice,
 )
-    requires within { block_bytes * ((n + 7) / 4) + block_bytes ≤ length program.now }
+    requires within { HoldsWord n (length program.now) }
     requires size { length first.now.program.now ≡ length program.now }
     requires trail { 0 < n → IsTrail program.now (n - 1) trail.old }
     requires same { AreSameFrom first.now.program.now program.now ((n + 6) / 4 + 1) same_from.old }
@@ -167,7 +166,7 @@ fn hear_beside(
 // Hears what one reading gives, beside what another gives. It stands in line, so that what it hears waits in registers.
 #[inline(always)]
 fn hear_one(other: &Voice, program: &[u8], n: usize, trail: &mut Trail, voice: &mut Voice)
-    requires within { block_bytes * ((n + 7) / 4) + block_bytes ≤ length program.now }
+    requires within { HoldsWord n (length program.now) }
     requires trail { 0 < n → IsTrail program.now (n - 1) trail.old }
     ensures trail { IsTrail program.now n trail.new }
     ensures voice { voice.new ≡ voice_of (reading_at program.now n) }

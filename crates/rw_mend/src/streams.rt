@@ -6,7 +6,7 @@ ghost use Rattle.rw_interleave.specs.Interleave.{whole_packs};
 ghost use Rattle.rw_mend.specs.declared.ways.Way.{Way};
 ghost use Rattle.rw_mend.specs.Readings.{AreHeldReadings, size_in};
 ghost use Rattle.rw_mend.specs.Steps.{AreCounted, IsMendedTo};
-ghost use Rattle.rw_mend.specs.Streams.{AreCounts, IsMendedInto, mended_bytes};
+ghost use Rattle.rw_mend.specs.Streams.{AreCounts, HasWordRoom, IsMendedInto, mended_bytes};
 
 use crate::mender::Mender;
 use crate::readings::Readings;
@@ -37,8 +37,7 @@ pub fn mend_streams(first: &[u8], second: &[u8], lead_in: u32, packs: &mut [u8])
     requires equal { length first.now ≡ length second.now }
     requires whole { length first.now % block_bytes ≡ 0 }
     requires few { length first.now ≤ block_bytes * most_units }
-    requires room { symbols_a_slot * whole_packs
-        (length first.now / block_bytes - lead_in) ≤ length packs.old }
+    requires room { HasWordRoom (length first.now / block_bytes - lead_in) packs.old }
     ensures { IsMendedInto lead_in first.now second.now packs.old packs.new result }
 {
     let readings = Readings {
@@ -54,7 +53,7 @@ pub fn mend_streams(first: &[u8], second: &[u8], lead_in: u32, packs: &mut [u8])
 fn mend_two(readings: &Readings, packs: &mut [u8]) -> MendCounts
     requires readings { AreHeldReadings readings.now }
     requires few { size_in readings.now ≤ block_bytes * most_units }
-    requires room { symbols_a_slot * whole_packs (size_in readings.now / block_bytes) ≤ length packs.old }
+    requires room { HasWordRoom (size_in readings.now / block_bytes) packs.old }
     ensures { IsMendedTo readings.now (whole_packs (size_in readings.now / block_bytes))
         (whole_packs (size_in readings.now / block_bytes)) packs.old packs.new (AreCounted result) }
 {

@@ -1,9 +1,9 @@
 // What a reading of a word gives.
-ghost use Rattle.std.specs.Prelude.{◌≡◌, List, ℕ, IfSome};
-ghost use Rattle.rw_code.specs.Codeword.{IsWord, Reads, differences};
+ghost use Rattle.std.specs.Prelude.{◌≡◌, List, ℕ};
+ghost use Rattle.rw_code.specs.Codeword.{IsWord, differences};
 ghost use Rattle.rw_code.specs.Packs.{idle_pack};
 ghost use Rattle.rw_mend.specs.declared.voices.WordReading.{WordReading};
-ghost use Rattle.rw_mend.specs.Voices.{doubts_of, is_clean_graphics, is_idle_voice, is_idle_pack, voice_of};
+ghost use Rattle.rw_mend.specs.Voices.{GivesNear, doubts_of, is_clean_graphics, is_idle_pack, is_idle_voice, voice_of};
 
 use rw_code::{Fixed, Pack, Word, correct, words_have_24_symbols};
 use rw_merge::differing;
@@ -89,8 +89,7 @@ pub(crate) fn hear_likely(other: &Voice, reading: &WordReading) -> Voice
 // The codeword that a voice is, where a word is near it.
 #[inline]
 fn near(voice: &Voice, word: &Word) -> Option<Fixed>
-    ensures near { IfSome result (λ fixed. Reads word.now fixed.pack
-        × (fixed.wrong ≡ differences word.now fixed.pack)) }
+    ensures near { GivesNear word.now result }
     ensures word { IsWord word.now }
 {
     // What is found for a word is known of words alone.
@@ -104,8 +103,7 @@ fn near(voice: &Voice, word: &Word) -> Option<Fixed>
 // A codeword, where a word is near it.
 #[inline]
 fn near_pack(pack: &Pack, word: &Word) -> Option<Fixed>
-    ensures { IfSome result (λ fixed. Reads word.now fixed.pack
-        × (fixed.wrong ≡ differences word.now fixed.pack)) }
+    ensures { GivesNear word.now result }
 {
     let wrong = differing(word, &pack.word());
     if wrong > MOST_WRONG {

@@ -1,5 +1,5 @@
 -- The codeword on which two readings of a word agree.
-use Rattle.std.specs.Prelude.{ℕ, ◌+◌, ◌*◌, ◌≤◌, ◌==◌, if◌then◌else◌, List, [], ◌∷◌, Option, Some, None}
+use Rattle.std.specs.Prelude.{ℕ, ◌+◌, ◌*◌, ◌≤◌, ◌==◌, if◌then◌else◌, List, [], ◌∷◌, MatchOption, Option, Some, None}
 use Rattle.rw_code.specs.Codeword.{IsCodeword, differences}
 
 -- at how many positions two readings are equal and differ from a word
@@ -15,6 +15,11 @@ equally_wrong (x ∷ xs) (y ∷ ys) (z ∷ zs) =
 pub record IsAgreed (first second codeword : List ℕ) : Type 0 where
   pub is_codeword : IsCodeword codeword
   pub few : 2 * equally_wrong first second codeword + differences first second ≤ 4
+
+-- a codeword is given where one is agreed, and none where none is
+abbrev pub GivesAgreed : List ℕ → List ℕ → Option (List ℕ) → Type 0
+GivesAgreed first second given = MatchOption given ((codeword : List ℕ) → ¬ IsAgreed first second codeword)
+    (λ codeword. IsAgreed first second codeword)
 
 -- what is found for two readings of a word: the codeword that is agreed, or nothing where none is
 abbrev pub IsAgreement : List ℕ → List ℕ → Option (List ℕ) → Type 0

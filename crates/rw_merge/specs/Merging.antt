@@ -1,5 +1,5 @@
 -- What a merge of two readings of a stream takes, writes and answers.
-use Rattle.std.specs.Prelude.{◌≡◌, ◌≢◌, ◌⊎◌, ℕ, ◌+◌, ◌-◌, ◌*◌, ◌/◌, ◌%◌, ◌<◌, ◌≤◌, ⊤, min, List, length, take, slice_index_or, nat_lt, if◌then◌else◌, Option, None, Result, Ok, Err, IfOk}
+use Rattle.std.specs.Prelude.{◌≡◌, ◌≢◌, ◌⊎◌, ℕ, ◌+◌, ◌-◌, ◌*◌, ◌/◌, ◌%◌, ◌<◌, ◌≤◌, ⊤, min, List, length, take, slice_index_or, nat_lt, if◌then◌else◌, Option, None, Result, Ok, Err, IfOk, IfSome}
 use Rattle.std.specs.Io.KnownBytes.{Appends, Consumes, IsAtEnd}
 use Rattle.cdg_io.specs.Causes.{Tells}
 use Rattle.cdg_io.specs.Change.{Bytes, Change, Input}
@@ -57,6 +57,11 @@ IsAnswer lead_in (Err (Unequal blocks)) first second = (blocks < most_units)
 IsAnswer lead_in (Err FirstFault) first second = ⊤
 IsAnswer lead_in (Err SecondFault) first second = ⊤
 IsAnswer lead_in (Err WriteFault) first second = ⊤
+
+-- the same of two whole inputs, where both tell their bytes
+abbrev pub IsAnswerTo : ℕ → Result Merged MergeStop → Bytes → Bytes → Type 0
+IsAnswerTo lead_in result first second =
+    IfSome first (λ xs. IfSome second (λ ys. IsAnswer lead_in result (length xs) (length ys)))
 
 -- How much was taken of two inputs where no whole block came of one of them, as it had none or a read of it
 -- failed. If this was the first, as many whole blocks were taken of the second; if it was the second, whole

@@ -2,7 +2,7 @@
 ghost use Rattle.std.specs.Prelude.{◌≡◌, ◌≢◌, ◌≤◌, true, List, ℕ, IfSome, MatchOption};
 ghost use Rattle.rw_code.specs.Codeword.{IsWord, differences};
 ghost use Rattle.rw_code.specs.Packs.{idle_pack};
-ghost use Rattle.rw_merge.specs.Agreement.{IsAgreed};
+ghost use Rattle.rw_merge.specs.Agreement.{GivesAgreed, IsAgreed};
 
 use crate::counting::{differing, doubts};
 use crate::elimination::{WordSums, solved};
@@ -15,9 +15,7 @@ const MOST_DOUBTS: u8 = 4;
 /// The codeword that is agreed for two readings of a word: twice the symbols that both have equally wrong and those
 /// in which they differ are at most four. There is at most one such codeword, and `None` exactly where there is none.
 pub fn agree(a: &Word, b: &Word) -> Option<Pack>
-    ensures agreed { MatchOption result
-        ((w : List ℕ) → ¬ IsAgreed a.now b.now w)
-        (λ pack. IsAgreed a.now b.now pack) }
+    ensures agreed { GivesAgreed a.now b.now result }
     ensures only { (one other : List ℕ) → IsAgreed a.now b.now one → IsAgreed a.now b.now other
         → one ≡ other }
     ensures words { IsWord a.now × IsWord b.now }
@@ -57,9 +55,7 @@ fn agree_apart(a: &Word, b: &Word) -> Option<Pack>
     requires differ { a.now ≢ b.now }
     requires few { differences a.now b.now ≤ 4 }
     requires word { IsWord a.now }
-    ensures { MatchOption result
-        ((w : List ℕ) → ¬ IsAgreed a.now b.now w)
-        (λ pack. IsAgreed a.now b.now pack) }
+    ensures { GivesAgreed a.now b.now result }
 {
     if let Some(pack) = likely(a, b) {
         return Some(pack);

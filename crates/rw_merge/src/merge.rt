@@ -1,15 +1,12 @@
 // Two readings of one stream, block by block in turn.
-ghost use Rattle.std.specs.Prelude.{◌≡◌, ◌≤◌, ◌<◌, ◌+◌, [], List, ℕ, Err, length, IsOk, IfOk, IfSome, replicate, true};
+ghost use Rattle.std.specs.Prelude.{◌≡◌, ◌≤◌, [], List, ℕ, Err, length, IsOk, IfOk, IfSome, replicate, true};
 ghost use Rattle.std.specs.List.{concat};
-ghost use Rattle.std.specs.declared.option.Option.{Option};
 ghost use Rattle.disc_time.specs.Counts.{most_lead_in};
 ghost use Rattle.cdg_io.specs.Causes.{TellsFault};
 ghost use Rattle.cdg_io.specs.Change.{change, input};
-ghost use Rattle.rw_interleave.specs.Stream.{bad_count};
-ghost use Rattle.rw_interleave.specs.Texts.{cdg_bytes};
-ghost use Rattle.rw_merge.specs.Merging.{EndsSecond, FirstIsAtEnd, IsAnswer, IsMergedText, Merges, ReadsBoth, full_reads, times_told};
+ghost use Rattle.rw_merge.specs.Merging.{EndsSecond, FirstIsAtEnd, IsAnswerTo, IsMergedText, Merges, ReadsBoth, full_reads, times_told};
 ghost use Rattle.rw_merge.specs.Readings.{IsDamagedTwice, IsReadTwice, MergeRestores};
-ghost use Rattle.rw_merge.specs.Steps.{AreAgreements, CountsFaults, leading_slots, window_after, words_after};
+ghost use Rattle.rw_merge.specs.Steps.{CountsFaults, MergesBlocks, window_after_block, words_after_block};
 ghost use Rattle.raw_subcode.specs.Sizes.{slots_a_block};
 ghost use Rattle.rw_code.specs.Packs.{idle_pack};
 
@@ -130,8 +127,7 @@ impl Merger {
             (blocks : ℕ) (packs : List (List ℕ)) → IsDamagedTwice lead_in blocks packs xs ys
             → MergeRestores result blocks (K.held out.old) (K.held out.new) (concat packs))) }
         // Where nothing failed, the answer is that of the lengths of both whole inputs.
-        ensures answer { IfSome (S.left first.old) (λ xs. IfSome (T.left second.old) (λ ys.
-            IsAnswer lead_in result (length xs) (length ys))) }
+        ensures answer { IsAnswerTo lead_in result (S.left first.old) (T.left second.old) }
         ensures first_end { FirstIsAtEnd result (S.left first.new) }
         ensures second_end { EndsSecond result (T.left second.new) }
         ensures first_fault { TellsFault MergeStop.FirstFault
@@ -161,8 +157,7 @@ impl Merger {
         ensures merges { ReadsBoth (Merges lead_in (change K.held out.old out.new) result) (times_told result)
             full_reads (input S.left S.counts first.old first.new)
             (input T.left T.counts second.old second.new) }
-        ensures answer { IfSome (S.left first.old) (λ xs. IfSome (T.left second.old) (λ ys.
-            IsAnswer lead_in result (length xs) (length ys))) }
+        ensures answer { IsAnswerTo lead_in result (S.left first.old) (T.left second.old) }
         ensures ends { FirstIsAtEnd result (S.left first.new) × EndsSecond result (T.left second.new) }
         ensures faults { CountsFaults result (change S.faults first.old first.new)
             (change T.faults second.old second.new) (change K.faults out.old out.new) }
@@ -204,14 +199,10 @@ impl Merger {
     // The packs that come with a pair of program blocks.
     fn merge(&mut self, first: &[u8; BLOCK_BYTES], second: &[u8; BLOCK_BYTES], packs: &mut Packs)
         requires { length self.old.first ≡ length self.old.second }
-        ensures first { self.new.first ≡ window_after self.old.first (leading_slots slots_a_block first.now) }
-        ensures second { self.new.second ≡ window_after self.old.second
-            (leading_slots slots_a_block second.now) }
+        ensures first { self.new.first ≡ window_after_block self.old.first first.now }
+        ensures second { self.new.second ≡ window_after_block self.old.second second.now }
         ensures same { length self.new.first ≡ length self.new.second }
-        ensures packs { (found : List (Option (List ℕ)))
-            × AreAgreements (words_after self.old.first (leading_slots slots_a_block first.now))
-            (words_after self.old.second (leading_slots slots_a_block second.now)) found
-            × (packs.new.bytes ≡ cdg_bytes found) × (packs.new.bad ≡ bad_count found) × (length found ≤ 4) }
+        ensures packs { MergesBlocks self.old first.now second.now packs.new }
     {
         if self.stay_idle(first, second) {
             packs.set_idle();
@@ -223,13 +214,13 @@ impl Merger {
     // Whether four words of zeros come with each block of a pair, and the windows stay as they are.
     fn stay_idle(&self, first: &[u8; BLOCK_BYTES], second: &[u8; BLOCK_BYTES]) -> bool
         ensures first { result ≡ true
-            → self.now.first ≡ window_after self.now.first (leading_slots slots_a_block first.now) }
+            → self.now.first ≡ window_after_block self.now.first first.now }
         ensures second { result ≡ true
-            → self.now.second ≡ window_after self.now.second (leading_slots slots_a_block second.now) }
+            → self.now.second ≡ window_after_block self.now.second second.now }
         ensures first_words { result ≡ true → replicate slots_a_block idle_pack
-            ≡ words_after self.now.first (leading_slots slots_a_block first.now) }
+            ≡ words_after_block self.now.first first.now }
         ensures second_words { result ≡ true → replicate slots_a_block idle_pack
-            ≡ words_after self.now.second (leading_slots slots_a_block second.now) }
+            ≡ words_after_block self.now.second second.now }
     {
         self.first.stays_idle(first) && self.second.stays_idle(second)
     }
@@ -243,14 +234,10 @@ impl Merger {
         packs: &mut Packs,
     )
         requires { length self.old.first ≡ length self.old.second }
-        ensures first { self.new.first ≡ window_after self.old.first (leading_slots slots_a_block first.now) }
-        ensures second { self.new.second ≡ window_after self.old.second
-            (leading_slots slots_a_block second.now) }
+        ensures first { self.new.first ≡ window_after_block self.old.first first.now }
+        ensures second { self.new.second ≡ window_after_block self.old.second second.now }
         ensures same { length self.new.first ≡ length self.new.second }
-        ensures packs { (found : List (Option (List ℕ)))
-            × AreAgreements (words_after self.old.first (leading_slots slots_a_block first.now))
-            (words_after self.old.second (leading_slots slots_a_block second.now)) found
-            × (packs.new.bytes ≡ cdg_bytes found) × (packs.new.bad ≡ bad_count found) × (length found ≤ 4) }
+        ensures packs { MergesBlocks self.old first.now second.now packs.new }
     {
         let one = self.first.push_block(first);
         let other = self.second.push_block(second);

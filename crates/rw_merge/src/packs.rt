@@ -1,9 +1,8 @@
 // The packs of a pair of blocks.
-ghost use Rattle.std.specs.Prelude.{◌≡◌, ◌≤◌, ◌<◌, ◌+◌, ◌++◌, List, ℕ, length, replicate, is_none, if◌then◌else◌};
+ghost use Rattle.std.specs.Prelude.{◌≡◌, ◌≤◌, ◌<◌, ◌+◌, ◌++◌, length, replicate, is_none, if◌then◌else◌};
 ghost use Rattle.std.specs.declared.option.Option.{Option};
-ghost use Rattle.rw_interleave.specs.Stream.{bad_count};
-ghost use Rattle.rw_interleave.specs.Texts.{cdg_bytes, entry_bytes};
-ghost use Rattle.rw_merge.specs.Steps.{AreAgreements};
+ghost use Rattle.rw_interleave.specs.Texts.{entry_bytes};
+ghost use Rattle.rw_merge.specs.Steps.{AreAgreedPacks};
 ghost use Rattle.raw_subcode.specs.Sizes.{slots_a_block, symbols_a_slot};
 ghost use Rattle.rw_code.specs.Packs.{idle_pack};
 
@@ -31,8 +30,7 @@ impl Packs {
     pub(crate) fn set_agreed(&mut self, first: &[Word], second: &[Word])
         requires same { length first.now ≡ length second.now }
         requires few { length first.now ≤ 4 }
-        ensures { (found : List (Option (List ℕ))) × AreAgreements first.now second.now found
-            × (self.new.bytes ≡ cdg_bytes found) × (self.new.bad ≡ bad_count found) × (length found ≤ 4) }
+        ensures { AreAgreedPacks first.now second.now self.new }
     {
         self.bytes = Piece::new();
         self.bad = 0;
@@ -44,9 +42,8 @@ impl Packs {
     /// Becomes what is found for four pairs of words of zeros.
     #[inline]
     pub(crate) fn set_idle(&mut self)
-        ensures { (found : List (Option (List ℕ)))
-            × AreAgreements (replicate slots_a_block idle_pack) (replicate slots_a_block idle_pack) found
-            × (self.new.bytes ≡ cdg_bytes found) × (self.new.bad ≡ bad_count found) × (length found ≤ 4) }
+        ensures { AreAgreedPacks (replicate slots_a_block idle_pack)
+            (replicate slots_a_block idle_pack) self.new }
     {
         self.bytes.set_zeros(BLOCK_BYTES);
         self.bad = 0;

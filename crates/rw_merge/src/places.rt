@@ -8,7 +8,6 @@ ghost use Rattle.raw_subcode.specs.Sizes.{symbols_a_slot};
 
 use crate::counting::next_difference;
 use crate::elimination::{WordSums, power_at};
-use gf64::Sym;
 use rw_code::{SYMBOLS, Word};
 
 /// Four positions of a word.

@@ -1,10 +1,9 @@
 // Many blocks or packs in one call.
-ghost use Rattle.std.specs.Prelude.{◌≡◌, ◌++◌, ◌∷◌, [], List, ℕ, map, reverse};
+ghost use Rattle.std.specs.Prelude.{◌≡◌, ◌∷◌, [], List, map, reverse};
 ghost use Rattle.cdg_instructions.specs.declared.instr.Instr.{Instr};
 ghost use Rattle.cdg_io.specs.Run.{run_state};
 ghost use Rattle.cdg_screen.specs.Standing.{IsWholeStanding, Standing, standing_after};
-ghost use Rattle.raw_subcode.specs.declared.form.Form.{Form};
-ghost use Rattle.live_player.specs.Lives.{Given, HasPlayed, instruction_of, standing_on};
+ghost use Rattle.live_player.specs.Lives.{instruction_of, standing_on, PlaysOn};
 ghost use Rattle.live_player.specs.Lives.Given.{Drawn, Fed};
 ghost use Rattle.screen_changes.specs.Changes.{changes_on, sees, watch_from, AreDrawnFor, KeepsUntold};
 
@@ -34,9 +33,7 @@ pub fn draw_all(live: &mut LivePlayer, packs: &[[u8; SYMBOLS]]) -> ScreenChange
     ensures stands { standing_on live.new
         ≡ standing_after (standing_on live.old) (map instruction_of packs.now) }
     ensures keeps { KeepsUntold result (standing_on live.old) (standing_on live.new) }
-    ensures drawn { (form : Form) (lead_in : ℕ) (given : List Given)
-        → HasPlayed form lead_in given live.old
-        → HasPlayed form lead_in (map Drawn (reverse packs.now) ++ given) live.new }
+    ensures drawn { PlaysOn (map Drawn (reverse packs.now)) live.old live.new }
 {
     untold_stays();
     live.screen.what_stands_is_whole();
@@ -54,9 +51,7 @@ pub fn feed_all(live: &mut LivePlayer, blocks: &[[u8; BLOCK_BYTES]]) -> ScreenCh
         × (standing_on live.new ≡ standing_after (standing_on live.old) instrs)
         × AreDrawnFor blocks.now live.old instrs }
     ensures keeps { KeepsUntold result (standing_on live.old) (standing_on live.new) }
-    ensures fed { (form : Form) (lead_in : ℕ) (given : List Given)
-        → HasPlayed form lead_in given live.old
-        → HasPlayed form lead_in (map Fed (reverse blocks.now) ++ given) live.new }
+    ensures fed { PlaysOn (map Fed (reverse blocks.now)) live.old live.new }
 {
     untold_stays();
     live.screen.what_stands_is_whole();

@@ -45,6 +45,12 @@ stops_stream pump.TooLong = tt
 pub stops_played : (stop : PumpStop) (answer : PlayStop) → answer ≡ play_stop stop → IsStreamStop answer
 stops_played stop answer is = subst IsStreamStop (sym is) (stops_stream stop)
 
+-- the writing of counts stops at a failed write alone
+pub stops_counts : (answer : Result Played PlayStop) (X : PlayStop → Type 0)
+    → IfErr answer (λ stop. (stop ≡ WriteFault) × X stop) → IfErr answer IsStreamStop
+stops_counts (Ok played) X part = tt
+stops_counts (Err stop) X part = subst IsStreamStop (sym part.0) tt
+
 ends_first : (limit : ℕ) (stop : PumpStop) (before now : Tally)
     → pump_error stop ≢ pump_error pump.WriteFault → TellsUnits limit (pump_error stop) before now
     → EndFirst (play_error (play_stop stop)) before now

@@ -9,3 +9,4 @@ pub mod Check
 pub mod CheckSteps
 pub mod TextListing
 pub mod Faults
+pub mod Plays

@@ -1,17 +1,14 @@
 // The counts of a stream.
-ghost use Rattle.std.specs.Prelude.{◌≡◌, ◌≢◌, ◌≤◌, ◌-◌, ◌+◌, ◌++◌, min, false, List, ℕ, length, IfSome, IfOk, IfErr};
+ghost use Rattle.std.specs.Prelude.{◌≡◌, ◌≤◌, ◌-◌, ◌+◌, ◌++◌, min, false, length, IfOk, IfErr};
 ghost use Rattle.std.specs.Io.KnownBytes.{Appends};
 ghost use Rattle.raw_subcode.specs.Sizes.{most_units};
 ghost use Rattle.disc_time.specs.Counts.{most_lead_in};
 ghost use Rattle.cdg_io.specs.Causes.{HasCause};
-ghost use Rattle.cdg_io.specs.Change.{passed};
 ghost use Rattle.cdg_io.specs.Moves.{AppendsPrefix};
-ghost use Rattle.cdg_io.specs.Streams.{WritesAtEnd};
-ghost use Rattle.raw_subcode.specs.Channels.{unit_size};
 ghost use Rattle.rw_interleave.specs.Stream.{word_count};
-ghost use Rattle.stream_stages.specs.Faults.{TellsStops};
-ghost use Rattle.stream_stages.specs.Calls.{EndFirst, IsAnsweredBy, IsStreamStop, at_end};
-ghost use Rattle.stream_stages.specs.Check.{IsCheckListed, count_line, stream_lines, wrong_lines};
+ghost use Rattle.stream_stages.specs.Plays.{LeavesUnwritten, PlaysThenWrites, checking};
+ghost use Rattle.stream_stages.specs.Calls.{EndFirst};
+ghost use Rattle.stream_stages.specs.Check.{count_line, stream_lines, wrong_lines};
 ghost use Rattle.stream_stages.specs.Check.{frame_count_lines, pack_count_lines};
 ghost use Rattle.stream_stages.specs.CheckSteps.{IsFresh, lines_of_counts, nothing_counted};
 ghost use Rattle.stream_stages.specs.Stages.{counts_of, words_of};
@@ -65,17 +62,8 @@ impl Checker {
         out: &mut K,
     ) -> Result<Played, PlayStop>
         requires { lead_in ≤ most_lead_in }
-        ensures checks { (taken : List ℕ) × WritesAtEnd (at_end (IsCheckListed form lead_in) form lead_in)
-            (passed S.left K.held (source.old, out.old) (source.new, out.new)) result taken }
-        // It never answers that a moment is past the end, nor a fault of texts, whatever the input.
-        ensures stops { IfErr result IsStreamStop }
-        // Where nothing failed, the answer is that of the whole input's length.
-        ensures answer { IfSome (S.left source.old) (λ all.
-            IsAnsweredBy result (unit_size form) (length all)) }
-        // Where the output is not written it is as it was.
-        ensures untouched { IfErr result (λ stop. stop ≢ PlayStop.WriteFault → out.new ≡ out.old) }
-        ensures faults { TellsStops (S.faults source.old) (S.faults source.new)
-            (K.faults out.old) (K.faults out.new) result }
+        ensures plays { PlaysThenWrites (checking form lead_in) S.left S.faults K.held K.faults
+            (source.old, out.old) (source.new, out.new) result }
         ensures ended { EndFirst result (S.counts source.old) (S.counts source.new) }
     {
         self.begin_check(lead_in, form);
@@ -100,7 +88,7 @@ impl Checker {
         ensures part { IfErr result (λ stop. (stop ≡ PlayStop.WriteFault)
             × AppendsPrefix (K.held out.old) (K.held out.new)
             (lines_of_counts form lead_in blocks self.now.checks.blocks)) }
-        ensures untouched { IfErr result (λ stop. stop ≢ PlayStop.WriteFault → out.new ≡ out.old) }
+        ensures untouched { LeavesUnwritten out.old out.new result }
         ensures cause { HasCause (K.faults out.old) (K.faults out.new) result }
     {
         let text = lines(lead_in, form, blocks, &self.checks.blocks);

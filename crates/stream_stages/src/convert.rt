@@ -1,16 +1,14 @@
 // The conversion of a stream to packs.
-ghost use Rattle.std.specs.Prelude.{◌≡◌, ◌≤◌, ◌-◌, List, ℕ, length, IfSome, IfErr};
+ghost use Rattle.std.specs.Prelude.{◌≡◌, ◌≤◌, ◌-◌, List, ℕ, IfSome};
 ghost use Rattle.std.specs.List.{concat};
 ghost use Rattle.disc_time.specs.Counts.{most_lead_in};
-ghost use Rattle.cdg_io.specs.Change.{passed};
-ghost use Rattle.raw_subcode.specs.Channels.{unit_size};
 ghost use Rattle.raw_subcode.specs.declared.form.Form.{Form};
+ghost use Rattle.stream_stages.specs.Plays.{Plays, conversion};
 ghost use Rattle.stream_stages.specs.Steps.{fresh_words};
 ghost use Rattle.stream_stages.specs.Stages.{correction_of, words_of};
 ghost use Rattle.rw_interleave.specs.Stream.{all_packs};
-ghost use Rattle.stream_stages.specs.Faults.{TellsStops};
-ghost use Rattle.stream_stages.specs.Calls.{EndInTurn, IsAnsweredBy, IsStreamStop};
-ghost use Rattle.stream_stages.specs.Convert.{Converts, IsConverted, IsDamagedStream, Restores};
+ghost use Rattle.stream_stages.specs.Calls.{EndInTurn};
+ghost use Rattle.stream_stages.specs.Convert.{IsConverted, IsDamagedStream, Restores};
 
 use crate::{BlockWords, Correction, PlayStop, Played, SectorBlocks, play_stop, pump_blocks};
 use cdg_io::{Pumped, Sink, Source, Then};
@@ -68,19 +66,12 @@ impl Converter {
         out: &mut K,
     ) -> Result<Played, PlayStop>
         requires { lead_in ≤ most_lead_in }
-        ensures converts { (taken : List ℕ) × Converts form lead_in
-            (passed S.left K.held (source.old, out.old) (source.new, out.new)) result taken }
+        ensures plays { Plays (conversion form lead_in) S.left S.faults K.held K.faults
+            (source.old, out.old) (source.new, out.new) result }
         // Every pack comes back from damage of at most two symbols a word.
         ensures restores { IfSome (S.left source.old) (λ all. (blocks : ℕ) (packs : List (List ℕ))
             → IsDamagedStream form lead_in blocks packs all
             → Restores result (K.held out.old) (K.held out.new) (concat (all_packs form blocks packs))) }
-        // It never answers that a moment is past the end, nor a fault of texts, whatever the input.
-        ensures stops { IfErr result IsStreamStop }
-        // Where nothing failed, the answer is that of the whole input's length.
-        ensures answer { IfSome (S.left source.old) (λ all.
-            IsAnsweredBy result (unit_size form) (length all)) }
-        ensures faults { TellsStops (S.faults source.old) (S.faults source.new)
-            (K.faults out.old) (K.faults out.new) result }
         ensures ended { EndInTurn result (S.counts source.old) (S.counts source.new) }
     {
         damaged_streams_give_packs();

@@ -1,17 +1,12 @@
 // The lines of the Q channel of a stream, and those of the texts of its lead-in.
-ghost use Rattle.std.specs.Prelude.{◌≡◌, ◌≢◌, ◌≤◌, ◌-◌, List, ℕ, length, IfSome, IfErr, IfOk, IsErrOf, IsOk, Ok, Err};
+ghost use Rattle.std.specs.Prelude.{◌≡◌, ◌≢◌, ◌≤◌, IfOk, IsOk, Ok, Err};
 ghost use Rattle.disc_time.specs.Counts.{most_lead_in};
-ghost use Rattle.cdg_io.specs.Change.{passed};
-ghost use Rattle.cdg_io.specs.Streams.{Streams};
-ghost use Rattle.raw_subcode.specs.Channels.{unit_size};
-ghost use Rattle.q_channel.specs.QList.{IsQListed};
 ghost use Rattle.raw_subcode.specs.declared.form.Form.{Form};
-ghost use Rattle.stream_stages.specs.Faults.{TellsStops};
-ghost use Rattle.stream_stages.specs.Calls.{EndInTurn, IsAnsweredBy, IsStreamStop, in_turn, EndFirst, IsListStop};
+ghost use Rattle.stream_stages.specs.Plays.{LeavesUnwritten, Plays, PlaysThenWrites, frame_listing, text_listing};
+ghost use Rattle.stream_stages.specs.Calls.{EndInTurn, EndFirst};
 ghost use Rattle.cdg_io.specs.Causes.{TellsFault};
 ghost use Rattle.cdtext_packs.specs.Reading.{read_texts};
 ghost use Rattle.cdtext_packs.specs.TextSteps.{fresh_texts};
-ghost use Rattle.stream_stages.specs.TextListing.{ListsTexts, IsListedBy};
 ghost use Rattle.stream_stages.specs.Watch.{WritesTexts};
 
 use crate::{PlayStop, Played, SectorBlocks, play_stop, pump_blocks, watch};
@@ -38,14 +33,8 @@ pub fn list_frames<S: Source, K: Sink>(
 ) -> Result<Played, PlayStop>
     requires lead_in { lead_in ≤ most_lead_in }
     requires form { form ≢ Form.Cooked }
-    ensures lists { (taken : List ℕ) × Streams (in_turn (IsQListed form) form lead_in)
-        (passed S.left K.held (source.old, out.old) (source.new, out.new)) result taken }
-    // It never answers that a moment is past the end, nor a fault of texts, whatever the input.
-    ensures stops { IfErr result IsStreamStop }
-    // Where nothing failed, the answer is that of the whole input's length.
-    ensures answer { IfSome (S.left source.old) (λ all. IsAnsweredBy result (unit_size form) (length all)) }
-    ensures faults { TellsStops (S.faults source.old) (S.faults source.new)
-        (K.faults out.old) (K.faults out.new) result }
+    ensures plays { Plays (frame_listing form lead_in) S.left S.faults K.held K.faults
+        (source.old, out.old) (source.new, out.new) result }
     ensures ended { EndInTurn result (S.counts source.old) (S.counts source.new) }
 {
     let mut lines = SectorBlocks {
@@ -101,16 +90,8 @@ impl TextLister {
     ) -> Result<Played, PlayStop>
         requires lead_in { lead_in ≤ most_lead_in }
         requires form { form ≢ Form.Cooked }
-        ensures lists { (taken : List ℕ) × ListsTexts form lead_in
-            (passed S.left K.held (source.old, out.old) (source.new, out.new)) result taken }
-        // It never answers that a moment is past the end, whatever the input.
-        ensures stops { IfErr result IsListStop }
-        // Where nothing failed, the answer is that of the whole input.
-        ensures answer { IfSome (S.left source.old) (λ all. IsListedBy result form lead_in all) }
-        // Where the output is not written it is as it was.
-        ensures untouched { IfErr result (λ stop. stop ≢ PlayStop.WriteFault → out.new ≡ out.old) }
-        ensures faults { TellsStops (S.faults source.old) (S.faults source.new)
-            (K.faults out.old) (K.faults out.new) result }
+        ensures plays { PlaysThenWrites (text_listing form lead_in) S.left S.faults K.held K.faults
+            (source.old, out.old) (source.new, out.new) result }
         ensures ended { EndFirst result (S.counts source.old) (S.counts source.new) }
     {
         lead_in_packs_are_read();
@@ -128,7 +109,7 @@ impl TextLister {
         out: &mut K,
     ) -> Result<Played, PlayStop>
         ensures writes { WritesTexts self.now.texts.blocks blocks (K.held out.old) (K.held out.new) result }
-        ensures untouched { IfErr result (λ stop. stop ≢ PlayStop.WriteFault → out.new ≡ out.old) }
+        ensures untouched { LeavesUnwritten out.old out.new result }
         ensures write_fault { TellsFault PlayStop.WriteFault
             (K.faults out.old) (K.faults out.new) result }
     {
@@ -150,7 +131,7 @@ impl TextLister {
     ) -> Result<Played, PlayStop>
         requires { read_texts self.now.texts.blocks.reader ≡ Ok map.now }
         ensures writes { WritesTexts self.now.texts.blocks blocks (K.held out.old) (K.held out.new) result }
-        ensures untouched { IfErr result (λ stop. stop ≢ PlayStop.WriteFault → out.new ≡ out.old) }
+        ensures untouched { LeavesUnwritten out.old out.new result }
         ensures write_fault { TellsFault PlayStop.WriteFault
             (K.faults out.old) (K.faults out.new) result }
     {

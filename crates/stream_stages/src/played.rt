@@ -1,5 +1,5 @@
 // Pumping a whole input through a stage, and what a call that plays it answers.
-ghost use Rattle.std.specs.Prelude.{◌≡◌, ◌≢◌, ◌≤◌, List, ℕ, length, IfSome, IsErrOf, Err};
+ghost use Rattle.std.specs.Prelude.{◌≡◌, List, ℕ};
 ghost use Rattle.stream_stages.specs.Watch.{play_stop, Watches, on_units};
 ghost use Rattle.cdg_io.specs.Causes.{TellsFault};
 ghost use Rattle.cdg_io.specs.Change.{fed, moved};

@@ -1,17 +1,17 @@
 // The screen at a moment of a stream.
-ghost use Rattle.std.specs.Prelude.{◌≡◌, ◌≢◌, ◌≤◌, ◌-◌, List, ℕ, length, IfSome, IfOk, IfErr, IsErrOf, Err};
+ghost use Rattle.std.specs.Prelude.{◌≡◌, ◌≤◌, ◌-◌, List, ℕ, length, IfSome, IfOk, IfErr, Err};
 ghost use Rattle.disc_time.specs.Counts.{last_block, most_lead_in};
 ghost use Rattle.cdg_io.specs.Causes.{TellsFault};
-ghost use Rattle.cdg_io.specs.Change.{change, passed};
+ghost use Rattle.cdg_io.specs.Change.{change};
 ghost use Rattle.raw_subcode.specs.Channels.{unit_size};
 ghost use Rattle.rw_interleave.specs.Interleave.{whole_packs};
 ghost use Rattle.cdg_screen.specs.Standing.{blank};
 ghost use Rattle.cdg_screen.specs.Texts.{pixmap, state_text};
-ghost use Rattle.stream_stages.specs.Faults.{TellsStops};
+ghost use Rattle.stream_stages.specs.Plays.{PlaysThenWrites, showing};
 ghost use Rattle.stream_stages.specs.Calls.{EndFirst, IsMomentStop};
 ghost use Rattle.stream_stages.specs.Steps.{fresh_words};
 ghost use Rattle.stream_stages.specs.Stages.{painting_of, words_of};
-ghost use Rattle.stream_stages.specs.Screen.{IsShownBy, Shows, moment};
+ghost use Rattle.stream_stages.specs.Screen.{IsShownBy, moment};
 ghost use Rattle.stream_stages.specs.Watch.{Views, viewed};
 
 use crate::{BlockWords, Painting, PlayStop, Played, SectorBlocks, play_stop, watch};
@@ -68,17 +68,8 @@ impl Viewer {
     ) -> Result<Played, PlayStop>
         requires lead_in { lead_in ≤ most_lead_in }
         requires at { at ≤ last_block }
-        ensures shows { (taken : List ℕ) × Shows pixmap (moment form lead_in at)
-            (passed S.left K.held (source.old, out.old) (source.new, out.new)) result taken }
-        // It never answers a fault of texts, whatever the input.
-        ensures stops { IfErr result IsMomentStop }
-        // Where nothing failed, the answer is that of the whole input's length.
-        ensures answer { IfSome (S.left source.old) (λ all.
-            IsShownBy result lead_in at (unit_size form) (length all)) }
-        // Where the output is not written it is as it was.
-        ensures untouched { IfErr result (λ stop. stop ≢ PlayStop.WriteFault → out.new ≡ out.old) }
-        ensures faults { TellsStops (S.faults source.old) (S.faults source.new)
-            (K.faults out.old) (K.faults out.new) result }
+        ensures plays { PlaysThenWrites (showing pixmap (moment form lead_in at))
+            S.left S.faults K.held K.faults (source.old, out.old) (source.new, out.new) result }
         ensures ended { EndFirst result (S.counts source.old) (S.counts source.new) }
     {
         match self.view(lead_in, form, at, source) {
@@ -105,17 +96,8 @@ impl Viewer {
     ) -> Result<Played, PlayStop>
         requires lead_in { lead_in ≤ most_lead_in }
         requires at { at ≤ last_block }
-        ensures shows { (taken : List ℕ) × Shows state_text (moment form lead_in at)
-            (passed S.left K.held (source.old, out.old) (source.new, out.new)) result taken }
-        // It never answers a fault of texts, whatever the input.
-        ensures stops { IfErr result IsMomentStop }
-        // Where nothing failed, the answer is that of the whole input's length.
-        ensures answer { IfSome (S.left source.old) (λ all.
-            IsShownBy result lead_in at (unit_size form) (length all)) }
-        // Where the output is not written it is as it was.
-        ensures untouched { IfErr result (λ stop. stop ≢ PlayStop.WriteFault → out.new ≡ out.old) }
-        ensures faults { TellsStops (S.faults source.old) (S.faults source.new)
-            (K.faults out.old) (K.faults out.new) result }
+        ensures plays { PlaysThenWrites (showing state_text (moment form lead_in at))
+            S.left S.faults K.held K.faults (source.old, out.old) (source.new, out.new) result }
         ensures ended { EndFirst result (S.counts source.old) (S.counts source.new) }
     {
         match self.view(lead_in, form, at, source) {

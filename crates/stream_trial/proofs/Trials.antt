@@ -25,8 +25,8 @@ use Rattle.stream_trial.specs.Told.{told}
 use Rattle.stream_trial.specs.Replay.{IsDamagedSchedule, IsPlayedOut}
 use Rattle.stream_trial.specs.declared.lines.Report.{Report}
 use Rattle.stream_trial.specs.declared.run.Found.{Found}
-use Rattle.stream_trial.specs.declared.stops.TrialStop.{TrialStop}
-use Rattle.stream_trial.specs.declared.stops.TrialStop.TheVariants.{NoMemory, WriteFault}
+use Rattle.stream_trial.specs.declared.trying.TrialStop.{TrialStop}
+use Rattle.stream_trial.specs.declared.trying.TrialStop.TheVariants.{NoMemory, WriteFault}
 use Rattle.std.specs.Io.KnownBytes.{Appends}
 use Rattle.cdg_io.specs.Moves.{AppendsPrefix}
 

@@ -1,6 +1,10 @@
 -- What a trial of a seed writes.
-use Rattle.std.specs.Prelude.{◌≡◌, ℕ, ◌+◌, ◌*◌, List, ◌++◌, length, sum_by, Ok}
+use Rattle.std.specs.Prelude.{◌≡◌, ℕ, ◌+◌, ◌*◌, List, ◌++◌, length, sum_by, Result, Ok, Err, OnOk}
+use Rattle.std.specs.Io.KnownBytes.{Appends}
 use Rattle.bit_lists.specs.Counting.{below}
+use Rattle.cdg_io.specs.Causes.{TellsFault}
+use Rattle.cdg_io.specs.Change.{Bytes}
+use Rattle.cdg_io.specs.Moves.{AppendsPrefix}
 use Rattle.disc_time.specs.Counts.{pause_blocks}
 use Rattle.raw_subcode.specs.Channels.{program_symbols}
 use Rattle.raw_subcode.specs.declared.form.Form.TheVariants.{Raw}
@@ -16,6 +20,8 @@ use Rattle.stream_trial.specs.TrialSheet.{trial_text}
 use Rattle.subcode_author.specs.Authored.{IsWrittenStream, disc_of}
 use Rattle.stream_trial.specs.Differing.{differing}
 use Rattle.stream_trial.specs.TrialLines.{input_lines, output_lines}
+use Rattle.stream_trial.specs.declared.trying.TrialStop.{TrialStop}
+use Rattle.stream_trial.specs.declared.trying.TrialStop.TheVariants.{NoMemory, WriteFault}
 
 -- the blocks of audio of a trial of so many pictures: the one that is ready last is held for twenty more
 abbrev pub trial_audio : ℕ → ℕ
@@ -45,3 +51,16 @@ pub record IsTrial (seed count : ℕ) (text : List ℕ) : Type 0 where
       let number = whole_packs (trial_blocks count) in
       text ≡ input_lines seed count (trial_blocks count) number (all_changes script)
       ++ output_lines (differing 1 number symbols others) (differing 2 number symbols others) 0 count
+
+-- What a call leaves in an output that writes the lines of a trial, where bytes and faults of the output are told.
+pub record WritesTrial {T K : Type 0} (held : K → Bytes) (faults : K → ℕ) (seed count : ℕ) (before after : K)
+    (result : Result T TrialStop) : Type 0 where
+  -- the lines were written
+  pub lines : OnOk result
+      ((text : List ℕ) × IsTrial seed count text × Appends (held before) (held after) text)
+  pub write_fault : TellsFault WriteFault (faults before) (faults after) result
+  -- a write failed, and a prefix of them was written
+  pub part : result ≡ Err WriteFault
+      → (text : List ℕ) × IsTrial seed count text × AppendsPrefix (held before) (held after) text
+  -- memory ran out, and nothing was written
+  pub untouched : result ≡ Err NoMemory → after ≡ before

@@ -4,10 +4,10 @@ ghost use Rattle.cdg_io.specs.Causes.{HasCause};
 ghost use Rattle.cdg_workload.specs.Script.{generated_script, most_generated};
 ghost use Rattle.cdg_workload.specs.Generated.{generated_drawings};
 ghost use Rattle.stream_trial.specs.TrialSheet.{trial_sheet};
-ghost use Rattle.stream_trial.specs.declared.stops.TrialStop.TheVariants.{NoMemory};
+ghost use Rattle.stream_trial.specs.declared.trying.TrialStop.TheVariants.{NoMemory};
 
-use crate::stops::TrialStop;
 use crate::trial_sheet_is_read;
+use crate::trying::TrialStop;
 use cdg_io::{Failed, MemSink};
 use cdg_workload::{generated_scripts_are_read, generated_scripts_are_short, write_script};
 use cue_sheet::{CueStop, Sheet};

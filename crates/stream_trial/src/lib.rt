@@ -12,7 +12,6 @@ mod replay;
 mod run;
 mod schedules;
 mod scratches;
-mod stops;
 mod streams;
 mod trying;
 
@@ -20,5 +19,4 @@ pub use schedules::{
     generated_scripts_are_authored, generated_scripts_are_ready, trial_sheet_is_read,
 };
 pub use scratches::{scratched_streams_are_recovered, scratched_words_are_near};
-pub use stops::TrialStop;
-pub use trying::trial;
+pub use trying::{TrialStop, trial};

@@ -5,10 +5,10 @@ ghost use Rattle.disc_time.specs.Counts.{time_count};
 ghost use Rattle.cdg_workload.specs.Generated.{generated_drawings};
 ghost use Rattle.pack_schedule.specs.Survey.{IsSurvey, IsWithin};
 ghost use Rattle.stream_trial.specs.Trial.{all_changes};
-ghost use Rattle.stream_trial.specs.declared.stops.TrialStop.TheVariants.{NoMemory};
+ghost use Rattle.stream_trial.specs.declared.trying.TrialStop.TheVariants.{NoMemory};
 
 use crate::generated_scripts_are_ready;
-use crate::stops::TrialStop;
+use crate::trying::TrialStop;
 use pack_schedule::{Survey, SurveyRoom, survey_in};
 use picture_script::Script;
 use std::alloc::Global;

@@ -1,8 +1,8 @@
 // A stream that is played again, word by word.
-ghost use Rattle.std.specs.Prelude.{◌≡◌, ◌<◌, ◌≤◌, ◌+◌, ◌-◌, ◌*◌, ◌/◌, ℕ, List, IfOk, length};
+ghost use Rattle.std.specs.Prelude.{◌≡◌, ◌≤◌, ◌+◌, ◌*◌, ℕ, List, IfOk, length};
 ghost use Rattle.cdg_io.specs.Causes.{HasCause};
 ghost use Rattle.rw_code.specs.Codeword.{Reads};
-ghost use Rattle.raw_subcode.specs.Sizes.{block_bytes, slots_a_block};
+ghost use Rattle.raw_subcode.specs.Sizes.{block_bytes};
 ghost use Rattle.rw_interleave.specs.Interleave.{whole_packs};
 ghost use Rattle.cdg_screen.specs.Standing.{blank};
 ghost use Rattle.picture_script.specs.Script.{Drawing};

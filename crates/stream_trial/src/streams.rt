@@ -11,12 +11,12 @@ ghost use Rattle.stream_trial.specs.TrialSheet.{trial_sheet};
 ghost use Rattle.subcode_author.specs.Authored.{IsWrittenStream, disc_of};
 ghost use Rattle.stream_trial.specs.Replay.{IsPlayedOut};
 ghost use Rattle.stream_trial.specs.Trial.{trial_audio, trial_blocks};
-ghost use Rattle.stream_trial.specs.declared.stops.TrialStop.TheVariants.{NoMemory};
+ghost use Rattle.stream_trial.specs.declared.trying.TrialStop.TheVariants.{NoMemory};
 
 use crate::generating::parse_sheet;
 use crate::run::{Found, TrialRun};
-use crate::stops::TrialStop;
 use crate::trial_sheet_is_read;
+use crate::trying::TrialStop;
 use cdg_workload::{BLOCKS_A_PICTURE, BLOCKS_HELD, scratches_are_bursts, scratches_are_damage};
 use cue_sheet::Sheet;
 use disc_time::PAUSE_BLOCKS;

@@ -1,24 +1,50 @@
 // A whole trial of a seed, from its script to the lines that are written.
-ghost use Rattle.std.specs.Prelude.{◌≡◌, ◌≢◌, ◌≤◌, ℕ, List, Err, OnOk, IfOk, IfErr};
+ghost use Rattle.std.specs.Prelude.{◌≡◌, ◌≤◌, Err, IfOk, IfErr};
 ghost use Rattle.cdg_workload.specs.Script.{most_generated};
-ghost use Rattle.std.specs.Io.KnownBytes.{Appends};
 ghost use Rattle.cdg_io.specs.Causes.{HasCause, TellsFault};
-ghost use Rattle.cdg_io.specs.Moves.{AppendsPrefix};
-ghost use Rattle.stream_trial.specs.Trial.{IsTrial};
+ghost use Rattle.stream_trial.specs.Trial.{IsTrial, WritesTrial};
 ghost use Rattle.stream_trial.specs.Told.{told};
-ghost use Rattle.stream_trial.specs.declared.stops.TrialStop.TheVariants.{NoMemory};
+ghost use Rattle.stream_trial.specs.declared.trying.TrialStop.TheVariants.{NoMemory};
 
 use crate::generating::parse_script;
 use crate::lines::Report;
 use crate::needs::{count_changes, plan_changes};
-use crate::stops::TrialStop;
 use crate::streams::{count_blocks, play_stream};
 use crate::trial_sheet_is_read;
 use cdg_io::{Failed, Sink, put_all};
 use cdg_workload::{generated_scripts_are_read, generated_scripts_have_times};
 use rw_interleave::whole_packs;
-use std::alloc::Global;
+use std::alloc::{AllocError, Global};
 use subcode_author::NoMemoryCount;
+
+/// Why the lines of a trial were not written, or not whole.
+#[derive(Clone, Copy, PartialEq, Eq, Debug)]
+pub enum TrialStop {
+    /// A write failed.
+    WriteFault,
+    /// Memory ran out. Nothing was written.
+    NoMemory,
+}
+
+impl From<AllocError> for TrialStop {
+    ghost use Rattle.stream_trial.specs.declared.trying.TrialStop.TheVariants.{NoMemory};
+
+    ghost from_gives = { λ _ e. e ≡ NoMemory };
+
+    fn from(_: AllocError) -> TrialStop {
+        TrialStop::NoMemory
+    }
+}
+
+impl From<Failed> for TrialStop {
+    ghost use Rattle.stream_trial.specs.declared.trying.TrialStop.TheVariants.{WriteFault};
+
+    ghost from_gives = { λ _ e. e ≡ WriteFault };
+
+    fn from(_: Failed) -> TrialStop {
+        TrialStop::WriteFault
+    }
+}
 
 /// Writes the stream of the generated script of a seed, scratches it with the same seed, corrects and plays it, and
 /// compares the screen with each picture when it is ready. Then writes nine lines: `seed`, `pictures`, `blocks`,
@@ -38,19 +64,7 @@ pub fn trial<K: Sink>(
     out: &mut K,
 ) -> Result<(), TrialStop>
     requires { (1 ≤ pictures) × (pictures ≤ most_generated) }
-    // The lines were written.
-    ensures lines { OnOk result
-        ((text : List ℕ) × IsTrial seed pictures text × Appends (K.held out.old) (K.held out.new) text) }
-
-    // A write failed, and a prefix of them was written.
-    ensures write_fault { TellsFault TrialStop.WriteFault
-        (K.faults out.old) (K.faults out.new) result }
-    ensures part { result ≡ Err TrialStop.WriteFault
-        → (text : List ℕ) × IsTrial seed pictures text
-        × AppendsPrefix (K.held out.old) (K.held out.new) text }
-
-    // Memory ran out, and nothing was written.
-    ensures untouched { result ≡ Err TrialStop.NoMemory → out.new ≡ out.old }
+    ensures written { WritesTrial K.held K.faults seed pictures out.old out.new result }
     // A call that asks for memory said so, and no other call did.
     ensures wants { TellsFault TrialStop.NoMemory lacks.old lacks.new result }
 {

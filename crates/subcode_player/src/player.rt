@@ -1,21 +1,15 @@
 // A player: its parts, and a call of each.
-ghost use Rattle.std.specs.Prelude.{◌≡◌, ◌≢◌, ◌≤◌, List, ℕ, length, IfSome, IfOk, IfErr};
+ghost use Rattle.std.specs.Prelude.{◌≡◌, ◌≢◌, ◌≤◌, List, ℕ, IfSome, IfOk};
 ghost use Rattle.std.specs.List.{concat};
 ghost use Rattle.disc_time.specs.Counts.{last_block, most_lead_in};
-ghost use Rattle.cdg_io.specs.Change.{passed};
-ghost use Rattle.cdg_io.specs.Streams.{Streams, WritesAtEnd};
 ghost use Rattle.cdg_screen.specs.Texts.{pixmap, state_text};
-ghost use Rattle.q_channel.specs.QList.{IsQListed};
-ghost use Rattle.raw_subcode.specs.Channels.{unit_size};
 ghost use Rattle.rw_interleave.specs.Stream.{all_packs};
-ghost use Rattle.stream_stages.specs.Calls.{EndFirst, EndInTurn, IsAnsweredBy, IsListStop, IsMomentStop, IsStreamStop, at_end, in_turn};
-ghost use Rattle.stream_stages.specs.Check.{IsCheckListed};
-ghost use Rattle.stream_stages.specs.Convert.{Converts, IsDamagedStream, Restores};
-ghost use Rattle.stream_stages.specs.Faults.{TellsStops};
-ghost use Rattle.stream_stages.specs.Screen.{IsShownBy, Shows, moment};
+ghost use Rattle.stream_stages.specs.Plays.{Plays, PlaysThenWrites, checking, conversion, frame_listing, showing, text_listing};
+ghost use Rattle.stream_stages.specs.Calls.{EndFirst, EndInTurn};
+ghost use Rattle.stream_stages.specs.Convert.{IsDamagedStream, Restores};
+ghost use Rattle.stream_stages.specs.Screen.{moment};
 ghost use Rattle.stream_stages.specs.Stages.{correction_of, words_of};
 ghost use Rattle.stream_stages.specs.Steps.{fresh_words};
-ghost use Rattle.stream_stages.specs.TextListing.{IsListedBy, ListsTexts};
 
 use cdg_io::{Sink, Source};
 use raw_subcode::Form;
@@ -73,19 +67,12 @@ impl Player {
         out: &mut K,
     ) -> Result<Played, PlayStop>
         requires { lead_in ≤ most_lead_in }
-        ensures converts { (taken : List ℕ) × Converts form lead_in
-            (passed S.left K.held (source.old, out.old) (source.new, out.new)) result taken }
+        ensures plays { Plays (conversion form lead_in) S.left S.faults K.held K.faults
+            (source.old, out.old) (source.new, out.new) result }
         // Every pack comes back from damage of at most two symbols a word.
         ensures restores { IfSome (S.left source.old) (λ all. (blocks : ℕ) (packs : List (List ℕ))
             → IsDamagedStream form lead_in blocks packs all
             → Restores result (K.held out.old) (K.held out.new) (concat (all_packs form blocks packs))) }
-        // It never answers that a moment is past the end, nor a fault of texts, whatever the input.
-        ensures stops { IfErr result IsStreamStop }
-        // Where nothing failed, the answer is that of the whole input's length.
-        ensures answer { IfSome (S.left source.old) (λ all.
-            IsAnsweredBy result (unit_size form) (length all)) }
-        ensures faults { TellsStops (S.faults source.old) (S.faults source.new)
-            (K.faults out.old) (K.faults out.new) result }
         ensures ended { EndInTurn result (S.counts source.old) (S.counts source.new) }
     {
         self.converter.convert(lead_in, form, source, out)
@@ -111,17 +98,8 @@ impl Player {
     ) -> Result<Played, PlayStop>
         requires lead_in { lead_in ≤ most_lead_in }
         requires at { at ≤ last_block }
-        ensures shows { (taken : List ℕ) × Shows pixmap (moment form lead_in at)
-            (passed S.left K.held (source.old, out.old) (source.new, out.new)) result taken }
-        // It never answers a fault of texts, whatever the input.
-        ensures stops { IfErr result IsMomentStop }
-        // Where nothing failed, the answer is that of the whole input's length.
-        ensures answer { IfSome (S.left source.old) (λ all.
-            IsShownBy result lead_in at (unit_size form) (length all)) }
-        // Where the output is not written it is as it was.
-        ensures untouched { IfErr result (λ stop. stop ≢ PlayStop.WriteFault → out.new ≡ out.old) }
-        ensures faults { TellsStops (S.faults source.old) (S.faults source.new)
-            (K.faults out.old) (K.faults out.new) result }
+        ensures plays { PlaysThenWrites (showing pixmap (moment form lead_in at))
+            S.left S.faults K.held K.faults (source.old, out.old) (source.new, out.new) result }
         ensures ended { EndFirst result (S.counts source.old) (S.counts source.new) }
     {
         self.viewer.screen_at(lead_in, form, at, source, out)
@@ -139,17 +117,8 @@ impl Player {
     ) -> Result<Played, PlayStop>
         requires lead_in { lead_in ≤ most_lead_in }
         requires at { at ≤ last_block }
-        ensures shows { (taken : List ℕ) × Shows state_text (moment form lead_in at)
-            (passed S.left K.held (source.old, out.old) (source.new, out.new)) result taken }
-        // It never answers a fault of texts, whatever the input.
-        ensures stops { IfErr result IsMomentStop }
-        // Where nothing failed, the answer is that of the whole input's length.
-        ensures answer { IfSome (S.left source.old) (λ all.
-            IsShownBy result lead_in at (unit_size form) (length all)) }
-        // Where the output is not written it is as it was.
-        ensures untouched { IfErr result (λ stop. stop ≢ PlayStop.WriteFault → out.new ≡ out.old) }
-        ensures faults { TellsStops (S.faults source.old) (S.faults source.new)
-            (K.faults out.old) (K.faults out.new) result }
+        ensures plays { PlaysThenWrites (showing state_text (moment form lead_in at))
+            S.left S.faults K.held K.faults (source.old, out.old) (source.new, out.new) result }
         ensures ended { EndFirst result (S.counts source.old) (S.counts source.new) }
     {
         self.viewer.state_at(lead_in, form, at, source, out)
@@ -173,17 +142,8 @@ impl Player {
         out: &mut K,
     ) -> Result<Played, PlayStop>
         requires { lead_in ≤ most_lead_in }
-        ensures checks { (taken : List ℕ) × WritesAtEnd (at_end (IsCheckListed form lead_in) form lead_in)
-            (passed S.left K.held (source.old, out.old) (source.new, out.new)) result taken }
-        // It never answers that a moment is past the end, nor a fault of texts, whatever the input.
-        ensures stops { IfErr result IsStreamStop }
-        // Where nothing failed, the answer is that of the whole input's length.
-        ensures answer { IfSome (S.left source.old) (λ all.
-            IsAnsweredBy result (unit_size form) (length all)) }
-        // Where the output is not written it is as it was.
-        ensures untouched { IfErr result (λ stop. stop ≢ PlayStop.WriteFault → out.new ≡ out.old) }
-        ensures faults { TellsStops (S.faults source.old) (S.faults source.new)
-            (K.faults out.old) (K.faults out.new) result }
+        ensures plays { PlaysThenWrites (checking form lead_in) S.left S.faults K.held K.faults
+            (source.old, out.old) (source.new, out.new) result }
         ensures ended { EndFirst result (S.counts source.old) (S.counts source.new) }
     {
         self.checker.check(lead_in, form, source, out)
@@ -199,15 +159,8 @@ impl Player {
     ) -> Result<Played, PlayStop>
         requires lead_in { lead_in ≤ most_lead_in }
         requires form { form ≢ Form.Cooked }
-        ensures lists { (taken : List ℕ) × Streams (in_turn (IsQListed form) form lead_in)
-            (passed S.left K.held (source.old, out.old) (source.new, out.new)) result taken }
-        // It never answers that a moment is past the end, nor a fault of texts, whatever the input.
-        ensures stops { IfErr result IsStreamStop }
-        // Where nothing failed, the answer is that of the whole input's length.
-        ensures answer { IfSome (S.left source.old) (λ all.
-            IsAnsweredBy result (unit_size form) (length all)) }
-        ensures faults { TellsStops (S.faults source.old) (S.faults source.new)
-            (K.faults out.old) (K.faults out.new) result }
+        ensures plays { Plays (frame_listing form lead_in) S.left S.faults K.held K.faults
+            (source.old, out.old) (source.new, out.new) result }
         ensures ended { EndInTurn result (S.counts source.old) (S.counts source.new) }
         ensures player { self.new ≡ self.old }
     {
@@ -234,16 +187,8 @@ impl Player {
     ) -> Result<Played, PlayStop>
         requires lead_in { lead_in ≤ most_lead_in }
         requires form { form ≢ Form.Cooked }
-        ensures lists { (taken : List ℕ) × ListsTexts form lead_in
-            (passed S.left K.held (source.old, out.old) (source.new, out.new)) result taken }
-        // It never answers that a moment is past the end, whatever the input.
-        ensures stops { IfErr result IsListStop }
-        // Where nothing failed, the answer is that of the whole input.
-        ensures answer { IfSome (S.left source.old) (λ all. IsListedBy result form lead_in all) }
-        // Where the output is not written it is as it was.
-        ensures untouched { IfErr result (λ stop. stop ≢ PlayStop.WriteFault → out.new ≡ out.old) }
-        ensures faults { TellsStops (S.faults source.old) (S.faults source.new)
-            (K.faults out.old) (K.faults out.new) result }
+        ensures plays { PlaysThenWrites (text_listing form lead_in) S.left S.faults K.held K.faults
+            (source.old, out.old) (source.new, out.new) result }
         ensures ended { EndFirst result (S.counts source.old) (S.counts source.new) }
     {
         self.lister.text_list(alloc, lead_in, form, source, out)

@@ -55,19 +55,6 @@ returns-in-Ok-clause-answer g c =
 pub returns-in-Ok-clause-untouched : goal.returns-in-Ok-clause-untouched
 returns-in-Ok-clause-untouched g c = c.show.ensures.untouched
 
-pub returns-in-Ok-clause-first_fault : goal.returns-in-Ok-clause-first_fault
-returns-in-Ok-clause-first_fault g c = record {
-  later = c.in-Ok.ensures.fault.later;
-  rose = λ e. absurd (c.show.ensures.no_first e);
-  same = λ other. c.in-Ok.ensures.fault.same (accepted_no_stop _ FirstFault);
-}
-
-pub returns-in-Ok-clause-second_fault : goal.returns-in-Ok-clause-second_fault
-returns-in-Ok-clause-second_fault g c = c.show.ensures.second_fault
-
-pub returns-in-Ok-clause-write_fault : goal.returns-in-Ok-clause-write_fault
-returns-in-Ok-clause-write_fault g c = c.show.ensures.write_fault
-
 pub returns-in-Ok-clause-rest_told : goal.returns-in-Ok-clause-rest_told
 returns-in-Ok-clause-rest_told g c = λ ok. c.show.ensures.rest_told
 
@@ -76,31 +63,6 @@ returns-in-Err-clause-rest_untouched g c = λ refused. refl
 
 pub returns-in-Err-clause-untouched : goal.returns-in-Err-clause-untouched
 returns-in-Err-clause-untouched g c = λ other. refl
-
-pub returns-in-Err-clause-first_fault : goal.returns-in-Err-clause-first_fault
-returns-in-Err-clause-first_fault g c = record {
-  later = c.in-Err.ensures.fault.later;
-  rose = λ e. c.in-Err.ensures.fault.rose (same_stop c.in-Err.stop FirstFault e);
-  same = λ other. c.in-Err.ensures.fault.same (other_stop c.in-Err.stop FirstFault other);
-}
-
-pub returns-in-Err-clause-second_fault : goal.returns-in-Err-clause-second_fault
-returns-in-Err-clause-second_fault g c = record {
-  later = no_less _;
-  rose =
-      λ e.
-      absurd (refused_no_second c.in-Err.stop c.args.at c.accept.new.self.file c.in-Err.ensures.accepted e);
-  same = λ other. refl;
-}
-
-pub returns-in-Err-clause-write_fault : goal.returns-in-Err-clause-write_fault
-returns-in-Err-clause-write_fault g c = record {
-  later = no_less _;
-  rose =
-      λ e.
-      absurd (refused_no_write c.in-Err.stop c.args.at c.accept.new.self.file c.in-Err.ensures.accepted e);
-  same = λ other. refl;
-}
 
 pub returns-in-Ok-clause-reads : goal.returns-in-Ok-clause-reads
 returns-in-Ok-clause-reads g c =
@@ -112,3 +74,36 @@ pub returns-in-Err-clause-reads : goal.returns-in-Err-clause-reads
 returns-in-Err-clause-reads g c =
     let first = input g.S.Source.left g.S.Source.counts c.args.saved.now c.accept.new.saved in
     reads_stopped first c.in-Err.stop c.accept.new.self.file c.in-Err.ensures.reads
+
+pub returns-in-Ok-clause-faults : goal.returns-in-Ok-clause-faults
+returns-in-Ok-clause-faults g c = record {
+  first = record {
+    later = c.in-Ok.ensures.fault.later;
+    rose = λ e. absurd (c.show.ensures.no_first e);
+    same = λ other. c.in-Ok.ensures.fault.same (accepted_no_stop _ FirstFault);
+  };
+  second = c.show.ensures.second_fault;
+  write = c.show.ensures.write_fault;
+}
+
+pub returns-in-Err-clause-faults : goal.returns-in-Err-clause-faults
+returns-in-Err-clause-faults g c =
+    let file = c.accept.new.self.file in
+    let refused = c.in-Err.ensures.accepted in
+    record {
+      first = record {
+        later = c.in-Err.ensures.fault.later;
+        rose = λ e. c.in-Err.ensures.fault.rose (same_stop c.in-Err.stop FirstFault e);
+        same = λ other. c.in-Err.ensures.fault.same (other_stop c.in-Err.stop FirstFault other);
+      };
+      second = record {
+        later = no_less _;
+        rose = λ e. absurd (refused_no_second c.in-Err.stop c.args.at file refused e);
+        same = λ other. refl;
+      };
+      write = record {
+        later = no_less _;
+        rose = λ e. absurd (refused_no_write c.in-Err.stop c.args.at file refused e);
+        same = λ other. refl;
+      };
+    }

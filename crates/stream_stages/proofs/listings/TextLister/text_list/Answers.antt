@@ -1,45 +1,49 @@
+use Rattle.std.proofs.Common.{refl}
 use Rattle.stream_stages.proofs.Ends.{ends_texts, ends_unread, stops_list, stops_unread}
 use Rattle.stream_stages.proofs.Told.{texts_told, unread}
 use Rattle.stream_stages.proofs.TextLists.{lists_done, lists_stop, listed_done, listed_stop}
 use Rattle.stream_stages.proofs.listings.TextLister.text_list.Goals as goal
 
-pub returns-in-Ok-clause-lists : goal.returns-in-Ok-clause-lists
-returns-in-Ok-clause-lists g c =
-    let (taken, w) = c.in-Ok.ensures.watches in (
-      taken,
-      lists_done c.args.form c.args.lead_in _ _ _ _ c.begin.new.self c.watch.new.stages.blocks taken
-          c.in-Ok.pumped _ _ c.lead_in_packs_are_read.ensures c.requires.lead_in c.begin.ensures w
-          c.saturating_sub.ensures c.write_texts.ensures.writes,
-    )
-
-pub returns-in-Ok-clause-answer : goal.returns-in-Ok-clause-answer
-returns-in-Ok-clause-answer g c =
+pub returns-in-Ok-clause-plays : goal.returns-in-Ok-clause-plays
+returns-in-Ok-clause-plays g c =
     let (taken, w) = c.in-Ok.ensures.watches in
-    listed_done c.args.form c.args.lead_in c.in-Ok.pumped _ _ _ _ _ c.begin.new.self c.watch.new.stages.blocks
-    taken _ w c.write_texts.ensures.writes
-    (lists_done c.args.form c.args.lead_in _ _ _ _ c.begin.new.self c.watch.new.stages.blocks taken
-    c.in-Ok.pumped _ _ c.lead_in_packs_are_read.ensures c.requires.lead_in c.begin.ensures w
-    c.saturating_sub.ensures c.write_texts.ensures.writes)
-    c.in-Ok.ensures.reads.answer
-
-pub returns-in-Ok-clause-faults : goal.returns-in-Ok-clause-faults
-returns-in-Ok-clause-faults g c =
     let wrote = c.write_texts.ensures in
-    texts_told _ _ _ _ c.in-Ok.ensures.reads.read_fault.later wrote.write_fault.later
-    c.watch.new.stages.blocks _
-    (g.K.Sink.held c.args.out.now) (g.K.Sink.held c.write_texts.new.out) c.in-Ok.pumped c.write_texts.result
-    wrote.writes c.in-Ok.ensures.reads.read_fault.same wrote.write_fault.rose wrote.write_fault.same
+    let lists = lists_done c.args.form c.args.lead_in _ _ _ _ c.begin.new.self c.watch.new.stages.blocks taken
+    c.in-Ok.pumped _ _ c.lead_in_packs_are_read.ensures c.requires.lead_in c.begin.ensures w
+    c.saturating_sub.ensures wrote.writes in
+    record {
+      plays = record {
+        taken = taken;
+        puts = lists;
+        stops = stops_list c.watch.new.stages.blocks _ (g.K.Sink.held c.args.out.now)
+            (g.K.Sink.held c.write_texts.new.out) c.write_texts.result wrote.writes;
+        answer = listed_done c.args.form c.args.lead_in c.in-Ok.pumped _ _ _ _ _ c.begin.new.self
+            c.watch.new.stages.blocks taken _ w wrote.writes lists c.in-Ok.ensures.reads.answer;
+        faults = texts_told _ _ _ _ c.in-Ok.ensures.reads.read_fault.later wrote.write_fault.later
+            c.watch.new.stages.blocks _
+            (g.K.Sink.held c.args.out.now) (g.K.Sink.held c.write_texts.new.out) c.in-Ok.pumped
+            c.write_texts.result
+            wrote.writes c.in-Ok.ensures.reads.read_fault.same wrote.write_fault.rose wrote.write_fault.same;
+      };
+      untouched = wrote.untouched;
+    }
 
-pub returns-in-Err-clause-faults : goal.returns-in-Err-clause-faults
-returns-in-Err-clause-faults g c =
+pub returns-in-Err-clause-plays : goal.returns-in-Err-clause-plays
+returns-in-Err-clause-plays g c =
     let (taken, w) = c.in-Err.ensures.watches in
-    unread _ _ _ c.in-Err.ensures.reads.read_fault.later _ _ c.play_stop.ensures w.no_write
-    c.in-Err.ensures.reads.read_fault.rose c.in-Err.ensures.reads.read_fault.same
-
-pub returns-in-Ok-clause-stops : goal.returns-in-Ok-clause-stops
-returns-in-Ok-clause-stops g c =
-    stops_list c.watch.new.stages.blocks _ (g.K.Sink.held c.args.out.now)
-    (g.K.Sink.held c.write_texts.new.out) c.write_texts.result c.write_texts.ensures.writes
+    record {
+      plays = record {
+        taken = taken;
+        puts = lists_stop c.args.form c.args.lead_in _ _ (g.K.Sink.held c.args.out.now) c.begin.new.self
+            c.watch.new.stages.blocks taken c.in-Err.stop c.play_stop.result w c.play_stop.ensures;
+        stops = stops_unread c.in-Err.stop c.play_stop.result c.play_stop.ensures;
+        answer = listed_stop c.args.form c.args.lead_in c.in-Err.stop c.play_stop.result _ c.play_stop.ensures
+            c.in-Err.ensures.reads.answer;
+        faults = unread _ _ _ c.in-Err.ensures.reads.read_fault.later _ _ c.play_stop.ensures w.no_write
+            c.in-Err.ensures.reads.read_fault.rose c.in-Err.ensures.reads.read_fault.same;
+      };
+      untouched = λ other. refl;
+    }
 
 pub returns-in-Ok-clause-ended : goal.returns-in-Ok-clause-ended
 returns-in-Ok-clause-ended g c =
@@ -47,24 +51,8 @@ returns-in-Ok-clause-ended g c =
     (g.K.Sink.held c.write_texts.new.out) c.write_texts.result _ _ c.write_texts.ensures.writes
     (_, c.in-Ok.ensures.reads.counts)
 
-pub returns-in-Err-clause-stops : goal.returns-in-Err-clause-stops
-returns-in-Err-clause-stops g c = stops_unread c.in-Err.stop c.play_stop.result c.play_stop.ensures
-
 pub returns-in-Err-clause-ended : goal.returns-in-Err-clause-ended
 returns-in-Err-clause-ended g c =
     let (taken, w) = c.in-Err.ensures.watches in
     ends_unread _ c.in-Err.stop c.play_stop.result _ _ c.play_stop.ensures w.no_write
     c.in-Err.ensures.reads.counts
-
-pub returns-in-Err-clause-lists : goal.returns-in-Err-clause-lists
-returns-in-Err-clause-lists g c =
-    let (taken, w) = c.in-Err.ensures.watches in (
-      taken,
-      lists_stop c.args.form c.args.lead_in _ _ (g.K.Sink.held c.args.out.now) c.begin.new.self
-          c.watch.new.stages.blocks taken c.in-Err.stop c.play_stop.result w c.play_stop.ensures,
-    )
-
-pub returns-in-Err-clause-answer : goal.returns-in-Err-clause-answer
-returns-in-Err-clause-answer g c =
-    listed_stop c.args.form c.args.lead_in c.in-Err.stop c.play_stop.result _ c.play_stop.ensures
-    c.in-Err.ensures.reads.answer

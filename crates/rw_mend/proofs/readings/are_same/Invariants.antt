@@ -1,5 +1,5 @@
 use Rattle.std.proofs.Common.{◌≡◌, ◌<◌, ℕ, true, get_or}
-use Rattle.rw_mend.proofs.following.are_same.Given as goal
+use Rattle.rw_mend.proofs.readings.are_same.Given as goal
 
 abbrev pub invariant-loop-k : goal.invariant-loop-k
 invariant-loop-k l = l.same ≡ true → (i : ℕ) → i < l.k → get_or l.other i 0 ≡ get_or l.one i 0

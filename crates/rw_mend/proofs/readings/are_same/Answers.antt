@@ -1,6 +1,6 @@
 use Rattle.std.proofs.Common.{◌∙◌, sym, arith}
 use Rattle.std.proofs.lemmas.List.{ext_get_or}
-use Rattle.rw_mend.proofs.following.are_same.Goals as goal
+use Rattle.rw_mend.proofs.readings.are_same.Goals as goal
 
 pub returns : goal.returns
 returns c = λ same.
