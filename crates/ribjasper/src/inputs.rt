@@ -6,11 +6,13 @@ ghost use Rattle.std.specs.declared.alloc.Global.{Global};
 ghost use Rattle.std.specs.declared.fs.File.{File};
 ghost use Rattle.std.specs.declared.io.Stdin.{Stdin};
 ghost use Rattle.cdg_io.specs.Change.{change, input};
+ghost use Rattle.cdg_cmd.specs.Call.{call};
+ghost use Rattle.cdg_cmd.specs.Faults.{TellsFaults};
 ghost use Rattle.cdg_cmd.specs.Performs.{Performs};
 ghost use Rattle.cdg_cmd.specs.Spelling.{Spells};
 ghost use Rattle.cdg_cmd.specs.Words.{texts};
 ghost use Rattle.ribjasper.specs.declared.inputs.InputReader.TheVariants.{Empty, Missing, Named, Standard, Unopened};
-ghost use Rattle.ribjasper.specs.Inputs.{name_of};
+ghost use Rattle.ribjasper.specs.Inputs.{AreInputs, IsNewSource, most_a_read, name_of};
 
 use cdg_cmd::{Command, Status, run};
 use cdg_io::{BufferedSource, Sink, Source, SteadySink};
@@ -40,9 +42,7 @@ pub enum InputReader<'a> {
 impl<'a> InputReader<'a> {
     /// The most that a read of it is to bring.
     pub(crate) fn most_a_read(&self) -> usize
-        ensures some { 0 < result }
-        ensures pipe { (stdin : Stdin) → self.now ≡ Standard stdin → result ≡ 65536 }
-        ensures file { ((stdin : Stdin) → self.now ≢ Standard stdin) → result ≡ 61440 }
+        ensures { result ≡ most_a_read self.now }
     {
         match self {
             InputReader::Standard(_) => PIPE_READ,
@@ -51,7 +51,9 @@ impl<'a> InputReader<'a> {
     }
 
     // A source of it.
-    fn source(self, alloc: Global) -> io::Result<BufferedSource<InputReader<'a>>> {
+    fn source(self, alloc: Global) -> io::Result<BufferedSource<InputReader<'a>>>
+        ensures { IfOk result (IsNewSource self.entry) }
+    {
         let most = self.most_a_read();
         Ok(BufferedSource::new(BufReader::with_capacity(alloc, most, self)?))
     }
@@ -120,7 +122,9 @@ impl<'a> First<InputReader<'a>> {
     pub(crate) fn source(
         self,
         alloc: Global,
-    ) -> io::Result<First<BufferedSource<InputReader<'a>>>> {
+    ) -> io::Result<First<BufferedSource<InputReader<'a>>>>
+        ensures { IfOk result (λ source. IsNewSource self.entry.input source.input) }
+    {
         let First { input } = self;
         Ok(First {
             input: input.source(alloc)?,
@@ -133,7 +137,9 @@ impl<'a> Second<InputReader<'a>> {
     pub(crate) fn source(
         self,
         alloc: Global,
-    ) -> io::Result<Second<BufferedSource<InputReader<'a>>>> {
+    ) -> io::Result<Second<BufferedSource<InputReader<'a>>>>
+        ensures { IfOk result (λ source. IsNewSource self.entry.input source.input) }
+    {
         let Second { input } = self;
         Ok(Second {
             input: input.source(alloc)?,
@@ -147,12 +153,7 @@ pub fn named<'a>(
     stdin: Stdin,
     names: &'a [String],
 ) -> (First<InputReader<'a>>, Second<InputReader<'a>>)
-    ensures none { names.now ≡ [] → (result.0.input ≡ Standard stdin) × (result.1.input ≡ Empty) }
-    ensures one { (name : String Global) → names.now ≡ name ∷ []
-        → (name_of result.0.input ≡ Some (string_bytes name)) × (result.1.input ≡ Empty) }
-    ensures two { (first second : String Global) → names.now ≡ first ∷ second ∷ []
-        → (name_of result.0.input ≡ Some (string_bytes first))
-        × (name_of result.1.input ≡ Some (string_bytes second)) }
+    ensures { AreInputs stdin names.now result.0.input result.1.input }
 {
     let (first, second) = match names {
         [first, second] => (
@@ -173,11 +174,16 @@ pub(crate) fn run_over<S: Source, T: Source, K: Sink>(
     second: &mut Second<T>,
     out: &mut K,
 ) -> Status
+    ensures usage { ((result ≡ Status.Usage) ↔ ((command : Command) → ¬ (Spells command (texts words.now))))
+        × (result ≡ Status.Usage → (first.new.input ≡ first.old.input)
+        × (second.new.input ≡ second.old.input) × (out.new ≡ out.old)) }
     ensures performs { (command : Command) → Spells command (texts words.now) → Performs command
         (input S.left S.counts first.old.input first.new.input)
         (input T.left T.counts second.old.input second.new.input)
         (change K.held out.old out.new) (first.old.input, second.old.input, out.old)
         (first.new.input, second.new.input, out.new) result }
+    ensures faults { TellsFaults (call S.faults T.faults K.faults
+        (first.old.input, second.old.input, out.old) (first.new.input, second.new.input, out.new)) result }
 {
     run(
         alloc,

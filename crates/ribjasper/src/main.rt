@@ -2,21 +2,23 @@
 #![tactic(auto)]
 
 ghost use Rattle.std.specs.Prelude.{◌≡◌, ◌≢◌, ◌⊎◌, ◌-◌, [], drop, take, length, Err, IfOk, IsOk, OnErr};
-ghost use Rattle.std.specs.Io.KnownBytes.{Appends, Keeps};
+ghost use Rattle.std.specs.Io.KnownBytes.{Appends};
 ghost use Rattle.std.specs.IoError.{error_kind};
 ghost use Rattle.std.specs.Process.{exit_status};
 ghost use Rattle.std.specs.Vec.Iter.{into_iter_items};
 ghost use Rattle.std.specs.declared.io.Error.{Error};
 ghost use Rattle.cdg_io.specs.Causes.{Rose};
-ghost use Rattle.cdg_io.specs.Waiting.{bytes_with_waiting};
+ghost use Rattle.cdg_io.specs.Change.{from_to};
 ghost use Rattle.cdg_cmd.specs.Line.{error_line, exit_of};
-ghost use Rattle.cdg_cmd.specs.Splitting.{split_of};
+ghost use Rattle.ribjasper.specs.Runs.{AreOwnWords, IsSettled, RunsLine, RunsProgram, command_words, input_names};
 
 mod inputs;
+mod output;
 
 use cdg_cmd::{Status, split, tell};
 use cdg_io::{BufferedSink, Failed, Sink, WriteSink};
 use inputs::{named, run_over};
+use output::TellingWriter;
 use std::alloc::{AllocError, Global};
 use std::env::Args;
 use std::io::{ErrorKind, Write};
@@ -31,9 +33,9 @@ const TURN: usize = 65_536;
 
 // The words after the program's own name, as the machine answered; if they are no text, there are none.
 fn own_words(alloc: Global, answer: io::Result<Args>) -> io::Result<Vec<String>>
-    ensures words { IfOk answer (λ all. IfOk result (λ words. words.items ≡ drop 1 (into_iter_items all))) }
+    ensures words { IfOk result (λ words. AreOwnWords answer words.items) }
     ensures no_text { (error : Error) → answer ≡ Err error → error_kind error ≡ ErrorKind.InvalidData
-        → IsOk result × IfOk result (λ words. words.items ≡ []) }
+        → IsOk result }
     ensures failed { (error : Error) → answer ≡ Err error → error_kind error ≢ ErrorKind.InvalidData
         → result ≡ Err error }
 {
@@ -53,8 +55,8 @@ fn after_first(alloc: Global, all: Args) -> Result<Vec<String>, AllocError>
 
 // The command's words of a line, and the names of its inputs.
 fn parted(line: &[String]) -> (&[String], &[String])
-    ensures words { result.0.now ≡ take (split_of line.now).words line.now }
-    ensures names { result.1.now ≡ drop (length line.now - (split_of line.now).names) line.now }
+    ensures words { result.0.now ≡ command_words line.now }
+    ensures names { result.1.now ≡ input_names line.now }
 {
     let split = split(line);
     (&line[..split.words], &line[line.len() - split.names..])
@@ -63,10 +65,7 @@ fn parted(line: &[String]) -> (&[String], &[String])
 // The status after the last write of what waits: what could not be written is a write fault.
 fn flushed<W: Write>(status: Status, out: &mut BufferedSink<W>) -> Status
     // Nothing waits any more, or it is reported that something does.
-    ensures settled { (out.new.waiting ≡ []) × (result ≡ status)
-        ⊎ (out.new.waiting ≢ []) × (result ≡ Status.WriteFault) }
-    ensures bytes { Keeps (bytes_with_waiting W.contents out.old) (bytes_with_waiting W.contents out.new) }
-    ensures nothing { out.old.waiting ≡ [] → result ≡ status }
+    ensures { IsSettled W.contents (from_to out.old out.new) status result }
 {
     match out.flush() {
         Ok(()) => status,
@@ -80,7 +79,7 @@ fn run_words<W: Write>(
     line: &[String],
     out: &mut BufferedSink<W>,
 ) -> io::Result<Status>
-    ensures settled { IfOk result (λ status. (out.new.waiting ≡ []) ⊎ (status ≡ Status.WriteFault)) }
+    ensures { IfOk result (RunsLine W.contents line.now (from_to out.old out.new)) }
 {
     let (words, names) = parted(line);
     let (first, second) = named(rt, rt.stdin(), names);
@@ -90,10 +89,16 @@ fn run_words<W: Write>(
     Ok(flushed(status, out))
 }
 
-// Runs the words of the program on the inputs and standard output.
-fn run_on_streams(rt: &HostRuntime) -> io::Result<Status> {
-    let line = own_words(rt.alloc(), env::args(rt))?;
-    let mut out = BufferedSink::new(rt.alloc(), BUFFER, TURN, rt.stdout())?;
+// Runs the words that the machine gave on the inputs that they name, and writes to a writer.
+fn run_on_streams<W: Write + Drop>(
+    rt: &HostRuntime,
+    words: io::Result<Args>,
+    writer: W,
+) -> io::Result<Status>
+    ensures { IfOk result (RunsProgram words writer) }
+{
+    let line = own_words(rt.alloc(), words)?;
+    let mut out = BufferedSink::new(rt.alloc(), BUFFER, TURN, TellingWriter::new(writer))?;
     run_words(rt, &line, &mut out)
 }
 
@@ -117,6 +122,6 @@ fn report<E: Sink>(err: &mut E, status: Status) -> ExitCode
 }
 
 fn main(rt: HostRuntime) -> ExitCode {
-    let status = ended(run_on_streams(&rt));
+    let status = ended(run_on_streams(&rt, env::args(&rt), rt.stdout()));
     report(&mut WriteSink::new(rt.stderr()), status)
 }

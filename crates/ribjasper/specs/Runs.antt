@@ -1,0 +1,110 @@
+-- What the program does with its words.
+use Rattle.std.specs.Prelude.{◌≡◌, ◌≢◌, ◌⊎◌, ◌↔◌, ◌-◌, ℕ, List, [], None, Some, Result, Ok, Err, String, drop, take, length}
+use Rattle.std.specs.Io.Buffered.{reader_remaining}
+use Rattle.std.specs.Io.KnownBytes.{Keeps}
+use Rattle.std.specs.declared.alloc.Global.{Global}
+use Rattle.std.specs.declared.io.Stdin.{Stdin}
+use Rattle.std.specs.IoError.{error_kind}
+use Rattle.std.specs.Vec.Iter.{into_iter_items}
+use Rattle.std.specs.declared.io.Error.{Error}
+use Rattle.std.specs.declared.io.ErrorKind.TheVariants.{InvalidData}
+use Rattle.std.specs.declared.vec.IntoIter.{IntoIter}
+use Rattle.cdg_io.specs.Causes.{Count}
+use Rattle.cdg_io.specs.Change.{Bytes, Change, change, from_to, input}
+use Rattle.cdg_io.specs.Waiting.{Buffered, bytes_with_waiting}
+use Rattle.cdg_cmd.specs.Call.{call}
+use Rattle.cdg_cmd.specs.Faults.{TellsFaults}
+use Rattle.cdg_cmd.specs.Performs.{Performs}
+use Rattle.cdg_cmd.specs.Spelling.{Spells}
+use Rattle.cdg_cmd.specs.Splitting.{split_of}
+use Rattle.cdg_cmd.specs.Words.{texts}
+use Rattle.cdg_cmd.specs.declared.command.Command.{Command}
+use Rattle.cdg_cmd.specs.declared.status.Status.{Status}
+use Rattle.cdg_cmd.specs.declared.status.Status.TheVariants.{Usage, WriteFault}
+use Rattle.ribjasper.specs.declared.inputs.InputReader.{InputReader}
+use Rattle.ribjasper.specs.declared.output.TellingWriter.{TellingWriter}
+use Rattle.ribjasper.specs.Inputs.{AreInputs, InputSource, IsNewSource}
+
+-- the command's words of a line
+abbrev pub command_words : List (String Global) → List (String Global)
+command_words line = take (split_of line).words line
+
+-- the names of its inputs
+abbrev pub input_names : List (String Global) → List (String Global)
+input_names line = drop (length line - (split_of line).names) line
+
+-- what an input tells of its bytes: nothing, since it is of the machine
+abbrev pub input_left : InputSource → Bytes
+input_left source = reader_remaining (λ _. None) source.inner
+
+-- how often its end was told
+abbrev pub input_ends : InputSource → Count
+input_ends source = Some source.ends
+
+-- What waited in an output was written, and nothing waits any more; or some of it waits, and that is told.
+pub record IsSettled {W : Type 0} (contents : W → Bytes) (out : Change (Buffered W)) (answer status : Status)
+    : Type 0 where
+  pub settled : (out.after.waiting ≡ []) × (status ≡ answer) ⊎ (out.after.waiting ≢ []) × (status ≡ WriteFault)
+  pub bytes : Keeps (bytes_with_waiting contents out.before) (bytes_with_waiting contents out.after)
+  pub nothing : out.before.waiting ≡ [] → status ≡ answer
+
+-- A command was run over sources of two inputs and an output, as `run` says.
+pub record RunsOver {W : Type 0} (contents : W → Bytes) (words : List (List ℕ)) (first second : Change InputSource)
+    (out : Change (Buffered W)) (answer : Status) : Type 0 where
+  pub usage : ((answer ≡ Usage) ↔ ((command : Command) → ¬ (Spells command words)))
+      × (answer ≡ Usage → (first.after ≡ first.before) × (second.after ≡ second.before) × (out.after ≡ out.before))
+  pub performs : (command : Command) → Spells command words → Performs command
+      (input input_left input_ends first.before first.after)
+      (input input_left input_ends second.before second.after)
+      (change (bytes_with_waiting contents) out.before out.after)
+      (first.before, second.before, out.before) (first.after, second.after, out.after) answer
+  pub faults : TellsFaults (call (λ s. s.faults) (λ s. s.faults) (λ s. s.faults)
+      (first.before, second.before, out.before) (first.after, second.after, out.after)) answer
+
+-- The words of a line were run over new sources of the inputs that it names and over an output, in which then what waits was
+-- written.
+pub record RunsLine {W : Type 0} (contents : W → Bytes) (line : List (String Global)) (out : Change (Buffered W))
+    (status : Status) : Type 0 where
+  pub stdin : Stdin
+  pub first_input : InputReader
+  pub second_input : InputReader
+  pub inputs : AreInputs stdin (input_names line) first_input second_input
+  pub first : Change InputSource
+  pub second : Change InputSource
+  pub first_is : IsNewSource first_input first.before
+  pub second_is : IsNewSource second_input second.before
+  -- the output and the answer before what waits was written
+  pub unsettled : Buffered W
+  pub answer : Status
+  pub runs : RunsOver contents (texts (command_words line)) first second (from_to out.before unsettled) answer
+  pub settles : IsSettled contents (from_to unsettled out.after) answer status
+
+-- The words of a line are those after the program's own name, as the machine gave them; if it says that they are no text, there
+-- are none.
+abbrev pub AreOwnWords : Result (IntoIter (String Global) Global) Error → List (String Global) → Type 0
+AreOwnWords (Ok all) line = line ≡ drop 1 (into_iter_items all)
+AreOwnWords (Err error) line = (error_kind error ≡ InvalidData) × (line ≡ [])
+
+-- An output over this writer, to which nothing was put yet, as the program makes it: with room for 128 KiB, of which 64 KiB may
+-- wait after a piece is put.
+pub record IsNewOutput {W : Type 0} (writer : W) (out : Buffered (TellingWriter W)) : Type 0 where
+  pub over : out.inner.writer ≡ writer
+  pub taken : out.inner.taken.bytes ≡ []
+  pub waiting : out.waiting ≡ []
+  pub faults : out.faults ≡ 0
+  pub turn : out.turn ≡ 65536
+  pub room : out.room ≡ 131072
+
+-- the bytes that a writer has taken
+abbrev pub taken_bytes : {W : Type 0} → TellingWriter W → Bytes
+taken_bytes writer = Some writer.taken.bytes
+
+-- The words that the machine gave were run on the inputs that they name, and over a new output, which tells the bytes that the
+-- writer took.
+pub record RunsProgram {W : Type 0} (words : Result (IntoIter (String Global) Global) Error) (writer : W) (status : Status)
+    : Type 0 where
+  pub line : List (String Global)
+  pub own_words : AreOwnWords words line
+  pub out : Change (Buffered (TellingWriter W))
+  pub new_output : IsNewOutput writer out.before
+  pub runs : RunsLine taken_bytes line out status
