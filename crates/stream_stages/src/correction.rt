@@ -14,7 +14,7 @@ use raw_subcode::{BLOCK_BYTES, SLOTS_A_BLOCK, SYMBOLS_A_SLOT};
 use rw_code::{Word, correct_by_sums};
 
 /// Gives the bytes of the corrected packs, and counts the words with no codeword near.
-#[derive(Clone, Copy, Debug, PartialEq, Eq)]
+#[derive(Clone, Copy)]
 pub struct Correction {
     pub bad: u32,
 }

@@ -21,7 +21,7 @@ const MOST_WRONG: u8 = 2;
 
 /// The words of a stream by their wrong symbols, and those that are not bad by their kind: each word counts in one of
 /// the first four, and each that is not bad in one of the last four. A count stays at its last value.
-#[derive(Clone, Copy, Debug, PartialEq, Eq, Default)]
+#[derive(Clone, Copy, Default)]
 pub struct WordCounts {
     /// Codewords.
     pub clean: u32,
@@ -42,7 +42,7 @@ pub struct WordCounts {
 }
 
 /// The frames of the Q channel, where they are read.
-#[derive(Clone, Copy, Debug, PartialEq, Eq, Default)]
+#[derive(Clone, Copy, Default)]
 pub struct FrameCounts {
     /// Whether the blocks have a Q channel.
     pub read: bool,
