@@ -43,5 +43,4 @@ pub record IsNewSource (reader : InputReader) (source : InputSource) : Type 0 wh
   pub empty : reader_buffer source.inner ≡ []
   pub room : reader_capacity source.inner ≡ most_a_read reader
   pub faults : source.faults ≡ 0
-  pub ends : source.ends ≡ 0
-  pub fills : source.fills ≡ 0
+  pub counts : source.counts ≡ record { ends = 0; fills = 0 }

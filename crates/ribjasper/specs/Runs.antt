@@ -9,7 +9,7 @@ use Rattle.std.specs.Vec.Iter.{into_iter_items}
 use Rattle.std.specs.declared.io.Error.{Error}
 use Rattle.std.specs.declared.io.ErrorKind.TheVariants.{InvalidData}
 use Rattle.std.specs.declared.vec.IntoIter.{IntoIter}
-use Rattle.cdg_io.specs.Causes.{Count}
+use Rattle.cdg_io.specs.Causes.{Tally}
 use Rattle.cdg_io.specs.Change.{Bytes, Change, change, from_to, input}
 use Rattle.cdg_io.specs.Waiting.{Buffered, bytes_with_waiting}
 use Rattle.cdg_cmd.specs.Call.{call}
@@ -37,9 +37,9 @@ input_names line = drop (length line - (split_of line).names) line
 abbrev pub input_left : InputSource → Bytes
 input_left source = reader_remaining (λ _. None) source.inner
 
--- how often its end was told
-abbrev pub input_ends : InputSource → Count
-input_ends source = Some source.ends
+-- how often its end was told and a read filled its room
+abbrev pub input_counts : InputSource → Tally
+input_counts source = Some source.counts
 
 -- What waited in an output was written, and nothing waits any more; or some of it waits, and that is told.
 pub record IsSettled {W : Type 0} (contents : W → Bytes) (out : Change (Buffered W)) (answer status : Status)
@@ -54,8 +54,8 @@ pub record RunsOver {W : Type 0} (contents : W → Bytes) (words : List (List �
   pub usage : ((answer ≡ Usage) ↔ ((command : Command) → ¬ (Spells command words)))
       × (answer ≡ Usage → (first.after ≡ first.before) × (second.after ≡ second.before) × (out.after ≡ out.before))
   pub performs : (command : Command) → Spells command words → Performs command
-      (input input_left input_ends first.before first.after)
-      (input input_left input_ends second.before second.after)
+      (input input_left input_counts first.before first.after)
+      (input input_left input_counts second.before second.after)
       (change (bytes_with_waiting contents) out.before out.after)
       (first.before, second.before, out.before) (first.after, second.after, out.after) answer
   pub faults : TellsFaults (call (λ s. s.faults) (λ s. s.faults) (λ s. s.faults)
