@@ -89,6 +89,36 @@ static void q_frames(void)
     CHECK(memcmp(frame.text, "DEA1B9912345", 13) == 0);
 }
 
+/* The entries of the table of contents, by their bytes: CONTROL and ADR, TNO, POINT, the running time, ZERO, and what POINT says. */
+static void entries(void)
+{
+    static const struct {
+        uint32_t kind, absolute;
+        uint8_t track, disc, bytes[10];
+    } cases[] = {
+        { RIBJASPER_Q_TRACK, 150, 5, 0, { 0x41, 0, 0x05, 0, 1, 2, 0, 0, 2, 0 } },
+        { RIBJASPER_Q_FIRST, 0, 3, 0x20, { 0x41, 0, 0xa0, 0, 1, 2, 0, 0x03, 0x20, 0 } },
+        { RIBJASPER_Q_LAST, 0, 12, 0, { 0x41, 0, 0xa1, 0, 1, 2, 0, 0x12, 0, 0 } },
+        { RIBJASPER_Q_LEAD_OUT, 56606, 0, 0, { 0x41, 0, 0xa2, 0, 1, 2, 0, 0x12, 0x34, 0x56 } },
+    };
+    for (size_t i = 0; i < sizeof cases / sizeof *cases; i++) {
+        ribjasper_q_frame frame, read;
+        uint8_t bytes[12], bit = 200;
+        memset(&frame, 0, sizeof frame);
+        memset(&read, 0, sizeof read);
+        frame.kind = cases[i].kind;
+        frame.time = 77;
+        frame.absolute = cases[i].absolute;
+        frame.control = 4;
+        frame.track = cases[i].track;
+        frame.disc = cases[i].disc;
+        CHECK(ribjasper_q_encode(&frame, bytes) == RIBJASPER_DONE && memcmp(bytes, cases[i].bytes, 10) == 0);
+        CHECK(ribjasper_q_decode(bytes, &read, &bit) == RIBJASPER_DONE && bit == 200);
+        CHECK(read.kind == frame.kind && read.time == 77 && read.absolute == frame.absolute && read.control == 4);
+        CHECK(read.track == frame.track && read.disc == frame.disc);
+    }
+}
+
 static void whole_streams(void)
 {
     static uint8_t stream[2 * 2448], packs[192];
@@ -514,6 +544,7 @@ int main(void)
 {
     single_things();
     q_frames();
+    entries();
     whole_streams();
     edges_of_streams();
     drawn_packs();

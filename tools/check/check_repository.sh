@@ -51,6 +51,9 @@ told=$(tools/write/test_wrapping.py 2>&1) || complain "tools/write/test_wrapping
 # Each edit's old text stands exactly once in the file that it names.
 tools/check/check_edits.py || complain "an edit does not turn what it was written for"
 
+# The checker refuses the wrong bodies of dear crates, function by function, over what the gate or `make` left.
+try tools/check/try_wrong_bodies.py --by-function || complain "a wrong body is not refused"
+
 # The tables of numbers are those that are reckoned.
 tests/peers/tables.py || complain "a table of numbers is not what tests/peers/tables.py reckons"
 

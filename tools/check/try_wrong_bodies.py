@@ -1,16 +1,21 @@
 #!/usr/bin/env python3
-"""Has the checker try every wrong body, those that the gate leaves out too: try_wrong_bodies.py [--jobs N] [CRATE ..]
+"""Has the checker try wrong bodies: try_wrong_bodies.py [--by-function] [--jobs N] [CRATE ..]
 
 The gate tries the edits of `must-fail/`. Those of `wrong-bodies/` stand in crates whose proof is dear, or say less; all are
 tried here, before a release, each over a copy of what `make`, `rt check` or `rt lib` kept of its crate, so that one takes
 seconds and not a whole proof. The kit's own command judges each. What is not refused so, and each edit of a crate that is
-not proved over what was kept, is tried once more from nothing. The status is 0 only if each wrong body is refused."""
+not proved over what was kept, is tried once more from nothing. The status is 0 only if each wrong body is refused.
+
+With --by-function those alone are tried that name a function, in a line `function: PATH`. Of each this function is proved with
+what it calls, and nothing else of its crate, over the libraries that the gate or `make` left: ten to forty seconds each.
+`make check` does so right after the gate, which has proved the same functions without the edits."""
 from __future__ import annotations
 
 import argparse
 import importlib.machinery
 import importlib.util
 import os
+import re
 import shutil
 import site
 import sys
@@ -27,6 +32,12 @@ from prove_crates import lanes  # noqa: E402
 
 FOLDERS = ("must-fail", "wrong-bodies")
 FLAGS = ["--jobs", "1"]
+# Of a line of the checker so many letters are printed.
+MOST_LETTERS = 160
+FUNCTION = re.compile(r"function: (\S+)")
+# How many functions a check was asked for, and how many of them it proved.
+COUNTS = re.compile(r"only=(\d+) proved=(\d+)")
+OPEN_GOAL = re.compile(r"(?:note: )?(\S+:\d+:\d+: (?:error|it is not proved).*)")
 
 
 def kit() -> ModuleType:
@@ -44,6 +55,12 @@ def kit() -> ModuleType:
 
 def edits_of(crate: Any) -> list[str]:
     return sorted(str(it) for folder in FOLDERS for it in (Path(crate.folder) / folder).glob("*.edit"))
+
+
+def function_of(edit: str) -> str | None:
+    """The function that an edit names, if it names one."""
+    found = (FUNCTION.fullmatch(line) for line in Path(edit).read_text().splitlines())
+    return next((it[1] for it in found if it), None)
 
 
 def tried(rt: ModuleType, crate: Any) -> list[str]:
@@ -67,22 +84,67 @@ def tried(rt: ModuleType, crate: Any) -> list[str]:
     return failed
 
 
+def judged(rt: ModuleType, crate: Any, edit: str, function: str) -> tuple[bool, str]:
+    """Whether the checker refuses the function with the edit, and what it says."""
+    texts, why = rt.read_edit(edit, crate.folder)
+    if why:
+        return False, why
+    ran = rt.checked(crate, texts, [*FLAGS, "--only", function], None)
+    lines = ran.stdout.rstrip("\n").split("\n")
+    counts = COUNTS.fullmatch(lines[-1])
+    if any(rt.unread(line, texts) for line in lines):
+        return False, "the prover cannot read it"
+    if ran.returncode == 1 and counts and int(counts[2]) < int(counts[1]):
+        return True, next((found[1][:MOST_LETTERS] for line in lines if (found := OPEN_GOAL.match(line))), "it is not proved")
+    if ran.returncode == 0:
+        return False, "the function is still proved"
+    return False, f"its check ended with status {ran.returncode}: {lines[-1]}"
+
+
+def tried_by_function(rt: ModuleType, crate: Any, edit: str) -> bool:
+    """Tries one wrong body, prints what comes of it, and says whether it is refused."""
+    began, function = time.monotonic(), function_of(edit)
+    is_refused, said = judged(rt, crate, edit, function or "")
+    word, took = "refused" if is_refused else "NOT REFUSED", time.monotonic() - began
+    print(f"wrong body {crate.name}/{Path(edit).stem}: {word}: {said} ({took:.0f} seconds)", flush=True)
+    return is_refused
+
+
+def try_all(rt: ModuleType, crates: list[Any], jobs: int) -> list[str]:
+    """Tries all wrong bodies of some crates, and returns those that are not refused."""
+    print(f"try_wrong_bodies: {sum(len(edits_of(it)) for it in crates)} in {len(crates)} crates", flush=True)
+    # What they stand on is built first, one after another.
+    if any(low.build_rlib(FLAGS, anew=False) for it in crates for low in it.below()):
+        sys.exit("try_wrong_bodies: a library that a crate stands on is not proved")
+    with ThreadPoolExecutor(jobs) as pool:
+        return [edit for found in pool.map(lambda it: tried(rt, it), crates) for edit in found]
+
+
+def try_functions(rt: ModuleType, crates: list[Any], jobs: int) -> list[str]:
+    """Tries the wrong bodies of some crates that name a function, and returns those that are not refused."""
+    edits = [(it, edit) for it in crates for edit in edits_of(it) if function_of(edit)]
+    lacking = {low.name for it, _ in edits for low in it.below() if not os.path.isfile(f"{low.rlib}/format")}
+    if lacking:
+        print(f"try_wrong_bodies: skipped, no library is left of {', '.join(sorted(lacking))} (make check)")
+        return []
+    print(f"try_wrong_bodies: {len(edits)} by their functions", flush=True)
+    with ThreadPoolExecutor(jobs) as pool:
+        refused = pool.map(lambda it: tried_by_function(rt, *it), edits)
+        return [edit for (_, edit), is_refused in zip(edits, refused) if not is_refused]
+
+
 def main() -> int:
-    parser = argparse.ArgumentParser(description="Has the checker try every wrong body, over what was kept of the proofs.")
-    parser.add_argument("--jobs", type=int, default=lanes(), help="how many crates at a time (default: as many as fit)")
+    parser = argparse.ArgumentParser(description="Has the checker try wrong bodies, which it has to refuse.")
+    parser.add_argument("--by-function", action="store_true", help="those that name a function, and nothing but that function")
+    parser.add_argument("--jobs", type=int, default=lanes(), help="how many at a time (default: as many as fit)")
     parser.add_argument("crates", nargs="*", help="the crates whose wrong bodies are tried (default: all)")
     arguments = parser.parse_args()
     os.chdir(TOP)
     rt = kit()
     rt.rtlib.guarded()
     crates = [it for it in rt.rtlib.crates_below(str(TOP)) if edits_of(it) and it.name in (arguments.crates or [it.name])]
-    print(f"try_wrong_bodies: {sum(len(edits_of(it)) for it in crates)} in {len(crates)} crates", flush=True)
-    # What they stand on is built first, one after another.
-    if any(low.build_rlib(FLAGS, anew=False) for it in crates for low in it.below()):
-        print("try_wrong_bodies: a library that a crate stands on is not proved", file=sys.stderr)
-        return 1
-    with ThreadPoolExecutor(max(1, arguments.jobs)) as pool:
-        failed = [edit for found in pool.map(lambda it: tried(rt, it), crates) for edit in found]
+    how = try_functions if arguments.by_function else try_all
+    failed = how(rt, crates, max(1, arguments.jobs))
     for edit in failed:
         print(f"try_wrong_bodies: not refused: {os.path.relpath(edit, TOP)}")
     return 1 if failed else 0
