@@ -111,9 +111,8 @@ impl CountedMemory {
     ) -> Result<Played, PlayStop>
         requires lead_in { lead_in ≤ most_lead_in }
         requires form { form ≢ Form.Cooked }
-        ensures plays { PlaysThenWrites (text_listing form lead_in) S.left S.faults K.held K.faults
+        ensures plays { PlaysThenWrites (text_listing form lead_in) S.Source K.Sink
             (source.old, out.old) (source.new, out.new) result }
-        ensures ended { EndFirst result (S.ends source.old) (S.ends source.new) }
         ensures counted { TellsFault (play.Text fault.NoMemory) self.old self.new result }
     {
         let listed = lister.text_list(self.alloc, lead_in, form, source, out);

@@ -26,6 +26,7 @@ returns-in-Ok-clause-plays g c =
           read.reads.answer;
       faults = done_told _ _ _ _ read.reads.read_fault.later read.write_fault.later _ _
           read.reads.read_fault.same read.write_fault.same;
+      ended = read.reads.ended;
     }
 
 pub returns-in-Err-clause-plays : goal.returns-in-Err-clause-plays
@@ -42,11 +43,5 @@ returns-in-Err-clause-plays g c =
       answer = checked_stop (unit_size form) _ _ _ c.play_stop.ensures read.reads.answer;
       faults = stop_told _ _ _ _ read.reads.read_fault.later read.write_fault.later _ _ c.play_stop.ensures
           read.reads.read_fault.rose read.reads.read_fault.same read.write_fault.rose read.write_fault.same;
+      ended = ends_stopped c.in-Err.stop c.play_stop.result _ _ c.play_stop.ensures read.reads.ended;
     }
-
-pub returns-in-Ok-clause-ended : goal.returns-in-Ok-clause-ended
-returns-in-Ok-clause-ended g c = c.in-Ok.ensures.reads.ended
-
-pub returns-in-Err-clause-ended : goal.returns-in-Err-clause-ended
-returns-in-Err-clause-ended g c =
-    ends_stopped c.in-Err.stop c.play_stop.result _ _ c.play_stop.ensures c.in-Err.ensures.reads.ended

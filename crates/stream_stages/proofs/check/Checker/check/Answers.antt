@@ -1,6 +1,6 @@
 use Rattle.std.proofs.Common.{refl}
 use Rattle.raw_subcode.specs.Channels.{unit_size}
-use Rattle.stream_stages.proofs.Ends.{ends_unread, stops_counts, stops_played}
+use Rattle.stream_stages.proofs.Ends.{ends_counts, ends_unread, stops_counts, stops_played}
 use Rattle.stream_stages.proofs.Told.{counts_told, unread}
 use Rattle.stream_stages.proofs.Checks.{at_end_stop, checks_done, checked_done, checked_stop}
 use Rattle.stream_stages.proofs.check.Checker.check.Goals as goal
@@ -21,6 +21,7 @@ returns-in-Ok-clause-plays g c =
         faults = counts_told _ _ _ _ c.in-Ok.ensures.reads.read_fault.later cause.later c.in-Ok.pumped
             c.write_counts.result _
             c.in-Ok.ensures.reads.read_fault.same cause c.write_counts.ensures.part;
+        ended = ends_counts c.write_counts.result _ c.write_counts.ensures.part _ _ c.in-Ok.ensures.reads.ended;
       };
       untouched = c.write_counts.ensures.untouched;
     }
@@ -37,12 +38,8 @@ returns-in-Err-clause-plays g c =
         answer = checked_stop (unit_size c.args.form) _ _ _ c.play_stop.ensures c.in-Err.ensures.reads.answer;
         faults = unread _ _ _ c.in-Err.ensures.reads.read_fault.later _ _ c.play_stop.ensures w.no_write
             c.in-Err.ensures.reads.read_fault.rose c.in-Err.ensures.reads.read_fault.same;
+        ended = ends_unread c.in-Err.stop c.play_stop.result _ _ c.play_stop.ensures w.no_write
+            c.in-Err.ensures.reads.ended;
       };
       untouched = λ other. refl;
     }
-
-pub returns-in-Err-clause-ended : goal.returns-in-Err-clause-ended
-returns-in-Err-clause-ended g c =
-    let (taken, w) = c.in-Err.ensures.watches in
-    ends_unread c.in-Err.stop c.play_stop.result _ _ c.play_stop.ensures w.no_write
-    c.in-Err.ensures.reads.ended

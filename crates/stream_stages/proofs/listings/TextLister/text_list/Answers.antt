@@ -24,6 +24,9 @@ returns-in-Ok-clause-plays g c =
             (g.K.Sink.held c.args.out.now) (g.K.Sink.held c.write_texts.new.out) c.in-Ok.pumped
             c.write_texts.result
             wrote.writes c.in-Ok.ensures.reads.read_fault.same wrote.write_fault.rose wrote.write_fault.same;
+        ended = ends_texts c.watch.new.stages.blocks _ (g.K.Sink.held c.args.out.now)
+            (g.K.Sink.held c.write_texts.new.out) c.write_texts.result _ _ wrote.writes
+            c.in-Ok.ensures.reads.ended;
       };
       untouched = wrote.untouched;
     }
@@ -41,18 +44,8 @@ returns-in-Err-clause-plays g c =
             c.in-Err.ensures.reads.answer;
         faults = unread _ _ _ c.in-Err.ensures.reads.read_fault.later _ _ c.play_stop.ensures w.no_write
             c.in-Err.ensures.reads.read_fault.rose c.in-Err.ensures.reads.read_fault.same;
+        ended = ends_unread c.in-Err.stop c.play_stop.result _ _ c.play_stop.ensures w.no_write
+            c.in-Err.ensures.reads.ended;
       };
       untouched = λ other. refl;
     }
-
-pub returns-in-Ok-clause-ended : goal.returns-in-Ok-clause-ended
-returns-in-Ok-clause-ended g c =
-    ends_texts c.watch.new.stages.blocks _ (g.K.Sink.held c.args.out.now)
-    (g.K.Sink.held c.write_texts.new.out) c.write_texts.result _ _ c.write_texts.ensures.writes
-    c.in-Ok.ensures.reads.ended
-
-pub returns-in-Err-clause-ended : goal.returns-in-Err-clause-ended
-returns-in-Err-clause-ended g c =
-    let (taken, w) = c.in-Err.ensures.watches in
-    ends_unread c.in-Err.stop c.play_stop.result _ _ c.play_stop.ensures w.no_write
-    c.in-Err.ensures.reads.ended

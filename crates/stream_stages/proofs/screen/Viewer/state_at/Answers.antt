@@ -18,6 +18,7 @@ returns-in-Ok-write_state-clause-plays g c =
         answer = c.in-Ok.ensures.answer;
         faults = shown_told _ _ _ _ c.in-Ok.ensures.read_fault.later cause.later _ _
             c.in-Ok.ensures.read_fault.same cause.same;
+        ended = c.in-Ok.ensures.ended;
       };
       untouched = tt;
     }
@@ -35,6 +36,7 @@ returns-in-Err-write_state-clause-plays g c =
         answer = search rules;
         faults = cut_told _ _ _ _ c.in-Ok.ensures.read_fault.later cause.later _
             c.in-Ok.ensures.read_fault.same cause.failed;
+        ended = c.in-Ok.ensures.ended;
       };
       untouched = λ other. absurd (other refl);
     }
@@ -51,6 +53,7 @@ returns-in-Err-clause-plays g c =
         answer = c.in-Err.ensures.answer;
         faults = unread_view _ _ _ c.in-Err.ensures.read_fault.later _ v.no_write
             c.in-Err.ensures.read_fault.rose c.in-Err.ensures.read_fault.same;
+        ended = c.in-Err.ensures.ended;
       };
       untouched = λ other. refl;
     }
