@@ -10,7 +10,8 @@ use Rattle.rw_interleave.specs.Texts.{cdg_bytes}
 use Rattle.rw_merge.specs.Agreement.{IsAgreement}
 use Rattle.rw_merge.specs.Windows.{Windows}
 use Rattle.rw_merge.specs.declared.packs.Packs.{Packs}
-use Rattle.cdg_io.specs.Causes.{Count, FillsRoom, HasCause, Rose, TellsEnd}
+use Rattle.cdg_io.specs.Causes.{Count, HasCause, Rose}
+use Rattle.cdg_io.specs.Counts.{TellsRead}
 use Rattle.cdg_io.specs.Change.{Change}
 use Rattle.cdg_io.specs.Moves.{ConsumesBelow}
 use Rattle.rw_merge.specs.Merging.{EndsAtStop, EndsBoth, ReadInput, ReadsBoth, Told, Untold}
@@ -125,8 +126,7 @@ pub record AsksFor {E : Type 0} (size : ℕ) (input : ReadInput) (faults : Chang
   pub end : IfOk result (λ n. n < size → IsAtEnd input.left.after)
   pub part : OnErr result (ConsumesBelow input.left.before input.left.after size)
   pub cause : HasCause faults.before faults.after result
-  pub told : TellsEnd size input.ends.before input.ends.after result
-  pub filled : FillsRoom size input.fills.before input.fills.after result
+  pub counts : TellsRead size size input.counts result
 
 -- A count of faults rose,
 abbrev pub Rises : Change ℕ → Type 0

@@ -116,8 +116,8 @@ impl Merger {
     ) -> Result<Merged, MergeStop>
         requires { lead_in ≤ most_lead_in }
         ensures merges { ReadsBoth (Merges lead_in (change K.held out.old out.new) result) (EndsBoth result)
-            full_reads (read_input S.left S.ends S.fills first.old first.new)
-            (read_input T.left T.ends T.fills second.old second.new) }
+            full_reads (read_input S.Source first.old first.new)
+            (read_input T.Source second.old second.new) }
         // Every pack comes back where both readings together have enough of each word.
         ensures restores { IfSome (S.left first.old) (λ xs. IfSome (T.left second.old) (λ ys.
             (blocks : ℕ) (packs : List (List ℕ)) → IsReadTwice lead_in blocks packs xs ys
@@ -155,8 +155,8 @@ impl Merger {
         requires first { self.old.first ≡ [] }
         requires second { self.old.second ≡ [] }
         ensures merges { ReadsBoth (Merges lead_in (change K.held out.old out.new) result) (EndsBoth result)
-            full_reads (read_input S.left S.ends S.fills first.old first.new)
-            (read_input T.left T.ends T.fills second.old second.new) }
+            full_reads (read_input S.Source first.old first.new)
+            (read_input T.Source second.old second.new) }
         ensures answer { IsAnswerTo lead_in result (S.left first.old) (T.left second.old) }
         ensures ends { FirstIsAtEnd result (S.left first.new) × EndsSecond result (T.left second.new) }
         ensures faults { CountsFaults result (change S.faults first.old first.new)
