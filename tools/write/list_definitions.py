@@ -69,6 +69,7 @@ clause `ensures name { .. }` holds after every call. In it:
 | `S.left first.old` | the bytes that a source still gives, where it tells them: `Some` list or `None` |
 | `K.held out.old` | the bytes that a sink took so far, where it tells them |
 | `S.faults`, `S.ends` | how often a read has failed, and how often the end was told |
+| `S.Source` | all that a source tells, as one value: its bytes and its counts |
 | `(x : A) → P`, `(x y : A) → P` | for every x (and y) of A, P |
 | `(x : A) × P` | there is an x of A with P |
 | `a ≡ b`, `a ≢ b` | a equals b, a does not |

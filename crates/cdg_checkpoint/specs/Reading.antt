@@ -1,18 +1,25 @@
 -- How the file of a checkpoint is read.
-use Rattle.std.specs.Prelude.{◌+◌, ◌≤◌, ℕ, List, length, Result, OnErr, OnOk}
+use Rattle.std.specs.Prelude.{◌≡◌, ◌+◌, ◌<◌, ◌≤◌, ℕ, List, length, Result, OnErr, OnOk}
 use Rattle.std.specs.Io.KnownBytes.{Consumes, IsAtEnd}
-use Rattle.cdg_io.specs.Causes.{HasCause}
-use Rattle.cdg_io.specs.Change.{Bytes}
+use Rattle.cdg_io.specs.Causes.{Count, HasCause, RoseOnce}
 use Rattle.cdg_io.specs.Moves.{ConsumesBelow}
+use Rattle.cdg_io.specs.declared.ends.Source.{Ghosts as Source}
 use Rattle.cdg_checkpoint.specs.Table.{file_size}
+
+-- The end of an input that was read as a file was told once, and only where it has no more bytes than a file.
+pub record TellsFileEnd {T E : Type 0} (file : List ℕ) (before now : Count) (result : Result T E) : Type 0 where
+  pub told : OnOk result (length file ≤ file_size → RoseOnce before now)
+  pub goes_on : OnOk result (file_size < length file → now ≡ before)
+  pub not_told : OnErr result (now ≡ before)
 
 -- What was read of an input as a file: all of it, but at most one byte more than a file has. After a read that failed it
 -- is what was taken until then.
-pub record ReadsCheckpointFile {S T E : Type 0} (left : S → Bytes) (faults : S → ℕ) (before after : S)
-    (file : List ℕ) (result : Result T E) : Type 0 where
-  pub taken : Consumes (left before) (left after) file
+pub record ReadsCheckpointFile {S T E : Type 0} (source : Source S) (before after : S) (file : List ℕ)
+    (result : Result T E) : Type 0 where
+  pub taken : Consumes (source.left before) (source.left after) file
   pub most : length file ≤ file_size + 1
   pub fewer : OnErr result (length file ≤ file_size)
-  pub end : OnOk result (length file ≤ file_size → IsAtEnd (left after))
-  pub part : OnErr result (ConsumesBelow (left before) (left after) (file_size + 1))
-  pub cause : HasCause (faults before) (faults after) result
+  pub end : OnOk result (length file ≤ file_size → IsAtEnd (source.left after))
+  pub part : OnErr result (ConsumesBelow (source.left before) (source.left after) (file_size + 1))
+  pub cause : HasCause (source.faults before) (source.faults after) result
+  pub ended : TellsFileEnd file (source.ends before) (source.ends after) result

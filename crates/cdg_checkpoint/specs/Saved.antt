@@ -1,5 +1,5 @@
 -- The checkpoint of a stream.
-use Rattle.std.specs.Prelude.{◌≡◌, ℕ, ◌-◌, ◌/◌, Bool, true, false, IsTrue, List, ◌++◌, length, drop, replicate, min, Option, Result, Ok, Err}
+use Rattle.std.specs.Prelude.{◌≡◌, ℕ, ◌-◌, ◌/◌, Bool, IsTrue, List, ◌++◌, length, drop, replicate, min, Option, Result, Ok, Err}
 use Rattle.cdg_io.specs.Streams.{WholeReading, WritesAtEnd}
 use Rattle.cdg_io.specs.Causes.{Count}
 use Rattle.cdg_io.specs.Reads.{ToldUnless}
@@ -8,7 +8,7 @@ use Rattle.cdg_io.specs.Change.{Bytes, Change, Passed}
 use Rattle.cdg_io.specs.Moves.{AppendsPrefix}
 use Rattle.cdg_io.specs.declared.pumping.Pumped.{Pumped}
 use Rattle.cdg_io.specs.declared.pumping.PumpStop.{PumpStop}
-use Rattle.cdg_io.specs.declared.pumping.PumpStop.TheVariants.{ReadFault, WriteFault, TooLong}
+use Rattle.cdg_io.specs.declared.pumping.PumpStop.TheVariants.{WriteFault}
 use Rattle.raw_subcode.specs.Channels.{program_symbols}
 use Rattle.raw_subcode.specs.Sizes.{block_bytes, most_units}
 use Rattle.raw_subcode.specs.declared.form.Form.TheVariants.{Raw}
@@ -17,7 +17,9 @@ use Rattle.cdg_instructions.specs.declared.instr.Instr.{Instr}
 use Rattle.cdg_screen.specs.Standing.{blank, standing_after}
 use Rattle.cdg_checkpoint.specs.Checkpoint.{Checkpoint, file_of}
 use Rattle.cdg_checkpoint.specs.Table.{slots_bytes}
+use Rattle.stream_stages.specs.Calls.{is_early}
 use Rattle.stream_stages.specs.Screen.{AreMeant}
+use Rattle.stream_stages.specs.Watch.{play_stop}
 
 -- the last of so many symbols, with zeros before the first
 abbrev pub last_symbols : ℕ → List ℕ → List ℕ
@@ -45,9 +47,7 @@ pub record IsSaved (lead_in : ℕ) (bytes : List ℕ) (pumped : Pumped) (text : 
 
 -- whether a stop comes before the end of the input
 abbrev pub is_before_end : PumpStop → Bool
-is_before_end ReadFault = true
-is_before_end TooLong = true
-is_before_end stop = false
+is_before_end stop = is_early (play_stop stop)
 
 -- how a call reads that writes the file of a checkpoint
 abbrev pub saving : ℕ → WholeReading Pumped PumpStop

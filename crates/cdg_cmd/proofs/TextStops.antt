@@ -3,7 +3,6 @@ use Rattle.std.proofs.Common.{◌≡◌, ◌⊎◌, ◌<◌, ◌≤◌, ℕ, Lis
 use Rattle.std.specs.Io.KnownBytes.{Consumes, IsAtEnd}
 use Rattle.std.proofs.KnownBytes.{Consumes-kept}
 use Rattle.cdg_io.specs.Moves.{ConsumesBelow}
-use Rattle.cdg_io.specs.Causes.{Count}
 use Rattle.cdg_io.specs.Whole.{ReadsWithin, StopsAtFault}
 use Rattle.cue_sheet.specs.CueSheet.{CueSheet}
 use Rattle.cue_sheet.specs.Grammar.{read_cue}
@@ -32,9 +31,9 @@ within (Some text) (Some rest) taken most took end few =
     omega (arith, few, ap length took, length-append taken rest, ap length end)
 
 -- an input whose end came within the limit is not too long
-pub known_within : {S : Type 0} (left : S → Bytes) (ends : S → Count) (most : ℕ) (before after : S)
-    → ReadsWithin left ends most before after → IfSome (left before) (λ text. length text ≤ most)
-known_within left ends most before after read =
+pub known_within : {S : Type 0} (left : S → Bytes) (most : ℕ) (before after : S)
+    → ReadsWithin left most before after → IfSome (left before) (λ text. length text ≤ most)
+known_within left most before after read =
     within (left before) (left after) read.taken most read.took read.end read.within
 
 both_answers : {A E : Type 0} (r : Result A E) (a : A) (e : E) → r ≡ Ok a → r ≡ Err e → ⊥

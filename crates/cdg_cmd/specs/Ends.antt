@@ -1,6 +1,6 @@
 -- How often a command comes to the end of an input: the count of told ends rises once, where the input is read to its
 -- end, and nowhere else. Where a command makes one call, it is what the answer of this call says.
-use Rattle.std.specs.Prelude.{◌≡◌, ◌⊎◌, ℕ, List, IsErr, IsOk, Result, length}
+use Rattle.std.specs.Prelude.{◌≡◌, ◌⊎◌, ℕ, List, IsErr, IsOk, Result, Ok, Err, length}
 use Rattle.std.specs.Io.KnownBytes.{Consumes, IsAtEnd}
 use Rattle.cdg_io.specs.Causes.{Count}
 use Rattle.cdg_io.specs.Change.{Bytes, Input}
@@ -37,6 +37,11 @@ abbrev pub StopEnds : Input → Status → Type 0
 StopEnds input (Refused TooLong) = Untold input.ends
 StopEnds input (ReadFault which) = Untold input.ends
 StopEnds input status = Told input.ends
+
+-- the same of one that gives it, where its end was told
+abbrev pub TellsText : {T : Type 0} → Input → Result T Status → Type 0
+TellsText input (Ok text) = Told input.ends
+TellsText input (Err status) = StopEnds input status
 
 -- The cue sheet of `author` or `press` and then their second input, which may be why they stop, as may the answer to
 -- both.

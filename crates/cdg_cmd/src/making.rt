@@ -1,11 +1,12 @@
 // The commands that make a stream or a script.
 ghost use Rattle.std.specs.Prelude.{◌≡◌, ◌≢◌, ◌≤◌, ◌<◌, ◌⊎◌, IfOk, IfErr, OnOk, Err, length};
 ghost use Rattle.disc_time.specs.Counts.{most_lead_in, time_count};
-ghost use Rattle.cdg_io.specs.Causes.{RoseOnce, TellsFault};
+ghost use Rattle.cdg_io.specs.Causes.{TellsFault};
 ghost use Rattle.cdg_cmd.specs.Authors.{AuthorsWith, IsScriptStop, IsSheetStop, ReadsScript, ReadsSheet, TakesAtStop};
-ghost use Rattle.cdg_io.specs.Change.{change, input};
+ghost use Rattle.cdg_io.specs.Change.{change};
+ghost use Rattle.cdg_io.specs.Reads.{input};
 ghost use Rattle.cdg_cmd.specs.Call.{call};
-ghost use Rattle.cdg_cmd.specs.Ends.{StopEnds, TextsEnd};
+ghost use Rattle.cdg_cmd.specs.Ends.{TellsText, TextsEnd};
 ghost use Rattle.cdg_cmd.specs.Faults.{IsTold, TellsFaults, TellsWant};
 ghost use Rattle.cdg_cmd.specs.Keeps.{MayReadSecond};
 ghost use Rattle.cdg_cmd.specs.Presses.{IsFileStop, PressesWith};
@@ -31,8 +32,7 @@ fn read_sheet<S: Source>(memory: &mut CountedMemory, first: &mut S) -> Result<Sh
     ensures fault { TellsFault (Status.ReadFault Which.First)
         (S.faults first.old) (S.faults first.new) result }
     ensures wants { TellsFault Status.NoMemory memory.old memory.new result }
-    ensures told { OnOk result (RoseOnce (S.ends first.old) (S.ends first.new)) }
-    ensures once { IfErr result (StopEnds (input S.left S.ends first.old first.new)) }
+    ensures told { TellsText (input S.Source first.old first.new) result }
 {
     let text = match memory.read_text(Which::First, first) {
         Ok(text) => text,
@@ -52,8 +52,7 @@ fn read_script<S: Source>(memory: &mut CountedMemory, second: &mut S) -> Result<
     ensures fault { TellsFault (Status.ReadFault Which.Second)
         (S.faults second.old) (S.faults second.new) result }
     ensures wants { TellsFault Status.NoMemory memory.old memory.new result }
-    ensures told { OnOk result (RoseOnce (S.ends second.old) (S.ends second.new)) }
-    ensures once { IfErr result (StopEnds (input S.left S.ends second.old second.new)) }
+    ensures told { TellsText (input S.Source second.old second.new) result }
 {
     let text = match memory.read_text(Which::Second, second) {
         Ok(text) => text,
@@ -81,11 +80,11 @@ pub(crate) fn run_author<S: Source, T: Source, K: Sink>(
     ensures never { result ≢ Status.Usage }
     ensures untouched { result ≢ Status.Done → result ≢ Status.WriteFault → out.new ≡ out.old }
     ensures second { (second.new ≡ second.old)
-        ⊎ MayReadSecond (Command.Author lead_in length) (input S.left S.ends first.old first.new) }
+        ⊎ MayReadSecond (Command.Author lead_in length) (input S.Source first.old first.new) }
     ensures faults { TellsFaults (call S.faults T.faults K.faults (first.old, second.old, out.old)
         (first.new, second.new, out.new)) result }
-    ensures ended { TextsEnd IsScriptStop author_status (input S.left S.ends first.old first.new)
-        (input T.left T.ends second.old second.new) result }
+    ensures ended { TextsEnd IsScriptStop author_status (input S.Source first.old first.new)
+        (input T.Source second.old second.new) result }
     ensures wants { TellsWant memory.old memory.new result }
 {
     let sheet = match read_sheet(memory, first) {
@@ -115,11 +114,11 @@ pub(crate) fn run_press<S: Source, T: Source, K: Sink>(
     ensures never { result ≢ Status.Usage }
     ensures untouched { result ≢ Status.Done → result ≢ Status.WriteFault → out.new ≡ out.old }
     ensures second { (second.new ≡ second.old)
-        ⊎ MayReadSecond (Command.Press lead_in length) (input S.left S.ends first.old first.new) }
+        ⊎ MayReadSecond (Command.Press lead_in length) (input S.Source first.old first.new) }
     ensures faults { TellsFaults (call S.faults T.faults K.faults (first.old, second.old, out.old)
         (first.new, second.new, out.new)) result }
-    ensures ended { TextsEnd IsFileStop press_status (input S.left S.ends first.old first.new)
-        (input T.left T.ends second.old second.new) result }
+    ensures ended { TextsEnd IsFileStop press_status (input S.Source first.old first.new)
+        (input T.Source second.old second.new) result }
     ensures wants { TellsWant memory.old memory.new result }
 {
     let sheet = match read_sheet(memory, first) {

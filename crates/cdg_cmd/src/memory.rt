@@ -3,10 +3,11 @@
 // an author and a trial count themselves.
 ghost use Rattle.std.specs.Prelude.{◌≡◌, ◌≢◌, ◌≤◌, ◌<◌, ℕ, Ok, Err, IfErr, IfOk, IfSome, OnOk, length};
 ghost use Rattle.std.specs.Io.KnownBytes.{IsAtEnd};
-ghost use Rattle.cdg_io.specs.Causes.{HasCause, RoseOnce, TellsFault};
-ghost use Rattle.cdg_io.specs.Change.{change, input};
+ghost use Rattle.cdg_io.specs.Causes.{HasCause, TellsFault};
+ghost use Rattle.cdg_io.specs.Change.{change};
+ghost use Rattle.cdg_io.specs.Reads.{input};
 ghost use Rattle.cdg_cmd.specs.Authors.{IsInputStop, IsPutFor, TakesAtStop};
-ghost use Rattle.cdg_cmd.specs.Ends.{StopEnds};
+ghost use Rattle.cdg_cmd.specs.Ends.{TellsText};
 ghost use Rattle.cdg_cmd.specs.Presses.{IsPressedFor};
 ghost use Rattle.cdg_press.specs.Pressed.{press_of};
 ghost use Rattle.cdg_press.specs.Refusals.{IsShort};
@@ -17,7 +18,6 @@ ghost use Rattle.cue_sheet.specs.Grammar.{read_cue};
 ghost use Rattle.disc_time.specs.Counts.{most_lead_in, time_count};
 ghost use Rattle.picture_script.specs.ScriptGrammar.{read_script};
 ghost use Rattle.picture_script.specs.Stops.{StopsAt};
-ghost use Rattle.stream_stages.specs.Calls.{EndFirst};
 ghost use Rattle.subcode_author.specs.Authored.{disc_of};
 ghost use Rattle.text_lines.specs.Text.{most_text_bytes};
 ghost use Rattle.cdtext_packs.specs.declared.kinds.TextFault.TheVariants as fault;
@@ -111,9 +111,8 @@ impl CountedMemory {
     ) -> Result<Played, PlayStop>
         requires lead_in { lead_in ≤ most_lead_in }
         requires form { form ≢ Form.Cooked }
-        ensures plays { PlaysThenWrites (text_listing form lead_in) S.left S.faults K.held K.faults
+        ensures plays { PlaysThenWrites (text_listing form lead_in) S.Source K.Sink
             (source.old, out.old) (source.new, out.new) result }
-        ensures ended { EndFirst result (S.ends source.old) (S.ends source.new) }
         ensures counted { TellsFault (play.Text fault.NoMemory) self.old self.new result }
     {
         let listed = lister.text_list(self.alloc, lead_in, form, source, out);
@@ -135,8 +134,7 @@ impl CountedMemory {
         ensures fault { TellsFault (Status.ReadFault which)
             (S.faults source.old) (S.faults source.new) result }
         ensures wants { TellsFault Status.NoMemory self.old self.new result }
-        ensures told { OnOk result (RoseOnce (S.ends source.old) (S.ends source.new)) }
-        ensures once { IfErr result (StopEnds (input S.left S.ends source.old source.new)) }
+        ensures told { TellsText (input S.Source source.old source.new) result }
     {
         match read_whole(self.alloc, source, MOST_TEXT_BYTES) {
             Ok(text) => Ok(text),

@@ -2,7 +2,8 @@
 ghost use Rattle.std.specs.Prelude.{◌≡◌, ◌≢◌, ◌≤◌, ◌<◌, ◌⊎◌};
 ghost use Rattle.disc_time.specs.Counts.{most_lead_in, time_count};
 ghost use Rattle.cdg_cmd.specs.Answer.{Does};
-ghost use Rattle.cdg_io.specs.Change.{change, input};
+ghost use Rattle.cdg_io.specs.Change.{change};
+ghost use Rattle.cdg_io.specs.Reads.{input};
 ghost use Rattle.cdg_cmd.specs.Call.{call, one_input};
 ghost use Rattle.cdg_cmd.specs.Ends.{EndsAs, ReadingsEnd, ResumeEnds};
 ghost use Rattle.cdg_cmd.specs.Faults.{TellsFaults, TellsOne, TellsWant};
@@ -35,8 +36,8 @@ pub(crate) fn run_merge<S: Source, T: Source, K: Sink>(
     ensures never { result ≢ Status.Usage }
     ensures faults { TellsFaults (call S.faults T.faults K.faults (first.old, second.old, out.old)
         (first.new, second.new, out.new)) result }
-    ensures ended { ReadingsEnd (input S.left S.ends first.old first.new)
-        (input T.left T.ends second.old second.new) result }
+    ensures ended { ReadingsEnd (input S.Source first.old first.new)
+        (input T.Source second.old second.new) result }
 {
     merge_status(Merger::new().run(lead_in, first, second, out))
 }
@@ -54,7 +55,7 @@ pub(crate) fn run_thin<S: Source, K: Sink>(
     ensures faults { TellsOne (change S.faults source.old source.new)
         (change K.faults out.old out.new) result }
     ensures ended { result ≢ Status.NoMemory
-        → EndsAs thin_status TellsEndOf (input S.left S.ends source.old source.new) result }
+        → EndsAs thin_status TellsEndOf (input S.Source source.old source.new) result }
     ensures wants { TellsWant memory.old memory.new result }
 {
     match memory.thinner() {
@@ -79,7 +80,7 @@ pub(crate) fn run_save<S: Source, K: Sink>(
     ensures faults { TellsOne (change S.faults source.old source.new)
         (change K.faults out.old out.new) result }
     ensures ended { result ≢ Status.NoMemory
-        → EndsAs pump_status EndsAsSaved (input S.left S.ends source.old source.new) result }
+        → EndsAs pump_status EndsAsSaved (input S.Source source.old source.new) result }
     ensures wants { TellsWant memory.old memory.new result }
 {
     match memory.checkpointer() {
@@ -105,11 +106,11 @@ pub(crate) fn run_resume<S: Source, T: Source, K: Sink>(
     ensures never { result ≢ Status.Usage }
     ensures untouched { ¬ (MayWrite result) → out.new ≡ out.old }
     ensures second { (second.new ≡ second.old)
-        ⊎ MayReadSecond (Command.Resume at) (input S.left S.ends first.old first.new) }
+        ⊎ MayReadSecond (Command.Resume at) (input S.Source first.old first.new) }
     ensures faults { TellsFaults (call S.faults T.faults K.faults (first.old, second.old, out.old)
         (first.new, second.new, out.new)) result }
-    ensures ended { result ≢ Status.NoMemory → ResumeEnds at (input S.left S.ends first.old first.new)
-        (input T.left T.ends second.old second.new) result }
+    ensures ended { result ≢ Status.NoMemory → ResumeEnds at (input S.Source first.old first.new)
+        (input T.Source second.old second.new) result }
     ensures wants { TellsWant memory.old memory.new result }
 {
     match memory.checkpointer() {
@@ -132,7 +133,7 @@ pub(crate) fn run_scratch<S: Source, K: Sink>(
     ensures memory { result ≢ Status.NoMemory }
     ensures faults { TellsOne (change S.faults source.old source.new)
         (change K.faults out.old out.new) result }
-    ensures ended { EndsAs pump_status TellsEndOf (input S.left S.ends source.old source.new) result }
+    ensures ended { EndsAs pump_status TellsEndOf (input S.Source source.old source.new) result }
 {
     pump_status(scratch(lead_in, seed, source, out))
 }
@@ -145,7 +146,7 @@ pub(crate) fn run_planar<S: Source, K: Sink>(source: &mut S, out: &mut K) -> Sta
     ensures memory { result ≢ Status.NoMemory }
     ensures faults { TellsOne (change S.faults source.old source.new)
         (change K.faults out.old out.new) result }
-    ensures ended { EndsAs pump_status TellsEndOf (input S.left S.ends source.old source.new) result }
+    ensures ended { EndsAs pump_status TellsEndOf (input S.Source source.old source.new) result }
 {
     pump_status(pump(source, MOST_UNITS, &mut PlanarForms, out))
 }
@@ -158,7 +159,7 @@ pub(crate) fn run_raw<S: Source, K: Sink>(source: &mut S, out: &mut K) -> Status
     ensures memory { result ≢ Status.NoMemory }
     ensures faults { TellsOne (change S.faults source.old source.new)
         (change K.faults out.old out.new) result }
-    ensures ended { EndsAs pump_status TellsEndOf (input S.left S.ends source.old source.new) result }
+    ensures ended { EndsAs pump_status TellsEndOf (input S.Source source.old source.new) result }
 {
     pump_status(pump(source, MOST_UNITS, &mut BlockForms, out))
 }

@@ -2,7 +2,8 @@
 ghost use Rattle.std.specs.Prelude.{◌≢◌, ◌≤◌, ◌≡◌, ◌<◌};
 ghost use Rattle.disc_time.specs.Counts.{most_lead_in, time_count};
 ghost use Rattle.cdg_cmd.specs.Answer.{Does, LacksMemory};
-ghost use Rattle.cdg_io.specs.Change.{change, input};
+ghost use Rattle.cdg_io.specs.Change.{change};
+ghost use Rattle.cdg_io.specs.Reads.{input};
 ghost use Rattle.cdg_cmd.specs.Call.{one_input};
 ghost use Rattle.stream_stages.specs.Calls.{EndFirst, EndInTurn};
 ghost use Rattle.cdg_cmd.specs.Ends.{EndsAs, EndsAsListed};
@@ -30,7 +31,7 @@ pub(crate) fn run_convert<S: Source, K: Sink>(
     ensures memory { result ≢ Status.NoMemory }
     ensures faults { TellsOne (change S.faults source.old source.new)
         (change K.faults out.old out.new) result }
-    ensures ended { EndsAs play_status EndInTurn (input S.left S.ends source.old source.new) result }
+    ensures ended { EndsAs play_status EndInTurn (input S.Source source.old source.new) result }
 {
     play_status(Converter::new().convert(lead_in, form, source, out))
 }
@@ -49,7 +50,7 @@ pub(crate) fn run_check<S: Source, K: Sink>(
     ensures untouched { ¬ (MayWrite result) → out.new ≡ out.old }
     ensures faults { TellsOne (change S.faults source.old source.new)
         (change K.faults out.old out.new) result }
-    ensures ended { EndsAs play_status EndFirst (input S.left S.ends source.old source.new) result }
+    ensures ended { EndsAs play_status EndFirst (input S.Source source.old source.new) result }
 {
     play_status(Checker::new().check(lead_in, form, source, out))
 }
@@ -68,7 +69,7 @@ pub(crate) fn run_q<S: Source, K: Sink>(
     ensures memory { result ≢ Status.NoMemory }
     ensures faults { TellsOne (change S.faults source.old source.new)
         (change K.faults out.old out.new) result }
-    ensures ended { EndsAs play_status EndInTurn (input S.left S.ends source.old source.new) result }
+    ensures ended { EndsAs play_status EndInTurn (input S.Source source.old source.new) result }
 {
     play_status(list_frames(lead_in, form, source, out))
 }
@@ -92,7 +93,7 @@ pub(crate) fn run_text<S: Source, K: Sink>(
     ensures untouched { ¬ (MayWrite result) → out.new ≡ out.old }
     ensures faults { TellsOne (change S.faults source.old source.new)
         (change K.faults out.old out.new) result }
-    ensures ended { EndsAsListed (input S.left S.ends source.old source.new) result }
+    ensures ended { EndsAsListed (input S.Source source.old source.new) result }
     ensures wants { TellsWant memory.old memory.new result }
 {
     match memory.lister() {
@@ -122,7 +123,7 @@ pub(crate) fn run_screen<S: Source, K: Sink>(
     ensures faults { TellsOne (change S.faults source.old source.new)
         (change K.faults out.old out.new) result }
     ensures ended { result ≢ Status.NoMemory
-        → EndsAs play_status EndFirst (input S.left S.ends source.old source.new) result }
+        → EndsAs play_status EndFirst (input S.Source source.old source.new) result }
     ensures wants { TellsWant memory.old memory.new result }
 {
     match memory.viewer() {
@@ -150,7 +151,7 @@ pub(crate) fn run_state<S: Source, K: Sink>(
     ensures faults { TellsOne (change S.faults source.old source.new)
         (change K.faults out.old out.new) result }
     ensures ended { result ≢ Status.NoMemory
-        → EndsAs play_status EndFirst (input S.left S.ends source.old source.new) result }
+        → EndsAs play_status EndFirst (input S.Source source.old source.new) result }
     ensures wants { TellsWant memory.old memory.new result }
 {
     match memory.viewer() {

@@ -15,7 +15,8 @@ ghost use Rattle.round_trips.specs.FrameLines.{frame_lines};
 ghost use Rattle.cdg_cmd.specs.Words.{texts};
 ghost use Rattle.cdg_cmd.specs.Splitting.{split_of};
 ghost use Rattle.cdg_cmd.specs.Spelling.{IsAllowed, Spells};
-ghost use Rattle.cdg_io.specs.Change.{change, input};
+ghost use Rattle.cdg_io.specs.Change.{change};
+ghost use Rattle.cdg_io.specs.Reads.{input};
 ghost use Rattle.cdg_cmd.specs.Call.{call};
 ghost use Rattle.cdg_cmd.specs.Performs.{Performs};
 ghost use Rattle.cdg_cmd.specs.Answer.{GivesBack, GivesIfFound};
@@ -94,7 +95,7 @@ pub fn run<S: Source, T: Source, K: Sink, E: Sink>(
         → (first.new ≡ first.old) × (second.new ≡ second.old) × (out.new ≡ out.old)) }
     // What the command reads, writes and answers.
     ensures performs { (command : Command) → Spells command (texts words.now) → Performs command
-        (input S.left S.ends first.old first.new) (input T.left T.ends second.old second.new)
+        (input S.Source first.old first.new) (input T.Source second.old second.new)
         (change K.held out.old out.new) (first.old, second.old, out.old)
         (first.new, second.new, out.new) result }
     // A fault is told only where that count of faults rose, and no other count rises.
@@ -185,7 +186,7 @@ fn answer<S: Source, T: Source, K: Sink>(
     ensures untouched { result ≡ Status.Usage
         → (first.new ≡ first.old) × (second.new ≡ second.old) × (out.new ≡ out.old) }
     ensures performs { (command : Command) → Spells command (texts words.now) → Performs command
-        (input S.left S.ends first.old first.new) (input T.left T.ends second.old second.new)
+        (input S.Source first.old first.new) (input T.Source second.old second.new)
         (change K.held out.old out.new) (first.old, second.old, out.old)
         (first.new, second.new, out.new) result }
     ensures faults { TellsFaults (call S.faults T.faults K.faults (first.old, second.old, out.old)
@@ -208,7 +209,7 @@ fn perform<S: Source, T: Source, K: Sink>(
     requires { IsAllowed command }
     ensures never { result ≢ Status.Usage }
     ensures performs { Performs command
-        (input S.left S.ends first.old first.new) (input T.left T.ends second.old second.new)
+        (input S.Source first.old first.new) (input T.Source second.old second.new)
         (change K.held out.old out.new) (first.old, second.old, out.old)
         (first.new, second.new, out.new) result }
     ensures faults { TellsFaults (call S.faults T.faults K.faults (first.old, second.old, out.old)

@@ -4,7 +4,6 @@ use Rattle.std.specs.declared.option.Option.{Option}
 use Rattle.std.proofs.KnownBytes.{Consumes-kept, Consumes-trans}
 use Rattle.std.proofs.lemmas.List.{length-take}
 use Rattle.std.specs.Io.KnownBytes.{Consumes}
-use Rattle.cdg_io.specs.Causes.{Count}
 use Rattle.cdg_io.specs.Moves.{ConsumesBelow}
 use Rattle.cdg_io.specs.Whole.{ConsumesExactly, ReadsWithin, StopsAtFault}
 use Rattle.cdg_io.specs.declared.whole.ReadStop.{ReadStop}
@@ -45,18 +44,17 @@ long_is_no_write same = absurd (cc)
 
 -- whatever ended it, a call that read on took at most one byte more than it was to look for
 pub read_part : {S : Type 0} (stop : ReadStop) (left : S → Option (List ℕ)) (faults : S → ℕ)
-    (ends : S → Count)
-    (most : ℕ) {before after : S} → (stop ≡ NoMemory → ReadsWithin left ends most before after)
+    (most : ℕ) {before after : S} → (stop ≡ NoMemory → ReadsWithin left most before after)
     → (stop ≡ TextTooLong → ConsumesExactly (left before) (left after) (most + 1))
     → (stop ≡ Failed → StopsAtFault left faults most before after)
     → ConsumesBelow (left before) (left after) (most + 2)
-read_part NoMemory left faults ends most none long cut =
+read_part NoMemory left faults most none long cut =
     let read = none refl in
     (read.taken, omega (arith, read.within), read.took)
-read_part TextTooLong left faults ends most none long cut =
+read_part TextTooLong left faults most none long cut =
     let (taken, count, took) = long refl in
     (taken, omega (arith, count), took)
-read_part Failed left faults ends most {before} {after} none long cut =
+read_part Failed left faults most {before} {after} none long cut =
     let read = cut refl in (
       read.taken,
       omega (arith, read.within),

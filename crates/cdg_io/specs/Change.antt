@@ -24,10 +24,6 @@ pub record Input : Type 0 where
   pub left : Change Bytes
   pub ends : Change Count
 
--- what is seen of an input
-abbrev pub input : {S : Type 0} → (S → Bytes) → (S → Count) → S → S → Input
-input left ends before after = record { left = change left before after; ends = change ends before after }
-
 -- the bytes of an input and of an output, before and after a call
 pub record Passed : Type 0 where
   pub left : Change Bytes

@@ -1,9 +1,11 @@
 -- What the reading of a whole input took of it where it stopped, and what the writing of a whole piece put.
 use Rattle.std.specs.Prelude.{◌≡◌, ℕ, ◌≤◌, IfOk, List, OnErr, Result, length}
-use Rattle.cdg_io.specs.Causes.{Count, FillsRoom, HasCause, RoseOnce, TellsEnd}
+use Rattle.cdg_io.specs.Causes.{HasCause}
+use Rattle.cdg_io.specs.Counts.{TellsRead, counts}
 use Rattle.std.specs.Io.KnownBytes.{Consumes, IsAtEnd, Keeps}
 use Rattle.cdg_io.specs.Moves.{AppendsLess, ConsumesBelow}
 use Rattle.std.specs.declared.option.Option.{Option}
+use Rattle.cdg_io.specs.declared.ends.Source.{Ghosts as Source}
 
 -- known bytes begin with exactly n bytes, and lose them
 abbrev pub ConsumesExactly : Option (List ℕ) → Option (List ℕ) → ℕ → Type 0
@@ -31,28 +33,18 @@ pub record PutsUntilFault {K : Type 0} (held : K → Option (List ℕ)) (faults 
   pub quiet : faults last ≡ faults before
   pub nothing : Keeps (held last) (held after)
 
--- The input was read to its end, which came within so many bytes and was told once.
-pub record ReadsWithin {S : Type 0} (left : S → Option (List ℕ)) (ends : S → Count) (most : ℕ)
-    (before after : S) : Type 0 where
+-- The input was read to its end, which came within so many bytes.
+pub record ReadsWithin {S : Type 0} (left : S → Option (List ℕ)) (most : ℕ) (before after : S) : Type 0 where
   pub taken : List ℕ
   pub within : length taken ≤ most
   pub took : Consumes (left before) (left after) taken
   pub end : IsAtEnd (left after)
-  pub told : RoseOnce (ends before) (ends after)
-
--- what a source tells: the bytes left, and its counts of faults, of told ends and of full answers
-pub record Telling (S : Type 0) : Type 0 where
-  pub left : S → Option (List ℕ)
-  pub faults : S → ℕ
-  pub ends : S → Count
-  pub fills : S → Count
 
 -- A call reads up to so many bytes and answers how many there were: fewer are the last of the input, or a read failed.
-pub record ReadsUpTo {S E : Type 0} (tells : Telling S) (most : ℕ) (before after : S)
+pub record ReadsUpTo {S E : Type 0} (tells : Source S) (most : ℕ) (before after : S)
     (result : Result ℕ E) : Type 0 where
   pub within : IfOk result (λ n. n ≤ most)
   pub part : OnErr result (ConsumesBelow (tells.left before) (tells.left after) most)
   pub cut : OnErr result (StopsAtFault tells.left tells.faults most before after)
   pub cause : HasCause (tells.faults before) (tells.faults after) result
-  pub told : TellsEnd most (tells.ends before) (tells.ends after) result
-  pub room : FillsRoom most (tells.fills before) (tells.fills after) result
+  pub counts : TellsRead most most (counts tells.ends tells.fills before after) result

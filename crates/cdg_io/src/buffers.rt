@@ -5,10 +5,11 @@ ghost use Rattle.std.specs.Io.Buffered.{reader_inner, reader_remaining};
 ghost use Rattle.std.specs.Io.KnownBytes.{Consumes, ReadConsumes, WriteAppends, Appends, Keeps};
 ghost use Rattle.std.specs.declared.alloc.Global.{Global};
 ghost use Rattle.std.specs.declared.io.buffered.BufReader.{BufReader};
-ghost use Rattle.cdg_io.specs.Causes.{Counted, CountedReader, FillsRoom, HasCause, RoseOnce, TellsEnd, counted_after};
+ghost use Rattle.cdg_io.specs.Causes.{Counted, CountedReader, HasCause, counted_after, nothing_told};
 ghost use Rattle.cdg_io.specs.Change.{from_to};
+ghost use Rattle.cdg_io.specs.Counts.{GivesFull, TellsRead, tallied};
 ghost use Rattle.cdg_io.specs.Moves.{TakesSome};
-ghost use Rattle.cdg_io.specs.Pump.{RoseBy, Works};
+ghost use Rattle.cdg_io.specs.Pump.{Works};
 ghost use Rattle.cdg_io.specs.Waiting.{Buffered, bytes_with_waiting};
 
 use crate::ends::{CountedWriter, Outcome, Tally, read_counted};
@@ -29,17 +30,12 @@ pub struct BufferedSource<R: Read> {
 impl<R: Read> Model for BufferedSource<R> {
     ghost Value = { CountedReader (BufReader R Global) };
 
-    ghost view = { λ s. record {
-      inner = s.reader;
-      faults = s.faults;
-      ends = s.tally.ends;
-      fills = s.tally.fills;
-    } };
+    ghost view = { λ s. record { inner = s.reader; faults = s.faults; tally = s.tally } };
 }
 
 impl<R: Read> BufferedSource<R> {
     pub fn new(reader: BufReader<R>) -> Self
-        ensures { result ≡ record { inner = reader; faults = 0; ends = 0; fills = 0 } }
+        ensures { result ≡ record { inner = reader; faults = 0; tally = nothing_told } }
     {
         BufferedSource {
             reader,
@@ -54,9 +50,9 @@ impl<R: Read> Source for BufferedSource<R> {
 
     ghost faults = { λ s. s.faults };
 
-    ghost ends = { λ s. Some s.ends };
+    ghost ends = { λ s. Some s.tally.ends };
 
-    ghost fills = { λ s. Some s.fills };
+    ghost fills = { λ s. Some s.tally.fills };
 
     fn take(&mut self, buf: &mut [u8]) -> Result<usize, Failed>
         requires { 0 < length buf.old }
@@ -64,8 +60,7 @@ impl<R: Read> Source for BufferedSource<R> {
         ensures bytes { ReadConsumes (reader_remaining R.remaining self.old.inner)
             (reader_remaining R.remaining self.new.inner) result buf.new }
         ensures cause { HasCause self.old.faults self.new.faults result }
-        ensures end { TellsEnd 1 (Some self.old.ends) (Some self.new.ends) result }
-        ensures room { FillsRoom (length buf.old) (Some self.old.fills) (Some self.new.fills) result }
+        ensures counts { TellsRead 1 (length buf.old) (tallied self.old.tally self.new.tally) result }
         ensures counted { self.new.faults ≡ counted_after result self.old.faults }
     {
         read_counted(&mut self.reader, &mut self.faults, &mut self.tally, buf)
@@ -79,9 +74,8 @@ impl<R: Read> Source for BufferedSource<R> {
             × Consumes (reader_remaining R.remaining self.old.inner)
             (reader_remaining R.remaining self.new.inner) unit
             × (stage.new ≡ G.next stage.old unit) × (given.new ≡ G.gives stage.old unit) }
-        ensures full { result ≡ true → RoseOnce (Some self.old.fills) (Some self.new.fills) }
+        ensures counts { result ≡ true → GivesFull 1 (tallied self.old.tally self.new.tally) }
         ensures faults { self.new.faults ≡ self.old.faults }
-        ensures ends { Some self.new.ends ≡ Some self.old.ends }
         ensures none { result ≡ false
             → (self.new ≡ self.old) × (stage.new ≡ stage.old) × (given.new ≡ given.old) }
         ensures unread { reader_inner self.new.inner ≡ reader_inner self.old.inner }
@@ -92,7 +86,7 @@ impl<R: Read> Source for BufferedSource<R> {
         }
         stage.take_unit(&row[..G::SIZE], given);
         self.reader.consume(G::SIZE);
-        self.tally.add(G::SIZE, G::SIZE);
+        self.tally.add_full(1);
         true
     }
 
@@ -117,9 +111,8 @@ impl<R: Read> Source for BufferedSource<R> {
         ensures most { result.units ≤ most }
         ensures within { (start ≤ result.end) × (result.end ≤ length buffer.new) }
         ensures behind { drop result.end buffer.new ≡ drop result.end buffer.old }
-        ensures full { RoseBy result.units (Some self.old.fills) (Some self.new.fills) }
+        ensures counts { GivesFull result.units (tallied self.old.tally self.new.tally) }
         ensures faults { self.new.faults ≡ self.old.faults }
-        ensures ends { Some self.new.ends ≡ Some self.old.ends }
         ensures unread { reader_inner self.new.inner ≡ reader_inner self.old.inner }
     {
         let mut row = self.reader.buffer();

@@ -3,13 +3,14 @@ ghost use Rattle.std.specs.Prelude.{◌≡◌, ◌≢◌, ◌<◌, ◌≤◌, �
 ghost use Rattle.std.specs.Io.{ReadsAtMost};
 ghost use Rattle.std.specs.Io.KnownBytes.{Appends, Keeps, Consumes, ReadConsumes, WriteAppends};
 ghost use Rattle.std.specs.declared.option.Option.{Option};
-ghost use Rattle.cdg_io.specs.Causes.{CountedWrites, FillsRoom, HasCause, RoseOnce, TellsEnd, Counted, CountedReader, counted_after};
+ghost use Rattle.cdg_io.specs.Causes.{CountedWrites, HasCause, Counted, CountedReader, counted_after, nothing_told};
 ghost use Rattle.cdg_io.specs.declared.ends.Outcome.TheVariants.{Fault, Interrupted, Wrote};
 ghost use Rattle.std.specs.IoError.{error_kind};
 ghost use Rattle.std.specs.declared.io.Error.{Error};
 ghost use Rattle.cdg_io.specs.Change.{from_to, moved};
+ghost use Rattle.cdg_io.specs.Counts.{GivesFull, TellsRead, counts, tallied};
 ghost use Rattle.cdg_io.specs.Moves.{TakesSome};
-ghost use Rattle.cdg_io.specs.Pump.{RoseBy, Works};
+ghost use Rattle.cdg_io.specs.Pump.{Works};
 
 use crate::{PassedUnits, Piece, UnitStage};
 use std::io;
@@ -47,8 +48,7 @@ pub trait Source {
         ensures bound { ReadsAtMost result buf.new }
         ensures bytes { ReadConsumes (left self.old) (left self.new) result buf.new }
         ensures cause { HasCause (faults self.old) (faults self.new) result }
-        ensures end { TellsEnd 1 (ends self.old) (ends self.new) result }
-        ensures room { FillsRoom (length buf.old) (fills self.old) (fills self.new) result };
+        ensures counts { TellsRead 1 (length buf.old) (counts ends fills self.old self.new) result };
 
     /// Feeds a whole unit to a stage from where it is at hand, which is one read that gives all that it had room for.
     /// What the stage gives is left in `given`. Where no unit is at hand, which says nothing of the end, it answers
@@ -58,9 +58,8 @@ pub trait Source {
         ensures fed { result ≡ true → (unit : List ℕ) × (length unit ≡ G.SIZE)
             × Consumes (left self.old) (left self.new) unit
             × (stage.new ≡ G.next stage.old unit) × (given.new ≡ G.gives stage.old unit) }
-        ensures full { result ≡ true → RoseOnce (fills self.old) (fills self.new) }
+        ensures counts { result ≡ true → GivesFull 1 (counts ends fills self.old self.new) }
         ensures faults { faults self.new ≡ faults self.old }
-        ensures ends { ends self.new ≡ ends self.old }
         ensures none { result ≡ false
             → (self.new ≡ self.old) × (stage.new ≡ stage.old) × (given.new ≡ given.old) }
     {
@@ -89,9 +88,8 @@ pub trait Source {
         ensures most { result.units ≤ most }
         ensures within { (start ≤ result.end) × (result.end ≤ length buffer.new) }
         ensures behind { drop result.end buffer.new ≡ drop result.end buffer.old }
-        ensures full { RoseBy result.units (fills self.old) (fills self.new) }
+        ensures counts { GivesFull result.units (counts ends fills self.old self.new) }
         ensures faults { faults self.new ≡ faults self.old }
-        ensures ends { ends self.new ≡ ends self.old }
     {
         PassedUnits {
             units: 0,
@@ -142,9 +140,8 @@ pub trait Sink {
             (moved S.left held (source.old, stage.old, self.old) (source.new, stage.new, self.new)) result
             taken }
         ensures most { result ≤ most }
-        ensures full { RoseBy result (S.fills source.old) (S.fills source.new) }
+        ensures counts { GivesFull result (counts S.ends S.fills source.old source.new) }
         ensures no_read_fault { S.faults source.new ≡ S.faults source.old }
-        ensures ends { S.ends source.new ≡ S.ends source.old }
         ensures no_write_fault { faults self.new ≡ faults self.old }
     {
         0
@@ -153,15 +150,14 @@ pub trait Sink {
 
 /// How often a source told its end, and how often it gave all that it was offered room for.
 #[derive(Clone, Copy)]
-pub(crate) struct Tally {
+pub struct Tally {
     pub ends: u64,
     pub fills: u64,
 }
 
 impl Tally {
     pub fn new() -> Tally
-        ensures ends { result.ends ≡ 0 }
-        ensures fills { result.fills ≡ 0 }
+        ensures { result ≡ nothing_told }
     {
         Tally { ends: 0, fills: 0 }
     }
@@ -169,10 +165,7 @@ impl Tally {
     /// Counts an answer of so many bytes, of the most that there was room for.
     pub fn add(&mut self, count: usize, room: usize)
         requires { 0 < room }
-        ensures ended { count < 1 → RoseOnce (Some self.old.ends) (Some self.new.ends) }
-        ensures goes_on { 1 ≤ count → self.new.ends ≡ self.old.ends }
-        ensures full { room ≤ count → RoseOnce (Some self.old.fills) (Some self.new.fills) }
-        ensures short { count < room → self.new.fills ≡ self.old.fills }
+        ensures { TellsRead {E = Failed} 1 room (tallied self.old self.new) (Ok count) }
     {
         if count == 0 {
             self.ends = self.ends.saturating_add(1);
@@ -184,8 +177,7 @@ impl Tally {
     /// Counts so many answers that gave all that there was room for.
     #[inline]
     pub fn add_full(&mut self, answers: u32)
-        ensures full { RoseBy answers (Some self.old.fills) (Some self.new.fills) }
-        ensures goes_on { self.new.ends ≡ self.old.ends }
+        ensures { GivesFull answers (tallied self.old self.new) }
     {
         self.fills = self.fills.saturating_add(u64::from(answers));
     }
@@ -204,8 +196,7 @@ pub(crate) fn read_counted<R: Read>(
     ensures bytes { ReadConsumes (R.remaining reader.old) (R.remaining reader.new) result buf.new }
     ensures cause { HasCause faults.old faults.new result }
     ensures counted { faults.new ≡ counted_after result faults.old }
-    ensures end { TellsEnd 1 (Some tally.old.ends) (Some tally.new.ends) result }
-    ensures room { FillsRoom (length buf.old) (Some tally.old.fills) (Some tally.new.fills) result }
+    ensures counts { TellsRead 1 (length buf.old) (tallied tally.old tally.new) result }
 {
     match reader.read(buf) {
         Ok(count) => {
@@ -230,17 +221,12 @@ pub struct ReadSource<R: Read> {
 impl<R: Read> Model for ReadSource<R> {
     ghost Value = { CountedReader R };
 
-    ghost view = { λ s. record {
-      inner = s.reader;
-      faults = s.faults;
-      ends = s.tally.ends;
-      fills = s.tally.fills;
-    } };
+    ghost view = { λ s. record { inner = s.reader; faults = s.faults; tally = s.tally } };
 }
 
 impl<R: Read> ReadSource<R> {
     pub fn new(reader: R) -> Self
-        ensures { result ≡ record { inner = reader; faults = 0; ends = 0; fills = 0 } }
+        ensures { result ≡ record { inner = reader; faults = 0; tally = nothing_told } }
     {
         ReadSource {
             reader,
@@ -255,9 +241,9 @@ impl<R: Read> Source for ReadSource<R> {
 
     ghost faults = { λ s. s.faults };
 
-    ghost ends = { λ s. Some s.ends };
+    ghost ends = { λ s. Some s.tally.ends };
 
-    ghost fills = { λ s. Some s.fills };
+    ghost fills = { λ s. Some s.tally.fills };
 
     fn take(&mut self, buf: &mut [u8]) -> Result<usize, Failed>
         requires { 0 < length buf.old }
@@ -265,8 +251,7 @@ impl<R: Read> Source for ReadSource<R> {
         ensures bytes { ReadConsumes (R.remaining self.old.inner) (R.remaining self.new.inner) result
             buf.new }
         ensures cause { HasCause self.old.faults self.new.faults result }
-        ensures end { TellsEnd 1 (Some self.old.ends) (Some self.new.ends) result }
-        ensures room { FillsRoom (length buf.old) (Some self.old.fills) (Some self.new.fills) result }
+        ensures counts { TellsRead 1 (length buf.old) (tallied self.old.tally self.new.tally) result }
         ensures counted { self.new.faults ≡ counted_after result self.old.faults }
     {
         read_counted(&mut self.reader, &mut self.faults, &mut self.tally, buf)

@@ -5,7 +5,7 @@ ghost use Rattle.cdg_instructions.specs.Instruction.{InRange};
 ghost use Rattle.cdg_io.specs.Causes.{TellsFault};
 ghost use Rattle.cdg_io.specs.Change.{change, passed};
 ghost use Rattle.cdg_io.specs.Pump.{units_of};
-ghost use Rattle.cdg_io.specs.Reads.{ReadsUnits, telling};
+ghost use Rattle.cdg_io.specs.Reads.{ReadsUnits};
 ghost use Rattle.cdg_io.specs.Run.{run_state, run_gives};
 ghost use Rattle.cdg_screen.specs.Standing.{blank, standing_after};
 ghost use Rattle.raw_subcode.specs.Sizes.{symbols_a_slot};
@@ -73,7 +73,7 @@ impl Thinner {
         // thin form.
         ensures whole { IfSome (S.left source.old)
             (λ all. ThinsAll all (change K.held out.old out.new) result) }
-        ensures reads { ReadsUnits (telling S.left S.faults S.ends S.fills) symbols_a_slot most_file_packs
+        ensures reads { ReadsUnits S.Source symbols_a_slot most_file_packs
             source.old source.new result }
         ensures write_fault { TellsFault PumpStop.WriteFault
             (K.faults out.old) (K.faults out.new) result }

@@ -6,7 +6,7 @@ ghost use Rattle.raw_subcode.specs.Sizes.{block_bytes, most_units};
 ghost use Rattle.cdg_io.specs.Causes.{TellsFault};
 ghost use Rattle.cdg_io.specs.Change.{passed};
 ghost use Rattle.cdg_io.specs.Pump.{units_of};
-ghost use Rattle.cdg_io.specs.Reads.{ReadsUnits, telling};
+ghost use Rattle.cdg_io.specs.Reads.{ReadsUnits};
 ghost use Rattle.cdg_io.specs.Run.{run_state, run_gives};
 ghost use Rattle.cdg_io.specs.Streams.{Streams};
 ghost use Rattle.raw_subcode.specs.Channels.{symbols_of, program_symbols};
@@ -134,7 +134,7 @@ pub fn scratch<S: Source, K: Sink>(
     requires { lead_in ≤ most_lead_in }
     ensures scratches { (taken : List ℕ) × Streams (scratching lead_in seed)
         (passed S.left K.held (source.old, out.old) (source.new, out.new)) result taken }
-    ensures reads { ReadsUnits (telling S.left S.faults S.ends S.fills) block_bytes most_units source.old
+    ensures reads { ReadsUnits S.Source block_bytes most_units source.old
         source.new result }
     ensures write_fault { TellsFault PumpStop.WriteFault (K.faults out.old) (K.faults out.new) result }
 {

@@ -9,9 +9,10 @@ use Rattle.std.specs.Vec.Iter.{into_iter_items}
 use Rattle.std.specs.declared.io.Error.{Error}
 use Rattle.std.specs.declared.io.ErrorKind.TheVariants.{InvalidData}
 use Rattle.std.specs.declared.vec.IntoIter.{IntoIter}
-use Rattle.cdg_io.specs.Causes.{Count}
-use Rattle.cdg_io.specs.Change.{Bytes, Change, change, from_to, input}
+use Rattle.cdg_io.specs.Change.{Bytes, Change, change, from_to}
+use Rattle.cdg_io.specs.Reads.{input}
 use Rattle.cdg_io.specs.Waiting.{Buffered, bytes_with_waiting}
+use Rattle.cdg_io.specs.declared.ends.Source.{Ghosts as Source}
 use Rattle.cdg_cmd.specs.Call.{call}
 use Rattle.cdg_cmd.specs.Faults.{TellsFaults}
 use Rattle.cdg_cmd.specs.Performs.{Performs}
@@ -33,13 +34,14 @@ words_of_command line = take (split_of line).words line
 abbrev pub input_names : List (String Global) → List (String Global)
 input_names line = drop (length line - (split_of line).names) line
 
--- what an input tells of its bytes: nothing, since it is of the machine
-abbrev pub input_left : InputSource → Bytes
-input_left source = reader_remaining (λ _. None) source.inner
-
--- how often its end was told
-abbrev pub input_ends : InputSource → Count
-input_ends source = Some source.ends
+-- What an input tells: of its bytes nothing, since it is of the machine.
+abbrev pub input_source : Source InputSource
+input_source = record {
+  left = λ source. reader_remaining (λ _. None) source.inner;
+  faults = λ source. source.faults;
+  ends = λ source. Some source.tally.ends;
+  fills = λ source. Some source.tally.fills;
+}
 
 -- What waited in an output was written, and nothing waits any more; or some of it waits, and that is told.
 pub record IsSettled {W : Type 0} (contents : W → Bytes) (out : Change (Buffered W))
@@ -56,8 +58,8 @@ pub record RunsOver {W : Type 0} (contents : W → Bytes) (words : List (List �
       × (answer ≡ Usage → (first.after ≡ first.before) × (second.after ≡ second.before)
       × (out.after ≡ out.before))
   pub performs : (command : Command) → Spells command words → Performs command
-      (input input_left input_ends first.before first.after)
-      (input input_left input_ends second.before second.after)
+      (input input_source first.before first.after)
+      (input input_source second.before second.after)
       (change (bytes_with_waiting contents) out.before out.after)
       (first.before, second.before, out.before) (first.after, second.after, out.after) answer
   pub faults : TellsFaults (call (λ s. s.faults) (λ s. s.faults) (λ s. s.faults)

@@ -5,7 +5,8 @@ ghost use Rattle.std.specs.Io.KnownBytes.{ReadConsumes};
 ghost use Rattle.std.specs.declared.alloc.Global.{Global};
 ghost use Rattle.std.specs.declared.fs.File.{File};
 ghost use Rattle.std.specs.declared.io.Stdin.{Stdin};
-ghost use Rattle.cdg_io.specs.Change.{change, input};
+ghost use Rattle.cdg_io.specs.Change.{change};
+ghost use Rattle.cdg_io.specs.Reads.{input};
 ghost use Rattle.cdg_cmd.specs.Call.{call};
 ghost use Rattle.cdg_cmd.specs.Faults.{TellsFaults};
 ghost use Rattle.cdg_cmd.specs.Performs.{Performs};
@@ -172,8 +173,8 @@ pub(crate) fn run_over<S: Source, T: Source, K: Sink>(
         × (result ≡ Status.Usage → (first.new.input ≡ first.old.input)
         × (second.new.input ≡ second.old.input) × (out.new ≡ out.old)) }
     ensures performs { (command : Command) → Spells command (texts words.now) → Performs command
-        (input S.left S.ends first.old.input first.new.input)
-        (input T.left T.ends second.old.input second.new.input)
+        (input S.Source first.old.input first.new.input)
+        (input T.Source second.old.input second.new.input)
         (change K.held out.old out.new) (first.old.input, second.old.input, out.old)
         (first.new.input, second.new.input, out.new) result }
     ensures faults { TellsFaults (call S.faults T.faults K.faults

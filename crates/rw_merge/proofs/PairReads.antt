@@ -8,8 +8,8 @@ use Rattle.std.proofs.lemmas.List.{length-take, take_all}
 use Rattle.cdg_io.specs.Causes.{Count, counted_up}
 use Rattle.cdg_io.specs.Change.{Change, change, from_to}
 use Rattle.cdg_io.specs.Pump.{RoseBy}
-use Rattle.cdg_io.specs.Reads.{telling}
 use Rattle.cdg_io.specs.Whole.{ReadsUpTo}
+use Rattle.cdg_io.specs.declared.ends.Source.{Ghosts as Source}
 use Rattle.rw_merge.specs.Merging.{ReadInput, ToldUnlessAhead, read_input}
 use Rattle.rw_merge.specs.Steps.{AsksFor, IsHalfRead, ReadsNoMore, ReadsPair}
 use Rattle.rw_merge.specs.declared.merge.MergeStop.{MergeStop}
@@ -18,31 +18,32 @@ use Rattle.rw_merge.specs.declared.merge.MergeStop.TheVariants.{FirstFault, Seco
 -- an input that is not read
 abbrev pub unread : Option (List ℕ) → Count → Count → ReadInput
 unread left ends fills =
-    record { left = from_to left left; ends = from_to ends ends; fills = from_to fills fills }
+    record {
+      left = from_to left left;
+      counts = record { ends = from_to ends ends; fills = from_to fills fills };
+    }
 
 -- what `fill` says of a source, which was not read before
-pub asks_as : {S E : Type 0} (left : S → Option (List ℕ)) (ends fills : S → Count) (faults : S → ℕ)
-    (before same after : S) (result : Result ℕ E) (size : ℕ) (old room : List ℕ) → same ≡ before
-    → length old ≡ size → length room ≡ size
-    → IfOk result (λ n. Consumes (left same) (left after) (take n room))
-    → IfOk result (λ n. n < length room → IsAtEnd (left after))
-    → ReadsUpTo (telling left faults ends fills) (length old) same after result
-    → AsksFor size (read_input left ends fills before after) (change faults before after) result room
-asks_as left ends fills faults before same after result size old room is old_is room_is took end reads =
-    let read : ReadsUpTo (telling left faults ends fills) size same after result =
-    subst (λ k. ReadsUpTo (telling left faults ends fills) k same after result) old_is reads in
-    let asks : AsksFor size (read_input left ends fills same after) (change faults same after) result room =
+pub asks_as : {S E : Type 0} (source : Source S) (before same after : S) (result : Result ℕ E) (size : ℕ)
+    (old room : List ℕ) → same ≡ before → length old ≡ size → length room ≡ size
+    → IfOk result (λ n. Consumes (source.left same) (source.left after) (take n room))
+    → IfOk result (λ n. n < length room → IsAtEnd (source.left after))
+    → ReadsUpTo source (length old) same after result
+    → AsksFor size (read_input source before after) (change source.faults before after) result room
+asks_as source before same after result size old room is old_is room_is took end reads =
+    let read : ReadsUpTo source size same after result =
+    subst (λ k. ReadsUpTo source k same after result) old_is reads in
+    let asks : AsksFor size (read_input source same after) (change source.faults same after) result room =
     record {
       size_is = room_is;
       within = read.within;
       took = took;
-      end = subst (λ k. IfOk result (λ n. n < k → IsAtEnd (left after))) room_is end;
+      end = subst (λ k. IfOk result (λ n. n < k → IsAtEnd (source.left after))) room_is end;
       part = read.part;
       cause = read.cause;
-      told = read.told;
-      filled = read.room;
+      counts = read.counts;
     } in
-    subst (λ s. AsksFor size (read_input left ends fills s after) (change faults s after) result room) is asks
+    subst (λ s. AsksFor size (read_input source s after) (change source.faults s after) result room) is asks
 
 none_taken : (n : ℕ) (room : List ℕ) → n ≡ 0 → take n room ≡ []
 none_taken n room none = ap (λ k. take k room) none
@@ -71,23 +72,23 @@ module _ {E : Type 0} {size n : ℕ} {input : ReadInput} {faults : Change ℕ} {
   size_taken = omega (arith, length-take n room, a.within, a.size_is)
 
   filled : (k : ℕ) → (n < size → k ≡ 0) → (size ≤ n → k ≡ 1)
-      → RoseBy k input.fills.before input.fills.after
+      → RoseBy k input.counts.fills.before input.counts.fills.after
   filled k none one =
       elim (cases_lt n size) [
-        | inl short ↦ none_filled k _ _ (none short) (a.filled.short short)
-        | inr full ↦ one_filled k _ _ (one full) (a.filled.full full)
+        | inl short ↦ none_filled k _ _ (none short) (a.counts.room.short short)
+        | inr full ↦ one_filled k _ _ (one full) (a.counts.room.full full)
       ]
 
   -- nothing was taken at the end
-  unless_ahead_none : n ≡ 0 → 0 < size → (m : ℕ) → ToldUnlessAhead (length (take n room)) m input.ends
+  unless_ahead_none : n ≡ 0 → 0 < size → (m : ℕ) → ToldUnlessAhead (length (take n room)) m input.counts.ends
   unless_ahead_none none some m = (
-    λ most. a.told.ended (omega (arith, none, some)),
+    λ most. a.counts.end.ended (omega (arith, none, some)),
     λ less. absurd (omega (arith, less, none, size_taken)),
   )
 
 module _ {E : Type 0} {n : ℕ} {input : ReadInput} {faults : Change ℕ} {room : List ℕ}
     (a : AsksFor {E = E} 96 input faults (Ok n) room) where
-  block_filled : RoseBy (length (take n room) / 96) input.fills.before input.fills.after
+  block_filled : RoseBy (length (take n room) / 96) input.counts.fills.before input.counts.fills.after
   block_filled =
       filled a _ (λ short. omega (arith, short, size_taken a))
       (λ full. omega (arith, full, size_taken a, a.within))
@@ -97,14 +98,15 @@ module _ {E : Type 0} {n : ℕ} {input : ReadInput} {faults : Change ℕ} {room 
   half_read (inr whole) = inl (omega (arith, whole, a.within, size_taken a))
 
   -- less than a block was taken of the other input
-  unless_ahead : IsWholeOrNone n → (m : ℕ) → m < 96 → ToldUnlessAhead (length (take n room)) m input.ends
+  unless_ahead : IsWholeOrNone n → (m : ℕ) → m < 96
+      → ToldUnlessAhead (length (take n room)) m input.counts.ends
   unless_ahead (inl none) m short = unless_ahead_none a none (omega arith) m
   unless_ahead (inr whole) m short =
-      (λ most. absurd (omega (arith, most, whole, short, size_taken a)), λ less. a.told.goes_on whole)
+      (λ most. absurd (omega (arith, most, whole, short, size_taken a)), λ less. a.counts.end.goes_on whole)
 
 module _ {E : Type 0} {n : ℕ} {input : ReadInput} {faults : Change ℕ} {room : List ℕ}
     (a : AsksFor {E = E} 1 input faults (Ok n) room) where
-  byte_filled : RoseBy (length (take n room)) input.fills.before input.fills.after
+  byte_filled : RoseBy (length (take n room)) input.counts.fills.before input.counts.fills.after
   byte_filled =
       filled a _ (λ short. omega (arith, short, size_taken a))
       (λ full. omega (arith, full, size_taken a, a.within))
@@ -125,8 +127,8 @@ module _ {E : Type 0} (block : ℕ) {first : ReadInput} {f : Change ℕ} {one : 
         took = took;
         other_took = Consumes-nil left;
         said = ((below, refl), stops_no_pair FirstFault _);
-        ended = (a.told.failed, refl);
-        filled = none_filled _ _ _ (omega (arith, below)) a.filled.failed;
+        ended = (a.counts.end.failed, refl);
+        filled = none_filled _ _ _ (omega (arith, below)) a.counts.room.failed;
         other_filled = none_filled _ _ _ (omega arith) refl;
       }
 
@@ -141,7 +143,7 @@ module _ {E : Type 0} (block : ℕ) {first : ReadInput} {f : Change ℕ} {one : 
       (refl, omega (arith, some, size_taken a), omega (arith, part, size_taken a), refl, a.end part),
       stops_no_pair (Torn block) _,
     );
-    ended = (a.told.ended part, refl);
+    ended = (a.counts.end.ended part, refl);
     filled = block_filled a;
     other_filled = none_filled _ _ _ (omega arith) refl;
   }
@@ -158,9 +160,9 @@ module _ {E : Type 0} (block : ℕ) {first second : ReadInput} {f s : Change ℕ
         took = a.took;
         other_took = took;
         said = ((half_read a half, below), stops_no_pair SecondFault _);
-        ended = (unless_ahead a half (length taken) below, b.told.failed);
+        ended = (unless_ahead a half (length taken) below, b.counts.end.failed);
         filled = block_filled a;
-        other_filled = none_filled _ _ _ (omega (arith, below)) b.filled.failed;
+        other_filled = none_filled _ _ _ (omega (arith, below)) b.counts.room.failed;
       }
 
   pub second_torn : (m : ℕ) → IsWholeOrNone n → AsksFor {E = E} 96 second s (Ok m) other → 0 < m → m < 96
@@ -180,8 +182,10 @@ module _ {E : Type 0} (block : ℕ) {first second : ReadInput} {f s : Change ℕ
       ),
       stops_no_pair (SecondTorn block) _,
     );
-    ended =
-        (unless_ahead a half (length (take m other)) (omega (arith, part, size_taken b)), b.told.ended part);
+    ended = (
+      unless_ahead a half (length (take m other)) (omega (arith, part, size_taken b)),
+      b.counts.end.ended part,
+    );
     filled = block_filled a;
     other_filled = block_filled b;
   }
@@ -207,8 +211,8 @@ module _ {E : Type 0} (block : ℕ) {first second : ReadInput} {f s : Change ℕ
     );
     ended = inl (
       omega (arith, none, whole, size_taken a, size_taken b),
-      a.told.ended (omega (arith, none)),
-      b.told.goes_on whole,
+      a.counts.end.ended (omega (arith, none)),
+      b.counts.end.goes_on whole,
     );
     filled = block_filled a;
     other_filled = block_filled b;
@@ -231,8 +235,8 @@ module _ {E : Type 0} (block : ℕ) {first second : ReadInput} {f s : Change ℕ
     );
     ended = inr (
       omega (arith, none, whole, size_taken a, size_taken b),
-      a.told.goes_on whole,
-      b.told.ended (omega (arith, none)),
+      a.counts.end.goes_on whole,
+      b.counts.end.ended (omega (arith, none)),
     );
     filled = block_filled a;
     other_filled = block_filled b;
@@ -256,7 +260,7 @@ module _ {E : Type 0} (block : ℕ) {first second : ReadInput} {f s : Change ℕ
       ),
       λ e. absurd (cc),
     );
-    ended = (a.told.ended (omega (arith, none)), b.told.ended (omega (arith, none')));
+    ended = (a.counts.end.ended (omega (arith, none)), b.counts.end.ended (omega (arith, none')));
     filled = block_filled a;
     other_filled = block_filled b;
   }
@@ -275,7 +279,7 @@ module _ {E : Type 0} (block : ℕ) {first second : ReadInput} {f s : Change ℕ
         take_all m other (omega (arith, whole', b.size_is)),
       ),
     );
-    ended = (a.told.goes_on whole, b.told.goes_on whole');
+    ended = (a.counts.end.goes_on whole, b.counts.end.goes_on whole');
     filled = block_filled a;
     other_filled = block_filled b;
   }
@@ -297,8 +301,8 @@ module _ {E : Type 0} {first : ReadInput} {f : Change ℕ} {byte : List ℕ} whe
         took = took;
         other_took = Consumes-nil left;
         said = (nothing taken below, refl);
-        ended = (a.told.failed, refl);
-        filled = none_filled _ _ _ (omega (arith, below)) a.filled.failed;
+        ended = (a.counts.end.failed, refl);
+        filled = none_filled _ _ _ (omega (arith, below)) a.counts.room.failed;
         other_filled = none_filled _ _ _ refl refl;
       }
 
@@ -313,7 +317,7 @@ module _ {E : Type 0} {first : ReadInput} {f : Change ℕ} {byte : List ℕ} whe
     ended = (
       (
         λ none. absurd (omega (arith, none, some, size_taken a)),
-        λ less. a.told.goes_on (omega (arith, some)),
+        λ less. a.counts.end.goes_on (omega (arith, some)),
       ),
       refl,
     );
@@ -336,7 +340,7 @@ module _ {E : Type 0} {first second : ReadInput} {f s : Change ℕ} {byte rest :
       a.end (omega (arith, none)),
       b.end (omega (arith, none')),
     );
-    ended = (a.told.ended (omega (arith, none)), b.told.ended (omega (arith, none')));
+    ended = (a.counts.end.ended (omega (arith, none)), b.counts.end.ended (omega (arith, none')));
     filled = byte_filled a;
     other_filled = byte_filled b;
   }
@@ -349,8 +353,10 @@ module _ {E : Type 0} {first second : ReadInput} {f s : Change ℕ} {byte rest :
     took = a.took;
     other_took = b.took;
     said = inr (none_taken n byte none, omega (arith, some, b.within, size_taken b));
-    ended =
-        (unless_ahead_none a none (omega arith) (length (take m rest)), b.told.goes_on (omega (arith, some)));
+    ended = (
+      unless_ahead_none a none (omega arith) (length (take m rest)),
+      b.counts.end.goes_on (omega (arith, some)),
+    );
     filled = byte_filled a;
     other_filled = byte_filled b;
   }
@@ -365,7 +371,7 @@ module _ {E : Type 0} {first second : ReadInput} {f s : Change ℕ} {byte rest :
         took = a.took;
         other_took = took;
         said = (none_taken n byte none, nothing taken below);
-        ended = (unless_ahead_none a none (omega arith) (length taken), b.told.failed);
+        ended = (unless_ahead_none a none (omega arith) (length taken), b.counts.end.failed);
         filled = byte_filled a;
-        other_filled = none_filled _ _ _ (omega (arith, below)) b.filled.failed;
+        other_filled = none_filled _ _ _ (omega (arith, below)) b.counts.room.failed;
       }

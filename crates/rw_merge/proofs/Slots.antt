@@ -40,6 +40,10 @@ slots_taken block size =
     ∷ slot_is block (drop 24 (drop 24 (drop 24 block))) 3 size (omega arith) three i
     ∷ [])
 
+pub length-slots_in : (block : List ℕ) → length (slots_in block 0 4) ≡ 4
+unfolding slots_in
+length-slots_in block = refl
+
 -- whole parts, and then others
 parts-append : (size n m : ℕ) (xs ys : List ℕ) → length xs ≡ n * size
     → parts (n + m) size (xs ++ ys) ≡ parts n size xs ++ parts m size ys

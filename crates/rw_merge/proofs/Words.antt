@@ -13,7 +13,7 @@ use Rattle.raw_subcode.specs.Channels.{program_symbols}
 use Rattle.raw_subcode.specs.declared.form.Form.TheVariants.{Raw}
 use Rattle.rw_interleave.specs.Gathering.{gathered, gather_next, gather_gives}
 use Rattle.rw_interleave.specs.Interleave.{word_of, whole_packs}
-use Rattle.rw_interleave.specs.Windows.{slots_in}
+use Rattle.rw_interleave.specs.Windows.{slots_after_block, words_from_block}
 use Rattle.rw_interleave.proofs.Gathers.{gathers}
 use Rattle.rw_interleave.specs.Stream.{bad_count}
 use Rattle.rw_interleave.specs.Texts.{cdg_bytes, entry_bytes}
@@ -145,16 +145,13 @@ length-words w v (s ∷ ss) (t ∷ ts) same count =
     ]
 
 -- a window that has taken a block
-pub window_is : (w v new : List (List ℕ)) (block : List ℕ) → length block ≡ 96 → w ≡ v
-    → new ≡ run_state gather_next w (slots_in block 0 4)
-    → new ≡ window_after v (leading_slots 4 block)
-window_is w v new block size same is = is ∙ ap₂ (run_state gather_next) same (slots_taken block size)
+pub window_is : (w new : List (List ℕ)) (block : List ℕ) → length block ≡ 96 → new ≡ slots_after_block w block
+    → new ≡ window_after w (leading_slots 4 block)
+window_is w new block size is = is ∙ ap (run_state gather_next w) (slots_taken block size)
 
-pub words_is : (w v words : List (List ℕ)) (block : List ℕ) → length block ≡ 96 → w ≡ v
-    → words ≡ run_gives gather_next gather_gives w (slots_in block 0 4)
-    → words ≡ words_after v (leading_slots 4 block)
-words_is w v words block size same is =
-    is ∙ ap₂ (run_gives gather_next gather_gives) same (slots_taken block size)
+pub words_are_after : (w : List (List ℕ)) (block : List ℕ) → length block ≡ 96
+    → words_from_block w block ≡ words_after w (leading_slots 4 block)
+words_are_after w block size = ap (run_gives gather_next gather_gives w) (slots_taken block size)
 
 -- ---- Word by word.
 

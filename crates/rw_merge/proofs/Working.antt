@@ -14,6 +14,7 @@ use Rattle.rw_interleave.specs.Texts.{cdg_bytes}
 use Rattle.cdg_io.specs.Change.{from_to}
 use Rattle.raw_subcode.specs.Sizes.{most_units}
 use Rattle.rw_merge.specs.Merging.{GivesMergedText, IsAnswer, IsMergedText, Merges, TakesInTurn}
+use Rattle.rw_interleave.specs.Windows.{slots_after_block, words_from_block}
 use Rattle.rw_merge.specs.Windows.{Windows}
 use Rattle.rw_merge.specs.Steps.{AreAgreements, IsEndRead, IsHalfRead, IsPairRead, leading_slots, taken_of, window_after, words_after}
 use Rattle.rw_merge.specs.declared.merge.Merged.{Merged}
@@ -21,7 +22,7 @@ use Rattle.rw_merge.specs.declared.merge.MergeStop.{MergeStop}
 use Rattle.rw_merge.specs.declared.merge.MergeStop.TheVariants.{FirstFault, SecondFault, WriteFault, TooLong, Torn, SecondTorn, Unequal}
 use Rattle.rw_merge.proofs.Slots.{program_slots, slots-append}
 use Rattle.rw_merge.proofs.Stops.{end_answer, pair_answer, taken_exactly, whole_answer}
-use Rattle.rw_merge.proofs.Words.{agreements-append, agreements-nil, bad-append, merged_text, text-append}
+use Rattle.rw_merge.proofs.Words.{agreements-append, agreements-nil, bad-append, merged_text, text-append, window_is, words_are_after}
 
 -- the slots of the program blocks among so many blocks
 abbrev program_of : ℕ → ℕ → List ℕ → List (List ℕ)
@@ -556,24 +557,26 @@ write_stops lead_in blocks left left' other other' held held' held'' w v w' v' b
 
 -- what the code finds for the blocks that it read
 pub pair_found : (w v : List (List ℕ)) (one other us vs : List ℕ) (w' v' w'' v'' : List (List ℕ))
-    (text bytes : List ℕ) (bad : ℕ) → us ≡ one → vs ≡ other → w'' ≡ w' → v'' ≡ v' → bytes ≡ text
-    → w' ≡ window_after w (leading_slots 4 one) → v' ≡ window_after v (leading_slots 4 other)
+    (text bytes : List ℕ) (bad : ℕ) → us ≡ one → vs ≡ other → length us ≡ 96 → length vs ≡ 96
+    → w'' ≡ w' → v'' ≡ v' → bytes ≡ text
+    → w' ≡ slots_after_block w one → v' ≡ slots_after_block v other
     → (found : List (Option (List ℕ)))
-    × AreAgreements (words_after w (leading_slots 4 one)) (words_after v (leading_slots 4 other)) found
+    × AreAgreements (words_from_block w one) (words_from_block v other) found
     × (text ≡ cdg_bytes found)
     × (bad ≡ bad_count found)
     × (length found ≤ 4)
     → IsPairFound w v us vs w'' v'' bytes bad
-pair_found w v one other us vs w' v' w'' v'' text bytes bad u_is v_is w_is v_is' bytes_is first second
-    (found, all, text_is, bad_is, few) = record {
-      first_window = w_is ∙ first ∙ ap (λ l. window_after w (leading_slots 4 l)) (sym u_is);
-      second_window = v_is' ∙ second ∙ ap (λ l. window_after v (leading_slots 4 l)) (sym v_is);
+pair_found w v one other us vs w' v' w'' v'' text bytes bad u_is v_is u_size v_size w_is v_is' bytes_is first
+    second (found, all, text_is, bad_is, few) = record {
+      first_window =
+          window_is w w'' us u_size (w_is ∙ first ∙ ap (λ l. slots_after_block w l) (sym u_is));
+      second_window =
+          window_is v v'' vs v_size (v_is' ∙ second ∙ ap (λ l. slots_after_block v l) (sym v_is));
       found = found;
       all =
-          subst₂ (λ (a b : List ℕ).
-          AreAgreements (words_after w (leading_slots 4 a)) (words_after v (leading_slots 4 b)) found)
-          (sym u_is)
-          (sym v_is) all;
+          subst₂ (λ (a b : List (List ℕ)). AreAgreements a b found)
+          (ap (λ l. words_from_block w l) (sym u_is) ∙ words_are_after w us u_size)
+          (ap (λ l. words_from_block v l) (sym v_is) ∙ words_are_after v vs v_size) all;
       text_is = bytes_is ∙ text_is;
       bad_is = bad_is;
       few = few;

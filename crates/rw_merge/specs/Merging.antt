@@ -3,8 +3,10 @@ use Rattle.std.specs.Prelude.{◌≡◌, ◌≢◌, ◌⊎◌, ℕ, ◌+◌, ◌
 use Rattle.std.specs.Io.KnownBytes.{Appends, Consumes, IsAtEnd}
 use Rattle.cdg_io.specs.Causes.{Count, RoseOnce}
 use Rattle.cdg_io.specs.Change.{Bytes, Change, change}
+use Rattle.cdg_io.specs.Counts.{Counts, counts}
 use Rattle.cdg_io.specs.Moves.{AppendsBetween}
 use Rattle.cdg_io.specs.Pump.{RoseBy}
+use Rattle.cdg_io.specs.declared.ends.Source.{Ghosts as Source}
 use Rattle.raw_subcode.specs.Channels.{program_symbols}
 use Rattle.raw_subcode.specs.Sizes.{block_bytes, most_units}
 use Rattle.raw_subcode.specs.declared.form.Form.TheVariants.{Raw}
@@ -149,18 +151,16 @@ EndsBoth (Err stop) one other first second = EndsAtStop stop one other first sec
 abbrev pub full_reads : ℕ → ℕ
 full_reads bytes = bytes / block_bytes + (bytes - most_units * block_bytes)
 
--- an input that is read: its bytes, how often its end was told, and how often a read gave all that it had room for
+-- an input that is read: its bytes, and how often its end was told and a read gave all that it had room for
 pub record ReadInput : Type 0 where
   pub left : Change Bytes
-  pub ends : Change Count
-  pub fills : Change Count
+  pub counts : Counts
 
 -- what is seen of it
-abbrev pub read_input : {S : Type 0} → (S → Bytes) → (S → Count) → (S → Count) → S → S → ReadInput
-read_input left ends fills before after = record {
-  left = change left before after;
-  ends = change ends before after;
-  fills = change fills before after;
+abbrev pub read_input : {S : Type 0} → Source S → S → S → ReadInput
+read_input source before after = record {
+  left = change source.left before after;
+  counts = counts source.ends source.fills before after;
 }
 
 -- Of two inputs these bytes were taken, of which the first holds; of so many bytes of each the second says how often the
@@ -173,6 +173,6 @@ pub record ReadsBoth (holds : List ℕ → List ℕ → Type 0)
   pub took : Consumes first.left.before first.left.after taken
   pub other_took : Consumes second.left.before second.left.after other_taken
   pub said : holds taken other_taken
-  pub ended : ends (length taken) (length other_taken) first.ends second.ends
-  pub filled : RoseBy (reads (length taken)) first.fills.before first.fills.after
-  pub other_filled : RoseBy (reads (length other_taken)) second.fills.before second.fills.after
+  pub ended : ends (length taken) (length other_taken) first.counts.ends second.counts.ends
+  pub filled : RoseBy (reads (length taken)) first.counts.fills.before first.counts.fills.after
+  pub other_filled : RoseBy (reads (length other_taken)) second.counts.fills.before second.counts.fills.after

@@ -7,17 +7,19 @@ use Rattle.rw_interleave.specs.Gathering.{gather_next, gather_gives}
 use Rattle.cdg_io.specs.Run.{run_state, run_gives}
 use Rattle.rw_interleave.specs.Stream.{bad_count}
 use Rattle.rw_interleave.specs.Texts.{cdg_bytes}
+use Rattle.rw_interleave.specs.Windows.{words_from_block}
 use Rattle.rw_merge.specs.Agreement.{IsAgreement}
 use Rattle.rw_merge.specs.Windows.{Windows}
 use Rattle.rw_merge.specs.declared.packs.Packs.{Packs}
-use Rattle.cdg_io.specs.Causes.{Count, FillsRoom, HasCause, Rose, TellsEnd}
+use Rattle.cdg_io.specs.Causes.{Count, HasCause, Rose}
+use Rattle.cdg_io.specs.Counts.{TellsRead}
 use Rattle.cdg_io.specs.Change.{Change}
 use Rattle.cdg_io.specs.Moves.{ConsumesBelow}
 use Rattle.rw_merge.specs.Merging.{EndsAtStop, EndsBoth, ReadInput, ReadsBoth, Told, Untold}
 use Rattle.rw_merge.specs.declared.merge.Merged.{Merged}
 use Rattle.rw_merge.specs.declared.merge.MergeStop.{MergeStop}
 use Rattle.rw_merge.specs.declared.merge.MergeStop.TheVariants.{FirstFault, SecondFault, WriteFault, TooLong, Torn, SecondTorn, Unequal}
-use Rattle.raw_subcode.specs.Sizes.{block_bytes, slots_a_block, symbols_a_slot}
+use Rattle.raw_subcode.specs.Sizes.{block_bytes, symbols_a_slot}
 
 -- the first slots of some bytes, as many as are wanted
 abbrev pub leading_slots : ℕ → List ℕ → List (List ℕ)
@@ -30,14 +32,6 @@ window_after window slots = run_state gather_next window slots
 -- the words that come with these
 abbrev pub words_after : List (List ℕ) → List (List ℕ) → List (List ℕ)
 words_after window slots = run_gives gather_next gather_gives window slots
-
--- the last slots after those of a block
-abbrev pub window_after_block : List (List ℕ) → List ℕ → List (List ℕ)
-window_after_block window block = window_after window (leading_slots slots_a_block block)
-
--- the words that come with a block
-abbrev pub words_after_block : List (List ℕ) → List ℕ → List (List ℕ)
-words_after_block window block = words_after window (leading_slots slots_a_block block)
 
 -- what is found for the words of two readings, one after another
 unfoldable pub AreAgreements : List (List ℕ) → List (List ℕ) → List (Option (List ℕ)) → Type 0
@@ -53,7 +47,7 @@ AreAgreedPacks first second packs = (found : List (Option (List ℕ))) × AreAgr
 -- the packs that come with a block of each reading, after the last slots of both
 abbrev pub MergesBlocks : Windows → List ℕ → List ℕ → Packs → Type 0
 MergesBlocks windows first second packs =
-    AreAgreedPacks (words_after_block windows.first first) (words_after_block windows.second second) packs
+    AreAgreedPacks (words_from_block windows.first first) (words_from_block windows.second second) packs
 
 -- Of the first input a whole block was taken, or it was at its end.
 abbrev pub IsHalfRead : Option (List ℕ) → List ℕ → Type 0
@@ -125,8 +119,7 @@ pub record AsksFor {E : Type 0} (size : ℕ) (input : ReadInput) (faults : Chang
   pub end : IfOk result (λ n. n < size → IsAtEnd input.left.after)
   pub part : OnErr result (ConsumesBelow input.left.before input.left.after size)
   pub cause : HasCause faults.before faults.after result
-  pub told : TellsEnd size input.ends.before input.ends.after result
-  pub filled : FillsRoom size input.fills.before input.fills.after result
+  pub counts : TellsRead size size input.counts result
 
 -- A count of faults rose,
 abbrev pub Rises : Change ℕ → Type 0

@@ -41,7 +41,7 @@ pub(crate) fn next_block<S: Source, K: Sink>(
     block: &mut [u8; BLOCK_BYTES],
     out: &mut K,
 ) -> Result<usize, Failed>
-    ensures asks { AsksFor block_bytes (read_input S.left S.ends S.fills source.old source.new)
+    ensures asks { AsksFor block_bytes (read_input S.Source source.old source.new)
         (change S.faults source.old source.new) result block.new }
     ensures keeps { Keeps (K.held out.old) (K.held out.new) }
     ensures no_write_fault { K.faults out.new ≡ K.faults out.old }
@@ -61,7 +61,7 @@ pub(crate) fn next_block<S: Source, K: Sink>(
 /// # Errors
 /// `Failed` where a read failed.
 pub(crate) fn next_byte<S: Source>(source: &mut S) -> Result<usize, Failed>
-    ensures { (byte : List ℕ) × AsksFor 1 (read_input S.left S.ends S.fills source.old source.new)
+    ensures { (byte : List ℕ) × AsksFor 1 (read_input S.Source source.old source.new)
         (change S.faults source.old source.new) result byte }
 {
     fill(source, &mut [0; 1])

@@ -6,7 +6,8 @@ ghost use Rattle.cdg_io.specs.Causes.{TellsFault};
 ghost use Rattle.cdg_io.specs.Change.{change};
 ghost use Rattle.rw_merge.specs.Merging.{EndsBoth, EndsSecond, FirstIsAtEnd, IsMergedText, Merges, ReadsBoth, full_reads, read_input, IsAnswerTo};
 ghost use Rattle.rw_merge.specs.Readings.{IsDamagedTwice, IsReadTwice, MergeRestores};
-ghost use Rattle.rw_merge.specs.Steps.{CountsFaults, MergesBlocks, window_after_block, words_after_block};
+ghost use Rattle.rw_interleave.specs.Windows.{slots_after_block, words_from_block};
+ghost use Rattle.rw_merge.specs.Steps.{CountsFaults, MergesBlocks};
 ghost use Rattle.raw_subcode.specs.Sizes.{slots_a_block};
 ghost use Rattle.rw_code.specs.Packs.{idle_pack};
 
@@ -116,8 +117,8 @@ impl Merger {
     ) -> Result<Merged, MergeStop>
         requires { lead_in ≤ most_lead_in }
         ensures merges { ReadsBoth (Merges lead_in (change K.held out.old out.new) result) (EndsBoth result)
-            full_reads (read_input S.left S.ends S.fills first.old first.new)
-            (read_input T.left T.ends T.fills second.old second.new) }
+            full_reads (read_input S.Source first.old first.new)
+            (read_input T.Source second.old second.new) }
         // Every pack comes back where both readings together have enough of each word.
         ensures restores { IfSome (S.left first.old) (λ xs. IfSome (T.left second.old) (λ ys.
             (blocks : ℕ) (packs : List (List ℕ)) → IsReadTwice lead_in blocks packs xs ys
@@ -155,8 +156,8 @@ impl Merger {
         requires first { self.old.first ≡ [] }
         requires second { self.old.second ≡ [] }
         ensures merges { ReadsBoth (Merges lead_in (change K.held out.old out.new) result) (EndsBoth result)
-            full_reads (read_input S.left S.ends S.fills first.old first.new)
-            (read_input T.left T.ends T.fills second.old second.new) }
+            full_reads (read_input S.Source first.old first.new)
+            (read_input T.Source second.old second.new) }
         ensures answer { IsAnswerTo lead_in result (S.left first.old) (T.left second.old) }
         ensures ends { FirstIsAtEnd result (S.left first.new) × EndsSecond result (T.left second.new) }
         ensures faults { CountsFaults result (change S.faults first.old first.new)
@@ -199,8 +200,8 @@ impl Merger {
     // The packs that come with a pair of program blocks.
     fn merge(&mut self, first: &[u8; BLOCK_BYTES], second: &[u8; BLOCK_BYTES], packs: &mut Packs)
         requires { length self.old.first ≡ length self.old.second }
-        ensures first { self.new.first ≡ window_after_block self.old.first first.now }
-        ensures second { self.new.second ≡ window_after_block self.old.second second.now }
+        ensures first { self.new.first ≡ slots_after_block self.old.first first.now }
+        ensures second { self.new.second ≡ slots_after_block self.old.second second.now }
         ensures same { length self.new.first ≡ length self.new.second }
         ensures packs { MergesBlocks self.old first.now second.now packs.new }
     {
@@ -214,13 +215,13 @@ impl Merger {
     // Whether four words of zeros come with each block of a pair, and the windows stay as they are.
     fn stay_idle(&self, first: &[u8; BLOCK_BYTES], second: &[u8; BLOCK_BYTES]) -> bool
         ensures first { result ≡ true
-            → self.now.first ≡ window_after_block self.now.first first.now }
+            → self.now.first ≡ slots_after_block self.now.first first.now }
         ensures second { result ≡ true
-            → self.now.second ≡ window_after_block self.now.second second.now }
+            → self.now.second ≡ slots_after_block self.now.second second.now }
         ensures first_words { result ≡ true → replicate slots_a_block idle_pack
-            ≡ words_after_block self.now.first first.now }
+            ≡ words_from_block self.now.first first.now }
         ensures second_words { result ≡ true → replicate slots_a_block idle_pack
-            ≡ words_after_block self.now.second second.now }
+            ≡ words_from_block self.now.second second.now }
     {
         self.first.stays_idle(first) && self.second.stays_idle(second)
     }
@@ -234,8 +235,8 @@ impl Merger {
         packs: &mut Packs,
     )
         requires { length self.old.first ≡ length self.old.second }
-        ensures first { self.new.first ≡ window_after_block self.old.first first.now }
-        ensures second { self.new.second ≡ window_after_block self.old.second second.now }
+        ensures first { self.new.first ≡ slots_after_block self.old.first first.now }
+        ensures second { self.new.second ≡ slots_after_block self.old.second second.now }
         ensures same { length self.new.first ≡ length self.new.second }
         ensures packs { MergesBlocks self.old first.now second.now packs.new }
     {

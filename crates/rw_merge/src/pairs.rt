@@ -23,8 +23,8 @@ pub(crate) fn next_pair<S: Source, T: Source, K: Sink>(
     out: &mut K,
 ) -> Result<bool, MergeStop>
     ensures pair { ReadsPair block result one.new other.new
-        (read_input S.left S.ends S.fills first.old first.new)
-        (read_input T.left T.ends T.fills second.old second.new) }
+        (read_input S.Source first.old first.new)
+        (read_input T.Source second.old second.new) }
     ensures faults { CountsReadFaults result (change S.faults first.old first.new)
         (change T.faults second.old second.new) }
     ensures keeps { Keeps (K.held out.old) (K.held out.new) }
@@ -61,8 +61,8 @@ pub(crate) fn nothing_follows<S: Source, T: Source>(
     first: &mut S,
     second: &mut T,
 ) -> Result<(), MergeStop>
-    ensures end { ReadsNoMore result (read_input S.left S.ends S.fills first.old first.new)
-        (read_input T.left T.ends T.fills second.old second.new) }
+    ensures end { ReadsNoMore result (read_input S.Source first.old first.new)
+        (read_input T.Source second.old second.new) }
     ensures faults { CountsReadFaults result (change S.faults first.old first.new)
         (change T.faults second.old second.new) }
 {

@@ -50,7 +50,15 @@ pub stops_counts : (answer : Result Played PlayStop) (X : PlayStop → Type 0)
 stops_counts (Ok played) X part = tt
 stops_counts (Err stop) X part = subst IsStreamStop (sym part.0) tt
 
-pub ends_first : (stop : PumpStop) (before now : Count) → pump_error stop ≢ pump_error pump.WriteFault
+-- once all was read
+pub ends_counts : (answer : Result Played PlayStop) (X : PlayStop → Type 0)
+    → IfErr answer (λ stop. (stop ≡ WriteFault) × X stop) → (before now : Count) → RoseOnce before now
+    → EndFirst answer before now
+ends_counts (Ok played) X part before now told = told
+ends_counts (Err stop) X part before now told =
+    subst (λ (s : PlayStop). EndFirst (play_error s) before now) (sym part.0) told
+
+ends_first : (stop : PumpStop) (before now : Count) → pump_error stop ≢ pump_error pump.WriteFault
     → TellsEndOf (pump_error stop) before now
     → EndFirst (play_error (play_stop stop)) before now
 ends_first pump.ReadFault before now other told = told

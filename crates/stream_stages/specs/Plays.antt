@@ -1,12 +1,15 @@
 -- What each call that plays a whole stream does, with its input, its output and its answer.
-use Rattle.std.specs.Prelude.{◌≡◌, ◌≢◌, ℕ, List, length, Result, IfErr, IfSome}
-use Rattle.cdg_io.specs.Change.{Bytes, Passed, passed}
+use Rattle.std.specs.Prelude.{◌≡◌, ◌≢◌, ℕ, Bool, List, length, Result, IfErr, IfSome}
+use Rattle.cdg_io.specs.Change.{Passed, passed}
+use Rattle.cdg_io.specs.Reads.{ToldUnless}
+use Rattle.cdg_io.specs.declared.ends.Sink.{Ghosts as Sink}
+use Rattle.cdg_io.specs.declared.ends.Source.{Ghosts as Source}
 use Rattle.cdg_io.specs.Streams.{Streams, WritesAtEnd}
 use Rattle.cdg_screen.specs.Standing.{Standing}
 use Rattle.q_channel.specs.QList.{IsQListed}
 use Rattle.raw_subcode.specs.Channels.{unit_size}
 use Rattle.raw_subcode.specs.declared.form.Form.{Form}
-use Rattle.stream_stages.specs.Calls.{IsAnsweredBy, IsListStop, IsMomentStop, IsStreamStop, at_end, in_turn}
+use Rattle.stream_stages.specs.Calls.{IsAnsweredBy, IsListStop, IsMomentStop, IsStreamStop, at_end, in_turn, is_early, is_early_in_turn}
 use Rattle.stream_stages.specs.Check.{IsCheckListed}
 use Rattle.stream_stages.specs.Convert.{Converts}
 use Rattle.stream_stages.specs.Faults.{TellsStops}
@@ -16,38 +19,44 @@ use Rattle.stream_stages.specs.declared.played.Played.{Played}
 use Rattle.stream_stages.specs.declared.played.PlayStop.{PlayStop}
 use Rattle.stream_stages.specs.declared.played.PlayStop.TheVariants.{WriteFault}
 
--- What a call has of its own: what it puts for the bytes that it takes, at which stops it may stop, and its answer to a
--- whole input where nothing failed.
+-- What a call has of its own: what it puts for the bytes that it takes, at which stops it may stop, which of them come
+-- before the end of the input, and its answer to a whole input where nothing failed.
 pub record StreamCall : Type 1 where
   pub puts : Passed → Result Played PlayStop → List ℕ → Type 0
   pub may_stop : PlayStop → Type 0
+  pub is_early : PlayStop → Bool
   pub answers : Result Played PlayStop → List ℕ → Type 0
 
 -- a call that is asked for no moment and for no texts, which answers by the length of its input
-abbrev pub call_by_length : Form → (Passed → Result Played PlayStop → List ℕ → Type 0) → StreamCall
-call_by_length form puts = record {
+abbrev pub call_by_length : Form → (PlayStop → Bool) → (Passed → Result Played PlayStop → List ℕ → Type 0)
+    → StreamCall
+call_by_length form is_early puts = record {
   puts = puts;
   may_stop = IsStreamStop;
+  is_early = is_early;
   answers = λ result all. IsAnsweredBy result (unit_size form) (length all);
 }
 
 -- the packs of a stream, while it is read
 abbrev pub conversion : Form → ℕ → StreamCall
-conversion form lead_in = call_by_length form (Converts form lead_in)
+conversion form lead_in = call_by_length form is_early_in_turn (Converts form lead_in)
 
 -- the lines of its Q channel, while it is read
 abbrev pub frame_listing : Form → ℕ → StreamCall
-frame_listing form lead_in = call_by_length form (Streams (in_turn (IsQListed form) form lead_in))
+frame_listing form lead_in =
+    call_by_length form is_early_in_turn (Streams (in_turn (IsQListed form) form lead_in))
 
 -- its counts, once it is read
 abbrev pub checking : Form → ℕ → StreamCall
-checking form lead_in = call_by_length form (WritesAtEnd (at_end (IsCheckListed form lead_in) form lead_in))
+checking form lead_in =
+    call_by_length form is_early (WritesAtEnd (at_end (IsCheckListed form lead_in) form lead_in))
 
 -- what stands at a moment, written in some way, once the stream is read
 abbrev pub showing : (Standing → List ℕ) → Moment → StreamCall
 showing write at = record {
   puts = Shows write at;
   may_stop = IsMomentStop;
+  is_early = is_early;
   answers = λ result all. IsShownBy result at.lead_in at.time (unit_size at.form) (length all);
 }
 
@@ -56,29 +65,30 @@ abbrev pub text_listing : Form → ℕ → StreamCall
 text_listing form lead_in = record {
   puts = ListsTexts form lead_in;
   may_stop = IsListStop;
+  is_early = is_early;
   answers = λ result all. IsListedBy result form lead_in all;
 }
 
 -- A call played a stream from an input to an output, of which `before` and `after` are the values.
-pub record Plays {S K : Type 0} (call : StreamCall) (left : S → Bytes) (read_faults : S → ℕ)
-    (held : K → Bytes) (write_faults : K → ℕ) (before after : S × K)
-    (result : Result Played PlayStop) : Type 0 where
+pub record Plays {S K : Type 0} (call : StreamCall) (source : Source S) (sink : Sink K)
+    (before after : S × K) (result : Result Played PlayStop) : Type 0 where
   pub taken : List ℕ
-  pub puts : call.puts (passed left held before after) result taken
+  pub puts : call.puts (passed source.left sink.held before after) result taken
   -- it never answers another stop, whatever the input
   pub stops : IfErr result call.may_stop
   -- where nothing failed, the answer is that of the whole input
-  pub answer : IfSome (left before.0) (λ all. call.answers result all)
-  pub faults : TellsStops (read_faults before.0) (read_faults after.0) (write_faults before.1)
-      (write_faults after.1) result
+  pub answer : IfSome (source.left before.0) (λ all. call.answers result all)
+  pub faults : TellsStops (source.faults before.0) (source.faults after.0) (sink.faults before.1)
+      (sink.faults after.1) result
+  -- the end of the input was told once, unless the stop comes before it
+  pub ended : ToldUnless call.is_early result (source.ends before.0) (source.ends after.0)
 
 -- where a call answers another stop than a failed write, the output is as it was
 abbrev pub LeavesUnwritten : {K : Type 0} → K → K → Result Played PlayStop → Type 0
 LeavesUnwritten before after result = IfErr result (λ stop. stop ≢ WriteFault → after ≡ before)
 
 -- The same of a call that writes nothing before it read all: where the output is not written it is as it was.
-pub record PlaysThenWrites {S K : Type 0} (call : StreamCall) (left : S → Bytes) (read_faults : S → ℕ)
-    (held : K → Bytes) (write_faults : K → ℕ) (before after : S × K)
-    (result : Result Played PlayStop) : Type 0 where
-  pub plays : Plays call left read_faults held write_faults before after result
+pub record PlaysThenWrites {S K : Type 0} (call : StreamCall) (source : Source S) (sink : Sink K)
+    (before after : S × K) (result : Result Played PlayStop) : Type 0 where
+  pub plays : Plays call source sink before after result
   pub untouched : LeavesUnwritten before.1 after.1 result

@@ -7,7 +7,6 @@ ghost use Rattle.cdg_io.specs.Causes.{HasCause};
 ghost use Rattle.cdg_io.specs.Moves.{AppendsPrefix};
 ghost use Rattle.rw_interleave.specs.Stream.{word_count};
 ghost use Rattle.stream_stages.specs.Plays.{LeavesUnwritten, PlaysThenWrites, checking};
-ghost use Rattle.stream_stages.specs.Calls.{EndFirst};
 ghost use Rattle.stream_stages.specs.Check.{count_line, stream_lines, wrong_lines};
 ghost use Rattle.stream_stages.specs.Check.{frame_count_lines, pack_count_lines};
 ghost use Rattle.stream_stages.specs.CheckSteps.{IsFresh, lines_of_counts, nothing_counted};
@@ -62,9 +61,8 @@ impl Checker {
         out: &mut K,
     ) -> Result<Played, PlayStop>
         requires { lead_in ≤ most_lead_in }
-        ensures plays { PlaysThenWrites (checking form lead_in) S.left S.faults K.held K.faults
+        ensures plays { PlaysThenWrites (checking form lead_in) S.Source K.Sink
             (source.old, out.old) (source.new, out.new) result }
-        ensures ended { EndFirst result (S.ends source.old) (S.ends source.new) }
     {
         self.begin_check(lead_in, form);
         match watch(form, source, &mut self.checks) {

@@ -7,7 +7,6 @@ ghost use Rattle.stream_stages.specs.Plays.{Plays, conversion};
 ghost use Rattle.stream_stages.specs.Steps.{fresh_words};
 ghost use Rattle.stream_stages.specs.Stages.{correction_of, words_of};
 ghost use Rattle.rw_interleave.specs.Stream.{all_packs};
-ghost use Rattle.stream_stages.specs.Calls.{EndInTurn};
 ghost use Rattle.stream_stages.specs.Convert.{IsConverted, IsDamagedStream, Restores};
 
 use crate::{BlockWords, Correction, PlayStop, Played, SectorBlocks, play_stop, pump_blocks};
@@ -66,13 +65,12 @@ impl Converter {
         out: &mut K,
     ) -> Result<Played, PlayStop>
         requires { lead_in ≤ most_lead_in }
-        ensures plays { Plays (conversion form lead_in) S.left S.faults K.held K.faults
+        ensures plays { Plays (conversion form lead_in) S.Source K.Sink
             (source.old, out.old) (source.new, out.new) result }
         // Every pack comes back from damage of at most two symbols a word.
         ensures restores { IfSome (S.left source.old) (λ all. (blocks : ℕ) (packs : List (List ℕ))
             → IsDamagedStream form lead_in blocks packs all
             → Restores result (K.held out.old) (K.held out.new) (concat (all_packs form blocks packs))) }
-        ensures ended { EndInTurn result (S.ends source.old) (S.ends source.new) }
     {
         damaged_streams_give_packs();
         self.begin(lead_in, form);

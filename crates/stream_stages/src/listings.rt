@@ -3,7 +3,6 @@ ghost use Rattle.std.specs.Prelude.{◌≡◌, ◌≢◌, ◌≤◌, IfOk, IsOk,
 ghost use Rattle.disc_time.specs.Counts.{most_lead_in};
 ghost use Rattle.raw_subcode.specs.declared.form.Form.{Form};
 ghost use Rattle.stream_stages.specs.Plays.{LeavesUnwritten, Plays, PlaysThenWrites, frame_listing, text_listing};
-ghost use Rattle.stream_stages.specs.Calls.{EndInTurn, EndFirst};
 ghost use Rattle.cdg_io.specs.Causes.{TellsFault};
 ghost use Rattle.cdtext_packs.specs.Reading.{read_texts};
 ghost use Rattle.cdtext_packs.specs.TextSteps.{fresh_texts};
@@ -33,9 +32,8 @@ pub fn list_frames<S: Source, K: Sink>(
 ) -> Result<Played, PlayStop>
     requires lead_in { lead_in ≤ most_lead_in }
     requires form { form ≢ Form.Cooked }
-    ensures plays { Plays (frame_listing form lead_in) S.left S.faults K.held K.faults
+    ensures plays { Plays (frame_listing form lead_in) S.Source K.Sink
         (source.old, out.old) (source.new, out.new) result }
-    ensures ended { EndInTurn result (S.ends source.old) (S.ends source.new) }
 {
     let mut lines = SectorBlocks {
         blocks: QLines { block: 0, bad: 0 },
@@ -90,9 +88,8 @@ impl TextLister {
     ) -> Result<Played, PlayStop>
         requires lead_in { lead_in ≤ most_lead_in }
         requires form { form ≢ Form.Cooked }
-        ensures plays { PlaysThenWrites (text_listing form lead_in) S.left S.faults K.held K.faults
+        ensures plays { PlaysThenWrites (text_listing form lead_in) S.Source K.Sink
             (source.old, out.old) (source.new, out.new) result }
-        ensures ended { EndFirst result (S.ends source.old) (S.ends source.new) }
     {
         lead_in_packs_are_read();
         self.texts.blocks.begin(lead_in);

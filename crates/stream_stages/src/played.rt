@@ -4,7 +4,7 @@ ghost use Rattle.stream_stages.specs.Watch.{play_stop, Watches, on_units};
 ghost use Rattle.cdg_io.specs.Causes.{TellsFault};
 ghost use Rattle.cdg_io.specs.Change.{fed, moved};
 ghost use Rattle.cdg_io.specs.Pump.{Pumps};
-ghost use Rattle.cdg_io.specs.Reads.{ReadsUnits, telling};
+ghost use Rattle.cdg_io.specs.Reads.{ReadsUnits};
 ghost use Rattle.raw_subcode.specs.Channels.{unit_size};
 ghost use Rattle.raw_subcode.specs.Sizes.{most_units};
 ghost use Rattle.q_channel.specs.QList.{IsQListed};
@@ -71,7 +71,7 @@ pub fn pump_blocks<S: Source, G: Stage<Item = [u8; BLOCK_BYTES], Out = Piece>, K
         (record { next = on_units form G.next; gives = on_units form G.gives })
         (moved S.left K.held (source.old, stages.old.blocks, out.old)
         (source.new, stages.new.blocks, out.new)) result taken }
-    ensures reads { ReadsUnits (telling S.left S.faults S.ends S.fills) (unit_size form) most_units source.old
+    ensures reads { ReadsUnits S.Source (unit_size form) most_units source.old
         source.new result }
     ensures write_fault { TellsFault PumpStop.WriteFault (K.faults out.old) (K.faults out.new) result }
 {
@@ -89,7 +89,7 @@ pub fn watch<S: Source, G: Stage<Item = [u8; BLOCK_BYTES], Out = Piece>>(
 ) -> Result<Pumped, PumpStop>
     ensures watches { (taken : List ℕ) × Watches form G.next
         (fed S.left (source.old, stages.old.blocks) (source.new, stages.new.blocks)) result taken }
-    ensures reads { ReadsUnits (telling S.left S.faults S.ends S.fills) (unit_size form) most_units source.old
+    ensures reads { ReadsUnits S.Source (unit_size form) most_units source.old
         source.new result }
 {
     pump_blocks(form, source, stages, &mut SteadySink::new())

@@ -69,8 +69,7 @@ impl Viewer {
         requires lead_in { lead_in ≤ most_lead_in }
         requires at { at ≤ last_block }
         ensures plays { PlaysThenWrites (showing pixmap (moment form lead_in at))
-            S.left S.faults K.held K.faults (source.old, out.old) (source.new, out.new) result }
-        ensures ended { EndFirst result (S.ends source.old) (S.ends source.new) }
+            S.Source K.Sink (source.old, out.old) (source.new, out.new) result }
     {
         match self.view(lead_in, form, at, source) {
             Ok(played) => {
@@ -97,8 +96,7 @@ impl Viewer {
         requires lead_in { lead_in ≤ most_lead_in }
         requires at { at ≤ last_block }
         ensures plays { PlaysThenWrites (showing state_text (moment form lead_in at))
-            S.left S.faults K.held K.faults (source.old, out.old) (source.new, out.new) result }
-        ensures ended { EndFirst result (S.ends source.old) (S.ends source.new) }
+            S.Source K.Sink (source.old, out.old) (source.new, out.new) result }
     {
         match self.view(lead_in, form, at, source) {
             Ok(played) => {

@@ -5,7 +5,6 @@ ghost use Rattle.disc_time.specs.Counts.{last_block, most_lead_in};
 ghost use Rattle.cdg_screen.specs.Texts.{pixmap, state_text};
 ghost use Rattle.rw_interleave.specs.Stream.{all_packs};
 ghost use Rattle.stream_stages.specs.Plays.{Plays, PlaysThenWrites, checking, conversion, frame_listing, showing, text_listing};
-ghost use Rattle.stream_stages.specs.Calls.{EndFirst, EndInTurn};
 ghost use Rattle.stream_stages.specs.Convert.{IsDamagedStream, Restores};
 ghost use Rattle.stream_stages.specs.Screen.{moment};
 ghost use Rattle.stream_stages.specs.Stages.{correction_of, words_of};
@@ -67,13 +66,12 @@ impl Player {
         out: &mut K,
     ) -> Result<Played, PlayStop>
         requires { lead_in ≤ most_lead_in }
-        ensures plays { Plays (conversion form lead_in) S.left S.faults K.held K.faults
+        ensures plays { Plays (conversion form lead_in) S.Source K.Sink
             (source.old, out.old) (source.new, out.new) result }
         // Every pack comes back from damage of at most two symbols a word.
         ensures restores { IfSome (S.left source.old) (λ all. (blocks : ℕ) (packs : List (List ℕ))
             → IsDamagedStream form lead_in blocks packs all
             → Restores result (K.held out.old) (K.held out.new) (concat (all_packs form blocks packs))) }
-        ensures ended { EndInTurn result (S.ends source.old) (S.ends source.new) }
     {
         self.converter.convert(lead_in, form, source, out)
     }
@@ -99,8 +97,7 @@ impl Player {
         requires lead_in { lead_in ≤ most_lead_in }
         requires at { at ≤ last_block }
         ensures plays { PlaysThenWrites (showing pixmap (moment form lead_in at))
-            S.left S.faults K.held K.faults (source.old, out.old) (source.new, out.new) result }
-        ensures ended { EndFirst result (S.ends source.old) (S.ends source.new) }
+            S.Source K.Sink (source.old, out.old) (source.new, out.new) result }
     {
         self.viewer.screen_at(lead_in, form, at, source, out)
     }
@@ -118,8 +115,7 @@ impl Player {
         requires lead_in { lead_in ≤ most_lead_in }
         requires at { at ≤ last_block }
         ensures plays { PlaysThenWrites (showing state_text (moment form lead_in at))
-            S.left S.faults K.held K.faults (source.old, out.old) (source.new, out.new) result }
-        ensures ended { EndFirst result (S.ends source.old) (S.ends source.new) }
+            S.Source K.Sink (source.old, out.old) (source.new, out.new) result }
     {
         self.viewer.state_at(lead_in, form, at, source, out)
     }
@@ -142,9 +138,8 @@ impl Player {
         out: &mut K,
     ) -> Result<Played, PlayStop>
         requires { lead_in ≤ most_lead_in }
-        ensures plays { PlaysThenWrites (checking form lead_in) S.left S.faults K.held K.faults
+        ensures plays { PlaysThenWrites (checking form lead_in) S.Source K.Sink
             (source.old, out.old) (source.new, out.new) result }
-        ensures ended { EndFirst result (S.ends source.old) (S.ends source.new) }
     {
         self.checker.check(lead_in, form, source, out)
     }
@@ -159,9 +154,8 @@ impl Player {
     ) -> Result<Played, PlayStop>
         requires lead_in { lead_in ≤ most_lead_in }
         requires form { form ≢ Form.Cooked }
-        ensures plays { Plays (frame_listing form lead_in) S.left S.faults K.held K.faults
+        ensures plays { Plays (frame_listing form lead_in) S.Source K.Sink
             (source.old, out.old) (source.new, out.new) result }
-        ensures ended { EndInTurn result (S.ends source.old) (S.ends source.new) }
         ensures player { self.new ≡ self.old }
     {
         list_frames(lead_in, form, source, out)
@@ -187,9 +181,8 @@ impl Player {
     ) -> Result<Played, PlayStop>
         requires lead_in { lead_in ≤ most_lead_in }
         requires form { form ≢ Form.Cooked }
-        ensures plays { PlaysThenWrites (text_listing form lead_in) S.left S.faults K.held K.faults
+        ensures plays { PlaysThenWrites (text_listing form lead_in) S.Source K.Sink
             (source.old, out.old) (source.new, out.new) result }
-        ensures ended { EndFirst result (S.ends source.old) (S.ends source.new) }
     {
         self.lister.text_list(alloc, lead_in, form, source, out)
     }

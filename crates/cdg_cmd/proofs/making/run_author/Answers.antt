@@ -27,7 +27,7 @@ pub returns-in-Err-clause-faults : goal.returns-in-Err-clause-faults
 returns-in-Err-clause-faults g c = told_at_sheet _ _ _ _ _ _ c.in-Err.ensures.err c.in-Err.ensures.fault
 
 pub returns-in-Err-clause-ended : goal.returns-in-Err-clause-ended
-returns-in-Err-clause-ended g c = AtSheet c.in-Err.ensures.err c.in-Err.ensures.once refl refl
+returns-in-Err-clause-ended g c = AtSheet c.in-Err.ensures.err c.in-Err.ensures.told refl refl
 
 pub returns-in-Err-read_script-clause-faults : goal.returns-in-Err-read_script-clause-faults
 returns-in-Err-read_script-clause-faults g c =
@@ -37,7 +37,7 @@ returns-in-Err-read_script-clause-faults g c =
 pub returns-in-Err-read_script-clause-ended : goal.returns-in-Err-read_script-clause-ended
 returns-in-Err-read_script-clause-ended g c =
     AtSecond c.in-Ok.sheet c.in-Ok.ensures.ok c.in-Ok.ensures.told c.in-Err-read_script.ensures.err
-    c.in-Err-read_script.ensures.taken c.in-Err-read_script.ensures.once
+    c.in-Err-read_script.ensures.taken c.in-Err-read_script.ensures.told
 
 pub returns-clause-ended : goal.returns-clause-ended
 returns-clause-ended g c =

@@ -1,5 +1,5 @@
 use Rattle.std.proofs.Common.{ap}
-use Rattle.cdg_io.specs.Change.{input}
+use Rattle.cdg_io.specs.Reads.{input}
 use Rattle.cdg_cmd.proofs.ResumeTold.{never_memory, reads_second, told, untouched}
 use Rattle.cdg_cmd.proofs.Wants as wants
 use Rattle.cdg_cmd.proofs.packs.run_resume.Goals as goal
@@ -27,7 +27,7 @@ returns-in-Ok-clause-untouched g c =
 pub returns-in-Ok-clause-second : goal.returns-in-Ok-clause-second
 returns-in-Ok-clause-second g c =
     let done = c.resume.ensures in
-    let first = input g.S.Source.left g.S.Source.ends c.args.first.now c.resume.new.saved in
+    let first = input g.S.Source c.args.first.now c.resume.new.saved in
     reads_second _ _ c.args.at first c.resume.new.self.file c.resume.result done.rest_untouched done.accepted
     done.reads.taken done.reads.end done.reads.told
 

@@ -22,7 +22,11 @@ returns-clause-faults g c =
 
 pub returns-clause-ended : goal.returns-clause-ended
 returns-clause-ended g c =
-    record { answer = c.check.result; status_is = c.play_status.ensures; ended = c.check.ensures.ended }
+    record {
+      answer = c.check.result;
+      status_is = c.play_status.ensures;
+      ended = c.check.ensures.plays.plays.ended;
+    }
 
 pub returns-clause-untouched : goal.returns-clause-untouched
 returns-clause-untouched g c =

@@ -22,4 +22,8 @@ returns-clause-faults g c =
 
 pub returns-clause-ended : goal.returns-clause-ended
 returns-clause-ended g c =
-    record { answer = c.convert.result; status_is = c.play_status.ensures; ended = c.convert.ensures.ended }
+    record {
+      answer = c.convert.result;
+      status_is = c.play_status.ensures;
+      ended = c.convert.ensures.plays.ended;
+    }

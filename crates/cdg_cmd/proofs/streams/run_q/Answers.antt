@@ -25,5 +25,5 @@ returns-clause-ended g c =
     record {
       answer = c.list_frames.result;
       status_is = c.play_status.ensures;
-      ended = c.list_frames.ensures.ended;
+      ended = c.list_frames.ensures.plays.ended;
     }

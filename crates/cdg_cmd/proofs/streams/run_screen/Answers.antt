@@ -32,7 +32,7 @@ returns-in-Ok-clause-ended g c = λ found.
     record {
       answer = c.screen_at.result;
       status_is = c.play_status.ensures;
-      ended = c.screen_at.ensures.ended;
+      ended = c.screen_at.ensures.plays.plays.ended;
     }
 
 pub returns-in-Ok-clause-wants : goal.returns-in-Ok-clause-wants

@@ -29,7 +29,11 @@ returns-in-Ok-clause-faults g c =
 
 pub returns-in-Ok-clause-ended : goal.returns-in-Ok-clause-ended
 returns-in-Ok-clause-ended g c = λ found.
-    record { answer = c.state_at.result; status_is = c.play_status.ensures; ended = c.state_at.ensures.ended }
+    record {
+      answer = c.state_at.result;
+      status_is = c.play_status.ensures;
+      ended = c.state_at.ensures.plays.plays.ended;
+    }
 
 pub returns-in-Ok-clause-wants : goal.returns-in-Ok-clause-wants
 returns-in-Ok-clause-wants g c =

@@ -29,7 +29,7 @@ returns-in-Ok-clause-ended g c =
       record {
         answer = c.list_texts.result;
         status_is = c.play_status.ensures;
-        ended = c.list_texts.ensures.ended;
+        ended = c.list_texts.ensures.plays.plays.ended;
       },
       λ none. (lacks_memory c.list_texts.result _ c.args.form c.args.lead_in _ _ c.play_status.ensures
           played.puts.plays.ended played.answer none).0,

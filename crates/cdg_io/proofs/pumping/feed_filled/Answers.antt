@@ -68,8 +68,10 @@ returns-in_err-filled-clause-reads g c =
         nothing = read.cut.nothing;
       });
       cause = failed_cause _ _ _ failed read.cause.later read.cause.failed;
-      told = failed_end _ _ _ _ failed read.told.failed;
-      room = failed_room _ _ _ _ failed read.room.failed;
+      counts = record {
+        end = failed_end _ _ _ _ failed read.counts.end.failed;
+        room = failed_room _ _ _ _ failed read.counts.room.failed;
+      };
     }
 
 pub returns-then-filled-SIZE-clause-reads : goal.returns-then-filled-SIZE-clause-reads
@@ -80,8 +82,7 @@ returns-then-filled-SIZE-clause-reads g c =
       part = tt;
       cut = tt;
       cause = read.cause;
-      told = search (rules, read.told);
-      room = search (rules, read.room);
+      counts = record { end = search (rules, read.counts.end); room = search (rules, read.counts.room) };
     }
 
 pub returns-clause-reads : goal.returns-clause-reads
@@ -92,6 +93,5 @@ returns-clause-reads g c =
       part = tt;
       cut = tt;
       cause = record { later = read.cause.later; failed = tt; same = read.cause.same };
-      told = search (rules, read.told);
-      room = search (rules, read.room);
+      counts = record { end = search (rules, read.counts.end); room = search (rules, read.counts.room) };
     }

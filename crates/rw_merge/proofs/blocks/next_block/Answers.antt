@@ -7,6 +7,7 @@ use Rattle.rw_merge.proofs.blocks.next_block.Goals as goal
 pub returns-then-feed_at_hand-clause-asks : goal.returns-then-feed_at_hand-clause-asks
 returns-then-feed_at_hand-clause-asks g c =
     let fed = c.feed_at_hand.ensures in
+    let counts = fed.counts c.if-feed_at_hand.true in
     let (unit, size, consumed, stage_is, given_is) = fed.fed c.if-feed_at_hand.true in
     let whole : take 96 c.feed_at_hand.new.stage.bytes ≡ unit =
     ap (take 96) (ap (λ k. k.bytes) stage_is) ∙ take_all 96 unit (omega (arith, size)) in
@@ -20,17 +21,23 @@ returns-then-feed_at_hand-clause-asks g c =
       end = λ short. absurd (omega (arith, short));
       part = tt;
       cause = record { later = omega (arith, fed.faults); failed = tt; same = fed.faults };
-      told = record { ended = λ short. absurd (omega (arith, short)); goes_on = λ _. fed.ends; failed = tt };
-      filled = record {
-        full = λ _. fed.full c.if-feed_at_hand.true;
-        short = λ short. absurd (omega (arith, short));
-        failed = tt;
+      counts = record {
+        end = record {
+          ended = λ short. absurd (omega (arith, short));
+          goes_on = λ _. counts.untold;
+          failed = tt;
+        };
+        room = record {
+          full = λ _. counts.full.1 (omega arith);
+          short = λ short. absurd (omega (arith, short));
+          failed = tt;
+        };
       };
     }
 
 pub returns-clause-asks : goal.returns-clause-asks
 returns-clause-asks g c =
     let done = c.fill.ensures in
-    asks_as g.S.Source.left g.S.Source.ends g.S.Source.fills g.S.Source.faults _ _ _ c.fill.result 96
+    asks_as g.S.Source _ _ _ c.fill.result 96
     c.args.block.now c.fill.new.buf (c.feed_at_hand.ensures.none c.if-feed_at_hand.false).0 c.told-block
     (c.fill.auto.buf ∙ c.told-block) done.ok done.end done.reads

@@ -6,7 +6,7 @@ pub returns : goal.returns
 returns g c =
     let done = c.fill.ensures in (
       c.fill.new.buf,
-      asks_as g.S.Source.left g.S.Source.ends g.S.Source.fills g.S.Source.faults _ _ _ c.fill.result 1
+      asks_as g.S.Source _ _ _ c.fill.result 1
           (0 ∷ [])
           c.fill.new.buf refl refl c.fill.auto.buf done.ok done.end done.reads,
     )

@@ -1,5 +1,6 @@
 use Rattle.std.proofs.Common.{refl}
-use Rattle.cdg_io.specs.Change.{input, passed}
+use Rattle.cdg_io.specs.Change.{passed}
+use Rattle.cdg_io.specs.Reads.{input}
 use Rattle.cdg_checkpoint.proofs.Stopping.{refused, refused_not_accepted}
 use Rattle.cdg_checkpoint.proofs.OtherStops.{accepted_by, accepted_no_stop, accepted_not_refused, answer_still, no_less, other_stop, reads_on, reads_stopped, refused_no_second, refused_no_write, resumes_still, same_stop}
 use Rattle.cdg_checkpoint.specs.declared.stops.ResumeStop.TheVariants.{FirstFault}
@@ -66,13 +67,13 @@ returns-in-Err-clause-untouched g c = λ other. refl
 
 pub returns-in-Ok-clause-reads : goal.returns-in-Ok-clause-reads
 returns-in-Ok-clause-reads g c =
-    let first = input g.S.Source.left g.S.Source.ends c.args.saved.now c.accept.new.saved in
+    let first = input g.S.Source c.args.saved.now c.accept.new.saved in
     reads_on first c.show.result c.accept.new.self.file c.show.new.self.file c.show.ensures.file
     c.show.ensures.no_first c.in-Ok.ensures.reads
 
 pub returns-in-Err-clause-reads : goal.returns-in-Err-clause-reads
 returns-in-Err-clause-reads g c =
-    let first = input g.S.Source.left g.S.Source.ends c.args.saved.now c.accept.new.saved in
+    let first = input g.S.Source c.args.saved.now c.accept.new.saved in
     reads_stopped first c.in-Err.stop c.accept.new.self.file c.in-Err.ensures.reads
 
 pub returns-in-Ok-clause-faults : goal.returns-in-Ok-clause-faults

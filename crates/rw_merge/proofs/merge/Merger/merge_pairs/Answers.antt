@@ -192,7 +192,7 @@ returns-in-Err-put_all-clause-merges g c =
     let found =
     pair_found c.loop-block.self.first c.loop-block.self.second c.next_pair.new.one c.next_pair.new.other _
     _ _ _ c.merge.new.self.first c.merge.new.self.second c.merge.new.packs.bytes c.bytes.result.now
-    c.merge.new.packs.bad u_is v_is refl refl c.bytes.ensures.bytes
+    c.merge.new.packs.bad u_is v_is u_size v_size refl refl c.bytes.ensures.bytes
     c.merge.ensures.first c.merge.ensures.second c.merge.ensures.packs in
     record {
       taken = xs ++ pair.taken;
@@ -230,7 +230,8 @@ loop-block-preserved g c =
           let found =
           pair_found c.loop-block.self.first c.loop-block.self.second c.next_pair.new.one
           c.next_pair.new.other us vs _ _ c.if-block-lead_in.self.first c.if-block-lead_in.self.second
-          w.merge.new.packs.bytes w.bytes.result.now w.merge.new.packs.bad u_is v_is first_is second_is
+          w.merge.new.packs.bytes w.bytes.result.now w.merge.new.packs.bad u_is v_is read.0 read.1 first_is
+          second_is
           w.bytes.ensures.bytes
           w.merge.ensures.first w.merge.ensures.second w.merge.ensures.packs in
           let held = ap g.K.Sink.held w.out-is in

@@ -25,6 +25,7 @@ returns-in-Ok-clause-plays g c =
       answer = answered_done (unit_size form) _ c.played.result _ read.reads.answer;
       faults = done_told _ _ _ _ read.reads.read_fault.later read.write_fault.later _ _
           read.reads.read_fault.same read.write_fault.same;
+      ended = read.reads.ended;
     }
 
 pub returns-in-Err-clause-plays : goal.returns-in-Err-clause-plays
@@ -41,6 +42,7 @@ returns-in-Err-clause-plays g c =
       answer = checked_stop (unit_size form) _ _ _ c.play_stop.ensures read.reads.answer;
       faults = stop_told _ _ _ _ read.reads.read_fault.later read.write_fault.later _ _ c.play_stop.ensures
           read.reads.read_fault.rose read.reads.read_fault.same read.write_fault.rose read.write_fault.same;
+      ended = ends_stopped c.in-Err.stop c.play_stop.result _ _ c.play_stop.ensures read.reads.ended;
     }
 
 pub returns-in-Ok-clause-restores : goal.returns-in-Ok-clause-restores
@@ -55,10 +57,3 @@ returns-in-Err-clause-restores g c =
     let law = c.damaged_streams_give_packs.ensures in
     let plays = returns-in-Err-clause-plays g c in
     restores c.args.form c.args.lead_in _ _ _ _ _ plays.taken law.text law.bad plays.puts plays.answer
-
-pub returns-in-Ok-clause-ended : goal.returns-in-Ok-clause-ended
-returns-in-Ok-clause-ended g c = c.in-Ok.ensures.reads.ended
-
-pub returns-in-Err-clause-ended : goal.returns-in-Err-clause-ended
-returns-in-Err-clause-ended g c =
-    ends_stopped c.in-Err.stop c.play_stop.result _ _ c.play_stop.ensures c.in-Err.ensures.reads.ended

@@ -4,8 +4,8 @@ use Rattle.stream_stages.proofs.Told.{texts_told, unread}
 use Rattle.stream_stages.proofs.TextLists.{lists_done, lists_stop, listed_done, listed_stop}
 use Rattle.stream_stages.proofs.listings.TextLister.text_list.Goals as goal
 
-pub returns-in-Ok-clause-plays : goal.returns-in-Ok-clause-plays
-returns-in-Ok-clause-plays g c =
+pub returns-in-Ok : goal.returns-in-Ok
+returns-in-Ok g c =
     let (taken, w) = c.in-Ok.ensures.watches in
     let wrote = c.write_texts.ensures in
     let lists = lists_done c.args.form c.args.lead_in _ _ _ _ c.begin.new.self c.watch.new.stages.blocks taken
@@ -13,46 +13,45 @@ returns-in-Ok-clause-plays g c =
     c.saturating_sub.ensures wrote.writes in
     record {
       plays = record {
-        taken = taken;
-        puts = lists;
-        stops = stops_list c.watch.new.stages.blocks _ (g.K.Sink.held c.args.out.now)
-            (g.K.Sink.held c.write_texts.new.out) c.write_texts.result wrote.writes;
-        answer = listed_done c.args.form c.args.lead_in c.in-Ok.pumped _ _ _ _ _ c.begin.new.self
-            c.watch.new.stages.blocks taken _ w wrote.writes lists c.in-Ok.ensures.reads.answer;
-        faults = texts_told _ _ _ _ c.in-Ok.ensures.reads.read_fault.later wrote.write_fault.later
-            c.watch.new.stages.blocks _
-            (g.K.Sink.held c.args.out.now) (g.K.Sink.held c.write_texts.new.out) c.in-Ok.pumped
-            c.write_texts.result
-            wrote.writes c.in-Ok.ensures.reads.read_fault.same wrote.write_fault.rose wrote.write_fault.same;
+        plays = record {
+          taken = taken;
+          puts = lists;
+          stops = stops_list c.watch.new.stages.blocks _ (g.K.Sink.held c.args.out.now)
+              (g.K.Sink.held c.write_texts.new.out) c.write_texts.result wrote.writes;
+          answer = listed_done c.args.form c.args.lead_in c.in-Ok.pumped _ _ _ _ _ c.begin.new.self
+              c.watch.new.stages.blocks taken _ w wrote.writes lists c.in-Ok.ensures.reads.answer;
+          faults = texts_told _ _ _ _ c.in-Ok.ensures.reads.read_fault.later wrote.write_fault.later
+              c.watch.new.stages.blocks _
+              (g.K.Sink.held c.args.out.now) (g.K.Sink.held c.write_texts.new.out) c.in-Ok.pumped
+              c.write_texts.result
+              wrote.writes c.in-Ok.ensures.reads.read_fault.same wrote.write_fault.rose
+              wrote.write_fault.same;
+          ended = ends_texts c.watch.new.stages.blocks _ (g.K.Sink.held c.args.out.now)
+              (g.K.Sink.held c.write_texts.new.out) c.write_texts.result _ _ wrote.writes
+              c.in-Ok.ensures.reads.ended;
+        };
+        untouched = wrote.untouched;
       };
-      untouched = wrote.untouched;
     }
 
-pub returns-in-Err-clause-plays : goal.returns-in-Err-clause-plays
-returns-in-Err-clause-plays g c =
+pub returns-in-Err : goal.returns-in-Err
+returns-in-Err g c =
     let (taken, w) = c.in-Err.ensures.watches in
     record {
       plays = record {
-        taken = taken;
-        puts = lists_stop c.args.form c.args.lead_in _ _ (g.K.Sink.held c.args.out.now) c.begin.new.self
-            c.watch.new.stages.blocks taken c.in-Err.stop c.play_stop.result w c.play_stop.ensures;
-        stops = stops_unread c.in-Err.stop c.play_stop.result c.play_stop.ensures;
-        answer = listed_stop c.args.form c.args.lead_in c.in-Err.stop c.play_stop.result _ c.play_stop.ensures
-            c.in-Err.ensures.reads.answer;
-        faults = unread _ _ _ c.in-Err.ensures.reads.read_fault.later _ _ c.play_stop.ensures w.no_write
-            c.in-Err.ensures.reads.read_fault.rose c.in-Err.ensures.reads.read_fault.same;
+        plays = record {
+          taken = taken;
+          puts = lists_stop c.args.form c.args.lead_in _ _ (g.K.Sink.held c.args.out.now) c.begin.new.self
+              c.watch.new.stages.blocks taken c.in-Err.stop c.play_stop.result w c.play_stop.ensures;
+          stops = stops_unread c.in-Err.stop c.play_stop.result c.play_stop.ensures;
+          answer =
+              listed_stop c.args.form c.args.lead_in c.in-Err.stop c.play_stop.result _ c.play_stop.ensures
+              c.in-Err.ensures.reads.answer;
+          faults = unread _ _ _ c.in-Err.ensures.reads.read_fault.later _ _ c.play_stop.ensures w.no_write
+              c.in-Err.ensures.reads.read_fault.rose c.in-Err.ensures.reads.read_fault.same;
+          ended = ends_unread c.in-Err.stop c.play_stop.result _ _ c.play_stop.ensures w.no_write
+              c.in-Err.ensures.reads.ended;
+        };
+        untouched = λ other. refl;
       };
-      untouched = λ other. refl;
     }
-
-pub returns-in-Ok-clause-ended : goal.returns-in-Ok-clause-ended
-returns-in-Ok-clause-ended g c =
-    ends_texts c.watch.new.stages.blocks _ (g.K.Sink.held c.args.out.now)
-    (g.K.Sink.held c.write_texts.new.out) c.write_texts.result _ _ c.write_texts.ensures.writes
-    c.in-Ok.ensures.reads.ended
-
-pub returns-in-Err-clause-ended : goal.returns-in-Err-clause-ended
-returns-in-Err-clause-ended g c =
-    let (taken, w) = c.in-Err.ensures.watches in
-    ends_unread c.in-Err.stop c.play_stop.result _ _ c.play_stop.ensures w.no_write
-    c.in-Err.ensures.reads.ended

@@ -1,0 +1,29 @@
+-- How a source counts the ends that it told and its full answers.
+use Rattle.std.specs.Prelude.{◌≡◌, ℕ, Some, Result}
+use Rattle.cdg_io.specs.Causes.{Count, FillsRoom, TellsEnd}
+use Rattle.cdg_io.specs.Change.{Change, change}
+use Rattle.cdg_io.specs.Pump.{RoseBy}
+use Rattle.cdg_io.specs.declared.ends.Tally.{Tally}
+
+-- both counts of a source, before and after a call
+pub record Counts : Type 0 where
+  pub ends : Change Count
+  pub fills : Change Count
+
+-- what is seen of them
+abbrev pub counts : {S : Type 0} → (S → Count) → (S → Count) → S → S → Counts
+counts ends fills before after = record { ends = change ends before after; fills = change fills before after }
+
+-- the same of a source that keeps them
+abbrev pub tallied : Tally → Tally → Counts
+tallied = counts (λ tally. Some tally.ends) (λ tally. Some tally.fills)
+
+-- A read told the end where it gave fewer bytes than `least`, and was full where it gave as many as `most`.
+pub record TellsRead {E : Type 0} (least most : ℕ) (counts : Counts) (result : Result ℕ E) : Type 0 where
+  pub end : TellsEnd least counts.ends.before counts.ends.after result
+  pub room : FillsRoom most counts.fills.before counts.fills.after result
+
+-- So many reads were full, and no end was told.
+pub record GivesFull (reads : ℕ) (counts : Counts) : Type 0 where
+  pub full : RoseBy reads counts.fills.before counts.fills.after
+  pub untold : counts.ends.after ≡ counts.ends.before
