@@ -1,14 +1,15 @@
 // The script and the sheet of a trial, read from their texts.
-ghost use Rattle.std.specs.Prelude.{◌≡◌, ◌≤◌, IfOk, IfErr};
+ghost use Rattle.std.specs.Prelude.{◌≡◌, ◌<◌, ◌≤◌, [], length, IfOk, IfErr};
 ghost use Rattle.cdg_io.specs.Causes.{HasCause};
 ghost use Rattle.cdg_workload.specs.Script.{generated_script, most_generated};
 ghost use Rattle.cdg_workload.specs.Generated.{generated_drawings};
 ghost use Rattle.stream_trial.specs.TrialSheet.{trial_sheet};
 ghost use Rattle.stream_trial.specs.declared.trying.TrialStop.TheVariants.{NoMemory};
 
+use crate::script_text::ScriptText;
 use crate::trial_sheet_is_read;
 use crate::trying::TrialStop;
-use cdg_io::{Failed, MemSink};
+use cdg_io::Failed;
 use cdg_workload::{generated_scripts_are_read, generated_scripts_are_short, write_script};
 use cue_sheet::{CueStop, Sheet};
 use picture_script::{Script, ScriptStop};
@@ -40,7 +41,9 @@ pub(crate) fn parse_script(
     // For the grammar, which refuses no generated script, and for the length of its text.
     generated_scripts_are_read();
     generated_scripts_are_short();
-    let text = write_text(alloc, lacks, seed, pictures)?;
+    let room = COLOURS_BYTES + PICTURE_BYTES * pictures as usize + 1;
+    let mut text = ScriptText::start(alloc, lacks, room)?;
+    write_text(seed, pictures, &mut text);
     match Script::parse(alloc, text.bytes()) {
         Ok(script) => Ok(script),
         Err(ScriptStop::NoMemory) => {
@@ -51,29 +54,16 @@ pub(crate) fn parse_script(
     }
 }
 
-// The text of the generated script of a seed, in room for the longest one.
-fn write_text(
-    alloc: Global,
-    lacks: &mut NoMemoryCount,
-    seed: u64,
-    pictures: u32,
-) -> Result<MemSink, AllocError>
-    requires { (1 ≤ pictures) × (pictures ≤ most_generated) }
-    ensures text { IfOk result (λ text. text.held ≡ generated_script seed pictures) }
-    ensures counted { HasCause lacks.old lacks.new result }
+// Writes the generated script of a seed to an empty text. There is more room than the script takes, so no write fails.
+fn write_text(seed: u64, pictures: u32, text: &mut ScriptText)
+    requires few { (1 ≤ pictures) × (pictures ≤ most_generated) }
+    requires empty { text.old.sink.held ≡ [] }
+    requires room { length (generated_script seed pictures) < text.old.sink.room }
+    ensures { text.new.sink.held ≡ generated_script seed pictures }
 {
-    let room = COLOURS_BYTES + PICTURE_BYTES * pictures as usize;
-    let text = MemSink::new(alloc, room, Vec::new(alloc), Vec::new(alloc));
-    lacks.note_answer(&text);
-    let mut text = text?;
-    match write_script(seed, pictures, &mut text) {
-        Ok(()) => Ok(text),
-        // There is room for the longest script.
-        Err(Failed) => {
-            drop(text);
-            lacks.note(&AllocError);
-            Err(AllocError)
-        }
+    match write_script(seed, pictures, text) {
+        Ok(()) => {}
+        Err(Failed) => unreachable!(),
     }
 }
 

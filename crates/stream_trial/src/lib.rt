@@ -11,6 +11,7 @@ mod replay;
 mod run;
 mod schedules;
 mod scratches;
+mod script_text;
 mod streams;
 mod trying;
 

@@ -1,0 +1,49 @@
+// The text of a script, which is written in memory.
+ghost use Rattle.std.specs.Prelude.{◌≡◌, ◌<◌, ◌∷◌, [], Some, length, IfOk};
+ghost use Rattle.cdg_io.specs.Causes.{HasCause};
+
+use cdg_io::{Failed, MemSink, Sink};
+use std::alloc::{AllocError, Global};
+use subcode_author::NoMemoryCount;
+
+/// A text in room that was taken before. A write fails only if the room is full.
+#[derive(Drop)]
+pub(crate) struct ScriptText {
+    sink: MemSink,
+    ghost steady: { sink.fails ≡ [] },
+    ghost full: { 0 < sink.faults → length sink.held ≡ sink.room },
+}
+
+impl ScriptText {
+    /// An empty text with room for so many bytes.
+    pub(crate) fn start(
+        alloc: Global,
+        lacks: &mut NoMemoryCount,
+        room: usize,
+    ) -> Result<ScriptText, AllocError>
+        ensures empty { IfOk result (λ text. text.sink.held ≡ []) }
+        ensures room { IfOk result (λ text. text.sink.room ≡ room) }
+        ensures counted { HasCause lacks.old lacks.new result }
+    {
+        let sink = MemSink::new(alloc, room, Vec::new(alloc), Vec::new(alloc));
+        lacks.note_answer(&sink);
+        Ok(ScriptText { sink: sink? })
+    }
+
+    pub(crate) fn bytes(&self) -> &[u8]
+        ensures { result.now ≡ self.now.sink.held }
+    {
+        self.sink.bytes()
+    }
+}
+
+impl Sink for ScriptText {
+    // How much room there is, which stays, and then the text.
+    ghost held = { λ s. Some (s.sink.room ∷ s.sink.held) };
+
+    ghost faults = { λ s. s.sink.faults };
+
+    fn put(&mut self, piece: &[u8]) -> Result<usize, Failed> {
+        self.sink.put(piece)
+    }
+}
