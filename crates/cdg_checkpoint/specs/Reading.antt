@@ -7,7 +7,8 @@ use Rattle.cdg_io.specs.declared.ends.Source.{Ghosts as Source}
 use Rattle.cdg_checkpoint.specs.Table.{file_size}
 
 -- The end of an input that was read as a file was told once, and only where it has no more bytes than a file.
-pub record TellsFileEnd {T E : Type 0} (file : List ℕ) (before now : Count) (result : Result T E) : Type 0 where
+pub record TellsFileEnd {T E : Type 0} (file : List ℕ) (before now : Count)
+    (result : Result T E) : Type 0 where
   pub told : OnOk result (length file ≤ file_size → RoseOnce before now)
   pub goes_on : OnOk result (file_size < length file → now ≡ before)
   pub not_told : OnErr result (now ≡ before)

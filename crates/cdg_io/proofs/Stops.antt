@@ -8,7 +8,7 @@ use Rattle.std.proofs.lemmas.Slice.{take-put_mid_below}
 use Rattle.std.specs.Io.KnownBytes.{Consumes, IsAtEnd}
 use Rattle.std.proofs.KnownBytes.{Consumes-trans}
 use Rattle.cdg_io.specs.Causes.{Count, FillsRoom, HasCause, Rose, RoseOnce, TellsEnd, TellsFault}
-use Rattle.cdg_io.specs.Counts.{TellsRead, tallied}
+use Rattle.cdg_io.specs.Counts.{TellsRead, kept_counts}
 use Rattle.cdg_io.specs.declared.ends.Tally.{Tally}
 
 -- ---- faults
@@ -61,7 +61,7 @@ failed_room (Err fault) room before now err same = record { full = tt; short = t
 
 -- nothing is counted where a read failed
 pub nothing_read : {E : Type 0} (fault : E) (room : ℕ) (before now : Tally) → now ≡ before
-    → TellsRead {E = E} 1 room (tallied before now) (Err fault)
+    → TellsRead {E = E} 1 room (kept_counts before now) (Err fault)
 nothing_read fault room before now same = record {
   end = record { ended = tt; goes_on = tt; failed = ap (λ (t : Tally). Some t.ends) same };
   room = record { full = tt; short = tt; failed = ap (λ (t : Tally). Some t.fills) same };
@@ -69,11 +69,11 @@ nothing_read fault room before now same = record {
 
 -- a read is counted from a tally on, and with the room that there was
 pub read_from : {E : Type 0} (count room room' : ℕ) (before mid now : Tally) → mid ≡ before → room ≡ room'
-    → TellsRead {E = E} 1 room (tallied mid now) (Ok count)
-    → TellsRead {E = E} 1 room' (tallied before now) (Ok count)
+    → TellsRead {E = E} 1 room (kept_counts mid now) (Ok count)
+    → TellsRead {E = E} 1 room' (kept_counts before now) (Ok count)
 read_from {E} count room room' before mid now same size read =
-    subst (λ (t : Tally). TellsRead {E = E} 1 room' (tallied t now) (Ok count)) same
-    (subst (λ (k : ℕ). TellsRead {E = E} 1 k (tallied mid now) (Ok count)) size read)
+    subst (λ (t : Tally). TellsRead {E = E} 1 room' (kept_counts t now) (Ok count)) same
+    (subst (λ (k : ℕ). TellsRead {E = E} 1 k (kept_counts mid now) (Ok count)) size read)
 
 -- ---- counts that stayed until a moment
 

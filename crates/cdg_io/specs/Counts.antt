@@ -15,8 +15,8 @@ abbrev pub counts : {S : Type 0} → (S → Count) → (S → Count) → S → S
 counts ends fills before after = record { ends = change ends before after; fills = change fills before after }
 
 -- the same of a source that keeps them
-abbrev pub tallied : Tally → Tally → Counts
-tallied = counts (λ tally. Some tally.ends) (λ tally. Some tally.fills)
+abbrev pub kept_counts : Tally → Tally → Counts
+kept_counts = counts (λ tally. Some tally.ends) (λ tally. Some tally.fills)
 
 -- A read told the end where it gave fewer bytes than `least`, and was full where it gave as many as `most`.
 pub record TellsRead {E : Type 0} (least most : ℕ) (counts : Counts) (result : Result ℕ E) : Type 0 where

@@ -7,7 +7,7 @@ ghost use Rattle.std.specs.declared.alloc.Global.{Global};
 ghost use Rattle.std.specs.declared.io.buffered.BufReader.{BufReader};
 ghost use Rattle.cdg_io.specs.Causes.{Counted, CountedReader, HasCause, counted_after, nothing_told};
 ghost use Rattle.cdg_io.specs.Change.{from_to};
-ghost use Rattle.cdg_io.specs.Counts.{GivesFull, TellsRead, tallied};
+ghost use Rattle.cdg_io.specs.Counts.{GivesFull, TellsRead, kept_counts};
 ghost use Rattle.cdg_io.specs.Moves.{TakesSome};
 ghost use Rattle.cdg_io.specs.Pump.{Works};
 ghost use Rattle.cdg_io.specs.Waiting.{Buffered, bytes_with_waiting};
@@ -60,7 +60,7 @@ impl<R: Read> Source for BufferedSource<R> {
         ensures bytes { ReadConsumes (reader_remaining R.remaining self.old.inner)
             (reader_remaining R.remaining self.new.inner) result buf.new }
         ensures cause { HasCause self.old.faults self.new.faults result }
-        ensures counts { TellsRead 1 (length buf.old) (tallied self.old.tally self.new.tally) result }
+        ensures counts { TellsRead 1 (length buf.old) (kept_counts self.old.tally self.new.tally) result }
         ensures counted { self.new.faults ≡ counted_after result self.old.faults }
     {
         read_counted(&mut self.reader, &mut self.faults, &mut self.tally, buf)
@@ -74,7 +74,7 @@ impl<R: Read> Source for BufferedSource<R> {
             × Consumes (reader_remaining R.remaining self.old.inner)
             (reader_remaining R.remaining self.new.inner) unit
             × (stage.new ≡ G.next stage.old unit) × (given.new ≡ G.gives stage.old unit) }
-        ensures counts { result ≡ true → GivesFull 1 (tallied self.old.tally self.new.tally) }
+        ensures counts { result ≡ true → GivesFull 1 (kept_counts self.old.tally self.new.tally) }
         ensures faults { self.new.faults ≡ self.old.faults }
         ensures none { result ≡ false
             → (self.new ≡ self.old) × (stage.new ≡ stage.old) × (given.new ≡ given.old) }
@@ -111,7 +111,7 @@ impl<R: Read> Source for BufferedSource<R> {
         ensures most { result.units ≤ most }
         ensures within { (start ≤ result.end) × (result.end ≤ length buffer.new) }
         ensures behind { drop result.end buffer.new ≡ drop result.end buffer.old }
-        ensures counts { GivesFull result.units (tallied self.old.tally self.new.tally) }
+        ensures counts { GivesFull result.units (kept_counts self.old.tally self.new.tally) }
         ensures faults { self.new.faults ≡ self.old.faults }
         ensures unread { reader_inner self.new.inner ≡ reader_inner self.old.inner }
     {

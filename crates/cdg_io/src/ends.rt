@@ -8,7 +8,7 @@ ghost use Rattle.cdg_io.specs.declared.ends.Outcome.TheVariants.{Fault, Interrup
 ghost use Rattle.std.specs.IoError.{error_kind};
 ghost use Rattle.std.specs.declared.io.Error.{Error};
 ghost use Rattle.cdg_io.specs.Change.{from_to, moved};
-ghost use Rattle.cdg_io.specs.Counts.{GivesFull, TellsRead, counts, tallied};
+ghost use Rattle.cdg_io.specs.Counts.{GivesFull, TellsRead, counts, kept_counts};
 ghost use Rattle.cdg_io.specs.Moves.{TakesSome};
 ghost use Rattle.cdg_io.specs.Pump.{Works};
 
@@ -165,7 +165,7 @@ impl Tally {
     /// Counts an answer of so many bytes, of the most that there was room for.
     pub fn add(&mut self, count: usize, room: usize)
         requires { 0 < room }
-        ensures { TellsRead {E = Failed} 1 room (tallied self.old self.new) (Ok count) }
+        ensures { TellsRead {E = Failed} 1 room (kept_counts self.old self.new) (Ok count) }
     {
         if count == 0 {
             self.ends = self.ends.saturating_add(1);
@@ -177,7 +177,7 @@ impl Tally {
     /// Counts so many answers that gave all that there was room for.
     #[inline]
     pub fn add_full(&mut self, answers: u32)
-        ensures { GivesFull answers (tallied self.old self.new) }
+        ensures { GivesFull answers (kept_counts self.old self.new) }
     {
         self.fills = self.fills.saturating_add(u64::from(answers));
     }
@@ -196,7 +196,7 @@ pub(crate) fn read_counted<R: Read>(
     ensures bytes { ReadConsumes (R.remaining reader.old) (R.remaining reader.new) result buf.new }
     ensures cause { HasCause faults.old faults.new result }
     ensures counted { faults.new ≡ counted_after result faults.old }
-    ensures counts { TellsRead 1 (length buf.old) (tallied tally.old tally.new) result }
+    ensures counts { TellsRead 1 (length buf.old) (kept_counts tally.old tally.new) result }
 {
     match reader.read(buf) {
         Ok(count) => {
@@ -251,7 +251,7 @@ impl<R: Read> Source for ReadSource<R> {
         ensures bytes { ReadConsumes (R.remaining self.old.inner) (R.remaining self.new.inner) result
             buf.new }
         ensures cause { HasCause self.old.faults self.new.faults result }
-        ensures counts { TellsRead 1 (length buf.old) (tallied self.old.tally self.new.tally) result }
+        ensures counts { TellsRead 1 (length buf.old) (kept_counts self.old.tally self.new.tally) result }
         ensures counted { self.new.faults ≡ counted_after result self.old.faults }
     {
         read_counted(&mut self.reader, &mut self.faults, &mut self.tally, buf)

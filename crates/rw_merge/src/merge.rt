@@ -159,7 +159,7 @@ impl Merger {
             full_reads (read_input S.Source first.old first.new)
             (read_input T.Source second.old second.new) }
         ensures answer { IsAnswerTo lead_in result (S.left first.old) (T.left second.old) }
-        ensures ends { FirstIsAtEnd result (S.left first.new) × EndsSecond result (T.left second.new) }
+        ensures at_ends { FirstIsAtEnd result (S.left first.new) × EndsSecond result (T.left second.new) }
         ensures faults { CountsFaults result (change S.faults first.old first.new)
             (change T.faults second.old second.new) (change K.faults out.old out.new) }
     {

@@ -289,8 +289,8 @@ returns-in-Ok-false-clause-faults g c =
       (c.in-Ok-false.ensures.no_write_fault ∙ c.loop-block.invariant.no_write_fault),
     )
 
-pub returns-in-Ok-false-clause-ends : goal.returns-in-Ok-false-clause-ends
-returns-in-Ok-false-clause-ends g c =
+pub returns-in-Ok-false-clause-at_ends : goal.returns-in-Ok-false-clause-at_ends
+returns-in-Ok-false-clause-at_ends g c =
     let pair = rw c.in-Ok-false.field-0-test at c.in-Ok-false.ensures.pair in
     (pair.said.0.2, pair.said.0.3)
 
@@ -300,8 +300,8 @@ returns-in-Err-clause-faults g c =
     c.loop-block.invariant.no_second_fault
     (c.in-Err.ensures.no_write_fault ∙ c.loop-block.invariant.no_write_fault) c.in-Err.ensures.faults
 
-pub returns-in-Err-clause-ends : goal.returns-in-Err-clause-ends
-returns-in-Err-clause-ends g c =
+pub returns-in-Err-clause-at_ends : goal.returns-in-Err-clause-at_ends
+returns-in-Err-clause-at_ends g c =
     let read = c.in-Err.ensures.pair.said.0 in (
       first_at_end c.loop-block.block _ _ c.in-Err.stop _ read,
       second_at_end c.loop-block.block _ _ c.in-Err.stop _ read,
@@ -315,8 +315,8 @@ returns-in-Ok-nothing_follows-clause-faults g c =
       (c.pass_waiting.ensures.no_fault ∙ c.loop-block.invariant.no_write_fault),
     )
 
-pub returns-in-Ok-nothing_follows-clause-ends : goal.returns-in-Ok-nothing_follows-clause-ends
-returns-in-Ok-nothing_follows-clause-ends g c =
+pub returns-in-Ok-nothing_follows-clause-at_ends : goal.returns-in-Ok-nothing_follows-clause-at_ends
+returns-in-Ok-nothing_follows-clause-at_ends g c =
     let read = c.in-Ok-nothing_follows.ensures.end.said in
     (read.2, read.3)
 
@@ -327,8 +327,8 @@ returns-in-Err-nothing_follows-clause-faults g c =
     (c.pass_waiting.ensures.no_fault ∙ c.loop-block.invariant.no_write_fault)
     c.in-Err-nothing_follows.ensures.faults
 
-pub returns-in-Err-nothing_follows-clause-ends : goal.returns-in-Err-nothing_follows-clause-ends
-returns-in-Err-nothing_follows-clause-ends g c =
+pub returns-in-Err-nothing_follows-clause-at_ends : goal.returns-in-Err-nothing_follows-clause-at_ends
+returns-in-Err-nothing_follows-clause-at_ends g c =
     let read = c.in-Err-nothing_follows.ensures.end.said in (
       first_at_end_after _ _ _ c.in-Err-nothing_follows.stop read,
       second_at_end_after _ _ _ c.in-Err-nothing_follows.stop read,
@@ -346,8 +346,8 @@ returns-in-Err-put_all-clause-faults g c =
       ),
     )
 
-pub returns-in-Err-put_all-clause-ends : goal.returns-in-Err-put_all-clause-ends
-returns-in-Err-put_all-clause-ends g c = (tt, tt)
+pub returns-in-Err-put_all-clause-at_ends : goal.returns-in-Err-put_all-clause-at_ends
+returns-in-Err-put_all-clause-at_ends g c = (tt, tt)
 
 pub returns-in-Err-put_all-clause-answer : goal.returns-in-Err-put_all-clause-answer
 returns-in-Err-put_all-clause-answer g c = write_answer c.args.lead_in _ _

@@ -7,7 +7,7 @@ returns-clause-restores g c =
     let done = c.merge_pairs.ensures in
     let all = done.merges in
     restored c.two_readings_give_packs.ensures.text c.args.lead_in _ _ _ _ _ _ c.merge_pairs.result all.taken
-    all.other_taken all.took all.other_took all.said done.ends.0 done.ends.1 done.answer
+    all.other_taken all.took all.other_took all.said done.at_ends.0 done.at_ends.1 done.answer
 
 pub returns-clause-repairs : goal.returns-clause-repairs
 returns-clause-repairs g c =
@@ -15,13 +15,13 @@ returns-clause-repairs g c =
     let all = done.merges in
     repaired c.two_readings_give_packs.ensures.damage c.args.lead_in _ _ _ _ c.merge_pairs.result
     (restored c.two_readings_give_packs.ensures.text c.args.lead_in _ _ _ _ _ _ c.merge_pairs.result all.taken
-    all.other_taken all.took all.other_took all.said done.ends.0 done.ends.1 done.answer)
+    all.other_taken all.took all.other_took all.said done.at_ends.0 done.at_ends.1 done.answer)
 
 pub returns-clause-first_end : goal.returns-clause-first_end
-returns-clause-first_end g c = c.merge_pairs.ensures.ends.0
+returns-clause-first_end g c = c.merge_pairs.ensures.at_ends.0
 
 pub returns-clause-second_end : goal.returns-clause-second_end
-returns-clause-second_end g c = c.merge_pairs.ensures.ends.1
+returns-clause-second_end g c = c.merge_pairs.ensures.at_ends.1
 
 pub returns-clause-first_fault : goal.returns-clause-first_fault
 returns-clause-first_fault g c = record {
