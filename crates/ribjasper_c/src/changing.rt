@@ -1,13 +1,13 @@
 // Many blocks or packs in one call, and what of the screen may have changed.
 ghost use Rattle.std.specs.Prelude.{◌≡◌, ◌++◌, ◌∷◌, [], ◌&&◌, nat_le, if◌then◌else◌, List, ℕ, map, reverse, pos, negsuc};
 ghost use Rattle.cdg_io.specs.Run.{run_state};
-ghost use Rattle.cdg_instructions.specs.declared.instr.Instr.{Instr};
 ghost use Rattle.cdg_screen.specs.Standing.{IsWholeStanding, Standing, standing_after};
 ghost use Rattle.live_player.specs.Lives.{Given, instruction_of, standing_on};
 ghost use Rattle.live_player.specs.Lives.Given.{Drawn, Fed};
 ghost use Rattle.raw_subcode.specs.declared.form.Form.{Form};
 ghost use Rattle.ribjasper_c.specs.Handles.{IsPlaying, PlayersGo};
 ghost use Rattle.screen_changes.specs.Changes.{changes_on, sees, watch_from, AreDrawnFor, KeepsUntold};
+ghost use Rattle.screen_changes.specs.Taken.{instructions_from, DrawsPacks, TakesBlocks};
 
 use crate::Playing;
 use crate::answers::{DONE, NOT_DONE};
@@ -26,9 +26,13 @@ pub extern "C" fn ribjasper_player_feed_all(
         → IsPlaying form lead_in given player.old.handle.players
         → IsPlaying form lead_in (map Fed (reverse blocks.now) ++ given) player.new.handle.players }
     ensures told { result ≡ pos 0 → PlayersGo player.old.handle.players player.new.handle.players
-        (λ before after. (instrs : List Instr) × (change.new ≡ changes_on (standing_on before) instrs)
+        (λ before after. let instrs = instructions_from before.words blocks.now in
+        (change.new ≡ changes_on (standing_on before) instrs)
         × (standing_on after ≡ standing_after (standing_on before) instrs)
         × AreDrawnFor blocks.now before instrs) }
+    // Whatever it was given before, also where it came to the checkpoint of a file.
+    ensures takes { result ≡ pos 0
+        → PlayersGo player.old.handle.players player.new.handle.players (TakesBlocks blocks.now) }
     ensures keeps { result ≡ pos 0 → PlayersGo player.old.handle.players player.new.handle.players
         (λ before after. KeepsUntold change.new (standing_on before) (standing_on after)) }
     ensures answer { result ≡ (if player.old.is_open then pos 0 else negsuc 0) }
@@ -56,8 +60,10 @@ pub extern "C" fn ribjasper_player_draw_all(
         → IsPlaying form lead_in given player.old.handle.players
         → IsPlaying form lead_in (map Drawn (reverse packs.now) ++ given) player.new.handle.players }
     ensures told { result ≡ pos 0 → PlayersGo player.old.handle.players player.new.handle.players
-        (λ before after. (change.new ≡ changes_on (standing_on before) (map instruction_of packs.now))
-        × (standing_on after ≡ standing_after (standing_on before) (map instruction_of packs.now))) }
+        (λ before after. change.new ≡ changes_on (standing_on before) (map instruction_of packs.now)) }
+    // Whatever it was given before, also where it came to the checkpoint of a file.
+    ensures draws { result ≡ pos 0
+        → PlayersGo player.old.handle.players player.new.handle.players (DrawsPacks packs.now) }
     ensures keeps { result ≡ pos 0 → PlayersGo player.old.handle.players player.new.handle.players
         (λ before after. KeepsUntold change.new (standing_on before) (standing_on after)) }
     ensures answer { result ≡ (if player.old.is_open then pos 0 else negsuc 0) }

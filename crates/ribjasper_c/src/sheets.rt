@@ -97,6 +97,8 @@ pub extern "C" fn ribjasper_sheet_text(
         × IsTextOf (text_kind kind) place sheet.now out.old out.new bytes.new }
     ensures usage { result ≡ pos 2 → (2 < kind) ⊎ (most_text_bytes < length sheet.now)
         ⊎ IsTextStop (text_kind kind) place sheet.now (length out.old) TextStop.NoTrack }
+    // A number that is no kind is refused before all else, and then a sheet that is too long.
+    ensures first { (2 < kind) ⊎ (most_text_bytes < length sheet.now) → result ≡ pos 2 }
     ensures refused { result ≡ pos 3 → (line : ℕ) × (why : CueWhy) × (read_cue sheet.now ≡ Err (line, why)) }
     ensures small { result ≡ pos 6
         → IsTextStop (text_kind kind) place sheet.now (length out.old) (TextStop.NoRoom bytes.new) }
@@ -124,6 +126,8 @@ fn text_counted(
         × IsTextOf (text_kind kind) place sheet.now out.old out.new bytes.new }
     ensures usage { result ≡ pos 2 → (2 < kind) ⊎ (most_text_bytes < length sheet.now)
         ⊎ IsTextStop (text_kind kind) place sheet.now (length out.old) TextStop.NoTrack }
+    // A number that is no kind is refused before all else, and then a sheet that is too long.
+    ensures first { (2 < kind) ⊎ (most_text_bytes < length sheet.now) → result ≡ pos 2 }
     ensures refused { result ≡ pos 3 → (line : ℕ) × (why : CueWhy) × (read_cue sheet.now ≡ Err (line, why)) }
     ensures small { result ≡ pos 6
         → IsTextStop (text_kind kind) place sheet.now (length out.old) (TextStop.NoRoom bytes.new) }
