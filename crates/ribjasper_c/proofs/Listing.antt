@@ -32,19 +32,6 @@ passed_on NoSize answer e = ap (λ (z : ℤ). to_z w32 (of_z w32 z)) e
 passed_on (Malformed seq byte) answer e = ap (λ (z : ℤ). to_z w32 (of_z w32 z)) e
 passed_on NoMemory answer e = ap (λ (z : ℤ). to_z w32 (of_z w32 z)) e
 
--- and so does each answer of `ribjasper_texts`
-pub stays : (answer : ℤ) → (answer ≡ pos 0) ⊎ (answer ≡ pos 2) ⊎ (answer ≡ pos 3) ⊎ (answer ≡ pos 6)
-    ⊎ (answer ≡ pos 7) ⊎ (answer ≡ pos 8) ⊎ (answer ≡ pos 9) ⊎ (answer ≡ pos 10)
-    → to_z w32 (of_z w32 answer) ≡ answer
-stays answer (inl e) = ap (λ (z : ℤ). to_z w32 (of_z w32 z)) e ∙ sym e
-stays answer (inr (inl e)) = ap (λ (z : ℤ). to_z w32 (of_z w32 z)) e ∙ sym e
-stays answer (inr (inr (inl e))) = ap (λ (z : ℤ). to_z w32 (of_z w32 z)) e ∙ sym e
-stays answer (inr (inr (inr (inl e)))) = ap (λ (z : ℤ). to_z w32 (of_z w32 z)) e ∙ sym e
-stays answer (inr (inr (inr (inr (inl e))))) = ap (λ (z : ℤ). to_z w32 (of_z w32 z)) e ∙ sym e
-stays answer (inr (inr (inr (inr (inr (inl e)))))) = ap (λ (z : ℤ). to_z w32 (of_z w32 z)) e ∙ sym e
-stays answer (inr (inr (inr (inr (inr (inr (inl e))))))) = ap (λ (z : ℤ). to_z w32 (of_z w32 z)) e ∙ sym e
-stays answer (inr (inr (inr (inr (inr (inr (inr e))))))) = ap (λ (z : ℤ). to_z w32 (of_z w32 z)) e ∙ sym e
-
 -- memory is short, or the fault is that of the packs
 abbrev IsFaultOrShort : TextFault → Result Texts TextFault → Type 0
 IsFaultOrShort fault texts = (fault ≡ NoMemory) ⊎ (texts ≡ Err fault)

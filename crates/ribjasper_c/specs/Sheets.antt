@@ -1,8 +1,53 @@
--- Kinds of texts as numbers.
-use Rattle.std.specs.Prelude.{ℕ, ◌==◌, if◌then◌else◌}
+-- What a cue sheet says, and kinds of its texts as numbers.
+use Rattle.std.specs.Prelude.{◌≡◌, ◌≢◌, ◌<◌, ◌≤◌, ◌⊎◌, ◌↔◌, ℕ, ℤ, pos, ◌==◌, if◌then◌else◌, List, length, Err}
+use Rattle.text_lines.specs.Text.{most_text_bytes}
+use Rattle.cue_sheet.specs.CueSheet.{CueSheet}
+use Rattle.cue_sheet.specs.Grammar.{read_cue}
 use Rattle.cue_sheet.specs.declared.fault.CueText.{CueText}
 use Rattle.cue_sheet.specs.declared.fault.CueText.TheVariants.{Title, Performer, Songwriter}
+use Rattle.cue_sheet.specs.declared.fault.CueWhy.{CueWhy}
+use Rattle.disc_plan.specs.SheetRows.{told_refusal, AreRowsOf, IsRowsStop, IsTextOf, IsTextOfSheet, IsTextStop}
+use Rattle.disc_plan.specs.declared.index_rows.SheetRow.{SheetRow}
+use Rattle.disc_plan.specs.declared.stops.SheetStop.TheVariants.{NoRoom}
+use Rattle.disc_plan.specs.declared.stops.TextStop.TheVariants.{NoTrack, NoRoom as no_room_for}
+use Rattle.disc_plan.specs.declared.told.ToldSheet.{ToldSheet}
 
 -- the kind of texts that a number means: 0 titles, 1 performers, 2 songwriters
 abbrev pub text_kind : ℕ → CueText
 text_kind n = if n == 1 then Performer else if n == 2 then Songwriter else Title
+
+-- the answers to a cue sheet: done, too long or not there, refused, too little room, no memory
+abbrev pub IsSheetAnswer : ℤ → Type 0
+IsSheetAnswer result = (result ≡ pos 0) ⊎ (result ≡ pos 2) ⊎ (result ≡ pos 3) ⊎ (result ≡ pos 6)
+    ⊎ (result ≡ pos 7)
+
+-- The rows of the index lines of a sheet stand at the front of some rows, and what is told of the sheet is true, or it is
+-- told why there are none.
+pub record WritesRowsOfSheet (sheet : List ℕ) (old_rows new_rows : List SheetRow)
+    (old_told new_told : ToldSheet) (result : ℤ) : Type 0 where
+  pub rows : result ≡ pos 0 → AreRowsOf sheet old_rows new_rows new_told
+  pub long : (result ≡ pos 2) ↔ (most_text_bytes < length sheet)
+  pub refused : result ≡ pos 3 → (line : ℕ) × (why : CueWhy)
+      × (read_cue sheet ≡ Err (line, why)) × (new_told ≡ told_refusal line why)
+  pub small : result ≡ pos 6 → IsRowsStop sheet (length old_rows) (NoRoom new_told)
+  -- want of memory is told only of a sheet
+  pub memory : result ≡ pos 7 → (read : CueSheet) × IsTextOfSheet sheet read
+  pub answer : IsSheetAnswer result
+  pub untouched : result ≢ pos 0 → new_rows ≡ old_rows
+  pub same : (result ≡ pos 2) ⊎ (result ≡ pos 7) → new_told ≡ old_told
+
+-- A text of a sheet stands at the front of some bytes, and it is told how many it has, or why it is not there.
+pub record WritesTextOfSheet (sheet : List ℕ) (kind place : ℕ) (old new : List ℕ)
+    (old_count new_count : ℕ) (result : ℤ) : Type 0 where
+  pub text : result ≡ pos 0 → (kind ≤ 2) × IsTextOf (text_kind kind) place sheet old new new_count
+  pub usage : result ≡ pos 2 → (2 < kind) ⊎ (most_text_bytes < length sheet)
+      ⊎ IsTextStop (text_kind kind) place sheet (length old) NoTrack
+  -- a number that is no kind is refused before all else, and then a sheet that is too long
+  pub first : (2 < kind) ⊎ (most_text_bytes < length sheet) → result ≡ pos 2
+  pub refused : result ≡ pos 3 → (line : ℕ) × (why : CueWhy) × (read_cue sheet ≡ Err (line, why))
+  pub small : result ≡ pos 6
+      → IsTextStop (text_kind kind) place sheet (length old) (no_room_for new_count)
+  pub memory : result ≡ pos 7 → (kind ≤ 2) × ((read : CueSheet) × IsTextOfSheet sheet read)
+  pub answer : IsSheetAnswer result
+  pub untouched : result ≢ pos 0 → new ≡ old
+  pub same : result ≢ pos 0 → result ≢ pos 6 → new_count ≡ old_count

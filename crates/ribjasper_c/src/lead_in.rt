@@ -1,5 +1,5 @@
 // The packs and the texts of a lead-in.
-ghost use Rattle.std.specs.Prelude.{◌≡◌, ◌≢◌, ◌<◌, ◌≤◌, ◌⊎◌, ◌↔◌, ◌++◌, ◌+◌, ◌*◌, List, ℕ, IsOk, IsTrue, IfOk, IfErr, Ok, Some, pos, length, take, drop};
+ghost use Rattle.std.specs.Prelude.{◌≡◌, ◌≢◌, ◌<◌, ◌≤◌, ◌↔◌, ◌++◌, ◌+◌, ◌*◌, IsTrue, IfOk, IfErr, Ok, Some, pos, length, take, drop};
 ghost use Rattle.cdg_io.specs.Causes.{HasCause, Rose, TellsFault};
 ghost use Rattle.disc_time.specs.Counts.{most_lead_in};
 ghost use Rattle.cdtext_packs.specs.Reading.{read_texts};
@@ -8,7 +8,7 @@ ghost use Rattle.cdtext_packs.specs.TextSteps.{HasRead};
 ghost use Rattle.cdtext_packs.specs.Texts.{Texts};
 ghost use Rattle.cdtext_packs.specs.declared.kinds.TextFault.{TextFault};
 ghost use Rattle.ribjasper_c.specs.Conversions.{stream_form};
-ghost use Rattle.ribjasper_c.specs.LeadIns.{fault_answer, fault_told, ArePacksOf, IsRefusedBy};
+ghost use Rattle.ribjasper_c.specs.LeadIns.{fault_answer, fault_told, ArePacksOf, WritesTextsOfLeadIn};
 ghost use Rattle.stream_stages.specs.TextListing.{packs_in, IsTextFault, IsTextListed, IsWholeInput, texts_of_lead_in};
 
 use crate::answers::{
@@ -67,25 +67,7 @@ pub extern "C" fn ribjasper_texts(
     out: &mut [u8],
     told: &mut Listed,
 ) -> i32
-    ensures done { result ≡ pos 0 → (text : List ℕ)
-        × IsTextListed (stream_form form) lead_in stream.now text 0
-        × (out.new ≡ text ++ drop (length text) out.old)
-        × (told.new ≡ record { bytes = length text; seq = 0; byte = 0 }) }
-    ensures usage { (result ≡ pos 2) ↔ ((form ≡ 1) ⊎ (2 < form) ⊎ (most_lead_in < lead_in)) }
-    ensures refused { result ≡ pos 3 → ¬ IsWholeInput (stream_form form) stream.now }
-    ensures whole { result ≢ pos 2 → result ≢ pos 3 → IsWholeInput (stream_form form) stream.now }
-    ensures small { result ≡ pos 6 → (text : List ℕ)
-        × IsTextListed (stream_form form) lead_in stream.now text 0 × (length out.old < length text) }
-    ensures texts { (result ≡ pos 8) ⊎ (result ≡ pos 9) ⊎ (result ≡ pos 10) → (fault : TextFault)
-        × IsRefusedBy fault (stream_form form) lead_in stream.now
-        × (result ≡ fault_answer fault) × (told.new ≡ fault_told fault) }
-    // Memory is wanted only where the packs give texts.
-    ensures memory { result ≡ pos 7 → IsOk (texts_of_lead_in (stream_form form) lead_in stream.now) }
-    ensures answer { (result ≡ pos 0) ⊎ (result ≡ pos 2) ⊎ (result ≡ pos 3) ⊎ (result ≡ pos 6)
-        ⊎ (result ≡ pos 7) ⊎ (result ≡ pos 8) ⊎ (result ≡ pos 9) ⊎ (result ≡ pos 10) }
-    ensures untouched { result ≢ pos 0 → out.new ≡ out.old }
-    ensures same { (result ≡ pos 2) ⊎ (result ≡ pos 3) ⊎ (result ≡ pos 6) ⊎ (result ≡ pos 7)
-        → told.new ≡ told.old }
+    ensures { WritesTextsOfLeadIn stream.now form lead_in out.old out.new told.old told.new result }
 {
     let mut lacks = NoMemoryCount::none();
     texts_counted(alloc, &mut lacks, stream, form, lead_in, out, told)
@@ -101,25 +83,7 @@ fn texts_counted(
     out: &mut [u8],
     told: &mut Listed,
 ) -> i32
-    ensures done { result ≡ pos 0 → (text : List ℕ)
-        × IsTextListed (stream_form form) lead_in stream.now text 0
-        × (out.new ≡ text ++ drop (length text) out.old)
-        × (told.new ≡ record { bytes = length text; seq = 0; byte = 0 }) }
-    ensures usage { (result ≡ pos 2) ↔ ((form ≡ 1) ⊎ (2 < form) ⊎ (most_lead_in < lead_in)) }
-    ensures refused { result ≡ pos 3 → ¬ IsWholeInput (stream_form form) stream.now }
-    ensures whole { result ≢ pos 2 → result ≢ pos 3 → IsWholeInput (stream_form form) stream.now }
-    ensures small { result ≡ pos 6 → (text : List ℕ)
-        × IsTextListed (stream_form form) lead_in stream.now text 0 × (length out.old < length text) }
-    ensures texts { (result ≡ pos 8) ⊎ (result ≡ pos 9) ⊎ (result ≡ pos 10) → (fault : TextFault)
-        × IsRefusedBy fault (stream_form form) lead_in stream.now
-        × (result ≡ fault_answer fault) × (told.new ≡ fault_told fault) }
-    // Memory is wanted only where the packs give texts.
-    ensures memory { result ≡ pos 7 → IsOk (texts_of_lead_in (stream_form form) lead_in stream.now) }
-    ensures answer { (result ≡ pos 0) ⊎ (result ≡ pos 2) ⊎ (result ≡ pos 3) ⊎ (result ≡ pos 6)
-        ⊎ (result ≡ pos 7) ⊎ (result ≡ pos 8) ⊎ (result ≡ pos 9) ⊎ (result ≡ pos 10) }
-    ensures untouched { result ≢ pos 0 → out.new ≡ out.old }
-    ensures same { (result ≡ pos 2) ⊎ (result ≡ pos 3) ⊎ (result ≡ pos 6) ⊎ (result ≡ pos 7)
-        → told.new ≡ told.old }
+    ensures writes { WritesTextsOfLeadIn stream.now form lead_in out.old out.new told.old told.new result }
     // A call that asks for memory said that none was found, and no other call did.
     ensures wants { result ≡ pos 7 → Rose lacks.old lacks.new }
     ensures found { result ≢ pos 7 → lacks.new ≡ lacks.old }

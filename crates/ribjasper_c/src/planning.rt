@@ -1,12 +1,8 @@
 // The plan of a disc: a row for each picture of a script, and whether some are late; and how many packs a tile takes.
-ghost use Rattle.std.specs.Prelude.{◌≡◌, ◌≢◌, ◌<◌, ◌⊎◌, ◌↔◌, drop, length, pos, ◌≤◌, ℕ, All, negsuc, replicate};
+ghost use Rattle.std.specs.Prelude.{◌≡◌, ◌≢◌, ◌<◌, ◌⊎◌, ◌↔◌, pos, ◌≤◌, ℕ, All, negsuc, replicate};
 ghost use Rattle.cdg_io.specs.Causes.{Rose};
-ghost use Rattle.disc_time.specs.Counts.{most_lead_in, most_program};
-ghost use Rattle.disc_plan.specs.Discs.{planned_disc, IsPlan, IsPlanStop};
-ghost use Rattle.disc_plan.specs.Told.{told_plan};
-ghost use Rattle.disc_plan.specs.declared.plan.PlannedDisc.{PlannedDisc};
 ghost use Rattle.disc_plan.specs.declared.stops.PlanStop.{PlanStop};
-ghost use Rattle.ribjasper_c.specs.Planning.{stop_answer, told_at_stop};
+ghost use Rattle.ribjasper_c.specs.Planning.{stop_answer, Plans};
 ghost use Rattle.cdg_instructions.specs.Drawing.{IsLeast};
 ghost use Rattle.cdg_instructions.specs.Sizes.{colour_count, column_values, row_values, tile_pixels};
 ghost use Rattle.tile_author.specs.Plan.{weight};
@@ -31,19 +27,7 @@ pub extern "C" fn ribjasper_plan(
     rows: &mut [PlannedRow],
     told: &mut ToldPlan,
 ) -> i32
-    ensures plan { (result ≡ pos 0) ⊎ (result ≡ pos 4) → (disc : PlannedDisc)
-        × IsPlan (planned_disc sheet.now script.now lead_in audio) rows.new disc
-        × (told.new ≡ told_plan disc) × (drop disc.pictures rows.new ≡ drop disc.pictures rows.old) }
-    ensures prompt { result ≡ pos 0 → told.new.late ≡ 0 }
-    ensures late { result ≡ pos 4 → 0 < told.new.late }
-    ensures usage { (result ≡ pos 2) ↔ ((most_lead_in < lead_in) ⊎ (most_program < audio)) }
-    ensures stop { (result ≡ pos 3) ⊎ (result ≡ pos 6) ⊎ (result ≡ pos 7) → (stop : PlanStop)
-        × IsPlanStop (planned_disc sheet.now script.now lead_in audio) (length rows.old) stop
-        × (result ≡ stop_answer stop) × (told.new ≡ told_at_stop told.old stop) }
-    ensures answer { (result ≡ pos 0) ⊎ (result ≡ pos 2) ⊎ (result ≡ pos 3) ⊎ (result ≡ pos 4)
-        ⊎ (result ≡ pos 6) ⊎ (result ≡ pos 7) }
-    ensures rows { result ≢ pos 0 → result ≢ pos 4 → rows.new ≡ rows.old }
-    ensures unused { result ≡ pos 2 → told.new ≡ told.old }
+    ensures { Plans sheet.now script.now lead_in audio rows.old rows.new told.old told.new result }
 {
     let mut lacks = NoMemoryCount::none();
     plan_counted(alloc, &mut lacks, sheet, script, lead_in, audio, rows, told)
@@ -60,19 +44,7 @@ fn plan_counted(
     rows: &mut [PlannedRow],
     told: &mut ToldPlan,
 ) -> i32
-    ensures plan { (result ≡ pos 0) ⊎ (result ≡ pos 4) → (disc : PlannedDisc)
-        × IsPlan (planned_disc sheet.now script.now lead_in audio) rows.new disc
-        × (told.new ≡ told_plan disc) × (drop disc.pictures rows.new ≡ drop disc.pictures rows.old) }
-    ensures prompt { result ≡ pos 0 → told.new.late ≡ 0 }
-    ensures late { result ≡ pos 4 → 0 < told.new.late }
-    ensures usage { (result ≡ pos 2) ↔ ((most_lead_in < lead_in) ⊎ (most_program < audio)) }
-    ensures stop { (result ≡ pos 3) ⊎ (result ≡ pos 6) ⊎ (result ≡ pos 7) → (stop : PlanStop)
-        × IsPlanStop (planned_disc sheet.now script.now lead_in audio) (length rows.old) stop
-        × (result ≡ stop_answer stop) × (told.new ≡ told_at_stop told.old stop) }
-    ensures answer { (result ≡ pos 0) ⊎ (result ≡ pos 2) ⊎ (result ≡ pos 3) ⊎ (result ≡ pos 4)
-        ⊎ (result ≡ pos 6) ⊎ (result ≡ pos 7) }
-    ensures rows { result ≢ pos 0 → result ≢ pos 4 → rows.new ≡ rows.old }
-    ensures unused { result ≡ pos 2 → told.new ≡ told.old }
+    ensures plans { Plans sheet.now script.now lead_in audio rows.old rows.new told.old told.new result }
     // A call that asks for memory said that none was found.
     ensures wants { result ≡ pos 7 → Rose lacks.old lacks.new }
     // Where there is a plan no call did.

@@ -1,5 +1,5 @@
 // A player that C feeds block by block.
-ghost use Rattle.std.specs.Prelude.{◌≡◌, ◌⊎◌, ◌&&◌, nat_le, nat_lt, if◌then◌else◌, ◌∷◌, [], List, ℕ, pos, negsuc, length, true, false, IfOk};
+ghost use Rattle.std.specs.Prelude.{◌≡◌, ◌&&◌, nat_le, nat_lt, if◌then◌else◌, ◌∷◌, [], List, ℕ, pos, negsuc, length, true, false, IfOk};
 ghost use Rattle.cdg_io.specs.Causes.{HasCause, Rose};
 ghost use Rattle.disc_time.specs.Counts.{most_lead_in};
 ghost use Rattle.live_player.specs.Lives.{Given, HasPlayed};
@@ -7,6 +7,7 @@ ghost use Rattle.live_player.specs.Lives.Given.{Drawn, Fed};
 ghost use Rattle.live_player.specs.Steps.{DrawsPack, TakesBlock};
 ghost use Rattle.raw_subcode.specs.declared.form.Form.{Form};
 ghost use Rattle.ribjasper_c.specs.Handles.{form_of, IsPlaying, PlayersGo};
+ghost use Rattle.ribjasper_c.specs.Opening.{OpensPlayer};
 
 use crate::Handle;
 use crate::answers::{DONE, NOT_DONE};
@@ -103,12 +104,7 @@ impl Playing {
 /// no memory is left, and then none is held.
 #[unsafe(no_mangle)]
 pub extern "C" fn ribjasper_player_open(alloc: Global, player: &mut Playing) -> i32
-    ensures begun { result ≡ pos 0 → IsPlaying Form.Raw 0 [] player.new.handle.players }
-    ensures opened { result ≡ pos 0 → player.new.is_open ≡ true }
-    ensures refused { result ≡ negsuc 0 → player.old.is_open ≡ false }
-    ensures none { result ≡ negsuc 0 → player.new.handle.players ≡ [] }
-    ensures closed { result ≡ negsuc 0 → player.new.is_open ≡ false }
-    ensures answer { (result ≡ pos 0) ⊎ (result ≡ negsuc 0) }
+    ensures { OpensPlayer player.old.is_open player.new.is_open player.new.handle.players result }
 {
     let mut lacks = NoMemoryCount::none();
     open_counted(alloc, &mut lacks, player)
@@ -116,12 +112,7 @@ pub extern "C" fn ribjasper_player_open(alloc: Global, player: &mut Playing) -> 
 
 // The same with a count of the answers that said that no memory was found: -1 comes only if one did.
 fn open_counted(alloc: Global, lacks: &mut NoMemoryCount, player: &mut Playing) -> i32
-    ensures begun { result ≡ pos 0 → IsPlaying Form.Raw 0 [] player.new.handle.players }
-    ensures opened { result ≡ pos 0 → player.new.is_open ≡ true }
-    ensures refused { result ≡ negsuc 0 → player.old.is_open ≡ false }
-    ensures none { result ≡ negsuc 0 → player.new.handle.players ≡ [] }
-    ensures closed { result ≡ negsuc 0 → player.new.is_open ≡ false }
-    ensures answer { (result ≡ pos 0) ⊎ (result ≡ negsuc 0) }
+    ensures opens { OpensPlayer player.old.is_open player.new.is_open player.new.handle.players result }
     // A call that asks for memory said that none was found, and no other call did.
     ensures wants { result ≡ negsuc 0 → Rose lacks.old lacks.new }
     ensures found { result ≡ pos 0 → lacks.new ≡ lacks.old }

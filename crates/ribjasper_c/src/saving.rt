@@ -1,16 +1,12 @@
 // A player that is saved to a file and brought back, and one that is copied to another.
-ghost use Rattle.std.specs.Prelude.{◌≡◌, ◌≢◌, ◌≤◌, ◌<◌, ◌^◌, ◌⊎◌, ◌↔◌, ◌&&◌, ◌∷◌, [], List, ℕ, IsTrue, true, false, if◌then◌else◌, pos, negsuc, length, IfOk};
+ghost use Rattle.std.specs.Prelude.{◌≡◌, ◌≢◌, ◌<◌, ◌^◌, ◌↔◌, ◌&&◌, ◌∷◌, [], IsTrue, true, if◌then◌else◌, pos, negsuc, IfOk};
 ghost use Rattle.cdg_io.specs.Causes.{HasCause, Rose};
-ghost use Rattle.disc_time.specs.Counts.{most_lead_in};
-ghost use Rattle.raw_subcode.specs.Sizes.{most_units};
 ghost use Rattle.raw_subcode.specs.declared.form.Form.{Form};
 ghost use Rattle.cdg_checkpoint.specs.Checkpoint.{checkpoint_in};
-ghost use Rattle.cdg_checkpoint.specs.Table.{IsBadAt, IsCheckpointFile};
+ghost use Rattle.cdg_checkpoint.specs.Table.{IsCheckpointFile};
 ghost use Rattle.live_player.specs.Saving.{IsAt};
-ghost use Rattle.live_player.specs.Lives.{Given, HasPlayed, blocks_in};
 ghost use Rattle.live_player.specs.declared.live.LivePlayer.{LivePlayer};
-ghost use Rattle.ribjasper_c.specs.Handles.{IsPlaying};
-ghost use Rattle.ribjasper_c.specs.Saving.{CannotBeSaved, IsSavedAs, IsTooLong, AreAt};
+ghost use Rattle.ribjasper_c.specs.Saving.{CannotBeSaved, IsSaveAnswer, IsSavedAs, IsTooLong, LoadsPlayer, SavesPlayer};
 
 use crate::Playing;
 use crate::answers::{DONE, NO_MEMORY, NOT_DONE, REFUSED};
@@ -30,24 +26,7 @@ pub extern "C" fn ribjasper_player_save(
     player: &mut Playing,
     file: &mut [u8; FILE_BYTES],
 ) -> i32
-    ensures saved { result ≡ pos 0 → (live : LivePlayer) × (player.old.handle.players ≡ live ∷ [])
-        × IsSavedAs file.new live }
-    ensures refused { result ≡ negsuc 0 → (live : LivePlayer) → player.old.handle.players ≡ live ∷ []
-        → CannotBeSaved live }
-    // A player of a raw stream that is no longer than a checkpoint can say is saved, where there is memory.
-    ensures can { (lead_in : ℕ) (given : List Given)
-        → IsPlaying Form.Raw lead_in given player.old.handle.players
-        → lead_in ≤ most_lead_in → length (blocks_in given) ≤ most_units → result ≢ negsuc 0 }
-    // A player of packs is not saved, nor is one of a longer stream, whatever memory there is.
-    ensures packs { (live : LivePlayer) → player.old.handle.players ≡ live ∷ [] → live.words.form ≢ Form.Raw
-        → result ≡ negsuc 0 }
-    ensures long { (live : LivePlayer) → player.old.handle.players ≡ live ∷ [] → IsTooLong live
-        → result ≡ negsuc 0 }
-    ensures closed { player.old.is_open ≡ false → result ≡ negsuc 0 }
-    ensures answer { (result ≡ pos 0) ⊎ (result ≡ negsuc 0) ⊎ (result ≡ pos 7) }
-    ensures stays { player.new.is_open ≡ player.old.is_open }
-    ensures same { player.new.handle.players ≡ player.old.handle.players }
-    ensures untouched { result ≢ pos 0 → file.new ≡ file.old }
+    ensures { SavesPlayer player.old player.new file.old file.new result }
 {
     let mut lacks = NoMemoryCount::none();
     save_counted(alloc, &mut lacks, player, file)
@@ -60,24 +39,7 @@ fn save_counted(
     player: &mut Playing,
     file: &mut [u8; FILE_BYTES],
 ) -> i32
-    ensures saved { result ≡ pos 0 → (live : LivePlayer) × (player.old.handle.players ≡ live ∷ [])
-        × IsSavedAs file.new live }
-    ensures refused { result ≡ negsuc 0 → (live : LivePlayer) → player.old.handle.players ≡ live ∷ []
-        → CannotBeSaved live }
-    // A player of a raw stream that is no longer than a checkpoint can say is saved, where there is memory.
-    ensures can { (lead_in : ℕ) (given : List Given)
-        → IsPlaying Form.Raw lead_in given player.old.handle.players
-        → lead_in ≤ most_lead_in → length (blocks_in given) ≤ most_units → result ≢ negsuc 0 }
-    // A player of packs is not saved, nor is one of a longer stream, whatever memory there is.
-    ensures packs { (live : LivePlayer) → player.old.handle.players ≡ live ∷ [] → live.words.form ≢ Form.Raw
-        → result ≡ negsuc 0 }
-    ensures long { (live : LivePlayer) → player.old.handle.players ≡ live ∷ [] → IsTooLong live
-        → result ≡ negsuc 0 }
-    ensures closed { player.old.is_open ≡ false → result ≡ negsuc 0 }
-    ensures answer { (result ≡ pos 0) ⊎ (result ≡ negsuc 0) ⊎ (result ≡ pos 7) }
-    ensures stays { player.new.is_open ≡ player.old.is_open }
-    ensures same { player.new.handle.players ≡ player.old.handle.players }
-    ensures untouched { result ≢ pos 0 → file.new ≡ file.old }
+    ensures saves { SavesPlayer player.old player.new file.old file.new result }
     // A call that asks for memory said that none was found, and no other call did.
     ensures wants { result ≡ pos 7 → Rose lacks.old lacks.new }
     ensures found { result ≢ pos 7 → lacks.new ≡ lacks.old }
@@ -103,7 +65,7 @@ fn save(
     ensures refused { result ≡ negsuc 0 → CannotBeSaved live.now }
     ensures packs { live.now.words.form ≢ Form.Raw → result ≡ negsuc 0 }
     ensures long { IsTooLong live.now → result ≡ negsuc 0 }
-    ensures answer { (result ≡ pos 0) ⊎ (result ≡ negsuc 0) ⊎ (result ≡ pos 7) }
+    ensures answer { IsSaveAnswer result }
     ensures untouched { result ≢ pos 0 → file.new ≡ file.old }
     // A call that asks for memory said that none was found, and no other call did.
     ensures wants { result ≡ pos 7 → Rose lacks.old lacks.new }
@@ -150,20 +112,7 @@ pub extern "C" fn ribjasper_player_load(
     file: &[u8; FILE_BYTES],
     byte: &mut u32,
 ) -> i32
-    ensures loaded { result ≡ pos 0 → IsCheckpointFile file.now × AreAt file.now player.new.handle.players }
-    // Where the file is that of a player that was saved, this one was given from here on what that one was given.
-    ensures goes_on { result ≡ pos 0 → (saved : LivePlayer) (lead_in : ℕ) (given : List Given)
-        → IsSavedAs file.now saved → HasPlayed Form.Raw lead_in given saved
-        → lead_in ≤ most_lead_in → length (blocks_in given) ≤ most_units
-        → IsPlaying Form.Raw lead_in given player.new.handle.players }
-    ensures bad { result ≡ pos 3 → IsBadAt file.now byte.new }
-    // Memory is asked for a checkpoint's file alone.
-    ensures memory { result ≡ pos 7 → IsCheckpointFile file.now }
-    ensures closed { (result ≡ negsuc 0) ↔ (player.old.is_open ≡ false) }
-    ensures answer { (result ≡ pos 0) ⊎ (result ≡ negsuc 0) ⊎ (result ≡ pos 3) ⊎ (result ≡ pos 7) }
-    ensures stays { player.new.is_open ≡ player.old.is_open }
-    ensures refused { result ≢ pos 0 → player.new.handle.players ≡ player.old.handle.players }
-    ensures same { result ≢ pos 3 → byte.new ≡ byte.old }
+    ensures { LoadsPlayer file.now player.old player.new byte.old byte.new result }
 {
     let mut lacks = NoMemoryCount::none();
     load_counted(alloc, &mut lacks, player, file, byte)
@@ -177,20 +126,7 @@ fn load_counted(
     file: &[u8; FILE_BYTES],
     byte: &mut u32,
 ) -> i32
-    ensures loaded { result ≡ pos 0 → IsCheckpointFile file.now × AreAt file.now player.new.handle.players }
-    // Where the file is that of a player that was saved, this one was given from here on what that one was given.
-    ensures goes_on { result ≡ pos 0 → (saved : LivePlayer) (lead_in : ℕ) (given : List Given)
-        → IsSavedAs file.now saved → HasPlayed Form.Raw lead_in given saved
-        → lead_in ≤ most_lead_in → length (blocks_in given) ≤ most_units
-        → IsPlaying Form.Raw lead_in given player.new.handle.players }
-    ensures bad { result ≡ pos 3 → IsBadAt file.now byte.new }
-    // Memory is asked for a checkpoint's file alone.
-    ensures memory { result ≡ pos 7 → IsCheckpointFile file.now }
-    ensures closed { (result ≡ negsuc 0) ↔ (player.old.is_open ≡ false) }
-    ensures answer { (result ≡ pos 0) ⊎ (result ≡ negsuc 0) ⊎ (result ≡ pos 3) ⊎ (result ≡ pos 7) }
-    ensures stays { player.new.is_open ≡ player.old.is_open }
-    ensures refused { result ≢ pos 0 → player.new.handle.players ≡ player.old.handle.players }
-    ensures same { result ≢ pos 3 → byte.new ≡ byte.old }
+    ensures loads { LoadsPlayer file.now player.old player.new byte.old byte.new result }
     // A call that asks for memory said that none was found, and no other call did.
     ensures wants { result ≡ pos 7 → Rose lacks.old lacks.new }
     ensures found { result ≢ pos 7 → lacks.new ≡ lacks.old }

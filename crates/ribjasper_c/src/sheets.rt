@@ -1,14 +1,7 @@
 // What a cue sheet says.
-ghost use Rattle.std.specs.Prelude.{◌≡◌, ◌≢◌, ◌<◌, ◌≤◌, ◌⊎◌, ◌↔◌, ℕ, Err, length, pos};
+ghost use Rattle.std.specs.Prelude.{◌≡◌, ◌≢◌, pos};
 ghost use Rattle.cdg_io.specs.Causes.{Rose};
-ghost use Rattle.text_lines.specs.Text.{most_text_bytes};
-ghost use Rattle.cue_sheet.specs.CueSheet.{CueSheet};
-ghost use Rattle.cue_sheet.specs.Grammar.{read_cue};
-ghost use Rattle.cue_sheet.specs.declared.fault.CueWhy.{CueWhy};
-ghost use Rattle.disc_plan.specs.SheetRows.{told_refusal, AreRowsOf, IsRowsStop, IsTextOf, IsTextOfSheet, IsTextStop};
-ghost use Rattle.disc_plan.specs.declared.stops.SheetStop.{SheetStop};
-ghost use Rattle.disc_plan.specs.declared.stops.TextStop.{TextStop};
-ghost use Rattle.ribjasper_c.specs.Sheets.{text_kind};
+ghost use Rattle.ribjasper_c.specs.Sheets.{text_kind, WritesRowsOfSheet, WritesTextOfSheet};
 
 use crate::answers::{DONE, NO_MEMORY, REFUSED, USAGE, WRITE_FAULT};
 use cue_sheet::CueText;
@@ -25,17 +18,7 @@ pub extern "C" fn ribjasper_sheet(
     rows: &mut [SheetRow],
     told: &mut ToldSheet,
 ) -> i32
-    ensures rows { result ≡ pos 0 → AreRowsOf sheet.now rows.old rows.new told.new }
-    ensures long { (result ≡ pos 2) ↔ (most_text_bytes < length sheet.now) }
-    ensures refused { result ≡ pos 3 → (line : ℕ) × (why : CueWhy)
-        × (read_cue sheet.now ≡ Err (line, why)) × (told.new ≡ told_refusal line why) }
-    ensures small { result ≡ pos 6 → IsRowsStop sheet.now (length rows.old) (SheetStop.NoRoom told.new) }
-    // Want of memory is told only of a sheet.
-    ensures memory { result ≡ pos 7 → (read : CueSheet) × IsTextOfSheet sheet.now read }
-    ensures answer { (result ≡ pos 0) ⊎ (result ≡ pos 2) ⊎ (result ≡ pos 3) ⊎ (result ≡ pos 6)
-        ⊎ (result ≡ pos 7) }
-    ensures untouched { result ≢ pos 0 → rows.new ≡ rows.old }
-    ensures same { (result ≡ pos 2) ⊎ (result ≡ pos 7) → told.new ≡ told.old }
+    ensures { WritesRowsOfSheet sheet.now rows.old rows.new told.old told.new result }
 {
     let mut lacks = NoMemoryCount::none();
     sheet_counted(alloc, &mut lacks, sheet, rows, told)
@@ -49,17 +32,7 @@ fn sheet_counted(
     rows: &mut [SheetRow],
     told: &mut ToldSheet,
 ) -> i32
-    ensures rows { result ≡ pos 0 → AreRowsOf sheet.now rows.old rows.new told.new }
-    ensures long { (result ≡ pos 2) ↔ (most_text_bytes < length sheet.now) }
-    ensures refused { result ≡ pos 3 → (line : ℕ) × (why : CueWhy)
-        × (read_cue sheet.now ≡ Err (line, why)) × (told.new ≡ told_refusal line why) }
-    ensures small { result ≡ pos 6 → IsRowsStop sheet.now (length rows.old) (SheetStop.NoRoom told.new) }
-    // Want of memory is told only of a sheet.
-    ensures memory { result ≡ pos 7 → (read : CueSheet) × IsTextOfSheet sheet.now read }
-    ensures answer { (result ≡ pos 0) ⊎ (result ≡ pos 2) ⊎ (result ≡ pos 3) ⊎ (result ≡ pos 6)
-        ⊎ (result ≡ pos 7) }
-    ensures untouched { result ≢ pos 0 → rows.new ≡ rows.old }
-    ensures same { (result ≡ pos 2) ⊎ (result ≡ pos 7) → told.new ≡ told.old }
+    ensures writes { WritesRowsOfSheet sheet.now rows.old rows.new told.old told.new result }
     // A call that asks for memory said that none was found, and no other call did.
     ensures wants { result ≡ pos 7 → Rose lacks.old lacks.new }
     ensures found { result ≢ pos 7 → lacks.new ≡ lacks.old }
@@ -93,20 +66,7 @@ pub extern "C" fn ribjasper_sheet_text(
     out: &mut [u8],
     bytes: &mut u32,
 ) -> i32
-    ensures text { result ≡ pos 0 → (kind ≤ 2)
-        × IsTextOf (text_kind kind) place sheet.now out.old out.new bytes.new }
-    ensures usage { result ≡ pos 2 → (2 < kind) ⊎ (most_text_bytes < length sheet.now)
-        ⊎ IsTextStop (text_kind kind) place sheet.now (length out.old) TextStop.NoTrack }
-    // A number that is no kind is refused before all else, and then a sheet that is too long.
-    ensures first { (2 < kind) ⊎ (most_text_bytes < length sheet.now) → result ≡ pos 2 }
-    ensures refused { result ≡ pos 3 → (line : ℕ) × (why : CueWhy) × (read_cue sheet.now ≡ Err (line, why)) }
-    ensures small { result ≡ pos 6
-        → IsTextStop (text_kind kind) place sheet.now (length out.old) (TextStop.NoRoom bytes.new) }
-    ensures memory { result ≡ pos 7 → (kind ≤ 2) × ((read : CueSheet) × IsTextOfSheet sheet.now read) }
-    ensures answer { (result ≡ pos 0) ⊎ (result ≡ pos 2) ⊎ (result ≡ pos 3) ⊎ (result ≡ pos 6)
-        ⊎ (result ≡ pos 7) }
-    ensures untouched { result ≢ pos 0 → out.new ≡ out.old }
-    ensures same { result ≢ pos 0 → result ≢ pos 6 → bytes.new ≡ bytes.old }
+    ensures { WritesTextOfSheet sheet.now kind place out.old out.new bytes.old bytes.new result }
 {
     let mut lacks = NoMemoryCount::none();
     text_counted(alloc, &mut lacks, sheet, kind, place, out, bytes)
@@ -122,20 +82,7 @@ fn text_counted(
     out: &mut [u8],
     bytes: &mut u32,
 ) -> i32
-    ensures text { result ≡ pos 0 → (kind ≤ 2)
-        × IsTextOf (text_kind kind) place sheet.now out.old out.new bytes.new }
-    ensures usage { result ≡ pos 2 → (2 < kind) ⊎ (most_text_bytes < length sheet.now)
-        ⊎ IsTextStop (text_kind kind) place sheet.now (length out.old) TextStop.NoTrack }
-    // A number that is no kind is refused before all else, and then a sheet that is too long.
-    ensures first { (2 < kind) ⊎ (most_text_bytes < length sheet.now) → result ≡ pos 2 }
-    ensures refused { result ≡ pos 3 → (line : ℕ) × (why : CueWhy) × (read_cue sheet.now ≡ Err (line, why)) }
-    ensures small { result ≡ pos 6
-        → IsTextStop (text_kind kind) place sheet.now (length out.old) (TextStop.NoRoom bytes.new) }
-    ensures memory { result ≡ pos 7 → (kind ≤ 2) × ((read : CueSheet) × IsTextOfSheet sheet.now read) }
-    ensures answer { (result ≡ pos 0) ⊎ (result ≡ pos 2) ⊎ (result ≡ pos 3) ⊎ (result ≡ pos 6)
-        ⊎ (result ≡ pos 7) }
-    ensures untouched { result ≢ pos 0 → out.new ≡ out.old }
-    ensures same { result ≢ pos 0 → result ≢ pos 6 → bytes.new ≡ bytes.old }
+    ensures writes { WritesTextOfSheet sheet.now kind place out.old out.new bytes.old bytes.new result }
     // A call that asks for memory said that none was found, and no other call did.
     ensures wants { result ≡ pos 7 → Rose lacks.old lacks.new }
     ensures found { result ≢ pos 7 → lacks.new ≡ lacks.old }

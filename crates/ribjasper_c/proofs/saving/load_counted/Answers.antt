@@ -1,8 +1,19 @@
+use Rattle.std.proofs.Common.{rules}
 use Rattle.ribjasper_c.proofs.Saves.{plays_on}
 use Rattle.ribjasper_c.proofs.saving.load_counted.Goals as goal
 
-pub returns-clause-goes_on : goal.returns-clause-goes_on
-returns-clause-goes_on c done saved lead_in given is played most few =
-    plays_on c.args.file.now _ _ _ saved lead_in given c.in-Ok.ensures.file c.go_to.ensures
-    c.put_back.ensures.held is.0
-    (λ at. c.a_saved_player_goes_on.ensures.goes_on lead_in given saved _ played most few at)
+pub returns-clause-loads : goal.returns-clause-loads
+returns-clause-loads c = record {
+  loaded = search rules;
+  goes_on = λ done saved lead_in given is played most few.
+      plays_on c.args.file.now _ _ _ saved lead_in given c.in-Ok.ensures.file c.go_to.ensures
+      c.put_back.ensures.held is.0
+      (λ at. c.a_saved_player_goes_on.ensures.goes_on lead_in given saved _ played most few at);
+  bad = search rules;
+  memory = search rules;
+  closed = search rules;
+  answer = search rules;
+  stays = search rules;
+  refused = search rules;
+  same = search rules;
+}
