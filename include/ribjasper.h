@@ -44,7 +44,7 @@ extern "C" {
 #endif
 
 #define RIBJASPER_VERSION_MAJOR 1
-#define RIBJASPER_VERSION_MINOR 8
+#define RIBJASPER_VERSION_MINOR 9
 #define RIBJASPER_VERSION_PATCH 0
 
 /* The version of this header as one number. */
