@@ -1,4 +1,4 @@
-// The text of a script, which is written in memory.
+// Room for the text of a script.
 ghost use Rattle.std.specs.Prelude.{◌≡◌, ◌<◌, ◌∷◌, [], Some, length, IfOk};
 ghost use Rattle.cdg_io.specs.Causes.{HasCause};
 
@@ -6,7 +6,7 @@ use cdg_io::{Failed, MemSink, Sink};
 use std::alloc::{AllocError, Global};
 use subcode_author::NoMemoryCount;
 
-/// A text in room that was taken before. A write fails only if the room is full.
+/// The text of a script, in room that is taken at the start. A write fails only if that is full.
 #[derive(Drop)]
 pub(crate) struct ScriptText {
     sink: MemSink,
