@@ -1,5 +1,5 @@
 // Many blocks or packs in one call, and what of the screen may have changed.
-ghost use Rattle.std.specs.Prelude.{◌≡◌, ◌++◌, ◌∷◌, [], ◌&&◌, nat_le, if◌then◌else◌, List, ℕ, map, reverse, pos, negsuc};
+ghost use Rattle.std.specs.Prelude.{◌≡◌, ◌++◌, ◌∷◌, [], ◌&&◌, nat_le, List, ℕ, map, reverse, pos, negsuc};
 ghost use Rattle.cdg_io.specs.Run.{run_state};
 ghost use Rattle.cdg_instructions.specs.declared.instr.Instr.{Instr};
 ghost use Rattle.cdg_screen.specs.Standing.{IsWholeStanding, Standing, standing_after};
@@ -8,6 +8,7 @@ ghost use Rattle.live_player.specs.Lives.Given.{Drawn, Fed};
 ghost use Rattle.raw_subcode.specs.declared.form.Form.{Form};
 ghost use Rattle.ribjasper_c.specs.Handles.{IsPlaying, PlayersGo};
 ghost use Rattle.screen_changes.specs.Changes.{changes_on, sees, watch_from, AreDrawnFor, KeepsUntold};
+ghost use Rattle.ribjasper_c.specs.Answers.{done_if};
 
 use crate::Playing;
 use crate::answers::{DONE, NOT_DONE};
@@ -31,7 +32,7 @@ pub extern "C" fn ribjasper_player_feed_all(
         × AreDrawnFor blocks.now before instrs) }
     ensures keeps { result ≡ pos 0 → PlayersGo player.old.handle.players player.new.handle.players
         (λ before after. KeepsUntold change.new (standing_on before) (standing_on after)) }
-    ensures answer { result ≡ (if player.old.is_open then pos 0 else negsuc 0) }
+    ensures answer { result ≡ done_if player.old.is_open }
     ensures stays { player.new.is_open ≡ player.old.is_open }
     ensures refused { result ≡ negsuc 0 → player.new.handle.players ≡ player.old.handle.players }
     ensures untouched { result ≡ negsuc 0 → change.new ≡ change.old }
@@ -60,7 +61,7 @@ pub extern "C" fn ribjasper_player_draw_all(
         × (standing_on after ≡ standing_after (standing_on before) (map instruction_of packs.now))) }
     ensures keeps { result ≡ pos 0 → PlayersGo player.old.handle.players player.new.handle.players
         (λ before after. KeepsUntold change.new (standing_on before) (standing_on after)) }
-    ensures answer { result ≡ (if player.old.is_open then pos 0 else negsuc 0) }
+    ensures answer { result ≡ done_if player.old.is_open }
     ensures stays { player.new.is_open ≡ player.old.is_open }
     ensures refused { result ≡ negsuc 0 → player.new.handle.players ≡ player.old.handle.players }
     ensures untouched { result ≡ negsuc 0 → change.new ≡ change.old }
@@ -87,7 +88,7 @@ pub extern "C" fn ribjasper_pack_change(
         → change.new ≡ (run_state sees (watch_from across down) (instruction_of pack.now ∷ [])).change }
     ensures keeps { result ≡ pos 0 → (now : Standing) → IsWholeStanding now → now.h ≡ across → now.v ≡ down
         → KeepsUntold change.new now (standing_after now (instruction_of pack.now ∷ [])) }
-    ensures answer { result ≡ (if nat_le across 5 && nat_le down 11 then pos 0 else negsuc 0) }
+    ensures answer { result ≡ done_if (nat_le across 5 && nat_le down 11) }
     ensures refused { result ≡ negsuc 0 → change.new ≡ change.old }
 {
     if across > 5 || down > 11 {
