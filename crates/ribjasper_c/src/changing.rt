@@ -1,14 +1,13 @@
 // Many blocks or packs in one call, and what of the screen may have changed.
-ghost use Rattle.std.specs.Prelude.{◌≡◌, ◌++◌, ◌∷◌, [], ◌&&◌, nat_le, List, ℕ, map, reverse, pos, negsuc};
+ghost use Rattle.std.specs.Prelude.{◌≡◌, ◌∷◌, [], ◌&&◌, nat_le, List, map, reverse, pos, negsuc};
 ghost use Rattle.cdg_io.specs.Run.{run_state};
 ghost use Rattle.cdg_instructions.specs.declared.instr.Instr.{Instr};
 ghost use Rattle.cdg_screen.specs.Standing.{IsWholeStanding, Standing, standing_after};
-ghost use Rattle.live_player.specs.Lives.{Given, instruction_of, standing_on};
+ghost use Rattle.live_player.specs.Lives.{instruction_of};
 ghost use Rattle.live_player.specs.Lives.Given.{Drawn, Fed};
-ghost use Rattle.raw_subcode.specs.declared.form.Form.{Form};
-ghost use Rattle.ribjasper_c.specs.Handles.{IsPlaying, PlayersGo};
-ghost use Rattle.screen_changes.specs.Changes.{changes_on, sees, watch_from, AreDrawnFor, KeepsUntold};
+ghost use Rattle.screen_changes.specs.Changes.{sees, watch_from, AreDrawnFor, KeepsUntold};
 ghost use Rattle.ribjasper_c.specs.Answers.{done_if};
+ghost use Rattle.ribjasper_c.specs.Giving.{GivesPlayer, TellsChange};
 
 use crate::Playing;
 use crate::answers::{DONE, NOT_DONE};
@@ -23,18 +22,12 @@ pub extern "C" fn ribjasper_player_feed_all(
     blocks: &[[u8; BLOCK_BYTES]],
     change: &mut ScreenChange,
 ) -> i32
-    ensures fed { result ≡ pos 0 → (form : Form) (lead_in : ℕ) (given : List Given)
-        → IsPlaying form lead_in given player.old.handle.players
-        → IsPlaying form lead_in (map Fed (reverse blocks.now) ++ given) player.new.handle.players }
-    ensures told { result ≡ pos 0 → PlayersGo player.old.handle.players player.new.handle.players
-        (λ before after. (instrs : List Instr) × (change.new ≡ changes_on (standing_on before) instrs)
-        × (standing_on after ≡ standing_after (standing_on before) instrs)
-        × AreDrawnFor blocks.now before instrs) }
-    ensures keeps { result ≡ pos 0 → PlayersGo player.old.handle.players player.new.handle.players
-        (λ before after. KeepsUntold change.new (standing_on before) (standing_on after)) }
+    ensures feeds { GivesPlayer (map Fed (reverse blocks.now))
+        (λ before after. (instrs : List Instr) × AreDrawnFor blocks.now before instrs
+        × TellsChange change.new instrs before after)
+        player.old.handle.players player.new.handle.players result }
     ensures answer { result ≡ done_if player.old.is_open }
     ensures stays { player.new.is_open ≡ player.old.is_open }
-    ensures refused { result ≡ negsuc 0 → player.new.handle.players ≡ player.old.handle.players }
     ensures untouched { result ≡ negsuc 0 → change.new ≡ change.old }
 {
     if !player.is_open {
@@ -53,17 +46,11 @@ pub extern "C" fn ribjasper_player_draw_all(
     packs: &[[u8; SYMBOLS]],
     change: &mut ScreenChange,
 ) -> i32
-    ensures drawn { result ≡ pos 0 → (form : Form) (lead_in : ℕ) (given : List Given)
-        → IsPlaying form lead_in given player.old.handle.players
-        → IsPlaying form lead_in (map Drawn (reverse packs.now) ++ given) player.new.handle.players }
-    ensures told { result ≡ pos 0 → PlayersGo player.old.handle.players player.new.handle.players
-        (λ before after. (change.new ≡ changes_on (standing_on before) (map instruction_of packs.now))
-        × (standing_on after ≡ standing_after (standing_on before) (map instruction_of packs.now))) }
-    ensures keeps { result ≡ pos 0 → PlayersGo player.old.handle.players player.new.handle.players
-        (λ before after. KeepsUntold change.new (standing_on before) (standing_on after)) }
+    ensures draws { GivesPlayer (map Drawn (reverse packs.now))
+        (TellsChange change.new (map instruction_of packs.now))
+        player.old.handle.players player.new.handle.players result }
     ensures answer { result ≡ done_if player.old.is_open }
     ensures stays { player.new.is_open ≡ player.old.is_open }
-    ensures refused { result ≡ negsuc 0 → player.new.handle.players ≡ player.old.handle.players }
     ensures untouched { result ≡ negsuc 0 → change.new ≡ change.old }
 {
     if !player.is_open {
