@@ -9,7 +9,7 @@ use Rattle.screen_changes.specs.Changes.{changes_on, KeepsUntold}
 use Rattle.screen_changes.specs.declared.change.ScreenChange.{ScreenChange}
 use Rattle.ribjasper_c.specs.Handles.{IsPlaying, PlayersGo}
 
--- The one player was given this too, the last one first, and so went on; or all is as it was.
+-- The one player was given this too, the last one first, and so went on; or it is as it was.
 pub record GivesPlayer (more : List Given) (goes : LivePlayer → LivePlayer → Type 0)
     (old new : List LivePlayer) (result : ℤ) : Type 0 where
   pub given : result ≡ pos 0 → (form : Form) (lead_in : ℕ) (before : List Given)
