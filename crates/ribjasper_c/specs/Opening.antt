@@ -4,8 +4,8 @@ use Rattle.raw_subcode.specs.declared.form.Form.TheVariants.{Raw}
 use Rattle.live_player.specs.declared.live.LivePlayer.{LivePlayer}
 use Rattle.ribjasper_c.specs.Handles.{IsPlaying}
 
--- What was or was not open now holds these players: one of a raw stream with no lead-in that was given nothing yet, or
--- none, where it was closed and is refused.
+-- A player is opened: it holds one of a raw stream with no lead-in that was given nothing yet. Where that is refused it
+-- was closed, and holds none.
 pub record OpensPlayer (was_open is_open : Bool) (players : List LivePlayer) (result : ℤ) : Type 0 where
   pub begun : result ≡ pos 0 → IsPlaying Raw 0 [] players
   pub opened : result ≡ pos 0 → is_open ≡ true

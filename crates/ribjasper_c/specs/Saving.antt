@@ -9,6 +9,7 @@ use Rattle.live_player.specs.Lives.{Given, HasPlayed, blocks_in}
 use Rattle.live_player.specs.Saving.{IsAt, checkpoint_of}
 use Rattle.live_player.specs.declared.live.LivePlayer.{LivePlayer}
 use Rattle.ribjasper_c.specs.Handles.{IsPlaying}
+use Rattle.ribjasper_c.specs.Looking.{IsUnchanged}
 use Rattle.ribjasper_c.specs.declared.playing.Playing.{Playing}
 
 -- this is the file of the checkpoint at which the player is
@@ -46,8 +47,7 @@ pub record SavesPlayer (before after : Playing) (old new : List ℕ) (result : �
   pub long : (live : LivePlayer) → before.handle.players ≡ live ∷ [] → IsTooLong live → result ≡ negsuc 0
   pub closed : before.is_open ≡ false → result ≡ negsuc 0
   pub answer : IsSaveAnswer result
-  pub stays : after.is_open ≡ before.is_open
-  pub same : after.handle.players ≡ before.handle.players
+  pub same : IsUnchanged before after
   pub untouched : result ≢ pos 0 → new ≡ old
 
 -- An open player is at the checkpoint of a file, or is as it was; of what is no checkpoint's file a byte is told that

@@ -1,13 +1,13 @@
 // Many blocks or packs in one call, and what of the screen may have changed.
-ghost use Rattle.std.specs.Prelude.{◌≡◌, ◌++◌, ◌∷◌, [], ◌&&◌, nat_le, if◌then◌else◌, List, ℕ, map, reverse, pos, negsuc};
+ghost use Rattle.std.specs.Prelude.{◌≡◌, ◌∷◌, [], ◌&&◌, nat_le, List, map, reverse, pos, negsuc};
 ghost use Rattle.cdg_io.specs.Run.{run_state};
 ghost use Rattle.cdg_screen.specs.Standing.{IsWholeStanding, Standing, standing_after};
-ghost use Rattle.live_player.specs.Lives.{Given, instruction_of, standing_on};
+ghost use Rattle.live_player.specs.Lives.{instruction_of};
 ghost use Rattle.live_player.specs.Lives.Given.{Drawn, Fed};
-ghost use Rattle.raw_subcode.specs.declared.form.Form.{Form};
-ghost use Rattle.ribjasper_c.specs.Handles.{IsPlaying, PlayersGo};
-ghost use Rattle.screen_changes.specs.Changes.{changes_on, sees, watch_from, AreDrawnFor, KeepsUntold};
+ghost use Rattle.screen_changes.specs.Changes.{sees, watch_from, AreDrawnFor, KeepsUntold};
 ghost use Rattle.screen_changes.specs.Taken.{instructions_from, DrawsPacks, TakesBlocks};
+ghost use Rattle.ribjasper_c.specs.Answers.{done_if};
+ghost use Rattle.ribjasper_c.specs.Giving.{GivesPlayer, TellsChange};
 
 use crate::Playing;
 use crate::answers::{DONE, NOT_DONE};
@@ -22,22 +22,13 @@ pub extern "C" fn ribjasper_player_feed_all(
     blocks: &[[u8; BLOCK_BYTES]],
     change: &mut ScreenChange,
 ) -> i32
-    ensures fed { result ≡ pos 0 → (form : Form) (lead_in : ℕ) (given : List Given)
-        → IsPlaying form lead_in given player.old.handle.players
-        → IsPlaying form lead_in (map Fed (reverse blocks.now) ++ given) player.new.handle.players }
-    ensures told { result ≡ pos 0 → PlayersGo player.old.handle.players player.new.handle.players
+    ensures feeds { GivesPlayer (map Fed (reverse blocks.now))
         (λ before after. let instrs = instructions_from before.words blocks.now in
-        (change.new ≡ changes_on (standing_on before) instrs)
-        × (standing_on after ≡ standing_after (standing_on before) instrs)
-        × AreDrawnFor blocks.now before instrs) }
-    // Whatever it was given before, also where it came to the checkpoint of a file.
-    ensures takes { result ≡ pos 0
-        → PlayersGo player.old.handle.players player.new.handle.players (TakesBlocks blocks.now) }
-    ensures keeps { result ≡ pos 0 → PlayersGo player.old.handle.players player.new.handle.players
-        (λ before after. KeepsUntold change.new (standing_on before) (standing_on after)) }
-    ensures answer { result ≡ (if player.old.is_open then pos 0 else negsuc 0) }
+        AreDrawnFor blocks.now before instrs × TellsChange change.new instrs before after
+        × TakesBlocks blocks.now before after)
+        player.old.handle.players player.new.handle.players result }
+    ensures answer { result ≡ done_if player.old.is_open }
     ensures stays { player.new.is_open ≡ player.old.is_open }
-    ensures refused { result ≡ negsuc 0 → player.new.handle.players ≡ player.old.handle.players }
     ensures untouched { result ≡ negsuc 0 → change.new ≡ change.old }
 {
     if !player.is_open {
@@ -56,19 +47,12 @@ pub extern "C" fn ribjasper_player_draw_all(
     packs: &[[u8; SYMBOLS]],
     change: &mut ScreenChange,
 ) -> i32
-    ensures drawn { result ≡ pos 0 → (form : Form) (lead_in : ℕ) (given : List Given)
-        → IsPlaying form lead_in given player.old.handle.players
-        → IsPlaying form lead_in (map Drawn (reverse packs.now) ++ given) player.new.handle.players }
-    ensures told { result ≡ pos 0 → PlayersGo player.old.handle.players player.new.handle.players
-        (λ before after. change.new ≡ changes_on (standing_on before) (map instruction_of packs.now)) }
-    // Whatever it was given before, also where it came to the checkpoint of a file.
-    ensures draws { result ≡ pos 0
-        → PlayersGo player.old.handle.players player.new.handle.players (DrawsPacks packs.now) }
-    ensures keeps { result ≡ pos 0 → PlayersGo player.old.handle.players player.new.handle.players
-        (λ before after. KeepsUntold change.new (standing_on before) (standing_on after)) }
-    ensures answer { result ≡ (if player.old.is_open then pos 0 else negsuc 0) }
+    ensures draws { GivesPlayer (map Drawn (reverse packs.now))
+        (λ before after. TellsChange change.new (map instruction_of packs.now) before after
+        × DrawsPacks packs.now before after)
+        player.old.handle.players player.new.handle.players result }
+    ensures answer { result ≡ done_if player.old.is_open }
     ensures stays { player.new.is_open ≡ player.old.is_open }
-    ensures refused { result ≡ negsuc 0 → player.new.handle.players ≡ player.old.handle.players }
     ensures untouched { result ≡ negsuc 0 → change.new ≡ change.old }
 {
     if !player.is_open {
@@ -93,7 +77,7 @@ pub extern "C" fn ribjasper_pack_change(
         → change.new ≡ (run_state sees (watch_from across down) (instruction_of pack.now ∷ [])).change }
     ensures keeps { result ≡ pos 0 → (now : Standing) → IsWholeStanding now → now.h ≡ across → now.v ≡ down
         → KeepsUntold change.new now (standing_after now (instruction_of pack.now ∷ [])) }
-    ensures answer { result ≡ (if nat_le across 5 && nat_le down 11 then pos 0 else negsuc 0) }
+    ensures answer { result ≡ done_if (nat_le across 5 && nat_le down 11) }
     ensures refused { result ≡ negsuc 0 → change.new ≡ change.old }
 {
     if across > 5 || down > 11 {

@@ -1,11 +1,13 @@
 // What a player counts.
-ghost use Rattle.std.specs.Prelude.{◌≡◌, ◌^◌, ◌-◌, if◌then◌else◌, ◌∷◌, [], List, ℕ, length, min, pos, negsuc};
+ghost use Rattle.std.specs.Prelude.{◌≡◌, ◌^◌, ◌-◌, ◌∷◌, [], List, ℕ, length, min, pos, negsuc};
 ghost use Rattle.live_player.specs.Lives.{Given, bad_words_in, blocks_in};
 ghost use Rattle.live_player.specs.declared.live.LivePlayer.{LivePlayer};
 ghost use Rattle.raw_subcode.specs.declared.form.Form.{Form};
 ghost use Rattle.ribjasper_c.specs.Counts.{told_counts, form_number};
 ghost use Rattle.ribjasper_c.specs.Handles.{IsPlaying};
 ghost use Rattle.rw_interleave.specs.Stream.{word_count};
+ghost use Rattle.ribjasper_c.specs.Looking.{IsUnchanged};
+ghost use Rattle.ribjasper_c.specs.Answers.{done_if};
 
 use crate::Playing;
 use crate::answers::{DONE, NOT_DONE};
@@ -41,9 +43,8 @@ pub extern "C" fn ribjasper_player_counts(player: &mut Playing, counts: &mut Pla
     ensures bad { result ≡ pos 0 → (form : Form) (lead_in : ℕ) (given : List Given)
         → IsPlaying form lead_in given player.old.handle.players
         → counts.new.bad ≡ min (bad_words_in form lead_in (blocks_in given)) (2 ^ 32 - 1) }
-    ensures answer { result ≡ (if player.old.is_open then pos 0 else negsuc 0) }
-    ensures stays { player.new.is_open ≡ player.old.is_open }
-    ensures same { player.new.handle.players ≡ player.old.handle.players }
+    ensures answer { result ≡ done_if player.old.is_open }
+    ensures same { IsUnchanged player.old player.new }
     ensures refused { result ≡ negsuc 0 → counts.new ≡ counts.old }
 {
     if !player.is_open {

@@ -5,6 +5,7 @@ ghost use Rattle.pixel_formats.specs.Formats.{pixel_size, HasPixelRoom, ShowsPix
 ghost use Rattle.ribjasper_c.specs.Handles.{PlayersShow};
 ghost use Rattle.ribjasper_c.specs.Pixels.{pixel_format};
 ghost use Rattle.ribjasper_c.specs.Rects.{shown_rect};
+ghost use Rattle.ribjasper_c.specs.Looking.{IsUnchanged};
 
 use crate::Playing;
 use crate::answers::{DONE, NOT_DONE};
@@ -33,8 +34,7 @@ pub extern "C" fn ribjasper_player_pixels(
         × (pixel_size (pixel_format format) * width ≤ stride)
         × HasPixelRoom (pixel_format format) (shown_rect x y width height) stride (length out.old) }
     ensures answer { (result ≡ pos 0) ⊎ (result ≡ negsuc 0) }
-    ensures stays { player.new.is_open ≡ player.old.is_open }
-    ensures same { player.new.handle.players ≡ player.old.handle.players }
+    ensures same { IsUnchanged player.old player.new }
     ensures refused { result ≡ negsuc 0 → out.new ≡ out.old }
 {
     let Some(part) = part_of(x, y, width, height) else {

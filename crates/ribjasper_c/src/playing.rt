@@ -1,13 +1,15 @@
 // A player that C feeds block by block.
-ghost use Rattle.std.specs.Prelude.{◌≡◌, ◌&&◌, nat_le, nat_lt, if◌then◌else◌, ◌∷◌, [], List, ℕ, pos, negsuc, length, true, false, IfOk};
+ghost use Rattle.std.specs.Prelude.{◌≡◌, ◌&&◌, nat_le, nat_lt, if◌then◌else◌, ◌∷◌, [], pos, negsuc, length, true, false, IfOk};
 ghost use Rattle.cdg_io.specs.Causes.{HasCause, Rose};
 ghost use Rattle.disc_time.specs.Counts.{most_lead_in};
-ghost use Rattle.live_player.specs.Lives.{Given, HasPlayed};
+ghost use Rattle.live_player.specs.Lives.{HasPlayed};
 ghost use Rattle.live_player.specs.Lives.Given.{Drawn, Fed};
 ghost use Rattle.live_player.specs.Steps.{DrawsPack, TakesBlock};
 ghost use Rattle.raw_subcode.specs.declared.form.Form.{Form};
-ghost use Rattle.ribjasper_c.specs.Handles.{form_of, IsPlaying, PlayersGo};
+ghost use Rattle.ribjasper_c.specs.Handles.{form_of, IsPlaying};
 ghost use Rattle.ribjasper_c.specs.Opening.{OpensPlayer};
+ghost use Rattle.ribjasper_c.specs.Answers.{done_if};
+ghost use Rattle.ribjasper_c.specs.Giving.{GivesPlayer};
 
 use crate::Handle;
 use crate::answers::{DONE, NOT_DONE};
@@ -157,15 +159,10 @@ pub extern "C" fn ribjasper_player_close(alloc: Global, player: &mut Playing)
 /// Feeds an open player the next block. 0, or -1 where it is closed.
 #[unsafe(no_mangle)]
 pub extern "C" fn ribjasper_player_feed(player: &mut Playing, block: &[u8; BLOCK_BYTES]) -> i32
-    ensures fed { result ≡ pos 0 → (form : Form) (lead_in : ℕ) (given : List Given)
-        → IsPlaying form lead_in given player.old.handle.players
-        → IsPlaying form lead_in (Fed block.now ∷ given) player.new.handle.players }
-    // Whatever it was given before, also where it came to the checkpoint of a file.
-    ensures takes { result ≡ pos 0
-        → PlayersGo player.old.handle.players player.new.handle.players (TakesBlock block.now) }
-    ensures answer { result ≡ (if player.old.is_open then pos 0 else negsuc 0) }
+    ensures feeds { GivesPlayer (Fed block.now ∷ []) (TakesBlock block.now) player.old.handle.players
+        player.new.handle.players result }
+    ensures answer { result ≡ done_if player.old.is_open }
     ensures stays { player.new.is_open ≡ player.old.is_open }
-    ensures refused { result ≡ negsuc 0 → player.new.handle.players ≡ player.old.handle.players }
 {
     if !player.is_open {
         return NOT_DONE;
@@ -180,14 +177,10 @@ pub extern "C" fn ribjasper_player_feed(player: &mut Playing, block: &[u8; BLOCK
 /// -1 where the player is closed.
 #[unsafe(no_mangle)]
 pub extern "C" fn ribjasper_player_draw(player: &mut Playing, pack: &[u8; SYMBOLS]) -> i32
-    ensures drawn { result ≡ pos 0 → (form : Form) (lead_in : ℕ) (given : List Given)
-        → IsPlaying form lead_in given player.old.handle.players
-        → IsPlaying form lead_in (Drawn pack.now ∷ given) player.new.handle.players }
-    ensures draws { result ≡ pos 0
-        → PlayersGo player.old.handle.players player.new.handle.players (DrawsPack pack.now) }
-    ensures answer { result ≡ (if player.old.is_open then pos 0 else negsuc 0) }
+    ensures draws { GivesPlayer (Drawn pack.now ∷ []) (DrawsPack pack.now) player.old.handle.players
+        player.new.handle.players result }
+    ensures answer { result ≡ done_if player.old.is_open }
     ensures stays { player.new.is_open ≡ player.old.is_open }
-    ensures refused { result ≡ negsuc 0 → player.new.handle.players ≡ player.old.handle.players }
 {
     if !player.is_open {
         return NOT_DONE;
@@ -204,8 +197,7 @@ pub extern "C" fn ribjasper_player_draw(player: &mut Playing, pack: &[u8; SYMBOL
 #[unsafe(no_mangle)]
 pub extern "C" fn ribjasper_player_begin(player: &mut Playing, form: u32, lead_in: u32) -> i32
     ensures begun { result ≡ pos 0 → IsPlaying (form_of form) lead_in [] player.new.handle.players }
-    ensures answer { result ≡ (if player.old.is_open && nat_lt form 2 && nat_le lead_in most_lead_in
-        then pos 0 else negsuc 0) }
+    ensures answer { result ≡ done_if (player.old.is_open && nat_lt form 2 && nat_le lead_in most_lead_in) }
     ensures stays { player.new.is_open ≡ player.old.is_open }
     ensures refused { result ≡ negsuc 0 → player.new.handle.players ≡ player.old.handle.players }
 {

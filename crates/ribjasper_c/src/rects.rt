@@ -3,6 +3,7 @@ ghost use Rattle.std.specs.Prelude.{◌≡◌, ◌≤◌, ◌∷◌, [], ◌↔�
 ghost use Rattle.live_player.specs.Parts.{HasRoomFor, IsOnScreen, ShowsPart};
 ghost use Rattle.ribjasper_c.specs.Handles.{PlayersShow};
 ghost use Rattle.ribjasper_c.specs.Rects.{shown_rect};
+ghost use Rattle.ribjasper_c.specs.Looking.{IsUnchanged};
 
 use crate::Playing;
 use crate::answers::{DONE, NOT_DONE};
@@ -27,8 +28,7 @@ pub extern "C" fn ribjasper_player_rect(
     ensures done { (result ≡ pos 0) ↔ (player.old.is_open ≡ true) × IsOnScreen (shown_rect x y width height)
         × (width ≤ stride) × HasRoomFor (shown_rect x y width height) stride (length pixels.old) }
     ensures answer { (result ≡ pos 0) ⊎ (result ≡ negsuc 0) }
-    ensures stays { player.new.is_open ≡ player.old.is_open }
-    ensures same { player.new.handle.players ≡ player.old.handle.players }
+    ensures same { IsUnchanged player.old player.new }
     ensures refused { result ≡ negsuc 0 → pixels.new ≡ pixels.old }
 {
     let Some(part) = part_of(x, y, width, height) else {

@@ -1,5 +1,5 @@
 // A player that is saved to a file and brought back, and one that is copied to another.
-ghost use Rattle.std.specs.Prelude.{◌≡◌, ◌≢◌, ◌<◌, ◌^◌, ◌↔◌, ◌&&◌, ◌∷◌, [], IsTrue, true, if◌then◌else◌, pos, negsuc, IfOk};
+ghost use Rattle.std.specs.Prelude.{◌≡◌, ◌≢◌, ◌<◌, ◌^◌, ◌↔◌, ◌&&◌, ◌∷◌, [], IsTrue, true, pos, negsuc, IfOk};
 ghost use Rattle.cdg_io.specs.Causes.{HasCause, Rose};
 ghost use Rattle.raw_subcode.specs.declared.form.Form.{Form};
 ghost use Rattle.cdg_checkpoint.specs.Checkpoint.{checkpoint_in};
@@ -7,6 +7,7 @@ ghost use Rattle.cdg_checkpoint.specs.Table.{IsCheckpointFile};
 ghost use Rattle.live_player.specs.Saving.{IsAt};
 ghost use Rattle.live_player.specs.declared.live.LivePlayer.{LivePlayer};
 ghost use Rattle.ribjasper_c.specs.Saving.{CannotBeSaved, IsSaveAnswer, IsSavedAs, IsTooLong, LoadsPlayer, SavesPlayer};
+ghost use Rattle.ribjasper_c.specs.Answers.{done_if};
 
 use crate::Playing;
 use crate::answers::{DONE, NO_MEMORY, NOT_DONE, REFUSED};
@@ -187,7 +188,7 @@ fn take_file(alloc: Global, lacks: &mut NoMemoryCount) -> Result<CheckpointFile,
 #[unsafe(no_mangle)]
 pub extern "C" fn ribjasper_player_copy(from: &mut Playing, to: &mut Playing) -> i32
     ensures copied { result ≡ pos 0 → to.new.handle.players ≡ from.old.handle.players }
-    ensures answer { result ≡ (if from.old.is_open && to.old.is_open then pos 0 else negsuc 0) }
+    ensures answer { result ≡ done_if (from.old.is_open && to.old.is_open) }
     ensures stays { (from.new.is_open ≡ from.old.is_open) × (to.new.is_open ≡ to.old.is_open) }
     ensures same { from.new.handle.players ≡ from.old.handle.players }
     ensures refused { result ≡ negsuc 0 → to.new.handle.players ≡ to.old.handle.players }
@@ -206,7 +207,7 @@ pub extern "C" fn ribjasper_player_copy(from: &mut Playing, to: &mut Playing) ->
 #[inline(never)]
 fn go_on_as(other: &LivePlayer, to: &mut Playing) -> i32
     ensures copied { result ≡ pos 0 → to.new.handle.players ≡ other.now ∷ [] }
-    ensures answer { result ≡ (if to.old.is_open then pos 0 else negsuc 0) }
+    ensures answer { result ≡ done_if to.old.is_open }
     ensures stays { to.new.is_open ≡ to.old.is_open }
     ensures refused { result ≡ negsuc 0 → to.new.handle.players ≡ to.old.handle.players }
 {

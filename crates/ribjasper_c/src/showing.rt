@@ -1,8 +1,10 @@
 // What a player shows, as C asks for it.
-ghost use Rattle.std.specs.Prelude.{◌≡◌, ◌<◌, ◌&&◌, nat_lt, slice_index, if◌then◌else◌, ◌∷◌, [], pos, negsuc};
+ghost use Rattle.std.specs.Prelude.{◌≡◌, ◌<◌, ◌&&◌, nat_lt, slice_index, ◌∷◌, [], pos, negsuc};
 ghost use Rattle.cdg_instructions.specs.Sizes.{screen_height, screen_width};
 ghost use Rattle.cdg_screen.specs.Standing.{screen_pixel};
 ghost use Rattle.ribjasper_c.specs.Handles.{ArePictureBytes, AreLevels, IsScreen, IsTable, IsWrittenBy, PlayersShow};
+ghost use Rattle.ribjasper_c.specs.Looking.{IsUnchanged};
+ghost use Rattle.ribjasper_c.specs.Answers.{done_if};
 
 use crate::Playing;
 use crate::answers::{DONE, NOT_DONE};
@@ -19,9 +21,8 @@ fn show<T, F: FnOnce(&LivePlayer, &mut T)>(player: &mut Playing, out: &mut T, wr
     requires { F.IsAlwaysCallable write }
     ensures shows { result ≡ pos 0 → PlayersShow player.old.handle.players
         (IsWrittenBy F.FnOnce write out.old out.new) }
-    ensures answer { result ≡ (if player.old.is_open then pos 0 else negsuc 0) }
-    ensures stays { player.new.is_open ≡ player.old.is_open }
-    ensures same { player.new.handle.players ≡ player.old.handle.players }
+    ensures answer { result ≡ done_if player.old.is_open }
+    ensures same { IsUnchanged player.old player.new }
     ensures refused { result ≡ negsuc 0 → out.new ≡ out.old }
 {
     if !player.is_open {
@@ -55,10 +56,9 @@ pub extern "C" fn ribjasper_player_pixel(
 ) -> i32
     ensures shows { result ≡ pos 0
         → PlayersShow player.old.handle.players (λ now. pixel.new ≡ screen_pixel now x y) }
-    ensures answer { result ≡ (if player.old.is_open && nat_lt x screen_width && nat_lt y screen_height
-        then pos 0 else negsuc 0) }
-    ensures stays { player.new.is_open ≡ player.old.is_open }
-    ensures same { player.new.handle.players ≡ player.old.handle.players }
+    ensures answer { result
+        ≡ done_if (player.old.is_open && nat_lt x screen_width && nat_lt y screen_height) }
+    ensures same { IsUnchanged player.old player.new }
     ensures refused { result ≡ negsuc 0 → pixel.new ≡ pixel.old }
 {
     if x >= WIDTH || y >= HEIGHT {
@@ -74,9 +74,8 @@ pub extern "C" fn ribjasper_player_screen(
     pixels: &mut [u8; SCREEN_PIXELS],
 ) -> i32
     ensures shows { result ≡ pos 0 → PlayersShow player.old.handle.players (λ now. IsScreen pixels.new now) }
-    ensures answer { result ≡ (if player.old.is_open then pos 0 else negsuc 0) }
-    ensures stays { player.new.is_open ≡ player.old.is_open }
-    ensures same { player.new.handle.players ≡ player.old.handle.players }
+    ensures answer { result ≡ done_if player.old.is_open }
+    ensures same { IsUnchanged player.old player.new }
     ensures refused { result ≡ negsuc 0 → pixels.new ≡ pixels.old }
 {
     show(player, pixels, LivePlayer::screen)
@@ -87,9 +86,8 @@ pub extern "C" fn ribjasper_player_screen(
 pub extern "C" fn ribjasper_player_colour(player: &mut Playing, k: u8, colour: &mut u16) -> i32
     ensures shows { result ≡ pos 0
         → PlayersShow player.old.handle.players (λ now. colour.new ≡ slice_index now.colours k) }
-    ensures answer { result ≡ (if player.old.is_open && nat_lt k 16 then pos 0 else negsuc 0) }
-    ensures stays { player.new.is_open ≡ player.old.is_open }
-    ensures same { player.new.handle.players ≡ player.old.handle.players }
+    ensures answer { result ≡ done_if (player.old.is_open && nat_lt k 16) }
+    ensures same { IsUnchanged player.old player.new }
     ensures refused { result ≡ negsuc 0 → colour.new ≡ colour.old }
 {
     if k >= 16 {
@@ -102,9 +100,8 @@ pub extern "C" fn ribjasper_player_colour(player: &mut Playing, k: u8, colour: &
 #[unsafe(no_mangle)]
 pub extern "C" fn ribjasper_player_colours(player: &mut Playing, table: &mut [u16; 16]) -> i32
     ensures shows { result ≡ pos 0 → PlayersShow player.old.handle.players (λ now. IsTable table.new now) }
-    ensures answer { result ≡ (if player.old.is_open then pos 0 else negsuc 0) }
-    ensures stays { player.new.is_open ≡ player.old.is_open }
-    ensures same { player.new.handle.players ≡ player.old.handle.players }
+    ensures answer { result ≡ done_if player.old.is_open }
+    ensures same { IsUnchanged player.old player.new }
     ensures refused { result ≡ negsuc 0 → table.new ≡ table.old }
 {
     show(player, table, LivePlayer::colours)
@@ -114,9 +111,8 @@ pub extern "C" fn ribjasper_player_colours(player: &mut Playing, table: &mut [u1
 #[unsafe(no_mangle)]
 pub extern "C" fn ribjasper_player_levels(player: &mut Playing, levels: &mut [u8; 16]) -> i32
     ensures shows { result ≡ pos 0 → PlayersShow player.old.handle.players (λ now. AreLevels levels.new now) }
-    ensures answer { result ≡ (if player.old.is_open then pos 0 else negsuc 0) }
-    ensures stays { player.new.is_open ≡ player.old.is_open }
-    ensures same { player.new.handle.players ≡ player.old.handle.players }
+    ensures answer { result ≡ done_if player.old.is_open }
+    ensures same { IsUnchanged player.old player.new }
     ensures refused { result ≡ negsuc 0 → levels.new ≡ levels.old }
 {
     show(player, levels, LivePlayer::levels)
@@ -130,9 +126,8 @@ pub extern "C" fn ribjasper_player_picture(
 ) -> i32
     ensures shows { result ≡ pos 0
         → PlayersShow player.old.handle.players (λ now. ArePictureBytes bytes.new now) }
-    ensures answer { result ≡ (if player.old.is_open then pos 0 else negsuc 0) }
-    ensures stays { player.new.is_open ≡ player.old.is_open }
-    ensures same { player.new.handle.players ≡ player.old.handle.players }
+    ensures answer { result ≡ done_if player.old.is_open }
+    ensures same { IsUnchanged player.old player.new }
     ensures refused { result ≡ negsuc 0 → bytes.new ≡ bytes.old }
 {
     show(
@@ -146,9 +141,8 @@ pub extern "C" fn ribjasper_player_picture(
 #[unsafe(no_mangle)]
 pub extern "C" fn ribjasper_player_border(player: &mut Playing, border: &mut u8) -> i32
     ensures shows { result ≡ pos 0 → PlayersShow player.old.handle.players (λ now. border.new ≡ now.border) }
-    ensures answer { result ≡ (if player.old.is_open then pos 0 else negsuc 0) }
-    ensures stays { player.new.is_open ≡ player.old.is_open }
-    ensures same { player.new.handle.players ≡ player.old.handle.players }
+    ensures answer { result ≡ done_if player.old.is_open }
+    ensures same { IsUnchanged player.old player.new }
     ensures refused { result ≡ negsuc 0 → border.new ≡ border.old }
 {
     show(player, border, |live, border| *border = live.border())
@@ -164,9 +158,8 @@ pub extern "C" fn ribjasper_player_offsets(
 ) -> i32
     ensures shows { result ≡ pos 0
         → PlayersShow player.old.handle.players (λ now. (across.new ≡ now.h) × (down.new ≡ now.v)) }
-    ensures answer { result ≡ (if player.old.is_open then pos 0 else negsuc 0) }
-    ensures stays { player.new.is_open ≡ player.old.is_open }
-    ensures same { player.new.handle.players ≡ player.old.handle.players }
+    ensures answer { result ≡ done_if player.old.is_open }
+    ensures same { IsUnchanged player.old player.new }
     ensures refused { result ≡ negsuc 0 → (across.new ≡ across.old) × (down.new ≡ down.old) }
 {
     let mut offsets = (*across, *down);

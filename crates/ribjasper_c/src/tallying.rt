@@ -1,13 +1,15 @@
 // A player that is fed a block, and what came with it, counted.
-ghost use Rattle.std.specs.Prelude.{◌≡◌, if◌then◌else◌, ◌∷◌, [], List, ℕ, pos, negsuc};
+ghost use Rattle.std.specs.Prelude.{◌≡◌, ◌∷◌, [], List, ℕ, pos, negsuc};
 ghost use Rattle.live_player.specs.Lives.{Given};
 ghost use Rattle.live_player.specs.Lives.Given.{Fed};
 ghost use Rattle.live_player.specs.Steps.{TakesBlock, words_come};
 ghost use Rattle.live_player.specs.declared.live.LivePlayer.{LivePlayer};
 ghost use Rattle.block_survey.specs.Tallies.{tallied, IsTallyOf};
 ghost use Rattle.raw_subcode.specs.declared.form.Form.{Form};
-ghost use Rattle.ribjasper_c.specs.Handles.{IsPlaying, PlayersGo};
+ghost use Rattle.ribjasper_c.specs.Handles.{IsPlaying};
 ghost use Rattle.stream_stages.specs.Steps.{words_give};
+ghost use Rattle.ribjasper_c.specs.Answers.{done_if};
+ghost use Rattle.ribjasper_c.specs.Giving.{GivesPlayer};
 
 use crate::Playing;
 use crate::answers::{DONE, NOT_DONE};
@@ -28,14 +30,10 @@ pub extern "C" fn ribjasper_player_feed_counted(
     ensures tallies { result ≡ pos 0 → (form : Form) (lead_in : ℕ) (given : List Given)
         → IsPlaying form lead_in given player.old.handle.players → IsTallyOf form lead_in given tally.old
         → IsTallyOf form lead_in (Fed block.now ∷ given) tally.new }
-    ensures fed { result ≡ pos 0 → (form : Form) (lead_in : ℕ) (given : List Given)
-        → IsPlaying form lead_in given player.old.handle.players
-        → IsPlaying form lead_in (Fed block.now ∷ given) player.new.handle.players }
-    ensures takes { result ≡ pos 0
-        → PlayersGo player.old.handle.players player.new.handle.players (TakesBlock block.now) }
-    ensures answer { result ≡ (if player.old.is_open then pos 0 else negsuc 0) }
+    ensures feeds { GivesPlayer (Fed block.now ∷ []) (TakesBlock block.now) player.old.handle.players
+        player.new.handle.players result }
+    ensures answer { result ≡ done_if player.old.is_open }
     ensures stays { player.new.is_open ≡ player.old.is_open }
-    ensures refused { result ≡ negsuc 0 → player.new.handle.players ≡ player.old.handle.players }
     ensures same { result ≡ negsuc 0 → tally.new ≡ tally.old }
 {
     if !player.is_open {

@@ -27,7 +27,6 @@ returns-clause-saves c = record {
       (subst IsTooLong (sym c.deref.ensures) (of_held IsTooLong _ _ live c.take_out-live.ensures held long));
   closed = search rules;
   answer = search rules;
-  stays = search rules;
   same = search rules;
   untouched = search rules;
 }
