@@ -311,6 +311,36 @@ static void blocks(uint8_t *stream, size_t count)
     CHECK(held == 0);
 }
 
+/* From a checkpoint on, packs and blocks at once leave a player where they leave it one by one. */
+static void from_a_checkpoint(uint8_t *stream, size_t count)
+{
+    static uint8_t file[RIBJASPER_CHECKPOINT], at_once[RIBJASPER_CHECKPOINT], in_turn[RIBJASPER_CHECKPOINT];
+    ribjasper_player one = RIBJASPER_CLOSED, all = RIBJASPER_CLOSED;
+    ribjasper_change change;
+    uint8_t pack[24];
+    uint32_t byte;
+    size_t n;
+    if (ribjasper_player_open(&one) != RIBJASPER_DONE || ribjasper_player_open(&all) != RIBJASPER_DONE)
+        return;
+    for (n = 0; n < count; n++)
+        CHECK(ribjasper_player_feed(&one, stream + 96 * n) == RIBJASPER_DONE);
+    CHECK(ribjasper_player_save(&one, file) == RIBJASPER_DONE);
+    CHECK(ribjasper_player_load(&one, file, &byte) == RIBJASPER_DONE);
+    CHECK(ribjasper_player_load(&all, file, &byte) == RIBJASPER_DONE);
+    begin_pack(pack, 1);
+    pack[4] = 5;
+    CHECK(ribjasper_player_draw(&one, pack) == RIBJASPER_DONE);
+    CHECK(ribjasper_player_draw_all(&all, pack, 1, &change) == RIBJASPER_DONE);
+    for (n = 0; n < count; n++)
+        CHECK(ribjasper_player_feed(&one, stream + 96 * n) == RIBJASPER_DONE);
+    CHECK(ribjasper_player_feed_all(&all, stream, count, &change) == RIBJASPER_DONE);
+    CHECK(ribjasper_player_save(&one, in_turn) == RIBJASPER_DONE && ribjasper_player_save(&all, at_once) == RIBJASPER_DONE);
+    CHECK(memcmp(in_turn, at_once, sizeof in_turn) == 0);
+    ribjasper_player_close(&one);
+    ribjasper_player_close(&all);
+    CHECK(held == 0);
+}
+
 static void counted(void)
 {
     static const uint8_t block[96] = { 0 };
@@ -365,6 +395,7 @@ int main(int argc, char **argv)
         size_t count = file == NULL ? 0 : fread(stream, 96, 4000, file);
         CHECK(count > 100);
         blocks(stream, count);
+        from_a_checkpoint(stream, 400);
         if (file != NULL)
             fclose(file);
     }

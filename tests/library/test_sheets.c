@@ -89,6 +89,9 @@ static void texts_of_a_sheet(void)
     CHECK(ribjasper_sheet_text(bytes_of(sheet), length, 3, 0, out, 16, &bytes) == RIBJASPER_USAGE && bytes == 99);
     CHECK(ribjasper_sheet_text(bytes_of(sheet), length, 0, 3, out, 16, &bytes) == RIBJASPER_USAGE && bytes == 99);
     CHECK(ribjasper_sheet_text(bytes_of(sheet), length - 40, 0, 0, out, 16, &bytes) == RIBJASPER_TORN && bytes == 99);
+    /* A number that is no kind is refused before the sheet is read, whatever the sheet and the room. */
+    CHECK(ribjasper_sheet_text(bytes_of(sheet), length - 40, 3, 0, out, 16, &bytes) == RIBJASPER_USAGE && bytes == 99);
+    CHECK(ribjasper_sheet_text(bytes_of(sheet), length, 3, 0, out, 0, &bytes) == RIBJASPER_USAGE && bytes == 99);
     CHECK(out[0] == 7 && held == 0);
     CHECK(ribjasper_sheet_text(bytes_of(sheet), length, RIBJASPER_TITLE, 1, NULL, 0, &bytes) == 0 && bytes == 0);
 }

@@ -42,6 +42,8 @@ pub record WritesTextOfSheet (sheet : List ℕ) (kind place : ℕ) (old new : Li
   pub text : result ≡ pos 0 → (kind ≤ 2) × IsTextOf (text_kind kind) place sheet old new new_count
   pub usage : result ≡ pos 2 → (2 < kind) ⊎ (most_text_bytes < length sheet)
       ⊎ IsTextStop (text_kind kind) place sheet (length old) NoTrack
+  -- a number that is no kind is refused before all else, and then a sheet that is too long
+  pub first : (2 < kind) ⊎ (most_text_bytes < length sheet) → result ≡ pos 2
   pub refused : result ≡ pos 3 → (line : ℕ) × (why : CueWhy) × (read_cue sheet ≡ Err (line, why))
   pub small : result ≡ pos 6
       → IsTextStop (text_kind kind) place sheet (length old) (no_room_for new_count)

@@ -1,11 +1,12 @@
 // Many blocks or packs in one call, and what of the screen may have changed.
-ghost use Rattle.std.specs.Prelude.{◌≡◌, ◌∷◌, [], ◌&&◌, nat_le, List, map, reverse, pos, negsuc};
+ghost use Rattle.std.specs.Prelude.{◌≡◌, ◌∷◌, [], ◌&&◌, nat_le, map, reverse, pos, negsuc};
 ghost use Rattle.cdg_io.specs.Run.{run_state};
-ghost use Rattle.cdg_instructions.specs.declared.instr.Instr.{Instr};
 ghost use Rattle.cdg_screen.specs.Standing.{IsWholeStanding, Standing, standing_after};
 ghost use Rattle.live_player.specs.Lives.{instruction_of};
 ghost use Rattle.live_player.specs.Lives.Given.{Drawn, Fed};
 ghost use Rattle.screen_changes.specs.Changes.{sees, watch_from, AreDrawnFor, KeepsUntold};
+ghost use Rattle.screen_changes.specs.Taken.{instructions_from, DrawsPacks, TakesBlocks};
+ghost use Rattle.ribjasper_c.specs.Handles.{PlayersGo};
 ghost use Rattle.ribjasper_c.specs.Answers.{done_if};
 ghost use Rattle.ribjasper_c.specs.Giving.{GivesPlayer, TellsChange};
 
@@ -22,10 +23,11 @@ pub extern "C" fn ribjasper_player_feed_all(
     blocks: &[[u8; BLOCK_BYTES]],
     change: &mut ScreenChange,
 ) -> i32
-    ensures feeds { GivesPlayer (map Fed (reverse blocks.now))
-        (λ before after. (instrs : List Instr) × AreDrawnFor blocks.now before instrs
-        × TellsChange change.new instrs before after)
+    ensures feeds { GivesPlayer (map Fed (reverse blocks.now)) (TakesBlocks blocks.now)
         player.old.handle.players player.new.handle.players result }
+    ensures told { result ≡ pos 0 → PlayersGo player.old.handle.players player.new.handle.players
+        (λ before after. let instrs = instructions_from before.words blocks.now in
+        AreDrawnFor blocks.now before instrs × TellsChange change.new instrs before after) }
     ensures answer { result ≡ done_if player.old.is_open }
     ensures stays { player.new.is_open ≡ player.old.is_open }
     ensures untouched { result ≡ negsuc 0 → change.new ≡ change.old }
@@ -46,9 +48,10 @@ pub extern "C" fn ribjasper_player_draw_all(
     packs: &[[u8; SYMBOLS]],
     change: &mut ScreenChange,
 ) -> i32
-    ensures draws { GivesPlayer (map Drawn (reverse packs.now))
-        (TellsChange change.new (map instruction_of packs.now))
+    ensures draws { GivesPlayer (map Drawn (reverse packs.now)) (DrawsPacks packs.now)
         player.old.handle.players player.new.handle.players result }
+    ensures told { result ≡ pos 0 → PlayersGo player.old.handle.players player.new.handle.players
+        (TellsChange change.new (map instruction_of packs.now)) }
     ensures answer { result ≡ done_if player.old.is_open }
     ensures stays { player.new.is_open ≡ player.old.is_open }
     ensures untouched { result ≡ negsuc 0 → change.new ≡ change.old }

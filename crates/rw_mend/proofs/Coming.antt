@@ -4,7 +4,7 @@ use Rattle.std.specs.Prelude.{if◌then◌else◌, nat_lt}
 use Rattle.std.proofs.Math.ListN.{length-set, set}
 use Rattle.std.proofs.lemmas.Bool.{cases_eq}
 use Rattle.std.proofs.lemmas.Bool.Decides.{leb_tells}
-use Rattle.std.proofs.lemmas.List.{get_or-replicate, get_or-set_other, get_or-set_same, get_or-take}
+use Rattle.std.proofs.lemmas.List.{get_or-replicate, get_or-set_other, get_or-set_same, get_or-take, get_or_past, length-replicate}
 use Rattle.rw_mend.specs.Choice.{voice_of_reading}
 use Rattle.rw_mend.specs.Drops.{AreDropCounts, AreVoices, IsSaid}
 use Rattle.rw_mend.specs.Mender.{HasComeTo, IsHearing, no_given_row, voices_at}
@@ -52,6 +52,14 @@ pub zero_last : (readings : Readings) (r : ℕ) → AreHeldReadings readings →
     → get_or (replicate 254 0) r 0 ≤ 0
 zero_last readings r are lt = omega (arith, get_or-replicate {A = ℕ} 254 r 0 0 (omega (arith, lt, are.few)))
 
+zero_at : (r : ℕ) → get_or {A = ℕ} (replicate 254 0) r 0 ≡ 0
+zero_at r =
+    elim (leb_tells (suc r) 254) [
+      | inl within ↦ get_or-replicate 254 r 0 0 (omega (arith, within.1))
+      | inr behind ↦ get_or_past (replicate 254 0) r 0
+          (omega (arith, behind.1, length-replicate {A = ℕ} 254 0))
+    ]
+
 pub zero_dropped : (readings : Readings) (words : ℕ) → AreHeldReadings readings
     → AreDropCounts words (programs_in readings) 0 (replicate 254 0)
 zero_dropped readings words are = record {
@@ -59,6 +67,7 @@ zero_dropped readings words are = record {
       λ r lt.
       none_dropped words (programs_in readings) r (get_or (replicate 254 0) r 0)
       (get_or-replicate 254 r 0 0 (omega (arith, lt, count_is readings, are.few)));
+  others = λ r behind. zero_at r;
 }
 
 -- ---- The next word is heard.
@@ -162,6 +171,7 @@ pub at_word : (readings : Readings) (n : ℕ) (mender : Mender) (row : List Voic
     → ((r : ℕ) → r < readings.count
     → get_or dropped r 0 ≡ get_or mender.dropped r 0
     + (if is_left (get_or mender.missed r 0) n (voice_of_reading row r) then 1 else 0))
+    → ((r : ℕ) → readings.count ≤ r → get_or dropped r 0 ≡ get_or mender.dropped r 0)
     → HasComeTo readings n (record {
       words = mender.words;
       heard = mender.heard;
@@ -173,7 +183,7 @@ pub at_word : (readings : Readings) (n : ℕ) (mender : Mender) (row : List Voic
       said = said;
       dropped = dropped;
     })
-at_word readings n mender row said dropped is within all row_is size each dropped_size counted =
+at_word readings n mender row said dropped is within all row_is size each dropped_size counted kept_behind =
     let heard : n < mender.heard = reached n mender.words mender.heard within all in
     let kept : List Voice = (get_or mender.rows (n % 8) no_given_row).voices in
     let given : (r : ℕ) → r < length (programs_in readings)
@@ -207,6 +217,9 @@ at_word readings n mender row said dropped is within all row_is size each droppe
               (left_is mender.words (programs_in readings) r n mender.heard (get_or mender.missed r 0)
               (voice_of_reading row r) (is.missed.each r lt) is.heard is.near all (given r lt))
               (counted r (omega (arith, lt, count_is readings))) (is.dropped.each r lt);
+          others =
+              λ r from.
+              kept_behind r (omega (arith, from, count_is readings)) ∙ is.dropped.others r from;
         };
         rows = λ m from to. is.rows m (omega (arith, from)) to;
       };

@@ -53,7 +53,8 @@ pub record IsDropCount (words : ℕ) (programs : List (List ℕ)) (r n count : �
       (¬ IsDropped words programs r k)
   pub is : count ≡ count_by (λ mark. mark) marks
 
--- the same of each reading
+-- the same of each reading; the counts behind them are 0
 pub record AreDropCounts (words : ℕ) (programs : List (List ℕ)) (n : ℕ) (counts : List ℕ) : Type 0 where
   pub each : (r : ℕ) → r < length programs
       → IsDropCount words programs r n (slice_index_or counts r 0)
+  pub others : (r : ℕ) → length programs ≤ r → slice_index_or counts r 0 ≡ 0

@@ -182,6 +182,7 @@ fn say_next(
         ≡ said_after (slice_index_or missed.now r 0) n
         (voice_of_reading (take count ((slice_index_or rows.now (n % 8) no_given_row).voices)) r) }
     ensures dropped { CountsLeft rows.now count n missed.now dropped.old dropped.new }
+    ensures others { (r : ℕ) → count ≤ r → slice_index_or dropped.new r 0 ≡ slice_index_or dropped.old r 0 }
 {
     if may_be_left(last_missed, n) {
         say_near(rows, count, n, missed, said, dropped);
@@ -210,6 +211,7 @@ fn say_near(
         ≡ said_after (slice_index_or missed.now r 0) n
         (voice_of_reading (take count ((slice_index_or rows.now (n % 8) no_given_row).voices)) r) }
     ensures dropped { CountsLeft rows.now count n missed.now dropped.old dropped.new }
+    ensures others { (r : ℕ) → count ≤ r → slice_index_or dropped.new r 0 ≡ slice_index_or dropped.old r 0 }
 {
     let given = rows[n % KEPT].voices(count);
     say_all(given, missed, n, said);

@@ -260,6 +260,7 @@ pub(crate) fn count_left(row: &[Voice], missed: &[usize], n: usize, counts: &mut
     ensures each { (r : ℕ) → r < length row.now → slice_index_or counts.new r 0
         ≡ slice_index_or counts.old r 0
         + (if is_left (slice_index_or missed.now r 0) n (voice_of_reading row.now r) then 1 else 0) }
+    ensures others { (r : ℕ) → length row.now ≤ r → slice_index_or counts.new r 0 ≡ slice_index_or counts.old r 0 }
 {
     for r in 0..row.len() {
         if is_left(&row[r], missed[r], n) {

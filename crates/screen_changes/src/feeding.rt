@@ -1,10 +1,10 @@
 // Many blocks or packs in one call.
-ghost use Rattle.std.specs.Prelude.{◌≡◌, ◌∷◌, [], List, map, reverse};
-ghost use Rattle.cdg_instructions.specs.declared.instr.Instr.{Instr};
+ghost use Rattle.std.specs.Prelude.{◌≡◌, ◌∷◌, [], map, reverse};
 ghost use Rattle.cdg_io.specs.Run.{run_state};
 ghost use Rattle.cdg_screen.specs.Standing.{IsWholeStanding, Standing, standing_after};
 ghost use Rattle.live_player.specs.Lives.{instruction_of, standing_on, PlaysOn};
 ghost use Rattle.live_player.specs.Lives.Given.{Drawn, Fed};
+ghost use Rattle.screen_changes.specs.Taken.{instructions_from, DrawsPacks, TakesBlocks};
 ghost use Rattle.screen_changes.specs.Changes.{changes_on, sees, watch_from, AreDrawnFor, KeepsUntold};
 
 use crate::change::{ScreenChange, untold_stays};
@@ -30,8 +30,8 @@ pub fn pack_change(pack: &[u8; SYMBOLS], across: u8, down: u8) -> ScreenChange
 /// Draws packs in turn, and tells what may have changed.
 pub fn draw_all(live: &mut LivePlayer, packs: &[[u8; SYMBOLS]]) -> ScreenChange
     ensures told { result ≡ changes_on (standing_on live.old) (map instruction_of packs.now) }
-    ensures stands { standing_on live.new
-        ≡ standing_after (standing_on live.old) (map instruction_of packs.now) }
+    // Whatever the player was given before, also where it came to the checkpoint of a file.
+    ensures draws { DrawsPacks packs.now live.old live.new }
     ensures keeps { KeepsUntold result (standing_on live.old) (standing_on live.new) }
     ensures drawn { PlaysOn (map Drawn (reverse packs.now)) live.old live.new }
 {
@@ -47,9 +47,12 @@ pub fn draw_all(live: &mut LivePlayer, packs: &[[u8; SYMBOLS]]) -> ScreenChange
 
 /// Feeds blocks in turn, and tells what may have changed.
 pub fn feed_all(live: &mut LivePlayer, blocks: &[[u8; BLOCK_BYTES]]) -> ScreenChange
-    ensures told { (instrs : List Instr) × (result ≡ changes_on (standing_on live.old) instrs)
+    ensures told { let instrs = instructions_from live.old.words blocks.now in
+        (result ≡ changes_on (standing_on live.old) instrs)
         × (standing_on live.new ≡ standing_after (standing_on live.old) instrs)
         × AreDrawnFor blocks.now live.old instrs }
+    // Whatever the player was given before, also where it came to the checkpoint of a file.
+    ensures takes { TakesBlocks blocks.now live.old live.new }
     ensures keeps { KeepsUntold result (standing_on live.old) (standing_on live.new) }
     ensures fed { PlaysOn (map Fed (reverse blocks.now)) live.old live.new }
 {

@@ -29,11 +29,18 @@ loop-pack-preserved c =
           ∙ ap (λ (w : Watch). sees w (instruction_of pack)) c.loop-pack.invariant.told
           ∙ sym (run_state-append sees watch before (instruction_of pack ∷ []))
           ∙ ap (run_state sees watch) instrs;
-      stands =
-          c.draw.ensures.draws.draws
-          ∙ ap (λ (s : Standing). standing_after s (instruction_of pack ∷ [])) c.loop-pack.invariant.stands
-          ∙ sym (in_turn start before (instruction_of pack ∷ []))
-          ∙ ap (standing_after start) instrs;
+      draws = record {
+        gathers = c.draw.ensures.draws.gathers ∙ c.loop-pack.invariant.draws.gathers;
+        draws =
+            c.draw.ensures.draws.draws
+            ∙ ap (λ (s : Standing). standing_after s (instruction_of pack ∷ []))
+            c.loop-pack.invariant.draws.draws
+            ∙ sym (in_turn start before (instruction_of pack ∷ []))
+            ∙ ap (standing_after start) instrs;
+        lead_in = c.draw.ensures.draws.lead_in ∙ c.loop-pack.invariant.draws.lead_in;
+        counts = c.draw.ensures.draws.counts ∙ c.loop-pack.invariant.draws.counts;
+        bad = c.draw.ensures.draws.bad ∙ c.loop-pack.invariant.draws.bad;
+      };
       drawn =
           λ form lead_in given played. subst (λ (g : List Given). HasPlayed form lead_in g c.draw.new.self)
           (sym (ap (λ (l : List (List ℕ)). map Drawn (reverse l) ++ given) more
@@ -49,5 +56,5 @@ returns-clause-keeps c =
     subst (λ (it : ScreenChange). KeepsUntold it start (standing_on c.loop-pack.live))
     (sym (ap (λ (w : Watch). w.change) c.loop-pack.invariant.told))
     (subst (λ (s : Standing). KeepsUntold (changes_on start instrs) start s)
-    (sym c.loop-pack.invariant.stands)
+    (sym c.loop-pack.invariant.draws.draws)
     (c.untold_stays.ensures start instrs c.what_stands_is_whole.ensures))

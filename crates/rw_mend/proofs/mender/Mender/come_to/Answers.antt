@@ -93,4 +93,4 @@ returns-clause-at c =
     c.loop-m.invariant.words c.loop-m.invariant.heard c.loop-m-test.false
     (least (n + 8) c.args.self.now.words c.min-m-end.result c.min-m-end.ensures)) refl
     c.say_next.ensures.said_size c.say_next.ensures.said c.say_next.ensures.dropped_size
-    c.say_next.ensures.dropped
+    c.say_next.ensures.dropped c.say_next.ensures.others
