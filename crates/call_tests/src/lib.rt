@@ -6,11 +6,11 @@
 #[cfg(test)]
 mod blocks;
 #[cfg(test)]
+mod files;
+#[cfg(test)]
 mod instructions;
 #[cfg(test)]
 mod lines;
-#[cfg(test)]
-mod own;
 #[cfg(test)]
 mod players;
 #[cfg(test)]

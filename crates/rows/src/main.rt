@@ -2,6 +2,7 @@
 #![tactic(auto)]
 
 mod bytes;
+mod own;
 mod row;
 mod side;
 mod trial;

@@ -24,6 +24,17 @@ pub(crate) enum Extent {
     Beginning,
 }
 
+/// What the command of a row reads its first input from, and writes its output to.
+#[derive(Drop)]
+pub(crate) enum Ends {
+    /// Memory, in pieces and with calls that fail.
+    Memory,
+    /// A source that has `take` alone, and a sink that has `put` alone.
+    Own,
+    /// The same with a source whose reads all fail.
+    Broken,
+}
+
 #[derive(Drop)]
 pub(crate) struct Row<'a> {
     pub(crate) name: &'a str,
@@ -33,6 +44,7 @@ pub(crate) struct Row<'a> {
     pub(crate) words: Vec<String>,
     /// How many of them are names of files.
     pub(crate) names: usize,
+    pub(crate) ends: Ends,
     pub(crate) first: Side,
     pub(crate) second: Side,
     pub(crate) out: Side,
@@ -59,6 +71,7 @@ impl<'a> Row<'a> {
             is_given: false,
             words: Vec::new(alloc),
             names: 0,
+            ends: Ends::Memory,
             first: Side::new(alloc),
             second: Side::new(alloc),
             out: Side::new(alloc),
@@ -132,6 +145,8 @@ impl<'a> Row<'a> {
             "left" | "left-second" => return self.read_number(key, value),
             "at" => return self.read_part(alloc, value, outputs),
             "status" => self.status = value.parse::<u8>()?,
+            "own" => self.ends = Ends::Own,
+            "broken" => self.ends = Ends::Broken,
             "beginning" => self.extent = Extent::Beginning,
             "digest" => self.digest = Some(value),
             "line" => self.lines.push(value)?,

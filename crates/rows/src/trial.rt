@@ -1,10 +1,11 @@
 // The trial of a row.
 ghost use Rattle.std.specs.Prelude.{◌≡◌, OnOk};
 
-use crate::row::{Extent, PlacedBytes, Row};
+use crate::own::{Broken, KeptBytes, Lent};
+use crate::row::{Ends, Extent, PlacedBytes, Row};
 use anyhow::{Result, bail, ensure};
-use cdg_cmd::{run, split};
-use cdg_io::{MemSink, MemSource};
+use cdg_cmd::{Status, run, split};
+use cdg_io::{MemSink, MemSource, Source};
 use sha2::{Digest, Sha256};
 use std::alloc::{AllocError, Global};
 use std::mem::replace;
@@ -104,6 +105,13 @@ fn compare_output(alloc: Global, row: &Row, got: &[u8]) -> Result<()> {
     compare_parts(alloc, row, got)
 }
 
+// Fails where a status is not the one that a row wants.
+fn compare_status(row: &Row, status: Status) -> Result<()> {
+    let (wanted, got) = (row.status, status.exit());
+    ensure!(wanted == got, "status: wanted {wanted}, got {got}");
+    Ok(())
+}
+
 #[derive(Drop)]
 struct RunStreams {
     first: MemSource,
@@ -138,9 +146,7 @@ fn run_words(alloc: Global, row: &Row, streams: &mut RunStreams) -> Result<()> {
         &mut streams.out,
         &mut streams.err,
     );
-    let (wanted, got) = (row.status, status.exit());
-    ensure!(wanted == got, "status: wanted {wanted}, got {got}");
-    Ok(())
+    compare_status(row, status)
 }
 
 // Fails where what was written, or what is left of the inputs, is not what a row wants.
@@ -162,11 +168,43 @@ fn run_streams(alloc: Global, row: &Row, streams: &mut RunStreams) -> Result<Vec
     Ok(streams.out.bytes().to_vec(alloc)?)
 }
 
+// Runs the words of a row from a first input to an own sink, and answers what it wrote.
+fn run_own<S: Source>(alloc: Global, row: &Row, first: &mut S) -> Result<Vec<u8>> {
+    let mut second = Lent {
+        rest: row.second.bytes.as_slice(),
+    };
+    let mut out = KeptBytes {
+        bytes: Vec::new(alloc),
+        faults: 0,
+    };
+    let mut err = row.err.sink(alloc, 256)?;
+    let status = run(alloc, &row.words, first, &mut second, &mut out, &mut err);
+    compare_status(row, status)?;
+    compare(alloc, "err", &row.err.bytes, err.bytes())?;
+    compare_output(alloc, row, &out.bytes)?;
+    Ok(out.bytes)
+}
+
+// Runs a row on bytes in memory, and answers what it wrote.
+fn run_in_memory(alloc: Global, row: &mut Row) -> Result<Vec<u8>> {
+    let mut streams = RunStreams::of_row(alloc, row)?;
+    run_streams(alloc, row, &mut streams)
+}
+
+// Runs a row over a source that lends the bytes of its first input.
+fn run_lent(alloc: Global, row: &Row) -> Result<Vec<u8>> {
+    let rest = row.first.bytes.as_slice();
+    run_own(alloc, row, &mut Lent { rest })
+}
+
 /// Runs a row, and answers what it wrote. It fails where that is not what the row wants.
 pub(crate) fn run_row(alloc: Global, row: &mut Row) -> Result<Vec<u8>> {
     if row.is_given {
         return Ok(replace(&mut row.out.bytes, Vec::new(alloc)));
     }
-    let mut streams = RunStreams::of_row(alloc, row)?;
-    run_streams(alloc, row, &mut streams)
+    match row.ends {
+        Ends::Memory => run_in_memory(alloc, row),
+        Ends::Own => run_lent(alloc, row),
+        Ends::Broken => run_own(alloc, row, &mut Broken { tries: 0 }),
+    }
 }
