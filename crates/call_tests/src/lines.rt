@@ -3,8 +3,8 @@ ghost use Rattle.std.specs.Prelude.{◌≡◌, ◌<◌, length, not, true};
 ghost use Rattle.std.specs.List.{list_all};
 ghost use Rattle.text_lines.specs.Text.{is_blank};
 
+use bit_lists::crc16;
 use disc_time::{Msf, from_bcd, parse_time, to_bcd};
-use subcode_crc::crc16;
 use text_lines::{
     after_word, next_line, next_word, number, split_command, time, trim, trim_start, two_digits,
     without_mark,

@@ -7,7 +7,7 @@ use rw_interleave::Gather;
 use std::alloc::{AllocError, Global};
 use std::test::Fail;
 use stream_stages::{
-    BlockWords, Checker, Converter, Correction, Counting, FrameCounts, Painting, SectorBlocks,
+    BlockPacks, BlockWords, Checker, Converter, Counting, FrameCounts, Painting, SectorBlocks,
     TextLister, Viewer, WordCounts,
 };
 use subcode_player::{Form, PlayStop, Played, Player};
@@ -21,7 +21,7 @@ fn see_player(player: &Player) {
         lister,
     } = player;
     let Converter { stages } = converter;
-    see_all_stages(stages);
+    see_packs(stages);
     let Viewer { views } = viewer;
     see_all_views(views);
     let Checker { checks } = checker;
@@ -87,9 +87,11 @@ fn see_counts(counts: &WordCounts) {
     let _foreign: &u32 = foreign;
 }
 
-fn see_all_stages(stages: &SectorBlocks<Then<BlockWords, Correction>>) {
+fn see_packs(stages: &SectorBlocks<BlockPacks>) {
     let SectorBlocks { blocks } = stages;
-    see_stages(blocks);
+    let BlockPacks { words, bad } = blocks;
+    see_words(words);
+    let _bad: &u32 = bad;
 }
 
 fn see_all_views(views: &SectorBlocks<Then<BlockWords, Painting>>) {
@@ -110,12 +112,6 @@ fn see_painting(painting: &Painting) {
     let _bad: &u32 = bad;
 }
 
-fn see_stages(stages: &Then<BlockWords, Correction>) {
-    let Then { first, second } = stages;
-    see_words(first);
-    see_correction(second);
-}
-
 fn see_words(words: &BlockWords) {
     let BlockWords {
         form,
@@ -125,11 +121,6 @@ fn see_words(words: &BlockWords) {
     let _form: &Form = form;
     let _lead_in: &u32 = lead_in;
     let _gather: &Gather = gather;
-}
-
-fn see_correction(correction: &Correction) {
-    let Correction { bad } = correction;
-    let _bad: &u32 = bad;
 }
 
 #[test]

@@ -10,11 +10,11 @@ use crate::fields::{
     counts_in, front, short_number,
 };
 use crate::plain_file::{FILE_BYTES, SLOTS_BYTES};
+use bit_lists::crc16;
 use cdg_instructions::{SCREEN_PIXELS, TILE_HEIGHT, TILE_WIDTH};
 use disc_time::MOST_LEAD_IN;
 use raw_subcode::{MOST_UNITS, SLOTS_A_BLOCK, SYMBOLS_A_SLOT};
 use rw_interleave::PACKS_KEPT_BACK;
-use subcode_crc::crc16;
 
 // How many bytes of the slots stand for no slot, after so many blocks of the program.
 fn empty_symbols(program: u32) -> usize

@@ -7,9 +7,9 @@ ghost use Rattle.cdg_checkpoint.specs.Checkpoint.{bytes_of, file_of, kept, part_
 
 use crate::StreamCounts;
 use crate::plain_file::{PlainFile, SLOTS_BYTES};
+use bit_lists::crc16;
 use cdg_instructions::SCREEN_HEIGHT;
 use cdg_screen::PlainScreen;
-use subcode_crc::crc16;
 
 /// The bytes at the front of the file.
 pub(crate) const MARK: &[u8; 8] = b"CDGSAVE1";

@@ -4,8 +4,8 @@ use Rattle.std.specs.Io.KnownBytes.{Appends}
 use Rattle.cdg_io.specs.declared.pumping.Pumped.{Pumped}
 use Rattle.cdg_io.specs.declared.pumping.PumpStop.{PumpStop}
 use Rattle.cdg_io.specs.declared.pumping.PumpStop.TheVariants as pump
-use Rattle.cdg_thin.specs.Calls.{ShowsAll, ThinsAll}
-use Rattle.cdg_thin.proofs.Calls.{whole}
+use Rattle.cdg_press.specs.Calls.{ShowsAll, ThinsAll}
+use Rattle.cdg_press.proofs.Calls.{whole}
 use Rattle.cdg_io.specs.Change.{Bytes, Change}
 use Rattle.cdg_cmd.specs.Thinned.{ThinsWith}
 use Rattle.cdg_cmd.specs.Stops.{thin_status}

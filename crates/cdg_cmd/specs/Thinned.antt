@@ -2,7 +2,7 @@
 use Rattle.std.specs.Prelude.{length, IfSome}
 use Rattle.raw_subcode.specs.Sizes.{symbols_a_slot}
 use Rattle.cdg_io.specs.Pump.{IsUnlessFault, answer_of}
-use Rattle.cdg_thin.specs.Calls.{Thins, most_file_packs}
+use Rattle.cdg_press.specs.Calls.{Thins, most_file_packs}
 use Rattle.cdg_io.specs.Change.{Bytes}
 use Rattle.cdg_cmd.specs.Call.{Call, through}
 use Rattle.cdg_cmd.specs.Endings.{EndsWith}

@@ -10,7 +10,7 @@ ghost use Rattle.pack_schedule.specs.Brings.{CannotBeReady};
 ghost use Rattle.toc_model.specs.Places.{layout_of, program_blocks};
 ghost use Rattle.subcode_author.specs.Authored.{Disc, IsAuthored};
 ghost use Rattle.rw_merge.specs.Readings.{IsReadTwice};
-ghost use Rattle.cdg_thin.specs.Calls.{ShowsAll};
+ghost use Rattle.cdg_press.specs.Calls.{ShowsAll};
 ghost use Rattle.round_trips.specs.Pictured.{IsHeldAt};
 ghost use Rattle.round_trips.specs.FrameLines.{frame_lines};
 ghost use Rattle.cdg_cmd.specs.Answer.{GivesBack, GivesIfFound};

@@ -6,3 +6,10 @@ pub mod Stages
 pub mod Some
 pub mod Packs
 pub mod Existing
+pub mod Sealing
+pub mod Meanings
+pub mod Forms
+pub mod Sameness
+pub mod Runs
+pub mod Calls
+pub mod Rows

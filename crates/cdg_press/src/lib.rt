@@ -1,13 +1,14 @@
-//! Presses a `.cdg` file into the subcode of a disc, in time with the audio of a cue sheet.
+//! Presses a `.cdg` file into the subcode of a disc, in time with the audio of a cue sheet; and makes packs of such a file
+//! idle that change nothing.
 #![tactic(auto)]
 
 mod file;
 mod laws;
 mod press;
 mod stops;
+mod thinner;
 
-// Thinning is another work on such a file; it stands in a crate that needs no sheets.
-pub use cdg_thin::Thinner;
 pub use laws::{each_press_has_one_answer, pressable_files_have_streams, pressed_streams_are_one};
 pub use press::press_stream;
 pub use stops::PressStop;
+pub use thinner::{Thinner, thin_forms_stand_alike};

@@ -16,7 +16,10 @@ ghost use Rattle.cdg_workload.specs.Steps.{fresh_scratches, scratches_after, blo
 
 use crate::needle::Needle;
 use crate::script::generator;
-use cdg_io::{PassedUnits, Piece, PumpStop, Pumped, Sink, Source, UnitStage, pump_units};
+use cdg_io::{
+    InPlace, PassedUnits, Piece, PumpStop, Pumped, Sink, Source, UnitStage, pump_units,
+    take_in_place, take_row_in_place,
+};
 use raw_subcode::{BLOCK_BYTES, Form, MOST_UNITS};
 use rw_interleave::bursts_are_damage;
 
@@ -57,16 +60,27 @@ impl Scratches {
             self.needle.scratch_all(block);
         }
     }
+}
 
-    // Goes over so many blocks that stand one behind another. Those of the lead-in stay, and those of the program are
-    // scratched where they stand, from burst to burst.
+impl InPlace for Scratches {
+    ghost SIZE = { block_bytes };
+
+    ghost next = { block_next };
+
+    ghost gives = { block_gives };
+
+    const SIZE: usize = BLOCK_BYTES;
+
+    fn change(&mut self, bytes: &mut [u8]) {
+        match bytes.first_chunk_mut::<BLOCK_BYTES>() {
+            Some(block) => self.scratch(block),
+            None => unreachable!(),
+        }
+    }
+
+    // The blocks of the lead-in stay, and those of the program are scratched where they stand, from burst to burst.
     #[inline]
-    fn scratch_row(&mut self, blocks: &mut [u8], count: usize)
-        requires { length blocks.old ≡ block_bytes * count }
-        ensures next { self.new ≡ run_state block_next self.old (units_of block_bytes count blocks.old) }
-        ensures gives { blocks.new
-            ≡ concat (run_gives block_next block_gives self.old (units_of block_bytes count blocks.old)) }
-    {
+    fn change_row(&mut self, blocks: &mut [u8], count: usize) {
         let kept = (self.lead_in as usize).min(count);
         self.lead_in -= kept as u32;
         self.needle.scratch_all(&mut blocks[BLOCK_BYTES * kept..]);
@@ -83,36 +97,19 @@ impl UnitStage for Scratches {
     const SIZE: usize = BLOCK_BYTES;
 
     fn take_unit(&mut self, block: &[u8], given: &mut Option<Piece>) {
-        let mut scratched = [0; BLOCK_BYTES];
-        scratched.copy_from_slice(block);
-        self.scratch(&mut scratched);
-        let mut piece = Piece::new();
-        piece.set(&scratched);
-        *given = Some(piece);
+        take_in_place(self, block, given);
     }
 
-    /// Most bytes stay as they are, so all whole blocks are copied at once, and the bursts fall on them there.
     #[inline]
     fn take_row(
         &mut self,
         row: &mut &[u8],
-        given: &mut Option<Piece>,
+        _given: &mut Option<Piece>,
         buffer: &mut [u8],
         start: usize,
         most: u32,
     ) -> PassedUnits {
-        let room = (buffer.len() - start) / BLOCK_BYTES;
-        let count = (row.len() / BLOCK_BYTES).min(room).min(most as usize);
-        let size = BLOCK_BYTES * count;
-        let end = start + size;
-        let place = &mut buffer[start..end];
-        place.copy_from_slice(&row[..size]);
-        self.scratch_row(place, count);
-        *row = &row[size..];
-        PassedUnits {
-            units: count as u32,
-            end,
-        }
+        take_row_in_place(self, row, buffer, start, most)
     }
 }
 

@@ -2,8 +2,8 @@
 ghost use Rattle.std.specs.Prelude.{◌≡◌, ◌∷◌, List, ℕ, length, true};
 ghost use Rattle.cdtext_packs.specs.Packs.{pack_type, pack_track, pack_number, pack_text, check_matches, is_first_block, sealed, text_bytes};
 
+use bit_lists::crc16;
 use std::marker::Model;
-use subcode_crc::crc16;
 
 /// How many packs a disc has at most: the number of a pack is a byte.
 pub const MOST_PACKS: u32 = 256;

@@ -4,3 +4,10 @@ pub mod Pictures
 pub mod Small
 pub mod Slots
 pub mod Saved
+mod PairBytes
+mod Rows
+mod Kept
+pub mod Seen
+mod Idle
+mod Places
+pub mod Drops

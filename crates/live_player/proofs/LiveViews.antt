@@ -15,6 +15,7 @@ use Rattle.raw_subcode.specs.Channels.{symbols_of}
 use Rattle.raw_subcode.specs.declared.form.Form.{Form}
 use Rattle.raw_subcode.specs.declared.form.Form.TheVariants.{Raw}
 use Rattle.cdg_instructions.specs.Meaning.{meaning}
+use Rattle.cdg_instructions.specs.declared.instr.Instr.{Instr}
 use Rattle.cdg_screen.specs.Standing.{IsWholeStanding, Standing, blank, standing_after}
 use Rattle.cdg_screen.proofs.Turns.{blank_is_whole, in_turn, whole_after}
 use Rattle.rw_code.specs.Codeword.{IsCodeword}
@@ -27,8 +28,9 @@ use Rattle.stream_stages.proofs.StageRuns.{all_items, one_bad}
 use Rattle.stream_stages.proofs.Recovers.{found_itself}
 use Rattle.stream_stages.proofs.FormWords.{found_in, recovered}
 use Rattle.stream_stages.proofs.Draws.{instrs_of, are_meant}
-use Rattle.live_player.specs.Lives.{Given, HasPlayed, IsLiveView, IsLiveViewAt, bad_counted, bad_words_in, blocks_in, drawn_for, instruction_of, instructions_in, instructions_of, meant_by, packs_given, standing_on, stream_words, words_with}
+use Rattle.live_player.specs.Lives.{Given, HasPlayed, IsLiveView, IsLiveViewAt, bad_counted, bad_words_in, blocks_in, drawn_for, instruction_of, instructions_in, instructions_of, meant_by, packs_given, standing_on, stream_words, words_with, PlaysOn}
 use Rattle.live_player.specs.Lives.Given.{Drawn, Fed}
+use Rattle.live_player.specs.Steps.{DrawsPack, TakesBlock}
 use Rattle.live_player.specs.declared.live.LivePlayer.{LivePlayer}
 use Rattle.live_player.proofs.Words.{more_words, nothing_after, no_words_yet, words_come, words_go_on, words_of_stream}
 
@@ -98,6 +100,10 @@ pub idle_words_counted : IsCodeword (replicate 24 0)
 idle_words_counted is =
     ap (λ (o : Option (List ℕ)). bad_count (o ∷ o ∷ o ∷ o ∷ [])) (found_itself (replicate 24 0) is)
 
+pub idle_bad : (bad : ℕ) → bad < 2 ^ 32 → IsCodeword (replicate 24 0)
+    → bad ≡ bad_counted bad (Some (record { items = replicate 4 (replicate 24 0) }))
+idle_bad bad fits is = omega (arith, fits, idle_words_counted is)
+
 -- a count of some words, and then of those that come with a block
 items_counted : (o : Option (ArrayVec (List ℕ))) (old before : ℕ) → old ≡ min before (2 ^ 32 - 1)
     → bad_counted old o ≡ min (before + bad_count (map finding (all_items (give o [])))) (2 ^ 32 - 1)
@@ -119,6 +125,16 @@ items_drawn (Some words) = ap instructions_of (sym (nothing_after words.items))
 
 -- ---- what a player was given
 
+-- what is drawn for a block are the instructions of the words that come with it
+pub drawn_with : (form : Form) (lead_in : ℕ) (given : List Given) (block : List ℕ) (player : LivePlayer)
+    → length block ≡ 96 → HasPlayed form lead_in given player
+    → drawn_for (words_give player.words block)
+    ≡ instructions_of (words_with form lead_in (blocks_in given) block)
+drawn_with form lead_in given block player size played =
+    items_drawn (words_give player.words block)
+    ∙ ap instructions_of
+    (sym (words_come form lead_in (blocks_in given) block player.words size played.sized played.gathers))
+
 pub fed_more : (form : Form) (lead_in : ℕ) (given : List Given) (block : List ℕ) (old new : LivePlayer)
     → length block ≡ 96 → new.words ≡ words_next old.words block
     → standing_on new ≡ standing_after (standing_on old) (drawn_for (words_give old.words block))
@@ -137,9 +153,7 @@ fed_more form lead_in given block old new size next draws begun counted bad play
     (map finding (all_items (give (words_give old.words block) []))) in
     let came : drawn_for (words_give old.words block)
     ≡ instructions_of (words_with form lead_in (blocks_in given) block) =
-    items_drawn (words_give old.words block)
-    ∙ ap instructions_of
-    (sym (words_come form lead_in (blocks_in given) block old.words size played.sized played.gathers)) in
+    drawn_with form lead_in given block old size played in
     record {
       sized = sized_append 96 (blocks_in given) (block ∷ []) played.sized (size, tt);
       gathers =
@@ -175,6 +189,29 @@ drawn_more form lead_in given pack old new same draws begun counted bad played =
   counted = counted ∙ played.counted;
   bad = bad ∙ played.bad;
 }
+
+-- what a block draws comes behind what was drawn before
+pub drawn_next : (form : Form) (lead_in : ℕ) (given : List Given) (block : List ℕ) (player : LivePlayer)
+    → length block ≡ 96 → HasPlayed form lead_in given player
+    → instructions_in form lead_in (Fed block ∷ given)
+    ≡ instructions_in form lead_in given ++ drawn_for (words_give player.words block)
+drawn_next form lead_in given block player size played =
+    ap (λ (l : List Instr). instructions_in form lead_in given ++ l)
+    (sym (drawn_with form lead_in given block player size played))
+
+-- a player that takes a block or draws a pack, whatever it was given before
+pub fed_on : (block : List ℕ) (old new : LivePlayer) → length block ≡ 96 → TakesBlock block old new
+    → PlaysOn (Fed block ∷ []) old new
+fed_on block old new size takes form lead_in given played =
+    fed_more form lead_in given block old new size takes.gathers takes.draws takes.lead_in takes.counts
+    takes.bad
+    played
+
+pub drawn_on : (pack : List ℕ) (old new : LivePlayer) → DrawsPack pack old new
+    → PlaysOn (Drawn pack ∷ []) old new
+drawn_on pack old new draws form lead_in given played =
+    drawn_more form lead_in given pack old new draws.gathers draws.draws draws.lead_in draws.counts draws.bad
+    played
 
 pub begun : (form : Form) (lead_in : ℕ) (player : LivePlayer) → player.words ≡ fresh_words form lead_in
     → standing_on player ≡ blank

@@ -1,4 +1,9 @@
+pub mod Changes
+pub mod Formats
 pub mod Lives
+pub mod Marks
 pub mod Parts
+pub mod Plain
 pub mod Saving
 pub mod Steps
+pub mod Taken

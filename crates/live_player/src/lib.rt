@@ -1,12 +1,36 @@
-//! A player of subcode streams that is fed blocks as they come.
+//! A player of subcode streams that is fed blocks as they come, and what it shows: pixels in the formats that displays take,
+//! and what of the screen changed.
 #![tactic(auto)]
 
+mod change;
 mod drawing;
+mod feeding;
+mod format;
+mod keeping;
+mod line;
 mod live;
 mod looking;
+mod marks;
+mod pairs;
+mod plain;
+mod plays;
 mod saving;
+mod seeing;
+mod table;
+mod watch;
+mod writing;
 
+pub use change::{ScreenChange, touched_change, untold_stays};
 pub use drawing::play;
+pub use feeding::{draw_all, feed_all, pack_change};
+pub use format::PixelFormat;
+pub use keeping::form_of;
 pub use live::LivePlayer;
 pub use looking::{PICTURE_BYTES, ScreenPart, part_of_screen};
+pub use marks::{Mark, seek_block, seek_pack};
+pub use plain::{PlainPlayer, PlainWords};
+pub use plays::AnyPlayer;
 pub use saving::a_saved_player_goes_on;
+pub use seeing::read_pack;
+pub use watch::Watch;
+pub use writing::{write_picture, write_pixels};

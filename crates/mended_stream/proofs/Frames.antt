@@ -5,7 +5,7 @@ use Rattle.std.proofs.lemmas.List.{ext_get_or, get_or-drop, get_or-map, get_or-t
 use Rattle.bit_lists.specs.Bits.{has_bit}
 use Rattle.bit_lists.proofs.BitsLemmas.{has_bit-shr}
 use Rattle.raw_subcode.specs.Channels.{channel_bit, p_bits, q_bits}
-use Rattle.rw_mend.specs.Words.{block_at, is_empty_block}
+use Rattle.rw_mend.specs.Words.{block_at, is_unread_block}
 use Rattle.rw_mend.specs.declared.choice.Mended.{Mended}
 use Rattle.std.specs.declared.option.Option.{Option}
 use Rattle.mended_stream.specs.Chosen.{blocks_at, first_framed, first_read, is_framed_block}
@@ -44,7 +44,7 @@ framed_long readings size b are inside =
     ∙ block_long (get_or readings k []) b (omega (arith, inside, are.each k within)) in
     let some : 0 < length (blocks_at readings b) = omega (arith, are.some, blocks_length readings b) in
     found_long is_framed_block (blocks_at readings b) (first_read (blocks_at readings b)) each
-    (found_long (λ (block : List ℕ). not (is_empty_block block)) (blocks_at readings b)
+    (found_long (λ (block : List ℕ). not (is_unread_block block)) (blocks_at readings b)
     (get_or (blocks_at readings b) 0 []) each (each 0 some))
 
 -- ---- The bits of P and Q.

@@ -6,7 +6,7 @@ use Rattle.raw_subcode.specs.Channels.{program_symbols}
 use Rattle.raw_subcode.specs.declared.form.Form.TheVariants.{Raw}
 use Rattle.rw_interleave.specs.Interleave.{place, word_of}
 use Rattle.rw_interleave.proofs.Ranges.{map_range}
-use Rattle.rw_mend.specs.Words.{block_at, is_empty_block}
+use Rattle.rw_mend.specs.Words.{block_at, is_unread_block}
 use Rattle.rw_mend.specs.declared.choice.Mended.{Mended}
 use Rattle.mended_stream.specs.Chosen.{first_framed, first_read, framed_byte, is_framed_block, read_byte}
 use Rattle.mended_stream.specs.Stream.{IsMendedPlace, IsMendedStream}
@@ -18,7 +18,7 @@ use Rattle.mended_stream.proofs.Recovered.{other_word, program_symbol}
 alone_read : (block : List ℕ) → first_read (block ∷ []) ≡ block
 unfolding first_read
 alone_read block =
-    elim (not (is_empty_block block)) as (λ t. unwrap_or (cond t (Some block) None) block ≡ block)
+    elim (not (is_unread_block block)) as (λ t. unwrap_or (cond t (Some block) None) block ≡ block)
     [ true ↦ refl | false ↦ refl ]
 
 alone_framed : (block : List ℕ) → first_framed (block ∷ []) ≡ block

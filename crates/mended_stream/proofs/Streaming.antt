@@ -7,7 +7,7 @@ use Rattle.std.specs.declared.option.Option.{Option}
 use Rattle.std.proofs.lemmas.List.{drop_at, drop-drop, get_or-map, get_or-take, get_or_append_left, length-map, length-take-le, take-append-drop, drop_all}
 use Rattle.std.proofs.lemmas.List.Elements.{All-get_or}
 use Rattle.bit_lists.specs.Counting.{parts}
-use Rattle.rw_mend.specs.Many.{AreAllMendedInto, programs_of, words_in_each}
+use Rattle.rw_mend.specs.Many.{AreAllReported, programs_of, words_in_each}
 use Rattle.rw_mend.specs.Streams.{AreMended, mended_bytes, mended_text}
 use Rattle.rw_mend.specs.Tallies.{source_byte}
 use Rattle.rw_mend.specs.Words.{program_of}
@@ -15,7 +15,7 @@ use Rattle.rw_mend.specs.declared.choice.Mended.{Mended}
 use Rattle.rw_mend.specs.declared.tallies.Tallies.{Tallies}
 use Rattle.rw_mend.specs.declared.voices.Voice.{Voice}
 use Rattle.mended_stream.specs.Chosen.{framed_byte, read_byte}
-use Rattle.mended_stream.specs.Stream.{AreMendedIntoStream, IsMendedByte}
+use Rattle.mended_stream.specs.Stream.{AreReportedIntoStream, IsMendedByte}
 use Rattle.mended_stream.specs.Symbols.{AreBytes, IsByte, IsMendedAt, stream_place}
 use Rattle.mended_stream.specs.declared.words.Words.{Words}
 use Rattle.rw_mend.proofs.Heaps.{part_at, parts_length}
@@ -128,7 +128,7 @@ in_middle old packs start size fits =
     ∙ sym (append_assoc (take start old) packs (drop size old))
 
 pub stream_done : (count lead_in start : ℕ) (readings old new packs sources new_sources : List ℕ)
-    (words : Words) (tallies : Tallies)
+    (words : Words) (tallies : Tallies) (lost : List ℕ)
     → AreBytes words
     (drop (length readings / count - 24 * words.count)
     (take start old ++ (packs ++ drop (length readings / count - start) (drop start old))))
@@ -138,16 +138,18 @@ pub stream_done : (count lead_in start : ℕ) (readings old new packs sources ne
     → words.sources.now ≡ new_sources → words_in_each count lead_in readings ≤ length sources
     → start ≡ length readings / count - 24 * words.count → 24 * words.count ≤ length readings / count
     → length readings / count ≤ length old
-    → AreAllMendedInto count lead_in readings (slice_range old start (length readings / count)) packs sources
-    new_sources tallies
+    → AreAllReported count lead_in readings (slice_range old start (length readings / count)) packs sources
+    new_sources tallies lost
     → length new
     ≡ length (take start old ++ (packs ++ drop (length readings / count - start) (drop start old)))
     → drop (length readings / count) new
     ≡ drop (length readings / count)
     (take start old ++ (packs ++ drop (length readings / count - start) (drop start old)))
-    → AreMendedIntoStream count lead_in readings old new sources new_sources tallies
-stream_done count lead_in start readings old new packs sources new_sources words tallies bytes some few equal
-    number begin own enough at fits room are same_size behind =
+    → AreReportedIntoStream count lead_in readings old new sources new_sources tallies lost
+stream_done count lead_in start readings old new packs sources new_sources words tallies lost bytes some few
+    equal
+    number begin own enough at fits room reported same_size behind =
+    let are = reported.into in
     let mended : List ℕ =
     take start old ++ (packs ++ drop (length readings / count - start) (drop start old)) in
     let is : mended ≡ take start old ++ packs ++ drop (length readings / count) old =
@@ -190,31 +192,34 @@ stream_done count lead_in start readings old new packs sources new_sources words
     let programs_few : length programs ≤ 254 =
     omega (arith, length-map all (program_of lead_in), parts_length count size readings, few) in
     record {
-      said = are.said;
-      found = found;
-      mended = are.mended;
-      tallies_are = are.tallies_are;
-      dropped = are.dropped;
-      stream = stream;
-      is = record {
-        size = stream_size ∙ sym (first_long count size readings some equal);
-        words = count_is ∙ ap (λ n. whole_packs (n / 96 - lead_in)) (sym stream_size);
-        bytes =
-            λ p lt.
-            let within : p < size = omega (arith, lt, stream_size) in
-            subst (IsMendedByte lead_in all found p) (sym (get_or-take size new p 0 within))
-            (mended_byte lead_in all programs are.said found words
-            (drop (size - 24 * words.count) mended) p (get_or new p 0)
-            (subst (λ n. AreMended n programs are.said found) (sym count_is) are.mended) programs_few each
-            begin
-            (λ n small. ap (λ l. get_or l n 0) own
-            ∙ source_at found (drop (length found) sources) new_sources n told small)
-            (λ j small. ap (λ l. get_or l j 0) text_there
-            ∙ get_or_append_left (mended_text found) (drop size old) 0 j small) long (bytes p within));
+      into = record {
+        said = are.said;
+        found = found;
+        mended = are.mended;
+        tallies_are = are.tallies_are;
+        dropped = are.dropped;
+        stream = stream;
+        is = record {
+          size = stream_size ∙ sym (first_long count size readings some equal);
+          words = count_is ∙ ap (λ n. whole_packs (n / 96 - lead_in)) (sym stream_size);
+          bytes =
+              λ p lt.
+              let within : p < size = omega (arith, lt, stream_size) in
+              subst (IsMendedByte lead_in all found p) (sym (get_or-take size new p 0 within))
+              (mended_byte lead_in all programs are.said found words
+              (drop (size - 24 * words.count) mended) p (get_or new p 0)
+              (subst (λ n. AreMended n programs are.said found) (sym count_is) are.mended) programs_few each
+              begin
+              (λ n small. ap (λ l. get_or l n 0) own
+              ∙ source_at found (drop (length found) sources) new_sources n told small)
+              (λ j small. ap (λ l. get_or l j 0) text_there
+              ∙ get_or_append_left (mended_text found) (drop size old) 0 j small) long (bytes p within));
+        };
+        blocks =
+            sym (take-append-drop size new)
+            ∙ ap (λ l. stream ++ l) (behind ∙ behind_text old packs mended start size is before sum)
+            ∙ ap (λ n. stream ++ drop n old) (sym stream_size);
+        sources = told;
       };
-      blocks =
-          sym (take-append-drop size new)
-          ∙ ap (λ l. stream ++ l) (behind ∙ behind_text old packs mended start size is before sum)
-          ∙ ap (λ n. stream ++ drop n old) (sym stream_size);
-      sources = told;
+      losses = reported.losses;
     }

@@ -3,7 +3,7 @@ use Rattle.std.specs.Prelude.{◌%◌, ◌/◌, ℕ, Bool, not, List, [], map, f
 use Rattle.raw_subcode.specs.Channels.{q_bits}
 use Rattle.raw_subcode.specs.Sizes.{block_bytes}
 use Rattle.q_channel.specs.ReadingOf.{reading_of}
-use Rattle.rw_mend.specs.Words.{block_at, is_empty_block}
+use Rattle.rw_mend.specs.Words.{block_at, is_unread_block}
 
 -- block b of each reading
 abbrev pub blocks_at : List (List ℕ) → ℕ → List (List ℕ)
@@ -16,7 +16,7 @@ is_framed_block block = is_ok (reading_of (q_bits block))
 -- the first of the blocks that was read, which is one that is not empty; where all are empty, the first
 unfoldable pub first_read : List (List ℕ) → List ℕ
 first_read blocks =
-    unwrap_or (find (λ block. not (is_empty_block block)) blocks) (slice_index_or blocks 0 [])
+    unwrap_or (find (λ block. not (is_unread_block block)) blocks) (slice_index_or blocks 0 [])
 
 -- the first of the blocks whose Q channel is a frame; where there is none, the first that was read
 unfoldable pub first_framed : List (List ℕ) → List ℕ

@@ -5,6 +5,7 @@ use Rattle.raw_subcode.specs.Sizes.{block_bytes}
 use Rattle.rw_code.specs.Sizes.{word_symbols}
 use Rattle.rw_interleave.specs.Interleave.{whole_packs}
 use Rattle.rw_mend.specs.Drops.{AreDropCounts}
+use Rattle.rw_mend.specs.Losses.{AreLosses}
 use Rattle.rw_mend.specs.Many.{programs_of, words_in_each}
 use Rattle.rw_mend.specs.Streams.{AreMended}
 use Rattle.rw_mend.specs.Tallies.{AreTallies, source_byte}
@@ -55,3 +56,9 @@ pub record AreMendedIntoStream (count lead_in : ℕ) (readings old new old_sourc
   pub is : IsMendedStream lead_in (parts count (length readings / count) readings) found stream
   pub blocks : new ≡ stream ++ drop (length stream) old
   pub sources : new_sources ≡ map source_byte found ++ drop (length found) old_sources
+
+-- The same, and how many words of each reading are lost.
+pub record AreReportedIntoStream (count lead_in : ℕ) (readings old new old_sources new_sources : List ℕ)
+    (tallies : Tallies) (lost : List ℕ) : Type 0 where
+  pub into : AreMendedIntoStream count lead_in readings old new old_sources new_sources tallies
+  pub losses : AreLosses lost into.said into.found

@@ -11,4 +11,4 @@ pub use laws::{
     each_word_stands_in_the_stream, frames_are_those_chosen, mended_packs_are_recovered,
     one_reading_is_corrected,
 };
-pub use streams::mend_stream;
+pub use streams::{mend_stream, mend_stream_report};

@@ -1,13 +1,13 @@
 // The reading that is taken for each block.
 ghost use Rattle.std.specs.Prelude.{◌≡◌, ◌<◌, ◌≤◌, ◌+◌, ◌*◌, [], length, slice_index_or};
 ghost use Rattle.raw_subcode.specs.Sizes.{block_bytes};
-ghost use Rattle.rw_mend.specs.Words.{block_at, is_empty_block};
+ghost use Rattle.rw_mend.specs.Words.{block_at, is_unread_block};
 ghost use Rattle.mended_stream.specs.Chosen.{blocks_at, first_framed, first_read, is_framed_block};
 ghost use Rattle.mended_stream.specs.Readings.{AreHeld, held_parts};
 
 use q_channel::is_frame;
 use raw_subcode::{BLOCK_BYTES, Block};
-use rw_mend::is_empty_block;
+use rw_mend::is_unread_block;
 
 /// Readings of equal length, one behind another.
 #[derive(Clone, Copy)]
@@ -44,7 +44,7 @@ impl<'a> HeldReadings<'a> {
     {
         for r in 0..self.count {
             let block = self.block(r, b);
-            if !is_empty_block(block) {
+            if !is_unread_block(block) {
                 return block;
             }
         }

@@ -2,7 +2,7 @@
 ghost use Rattle.std.specs.Prelude.{◌≡◌, ◌≤◌, ◌<◌, ◌*◌, ◌/◌, ◌%◌, length};
 ghost use Rattle.raw_subcode.specs.Sizes.{block_bytes, most_units};
 ghost use Rattle.rw_mend.specs.Many.{words_in_each};
-ghost use Rattle.mended_stream.specs.Stream.{AreMendedIntoStream};
+ghost use Rattle.mended_stream.specs.Stream.{AreMendedIntoStream, AreReportedIntoStream};
 
 use crate::blocks::write_blocks;
 use crate::readings::HeldReadings;
@@ -10,7 +10,7 @@ use crate::words::Words;
 use raw_subcode::{BLOCK_BYTES, SLOTS_A_BLOCK};
 use rw_code::SYMBOLS;
 use rw_interleave::PACKS_KEPT_BACK;
-use rw_mend::{Tallies, mend_readings};
+use rw_mend::{MendReport, Tallies, mend_report};
 
 /// Mends readings of a raw stream, 1 to 254 of equal length that lie one behind another, into a stream as long as each.
 /// A symbol of a word that is mended is that of its codeword, and another one that of the first reading that was read at
@@ -34,11 +34,33 @@ pub fn mend_stream(
     ensures { AreMendedIntoStream count lead_in readings.now blocks.old blocks.new sources.old sources.new
         result }
 {
+    mend_stream_report(readings, count, lead_in, blocks, sources).tallies
+}
+
+/// The same, with a report of the words that are lost.
+pub fn mend_stream_report(
+    readings: &[u8],
+    count: usize,
+    lead_in: u32,
+    blocks: &mut [u8],
+    sources: &mut [u8],
+) -> MendReport
+    requires some { 0 < count }
+    requires few { count ≤ 254 }
+    requires equal { length readings.now ≡ count * (length readings.now / count) }
+    requires whole { (length readings.now / count) % block_bytes ≡ 0 }
+    requires short { length readings.now / count ≤ block_bytes * most_units }
+    requires lead_in { lead_in ≤ most_units }
+    requires room { length readings.now / count ≤ length blocks.old }
+    requires sources { words_in_each count lead_in readings.now ≤ length sources.old }
+    ensures { AreReportedIntoStream count lead_in readings.now blocks.old blocks.new sources.old sources.new
+        result.tallies result.lost }
+{
     let size = readings.len() / count;
     let program = (size / BLOCK_BYTES).saturating_sub(lead_in as usize);
     let words = (SLOTS_A_BLOCK * program).saturating_sub(PACKS_KEPT_BACK);
     let text = size - SYMBOLS * words;
-    let tallies = mend_readings(readings, count, lead_in, &mut blocks[text..size], sources);
+    let report = mend_report(readings, count, lead_in, &mut blocks[text..size], sources);
     let all = HeldReadings {
         bytes: readings,
         count,
@@ -50,5 +72,5 @@ pub fn mend_stream(
         lead_in: lead_in as usize,
     };
     write_blocks(&all, &words, blocks);
-    tallies
+    report
 }

@@ -13,7 +13,7 @@ use crate::Message;
 use crate::frame::{CHECK_BITS, FIELD_BITS, FIELD_BYTES, FRAME_BYTES};
 use crate::kinds::{Kind, is_bcd_within};
 use crate::lines::{digit, six_digits};
-use subcode_crc::crc16;
+use bit_lists::crc16;
 
 /// The bytes of the line of a frame of the program: each of its parts has one width.
 pub(crate) const PROGRAM_LINE: usize = 49;

@@ -1,28 +1,32 @@
 -- What the program does with its words.
 use Rattle.std.specs.Prelude.{◌≡◌, ◌≢◌, ◌⊎◌, ◌↔◌, ◌-◌, ℕ, List, [], None, Some, Result, Ok, Err, String, drop, take, length}
 use Rattle.std.specs.Io.Buffered.{reader_remaining}
-use Rattle.std.specs.Io.KnownBytes.{Keeps}
+use Rattle.std.specs.Io.KnownBytes.{Appends, Keeps}
 use Rattle.std.specs.declared.alloc.Global.{Global}
-use Rattle.std.specs.declared.io.Stdin.{Stdin}
 use Rattle.std.specs.IoError.{error_kind}
+use Rattle.std.specs.Process.{exit_status}
 use Rattle.std.specs.Vec.Iter.{into_iter_items}
 use Rattle.std.specs.declared.io.Error.{Error}
 use Rattle.std.specs.declared.io.ErrorKind.TheVariants.{InvalidData}
+use Rattle.std.specs.declared.process.ExitCode.{ExitCode}
 use Rattle.std.specs.declared.vec.IntoIter.{IntoIter}
+use Rattle.cdg_io.specs.Causes.{Counted, Rose}
 use Rattle.cdg_io.specs.Change.{Bytes, Change, change, from_to}
 use Rattle.cdg_io.specs.Reads.{input}
 use Rattle.cdg_io.specs.Waiting.{Buffered, bytes_with_waiting}
 use Rattle.cdg_io.specs.declared.ends.Source.{Ghosts as Source}
 use Rattle.cdg_cmd.specs.Call.{call}
 use Rattle.cdg_cmd.specs.Faults.{TellsFaults}
+use Rattle.cdg_cmd.specs.Line.{error_line, exit_of}
 use Rattle.cdg_cmd.specs.Performs.{Performs}
 use Rattle.cdg_cmd.specs.Spelling.{Spells}
 use Rattle.cdg_cmd.specs.Splitting.{split_of}
 use Rattle.cdg_cmd.specs.Words.{texts}
 use Rattle.cdg_cmd.specs.declared.command.Command.{Command}
 use Rattle.cdg_cmd.specs.declared.status.Status.{Status}
-use Rattle.cdg_cmd.specs.declared.status.Status.TheVariants.{Usage, WriteFault}
+use Rattle.cdg_cmd.specs.declared.status.Status.TheVariants.{NoMemory, Usage, WriteFault}
 use Rattle.ribjasper.specs.declared.inputs.InputReader.{InputReader}
+use Rattle.ribjasper.specs.declared.machine.MachineStreams.{MachineStreams}
 use Rattle.ribjasper.specs.declared.output.TellingWriter.{TellingWriter}
 use Rattle.ribjasper.specs.Inputs.{AreInputs, InputSource, IsNewSource}
 
@@ -35,8 +39,8 @@ abbrev pub input_names : List (String Global) → List (String Global)
 input_names line = drop (length line - (split_of line).names) line
 
 -- What an input tells: of its bytes nothing, since it is of the machine.
-abbrev pub input_source : Source InputSource
-input_source = record {
+abbrev pub input_source : (I F O : Type 0) → Source (InputSource I F O)
+input_source I F O = record {
   left = λ source. reader_remaining (λ _. None) source.inner;
   faults = λ source. source.faults;
   ends = λ source. Some source.tally.ends;
@@ -52,14 +56,14 @@ pub record IsSettled {W : Type 0} (contents : W → Bytes) (out : Change (Buffer
   pub nothing : out.before.waiting ≡ [] → status ≡ answer
 
 -- A command was run over sources of two inputs and an output, as `run` says.
-pub record RunsOver {W : Type 0} (contents : W → Bytes) (words : List (List ℕ))
-    (first second : Change InputSource) (out : Change (Buffered W)) (answer : Status) : Type 0 where
+pub record RunsOver {I F O W : Type 0} (contents : W → Bytes) (words : List (List ℕ))
+    (first second : Change (InputSource I F O)) (out : Change (Buffered W)) (answer : Status) : Type 0 where
   pub usage : ((answer ≡ Usage) ↔ ((command : Command) → ¬ (Spells command words)))
       × (answer ≡ Usage → (first.after ≡ first.before) × (second.after ≡ second.before)
       × (out.after ≡ out.before))
   pub performs : (command : Command) → Spells command words → Performs command
-      (input input_source first.before first.after)
-      (input input_source second.before second.after)
+      (input (input_source I F O) first.before first.after)
+      (input (input_source I F O) second.before second.after)
       (change (bytes_with_waiting contents) out.before out.after)
       (first.before, second.before, out.before) (first.after, second.after, out.after) answer
   pub faults : TellsFaults (call (λ s. s.faults) (λ s. s.faults) (λ s. s.faults)
@@ -67,14 +71,13 @@ pub record RunsOver {W : Type 0} (contents : W → Bytes) (words : List (List �
 
 -- The words of a line were run over new sources of the inputs that it names and over an output, in which then
 -- what waits was written.
-pub record RunsLine {W : Type 0} (contents : W → Bytes) (line : List (String Global))
-    (out : Change (Buffered W)) (status : Status) : Type 0 where
-  pub stdin : Stdin
-  pub first_input : InputReader
-  pub second_input : InputReader
-  pub inputs : AreInputs stdin (input_names line) first_input second_input
-  pub first : Change InputSource
-  pub second : Change InputSource
+pub record RunsLine (F : Type 0) {I O W : Type 0} (stdin : I) (openers : O × O) (contents : W → Bytes)
+    (line : List (String Global)) (out : Change (Buffered W)) (status : Status) : Type 0 where
+  pub first_input : InputReader I F O
+  pub second_input : InputReader I F O
+  pub inputs : AreInputs stdin openers (input_names line) first_input second_input
+  pub first : Change (InputSource I F O)
+  pub second : Change (InputSource I F O)
   pub first_is : IsNewSource first_input first.before
   pub second_is : IsNewSource second_input second.before
   -- the output and the answer before what waits was written
@@ -106,10 +109,29 @@ taken_bytes writer = Some writer.taken.bytes
 
 -- The words that the machine gave were run on the inputs that they name, and over a new output, which tells the
 -- bytes that the writer took.
-pub record RunsProgram {W : Type 0} (words : Result (IntoIter (String Global) Global) Error) (writer : W)
-    (status : Status) : Type 0 where
+pub record RunsProgram (F : Type 0) {I O W : Type 0}
+    (words : Result (IntoIter (String Global) Global) Error) (stdin : I)
+    (openers : O × O) (writer : W) (status : Status) : Type 0 where
   pub line : List (String Global)
   pub own_words : AreOwnWords words line
   pub out : Change (Buffered (TellingWriter W))
   pub new_output : IsNewOutput writer out.before
-  pub runs : RunsLine taken_bytes line out status
+  pub runs : RunsLine F stdin openers taken_bytes line out status
+
+-- The line of a status was put to an error output over this writer, to which nothing was put before, unless a write
+-- failed.
+pub record TellsLine {E : Type 0} (writer : E) (status : Status) : Type 0 where
+  pub err : Change (Counted (TellingWriter E))
+  pub over : err.before.inner.writer ≡ writer
+  pub taken : err.before.inner.taken.bytes ≡ []
+  pub told : Rose err.before.faults err.after.faults
+      ⊎ Appends (taken_bytes err.before.inner) (taken_bytes err.after.inner) (error_line status)
+
+-- The program ran and told its status; or memory for its words or a buffer was not found, and it told that.
+pub record EndsProgram (F : Type 0) {I O W E : Type 0}
+    (words : Result (IntoIter (String Global) Global) Error)
+    (machine : MachineStreams I O W E) (exit : ExitCode) : Type 0 where
+  pub status : Status
+  pub runs : RunsProgram F words machine.stdin machine.openers machine.stdout status ⊎ (status ≡ NoMemory)
+  pub tells : TellsLine machine.stderr status
+  pub exits : exit_status exit ≡ exit_of status

@@ -18,25 +18,26 @@ use Rattle.raw_subcode.specs.declared.form.Form.TheVariants.{Raw, Sector, Cooked
 use Rattle.rw_interleave.specs.Stream.{IsRecovered, form_word, word_count}
 use Rattle.rw_interleave.specs.Texts.{cdg_bytes, entry_bytes}
 use Rattle.stream_stages.specs.Convert.{IsConverted}
-use Rattle.stream_stages.specs.Steps.{fresh_words}
+use Rattle.stream_stages.specs.Steps.{fresh_words, packs_give, packs_next}
 use Rattle.stream_stages.specs.Watch.{on_units}
+use Rattle.stream_stages.specs.declared.block_packs.BlockPacks.{BlockPacks}
 use Rattle.stream_stages.proofs.Conversion.{blocks_sized, length-units_of, units_sized}
 use Rattle.stream_stages.proofs.FormWords.{found_in, recovered}
-use Rattle.stream_stages.proofs.PlayRuns.{Blocks, block_text, blocks_give, blocks_next, plays_stream}
+use Rattle.stream_stages.proofs.PlayRuns.{block_text, plays_stream}
 use Rattle.stream_stages.proofs.Slots.{Sized, sized_drop, length-all_symbols}
 use Rattle.stream_stages.proofs.Views.{whole_taken}
 use Rattle.stream_stages.proofs.WatchedBlocks.{given_on_units}
 
 -- the stages before the first block
-abbrev pub fresh : Form → ℕ → Blocks
-fresh form lead_in = record { first = fresh_words form lead_in; second = record { bad = 0 } }
+abbrev pub fresh : Form → ℕ → BlockPacks
+fresh form lead_in = record { words = fresh_words form lead_in; bad = 0 }
 
 -- the stages on units
-abbrev pub machine : Form → Machine Blocks
-machine form = machine_of (on_units form blocks_next) (on_units form blocks_give)
+abbrev pub machine : Form → Machine BlockPacks
+machine form = machine_of (on_units form packs_next) (on_units form packs_give)
 
 -- the stages after the first n units
-abbrev pub stages_after : Form → ℕ → List ℕ → ℕ → Blocks
+abbrev pub stages_after : Form → ℕ → List ℕ → ℕ → BlockPacks
 stages_after form lead_in stream n =
     run_state (machine form).next (fresh form lead_in) (units_of (unit_size form) n stream)
 
@@ -88,7 +89,7 @@ length-text_of form lead_in stream n fits =
       length-map units (block_of form),
       length-units_of (unit_size form) n stream,
     ) in
-    ap length (ap concat (given_on_units form blocks_next blocks_give (fresh form lead_in) units)
+    ap length (ap concat (given_on_units form packs_next packs_give (fresh form lead_in) units)
     ∙ block_text form lead_in (fresh form lead_in) blocks refl)
     ∙ text_sized form (drop lead_in blocks) (sized_drop 96 lead_in blocks sized)
     ∙ ap (λ k. 24 * word_count form k) count
@@ -124,13 +125,14 @@ units_at : (form : Form) (stream : List ℕ) (n : ℕ)
 units_at form stream n = let next : n + 1 ≡ suc n = omega arith in
     ap (λ k. units_of (unit_size form) k stream) next ∙ units_more (unit_size form) n stream
 
-pub stages_more : (form : Form) (lead_in : ℕ) (stream : List ℕ) (n : ℕ) (old new : Blocks) (block : List ℕ)
+pub stages_more : (form : Form) (lead_in : ℕ) (stream : List ℕ) (n : ℕ) (old new : BlockPacks)
+    (block : List ℕ)
     → old ≡ stages_after form lead_in stream n → block ≡ block_of form (unit_at form stream n)
-    → new ≡ blocks_next old block
+    → new ≡ packs_next old block
     → new ≡ stages_after form lead_in stream (n + 1)
 stages_more form lead_in stream n old new block now is next =
     next
-    ∙ ap₂ blocks_next now is
+    ∙ ap₂ packs_next now is
     ∙ sym (run_state-append (machine form).next (fresh form lead_in) (units_of (unit_size form) n stream)
     (unit_at form stream n ∷ []))
     ∙ ap (run_state (machine form).next (fresh form lead_in)) (sym (units_at form stream n))
@@ -139,13 +141,13 @@ given_alone : (o : Option (List ℕ)) → concat (give o []) ≡ given_bytes o
 given_alone None = refl
 given_alone (Some bytes) = append-nil bytes
 
-pub text_more : (form : Form) (lead_in : ℕ) (stream : List ℕ) (n : ℕ) (old : Blocks) (block : List ℕ)
+pub text_more : (form : Form) (lead_in : ℕ) (stream : List ℕ) (n : ℕ) (old : BlockPacks) (block : List ℕ)
     (piece : Option (List ℕ))
     → old ≡ stages_after form lead_in stream n → block ≡ block_of form (unit_at form stream n)
-    → piece ≡ blocks_give old block
+    → piece ≡ packs_give old block
     → text_of form lead_in stream (n + 1) ≡ text_of form lead_in stream n ++ given_bytes piece
 text_more form lead_in stream n old block piece now is gave =
-    let m : Machine Blocks = machine form in
+    let m : Machine BlockPacks = machine form in
     let units : List (List ℕ) = units_of (unit_size form) n stream in
     let unit : List ℕ = unit_at form stream n in
     ap (λ us. concat (run_gives m.next m.gives (fresh form lead_in) us)) (units_at form stream n)
@@ -154,7 +156,7 @@ text_more form lead_in stream n old block piece now is gave =
     (give (m.gives (stages_after form lead_in stream n) unit) [])
     ∙ ap (λ (l : List ℕ). text_of form lead_in stream n ++ l) (given_alone
     (m.gives (stages_after form lead_in stream n) unit)
-    ∙ ap given_bytes (sym (gave ∙ ap₂ blocks_give now is)))
+    ∙ ap given_bytes (sym (gave ∙ ap₂ packs_give now is)))
 
 -- ---- bytes that are written at the front
 
@@ -179,11 +181,11 @@ put_more text piece room packs new at is fits now put =
     ∙ sym (assoc text piece (drop (length (text ++ piece)) room))
 
 -- what is written for one unit more fits into the room for all
-pub piece_fits : (form : Form) (lead_in : ℕ) (stream : List ℕ) (n units room : ℕ) (old : Blocks)
+pub piece_fits : (form : Form) (lead_in : ℕ) (stream : List ℕ) (n units room : ℕ) (old : BlockPacks)
     (block : List ℕ) (piece : Option (List ℕ))
     → length stream ≡ units * unit_size form → n < units → 24 * word_count form (units - lead_in) ≤ room
     → old ≡ stages_after form lead_in stream n → block ≡ block_of form (unit_at form stream n)
-    → piece ≡ blocks_give old block
+    → piece ≡ packs_give old block
     → length (text_of form lead_in stream n) + length (given_bytes piece) ≤ room
 piece_fits form lead_in stream n units room old block piece whole lt fits now is gave =
     let within : (n + 1) * unit_size form ≤ length stream =
@@ -205,22 +207,22 @@ piece_fits form lead_in stream n units room old block piece whole lt fits now is
 pub converts : (form : Form) (lead_in : ℕ) (stream : List ℕ) (n : ℕ) → n ≤ most_units
     → length stream ≡ n * unit_size form
     → IsConverted form lead_in stream (text_of form lead_in stream n)
-    (stages_after form lead_in stream n).second.bad
+    (stages_after form lead_in stream n).bad
 converts form lead_in stream n few whole = (plays_stream form lead_in (fresh form lead_in) refl refl).says
     stream n few (whole_taken form n stream whole)
 
 pub finished : (form : Form) (lead_in : ℕ) (stream : List ℕ) (units n : ℕ) (packs room : List ℕ)
-    (stages : Blocks) → units ≤ most_units
+    (stages : BlockPacks) → units ≤ most_units
     → length stream ≡ units * unit_size form → n ≡ units → stages ≡ stages_after form lead_in stream n
     → packs ≡ text_of form lead_in stream n ++ drop (length (text_of form lead_in stream n)) room
     → (text : List ℕ)
-    × IsConverted form lead_in stream text stages.second.bad
+    × IsConverted form lead_in stream text stages.bad
     × (length text ≡ 24 * word_count form (units - lead_in))
     × (packs ≡ text ++ drop (length text) room)
 finished form lead_in stream units n packs room stages few whole all now written =
     let size : length stream ≡ n * unit_size form = whole ∙ ap (λ k. k * unit_size form) (sym all) in (
       text_of form lead_in stream n,
-      subst (λ (s : Blocks). IsConverted form lead_in stream (text_of form lead_in stream n) s.second.bad)
+      subst (λ (s : BlockPacks). IsConverted form lead_in stream (text_of form lead_in stream n) s.bad)
           (sym now) (converts form lead_in stream n (omega (arith, few, all)) size),
       length-text_of form lead_in stream n (omega (arith, size))
           ∙ ap (λ k. 24 * word_count form (k - lead_in)) all,

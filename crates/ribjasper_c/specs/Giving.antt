@@ -5,8 +5,8 @@ use Rattle.raw_subcode.specs.declared.form.Form.{Form}
 use Rattle.cdg_screen.specs.Standing.{standing_after}
 use Rattle.live_player.specs.Lives.{Given, standing_on}
 use Rattle.live_player.specs.declared.live.LivePlayer.{LivePlayer}
-use Rattle.screen_changes.specs.Changes.{changes_on, KeepsUntold}
-use Rattle.screen_changes.specs.declared.change.ScreenChange.{ScreenChange}
+use Rattle.live_player.specs.Changes.{changes_on, KeepsUntold}
+use Rattle.live_player.specs.declared.change.ScreenChange.{ScreenChange}
 use Rattle.ribjasper_c.specs.Handles.{IsPlaying, PlayersGo}
 
 -- The one player was given this too, the last one first, and so went on; or it is as it was.

@@ -6,7 +6,8 @@ use Rattle.rw_interleave.specs.Interleave.{whole_packs}
 use Rattle.rw_mend.specs.Many
 use Rattle.rw_mend.specs.Many.{words_in_each}
 use Rattle.rw_mend.specs.Streams.{IsMendedInto}
-use Rattle.mended_stream.specs.Stream.{AreMendedIntoStream}
+use Rattle.mended_stream.specs.Stream.{AreMendedIntoStream, AreReportedIntoStream}
+use Rattle.ribjasper_c.specs.declared.mending.MendReported.{MendReported}
 use Rattle.ribjasper_c.specs.declared.mending.MendedReadings.{MendedReadings}
 use Rattle.ribjasper_c.specs.declared.mending.MendedStream.{MendedStream}
 
@@ -53,3 +54,19 @@ pub record IsStreamMended (count lead_in : ℕ) (readings old new old_sources ne
   pub mended : AreMendedIntoStream count lead_in readings old new old_sources new_sources told.words
   pub bytes : told.bytes ≡ length readings / count
   pub blocks : told.blocks ≡ length readings / count / block_bytes - lead_in
+
+-- What is reported of readings that are mended is true.
+pub record AreReadingsReported (count lead_in : ℕ) (readings old new old_sources new_sources : List ℕ)
+    (report : MendReported) : Type 0 where
+  pub mended : Many.AreAllReported count lead_in readings old new old_sources new_sources report.told.words
+      report.lost
+  pub bytes : report.told.bytes ≡ symbols_a_slot * words_in_each count lead_in readings
+  pub blocks : report.told.blocks ≡ length readings / count / block_bytes - lead_in
+
+-- And of readings that are mended into a stream.
+pub record IsStreamReported (count lead_in : ℕ) (readings old new old_sources new_sources : List ℕ)
+    (report : MendReported) : Type 0 where
+  pub mended : AreReportedIntoStream count lead_in readings old new old_sources new_sources report.told.words
+      report.lost
+  pub bytes : report.told.bytes ≡ length readings / count
+  pub blocks : report.told.blocks ≡ length readings / count / block_bytes - lead_in

@@ -1,7 +1,7 @@
 -- Formats of pixels as numbers.
 use Rattle.std.specs.Prelude.{ℕ, ◌==◌, if◌then◌else◌}
-use Rattle.pixel_formats.specs.declared.format.PixelFormat.{PixelFormat}
-use Rattle.pixel_formats.specs.declared.format.PixelFormat.TheVariants.{Indexed, Rgb, Rgba, Bgra, RgbaLevels, BgraLevels, Rgb565}
+use Rattle.live_player.specs.declared.format.PixelFormat.{PixelFormat}
+use Rattle.live_player.specs.declared.format.PixelFormat.TheVariants.{Indexed, Rgb, Rgba, Bgra, RgbaLevels, BgraLevels, Rgb565}
 
 -- the format that a number means: 0 indexed, then those of red, green and blue
 abbrev pub pixel_format : ℕ → PixelFormat

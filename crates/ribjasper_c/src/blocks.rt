@@ -1,11 +1,11 @@
 // Forms of blocks, the check of a text pack, and how a lead-in carries it.
-ghost use Rattle.std.specs.Prelude.{◌≡◌, if◌then◌else◌, pos, All, ◌<◌};
+ghost use Rattle.std.specs.Prelude.{◌≡◌, if◌then◌else◌, pos, All, ◌<◌, ℕ, [], drop, length, slice_index_or};
 ghost use Rattle.cdtext_packs.specs.Packs.{check_matches};
 ghost use Rattle.raw_subcode.specs.Channels.{IsPlanarForm, symbol_bits};
 ghost use Rattle.bit_lists.specs.Bits.{bits_of_bytes, numbers_of};
 
+use bit_lists::crc16;
 use raw_subcode::{BLOCK_BYTES, Block, SYMBOLS_A_SLOT, text_symbols};
-use subcode_crc::crc16;
 
 /// Writes the planar form of a block.
 #[unsafe(no_mangle)]
@@ -28,6 +28,38 @@ pub extern "C" fn ribjasper_block_from_planar(
     ensures { IsPlanarForm block.new planar.now }
 {
     *block = Block::from_planar(planar).bytes();
+}
+
+/// Writes the planar forms of blocks, as many as both lists hold.
+#[unsafe(no_mangle)]
+pub extern "C" fn ribjasper_blocks_to_planar(
+    blocks: &[[u8; BLOCK_BYTES]],
+    planar: &mut [[u8; BLOCK_BYTES]],
+)
+    ensures count { length planar.new ≡ length planar.old }
+    ensures forms { (n : ℕ) → n < length blocks.now → n < length planar.old
+        → IsPlanarForm (slice_index_or blocks.now n []) (slice_index_or planar.new n []) }
+    ensures rest { drop (length blocks.now) planar.new ≡ drop (length blocks.now) planar.old }
+{
+    for n in 0..blocks.len().min(planar.len()) {
+        planar[n] = Block::from_bytes(&blocks[n]).to_planar();
+    }
+}
+
+/// Writes the blocks with planar forms, as many as both lists hold.
+#[unsafe(no_mangle)]
+pub extern "C" fn ribjasper_blocks_from_planar(
+    planar: &[[u8; BLOCK_BYTES]],
+    blocks: &mut [[u8; BLOCK_BYTES]],
+)
+    ensures count { length blocks.new ≡ length blocks.old }
+    ensures forms { (n : ℕ) → n < length planar.now → n < length blocks.old
+        → IsPlanarForm (slice_index_or blocks.new n []) (slice_index_or planar.now n []) }
+    ensures rest { drop (length planar.now) blocks.new ≡ drop (length planar.now) blocks.old }
+{
+    for n in 0..planar.len().min(blocks.len()) {
+        blocks[n] = Block::from_planar(&planar[n]).bytes();
+    }
 }
 
 /// Whether the last two bytes of a text pack are the check of the others, as 1 or 0.

@@ -4,17 +4,17 @@ ghost use Rattle.cdg_io.specs.Run.{run_state};
 ghost use Rattle.cdg_screen.specs.Standing.{IsWholeStanding, Standing, standing_after};
 ghost use Rattle.live_player.specs.Lives.{instruction_of};
 ghost use Rattle.live_player.specs.Lives.Given.{Drawn, Fed};
-ghost use Rattle.screen_changes.specs.Changes.{sees, watch_from, AreDrawnFor, KeepsUntold};
-ghost use Rattle.screen_changes.specs.Taken.{instructions_from, DrawsPacks, TakesBlocks};
+ghost use Rattle.live_player.specs.Changes.{sees, watch_from, AreDrawnFor, KeepsUntold};
+ghost use Rattle.live_player.specs.Taken.{instructions_from, DrawsPacks, TakesBlocks};
 ghost use Rattle.ribjasper_c.specs.Handles.{PlayersGo};
 ghost use Rattle.ribjasper_c.specs.Answers.{done_if};
 ghost use Rattle.ribjasper_c.specs.Giving.{GivesPlayer, TellsChange};
 
 use crate::Playing;
 use crate::answers::{DONE, NOT_DONE};
+use live_player::{ScreenChange, draw_all, feed_all, pack_change};
 use raw_subcode::BLOCK_BYTES;
 use rw_code::SYMBOLS;
-use screen_changes::{ScreenChange, draw_all, feed_all, pack_change};
 
 /// Feeds an open player blocks in turn, and writes what of the screen may have changed. 0, or -1 where it is closed.
 #[unsafe(no_mangle)]
@@ -35,9 +35,7 @@ pub extern "C" fn ribjasper_player_feed_all(
     if !player.is_open {
         return NOT_DONE;
     }
-    let mut live = player.take_out();
-    *change = feed_all(&mut live, blocks);
-    player.put_back(live);
+    *change = feed_all(player.handle.lend(), blocks);
     DONE
 }
 
@@ -59,9 +57,7 @@ pub extern "C" fn ribjasper_player_draw_all(
     if !player.is_open {
         return NOT_DONE;
     }
-    let mut live = player.take_out();
-    *change = draw_all(&mut live, packs);
-    player.put_back(live);
+    *change = draw_all(player.handle.lend(), packs);
     DONE
 }
 

@@ -11,12 +11,12 @@ ghost use Rattle.stream_stages.specs.Steps.{fresh_words};
 
 use crate::answers::{DAMAGED, DONE, REFUSED, USAGE, WRITE_FAULT};
 use crate::playing::form_of;
-use cdg_io::{Piece, Stage, Then};
+use cdg_io::{Piece, UnitStage};
 use disc_time::MOST_LEAD_IN;
 use raw_subcode::{BLOCK_BYTES, Form, MOST_UNITS, SECTOR_BYTES, SLOTS_A_BLOCK};
 use rw_code::SYMBOLS;
 use rw_interleave::{Gather, PACKS_KEPT_BACK};
-use stream_stages::{BlockWords, Correction};
+use stream_stages::{BlockPacks, BlockWords};
 
 /// What is told of a stream that was converted.
 #[repr(C)]
@@ -118,27 +118,27 @@ fn write_packs(form: Form, lead_in: u32, stream: &[u8], units: u32, packs: &mut 
         × (length text ≡ symbols_a_slot * word_count form (units - lead_in))
         × (packs.new ≡ text ++ drop (length text) packs.old) }
 {
-    let mut stages = stages(form, lead_in);
+    let mut stages = fresh(form, lead_in);
     let mut piece = None;
     let mut at = 0;
     for n in 0..units as usize {
-        stages.emit(&block_at(form, stream, n), &mut piece);
+        stages.take_unit(&block_at(form, stream, n), &mut piece);
         at += put(&piece, packs, at);
     }
-    stages.second.bad
+    stages.bad
 }
 
 // What gathers and corrects the packs of a stream, before its first block.
-fn stages(form: Form, lead_in: u32) -> Then<BlockWords, Correction>
-    ensures first { result.first ≡ fresh_words form lead_in }
-    ensures second { result.second.bad ≡ 0 }
+fn fresh(form: Form, lead_in: u32) -> BlockPacks
+    ensures words { result.words ≡ fresh_words form lead_in }
+    ensures bad { result.bad ≡ 0 }
 {
     let words = BlockWords {
         form,
         lead_in,
         gather: Gather::new(),
     };
-    Then::new(words, Correction { bad: 0 })
+    BlockPacks { words, bad: 0 }
 }
 
 // The block of unit n.

@@ -50,9 +50,7 @@ pub extern "C" fn ribjasper_player_counts(player: &mut Playing, counts: &mut Pla
     if !player.is_open {
         return NOT_DONE;
     }
-    let live = player.take_out();
-    *counts = counted(&live);
-    player.put_back(live);
+    *counts = counted(player.handle.lend());
     DONE
 }
 

@@ -3,6 +3,7 @@ ghost use Rattle.std.specs.Prelude.{◌≡◌, ◌∷◌, [], List, length};
 ghost use Rattle.ribjasper_c.specs.Handles.{handle_owns, players_coded};
 ghost use Rattle.live_player.specs.declared.live.LivePlayer.{LivePlayer};
 
+mod lending;
 mod parts;
 
 use live_player::LivePlayer;

@@ -1,15 +1,15 @@
 // The packs of readings of one stream in memory, each mended by the others.
 ghost use Rattle.std.specs.Prelude.{◌≡◌, ◌==◌, if◌then◌else◌, IfSome, None, length, pos};
 ghost use Rattle.rw_mend.specs.Refusals.{readings_refusal};
-ghost use Rattle.ribjasper_c.specs.Mending.{refusal_of, stream_refusal, AreMendedInto, AreReadingsMended, IsStreamMended};
+ghost use Rattle.ribjasper_c.specs.Mending.{refusal_of, stream_refusal, AreMendedInto, AreReadingsMended, AreReadingsReported, IsStreamMended, IsStreamReported};
 
 use crate::answers::{DAMAGED, DONE, REFUSED, USAGE, WRITE_FAULT};
 use disc_time::MOST_LEAD_IN;
-use mended_stream::mend_stream;
+use mended_stream::{mend_stream, mend_stream_report};
 use raw_subcode::{BLOCK_BYTES, MOST_UNITS, SLOTS_A_BLOCK};
 use rw_code::SYMBOLS;
 use rw_interleave::PACKS_KEPT_BACK;
-use rw_mend::{MOST_READINGS, MendCounts, Tallies, mend_readings, mend_streams};
+use rw_mend::{MOST_READINGS, MendCounts, Tallies, mend_readings, mend_report, mend_streams};
 
 /// What is told of two readings that were mended.
 #[repr(C)]
@@ -159,4 +159,117 @@ pub extern "C" fn ribjasper_mend_stream(
         words: tallies,
     };
     if tallies.none == 0 { DONE } else { DAMAGED }
+}
+
+/// What is told of readings that were mended, and how many words of each are lost.
+#[repr(C)]
+#[derive(Clone, Copy)]
+pub struct MendReported {
+    /// What the calls above tell.
+    pub told: MendedReadings,
+    /// Words that each reading gives with no wrong symbol, and that did not come out.
+    pub lost: [u32; MOST_READINGS],
+}
+
+/// Mends readings as the call above, and reports which words are lost.
+#[unsafe(no_mangle)]
+pub extern "C" fn ribjasper_mend_report(
+    readings: &[u8],
+    count: u32,
+    lead_in: u32,
+    packs: &mut [u8],
+    sources: &mut [u8],
+    report: &mut MendReported,
+) -> i32
+    ensures mended { readings_refusal (length readings.now) count lead_in (length packs.old)
+        (length sources.old) ≡ None
+        → AreReadingsReported count lead_in readings.now packs.old packs.new sources.old sources.new
+        report.new
+        × (result ≡ (if report.new.told.words.none == 0 then pos 0 else pos 1)) }
+    ensures refused { IfSome (readings_refusal (length readings.now) count lead_in (length packs.old)
+        (length sources.old))
+        (λ number. (result ≡ pos number) × (packs.new ≡ packs.old) × (sources.new ≡ sources.old)
+        × (report.new ≡ report.old)) }
+{
+    if lead_in > MOST_LEAD_IN || count == 0 || count > MOST_READINGS as u32 {
+        return USAGE;
+    }
+    let size = readings.len() / count as usize;
+    if readings.len() % count as usize != 0
+        || size % BLOCK_BYTES != 0
+        || size > BLOCK_BYTES * MOST_UNITS as usize
+    {
+        return REFUSED;
+    }
+    let blocks = (size / BLOCK_BYTES).saturating_sub(lead_in as usize);
+    let words = (SLOTS_A_BLOCK * blocks).saturating_sub(PACKS_KEPT_BACK);
+    if packs.len() < SYMBOLS * words || 0 < sources.len() && sources.len() < words {
+        return WRITE_FAULT;
+    }
+    let mended = mend_report(readings, count as usize, lead_in, packs, sources);
+    let lost = mended.lost;
+    *report = MendReported {
+        told: MendedReadings {
+            bytes: (SYMBOLS * words) as u64,
+            blocks: blocks as u32,
+            words: mended.tallies,
+        },
+        lost,
+    };
+    if mended.tallies.none == 0 {
+        DONE
+    } else {
+        DAMAGED
+    }
+}
+
+/// Mends readings into a stream as the call above, and reports which words are lost.
+#[unsafe(no_mangle)]
+pub extern "C" fn ribjasper_mend_stream_report(
+    readings: &[u8],
+    count: u32,
+    lead_in: u32,
+    blocks: &mut [u8],
+    sources: &mut [u8],
+    report: &mut MendReported,
+) -> i32
+    ensures mended { stream_refusal (length readings.now) count lead_in (length blocks.old)
+        (length sources.old) ≡ None
+        → IsStreamReported count lead_in readings.now blocks.old blocks.new sources.old sources.new report.new
+        × (result ≡ (if report.new.told.words.none == 0 then pos 0 else pos 1)) }
+    ensures refused { IfSome (stream_refusal (length readings.now) count lead_in (length blocks.old)
+        (length sources.old))
+        (λ number. (result ≡ pos number) × (blocks.new ≡ blocks.old) × (sources.new ≡ sources.old)
+        × (report.new ≡ report.old)) }
+{
+    if lead_in > MOST_LEAD_IN || count == 0 || count > MOST_READINGS as u32 {
+        return USAGE;
+    }
+    let size = readings.len() / count as usize;
+    if readings.len() % count as usize != 0
+        || size % BLOCK_BYTES != 0
+        || size > BLOCK_BYTES * MOST_UNITS as usize
+    {
+        return REFUSED;
+    }
+    let program = (size / BLOCK_BYTES).saturating_sub(lead_in as usize);
+    let words = (SLOTS_A_BLOCK * program).saturating_sub(PACKS_KEPT_BACK);
+    if blocks.len() < size || sources.len() < words {
+        return WRITE_FAULT;
+    }
+    let mended = mend_stream_report(readings, count as usize, lead_in, blocks, sources);
+    let lost = mended.lost;
+    *report = MendReported {
+        told: MendedReadings {
+            bytes: size as u64,
+            blocks: program as u32,
+            words: mended.tallies,
+        },
+        lost,
+    };
+    if mended.tallies.none == 0 {
+        DONE
+    } else {
+        DAMAGED
+    }
 }

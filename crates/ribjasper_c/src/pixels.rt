@@ -1,7 +1,7 @@
 // A part of what a player shows, in the format that a display takes.
 ghost use Rattle.std.specs.Prelude.{◌≡◌, ◌<◌, ◌≤◌, ◌+◌, ◌*◌, ◌∷◌, [], ◌↔◌, ◌⊎◌, ℕ, IsTrue, length, pos, negsuc, true};
 ghost use Rattle.live_player.specs.Parts.{IsOnScreen};
-ghost use Rattle.pixel_formats.specs.Formats.{pixel_size, HasPixelRoom, ShowsPixels};
+ghost use Rattle.live_player.specs.Formats.{pixel_size, HasPixelRoom, ShowsPixels};
 ghost use Rattle.ribjasper_c.specs.Handles.{PlayersShow};
 ghost use Rattle.ribjasper_c.specs.Pixels.{pixel_format};
 ghost use Rattle.ribjasper_c.specs.Rects.{shown_rect};
@@ -10,8 +10,7 @@ ghost use Rattle.ribjasper_c.specs.Looking.{IsUnchanged};
 use crate::Playing;
 use crate::answers::{DONE, NOT_DONE};
 use crate::rects::part_of;
-use live_player::{LivePlayer, ScreenPart};
-use pixel_formats::{PixelFormat, write_pixels};
+use live_player::{LivePlayer, PixelFormat, ScreenPart, write_pixels};
 
 /// Writes the pixels of a part of the screen, row by row, in a format; row j of it begins `stride` times j bytes from the
 /// front, and what is between the rows is left as it was. 0, or -1 where the player is closed, there is no such format,
@@ -45,9 +44,8 @@ pub extern "C" fn ribjasper_player_pixels(
     if !player.is_open || format > 6 || !rows_fit(height, row, stride, out.len()) {
         return NOT_DONE;
     }
-    let live = player.take_out();
-    shown_pixels(&live, &part, pixels, out, stride as usize);
-    player.put_back(live);
+    let live = player.handle.lend();
+    shown_pixels(live, &part, pixels, out, stride as usize);
     DONE
 }
 

@@ -120,9 +120,7 @@ fn open_counted(alloc: Global, lacks: &mut NoMemoryCount, player: &mut Playing) 
     ensures found { result ≡ pos 0 → lacks.new ≡ lacks.old }
 {
     if player.is_open {
-        let mut live = player.take_out();
-        live.begin(0, Form::Raw);
-        player.put_back(live);
+        player.handle.lend().begin(0, Form::Raw);
         return DONE;
     }
     match opened(alloc, lacks) {
@@ -167,9 +165,7 @@ pub extern "C" fn ribjasper_player_feed(player: &mut Playing, block: &[u8; BLOCK
     if !player.is_open {
         return NOT_DONE;
     }
-    let mut live = player.take_out();
-    live.feed(block);
-    player.put_back(live);
+    player.handle.lend().feed(block);
     DONE
 }
 
@@ -185,9 +181,7 @@ pub extern "C" fn ribjasper_player_draw(player: &mut Playing, pack: &[u8; SYMBOL
     if !player.is_open {
         return NOT_DONE;
     }
-    let mut live = player.take_out();
-    live.draw(pack);
-    player.put_back(live);
+    player.handle.lend().draw(pack);
     DONE
 }
 
@@ -204,9 +198,7 @@ pub extern "C" fn ribjasper_player_begin(player: &mut Playing, form: u32, lead_i
     if !player.is_open || form >= 2 || lead_in > MOST_LEAD_IN {
         return NOT_DONE;
     }
-    let mut live = player.take_out();
-    live.begin(lead_in, form_of(form));
-    player.put_back(live);
+    player.handle.lend().begin(lead_in, form_of(form));
     DONE
 }
 

@@ -37,9 +37,8 @@ pub extern "C" fn ribjasper_player_rect(
     if !player.is_open || !has_room(&part, stride, pixels.len()) {
         return NOT_DONE;
     }
-    let live = player.take_out();
-    shown_part(&live, &part, pixels, stride as usize);
-    player.put_back(live);
+    let live = player.handle.lend();
+    shown_part(live, &part, pixels, stride as usize);
     DONE
 }
 

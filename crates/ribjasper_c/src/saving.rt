@@ -8,6 +8,7 @@ ghost use Rattle.live_player.specs.Saving.{IsAt};
 ghost use Rattle.live_player.specs.declared.live.LivePlayer.{LivePlayer};
 ghost use Rattle.ribjasper_c.specs.Saving.{CannotBeSaved, IsSaveAnswer, IsSavedAs, IsTooLong, LoadsPlayer, SavesPlayer};
 ghost use Rattle.ribjasper_c.specs.Answers.{done_if};
+ghost use Rattle.ribjasper_c.specs.Looking.{IsUnchanged};
 
 use crate::Playing;
 use crate::answers::{DONE, NO_MEMORY, NOT_DONE, REFUSED};
@@ -49,10 +50,7 @@ fn save_counted(
     if !player.is_open {
         return NOT_DONE;
     }
-    let live = player.take_out();
-    let answer = save(alloc, lacks, &live, file);
-    player.put_back(live);
-    answer
+    save(alloc, lacks, player.handle.lend(), file)
 }
 
 // Writes the file of a player.
@@ -143,9 +141,7 @@ fn load_counted(
     let Ok(saved) = read_file(alloc, lacks, file) else {
         return NO_MEMORY;
     };
-    let mut live = player.take_out();
-    go_to(&mut live, &saved);
-    player.put_back(live);
+    go_to(player.handle.lend(), &saved);
     DONE
 }
 
@@ -193,29 +189,27 @@ pub extern "C" fn ribjasper_player_copy(from: &mut Playing, to: &mut Playing) ->
     ensures same { from.new.handle.players ≡ from.old.handle.players }
     ensures refused { result ≡ negsuc 0 → to.new.handle.players ≡ to.old.handle.players }
 {
-    if !from.is_open {
-        return NOT_DONE;
-    }
-    // While it is out `from` is closed: so is `to` then, if a program gives one player twice.
-    let other = from.take_out();
-    let answer = go_on_as(&other, to);
-    from.put_back(other);
-    answer
-}
-
-// Makes an open player show and gather from here on what another does.
-#[inline(never)]
-fn go_on_as(other: &LivePlayer, to: &mut Playing) -> i32
-    ensures copied { result ≡ pos 0 → to.new.handle.players ≡ other.now ∷ [] }
-    ensures answer { result ≡ done_if to.old.is_open }
-    ensures stays { to.new.is_open ≡ to.old.is_open }
-    ensures refused { result ≡ negsuc 0 → to.new.handle.players ≡ to.old.handle.players }
-{
     if !to.is_open {
         return NOT_DONE;
     }
+    // While it is out `to` is closed: so is `from` then, if a program gives one player twice.
     let mut live = to.take_out();
-    live.copy_from(other);
+    let answer = go_on_as(&mut live, from);
     to.put_back(live);
+    answer
+}
+
+// Makes a player show and gather from here on what an open one does.
+#[inline(never)]
+fn go_on_as(live: &mut LivePlayer, from: &mut Playing) -> i32
+    ensures copied { result ≡ pos 0 → from.old.handle.players ≡ live.new ∷ [] }
+    ensures answer { result ≡ done_if from.old.is_open }
+    ensures same { IsUnchanged from.old from.new }
+    ensures refused { result ≡ negsuc 0 → live.new ≡ live.old }
+{
+    if !from.is_open {
+        return NOT_DONE;
+    }
+    live.copy_from(from.handle.lend());
     DONE
 }

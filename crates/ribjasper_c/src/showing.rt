@@ -9,8 +9,7 @@ ghost use Rattle.ribjasper_c.specs.Answers.{done_if};
 use crate::Playing;
 use crate::answers::{DONE, NOT_DONE};
 use cdg_instructions::{SCREEN_HEIGHT, SCREEN_PIXELS, SCREEN_WIDTH};
-use live_player::{LivePlayer, PICTURE_BYTES};
-use pixel_formats::write_picture;
+use live_player::{LivePlayer, PICTURE_BYTES, write_picture};
 
 const WIDTH: u32 = SCREEN_WIDTH as u32;
 
@@ -28,9 +27,7 @@ fn show<T, F: FnOnce(&LivePlayer, &mut T)>(player: &mut Playing, out: &mut T, wr
     if !player.is_open {
         return NOT_DONE;
     }
-    let live = player.take_out();
-    write_shown(&live, out, write);
-    player.put_back(live);
+    write_shown(player.handle.lend(), out, write);
     DONE
 }
 

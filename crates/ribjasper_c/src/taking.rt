@@ -54,9 +54,7 @@ pub extern "C" fn ribjasper_player_take(
     if !player.is_open {
         return NOT_DONE;
     }
-    let mut live = player.take_out();
-    let words = live.take(block);
-    player.put_back(live);
+    let words = player.handle.lend().take(block);
     read_all(words.as_slice(), packs)
 }
 

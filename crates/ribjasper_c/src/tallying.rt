@@ -39,8 +39,6 @@ pub extern "C" fn ribjasper_player_feed_counted(
     if !player.is_open {
         return NOT_DONE;
     }
-    let mut live = player.take_out();
-    feed_and_count(&mut live, block, tally);
-    player.put_back(live);
+    feed_and_count(player.handle.lend(), block, tally);
     DONE
 }

@@ -1,37 +1,7 @@
--- The player that a page keeps as plain numbers.
-use Rattle.std.specs.Prelude.{◌==◌, ◌-◌, ◌++◌, if◌then◌else◌, ℕ, List, [], ◌∷◌}
-use Rattle.raw_subcode.specs.declared.form.Form.{Form}
-use Rattle.raw_subcode.specs.declared.form.Form.TheVariants.{Raw, Cooked, Sector}
-use Rattle.rw_interleave.specs.Interleave.{packs_kept_back}
-use Rattle.rw_interleave.specs.Windows.{slots_in}
-use Rattle.stream_stages.specs.declared.block_words.BlockWords.{BlockWords}
+-- What a player of a page was given.
+use Rattle.std.specs.Prelude.{List, ℕ, [], ◌∷◌}
 use Rattle.live_player.specs.Lives.{Given}
 use Rattle.live_player.specs.Lives.Given.{Fed}
-use Rattle.live_player.specs.declared.live.LivePlayer.{LivePlayer}
-use Rattle.ribjasper_web.specs.declared.state.PlainWords.{PlainWords}
-use Rattle.ribjasper_web.specs.declared.state.WebPlayer.{WebPlayer}
-
--- the form that a number means: 0 a raw stream, 1 one of packs, else one of sectors
-abbrev pub numbered_form : ℕ → Form
-numbered_form n = if n == 0 then Raw else (if n == 1 then Cooked else Sector)
-
--- the gatherer that these numbers are
-abbrev pub gatherer_of : PlainWords → BlockWords
-gatherer_of w = record {
-  form = numbered_form w.form;
-  lead_in = w.lead_in;
-  gather = slots_in (w.early ++ w.late) (packs_kept_back - w.count) w.count;
-}
-
--- the player that these numbers are
-abbrev pub player_of : WebPlayer → LivePlayer
-player_of p = record {
-  words = gatherer_of p.words;
-  screen = p.screen;
-  lead_in = p.lead_in;
-  blocks = p.blocks;
-  bad = p.bad;
-}
 
 -- what a player was given, and then these blocks, the last one first
 abbrev pub and_fed : List (List ℕ) → List Given → List Given

@@ -1,36 +1,27 @@
 // What a pack changes.
 ghost use Rattle.std.specs.Prelude.{◌≡◌, ◌↔◌, ◌∷◌, [], IsTrue};
-ghost use Rattle.cdg_instructions.specs.Instruction.{InRange};
 ghost use Rattle.cdg_screen.specs.Standing.{standing_after};
 ghost use Rattle.cdg_screen.specs.Touched.{touched_by};
 ghost use Rattle.live_player.specs.Lives.{instruction_of, standing_on};
-ghost use Rattle.ribjasper_web.specs.Players.{player_of};
+ghost use Rattle.live_player.specs.Plain.{player_of};
 ghost use Rattle.ribjasper_web.specs.Shown.{number_touched};
 
-use crate::state::WebPlayer;
-use cdg_instructions::{Instr, SCREEN_COLUMNS, read_word};
+use cdg_instructions::SCREEN_COLUMNS;
 use cdg_screen::{Touched, touches};
-use rw_code::{SYMBOLS, Word};
+use live_player::{PlainPlayer, read_pack};
+use rw_code::SYMBOLS;
 
 // Tiles are numbered row by row.
 const COLUMNS: u32 = SCREEN_COLUMNS as u32;
 
 /// Whether a pack would change anything that stands.
 #[unsafe(no_mangle)]
-pub extern "C" fn ribjasper_web_changes(player: &WebPlayer, pack: &[u8; SYMBOLS]) -> bool
+pub extern "C" fn ribjasper_web_changes(player: &PlainPlayer, pack: &[u8; SYMBOLS]) -> bool
     ensures { ¬ IsTrue result
         ↔ (standing_after (standing_on (player_of player.now)) (instruction_of pack.now ∷ [])
         ≡ standing_on (player_of player.now)) }
 {
     player.screen.changes(&read_pack(pack))
-}
-
-/// The instruction of a pack, whose parity has no part in it.
-pub(crate) fn read_pack(pack: &[u8; SYMBOLS]) -> Instr
-    ensures instruction { result ≡ instruction_of pack.now }
-    ensures range { InRange result }
-{
-    read_word(&Word::new(pack))
 }
 
 /// What the instruction of a pack touches, whose parity has no part in it: a tile of the memory, 50 times its row and

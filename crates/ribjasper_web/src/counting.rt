@@ -1,10 +1,10 @@
 // What a player counts.
 ghost use Rattle.std.specs.Prelude.{◌≡◌};
 ghost use Rattle.rw_interleave.specs.Stream.{word_count};
-ghost use Rattle.ribjasper_web.specs.Players.{numbered_form, player_of};
+ghost use Rattle.live_player.specs.Plain.{numbered_form, player_of};
 ghost use Rattle.ribjasper_web.specs.Shown.{web_counts};
 
-use crate::state::WebPlayer;
+use live_player::PlainPlayer;
 use raw_subcode::SLOTS_A_BLOCK;
 use rw_interleave::PACKS_KEPT_BACK;
 
@@ -24,7 +24,7 @@ pub struct WebCounts {
 
 /// Writes what a player counts.
 #[unsafe(no_mangle)]
-pub extern "C" fn ribjasper_web_counts(player: &WebPlayer, counts: &mut WebCounts)
+pub extern "C" fn ribjasper_web_counts(player: &PlainPlayer, counts: &mut WebCounts)
     ensures { counts.new ≡ web_counts player.now.words.form (player_of player.now) }
 {
     *counts = WebCounts {

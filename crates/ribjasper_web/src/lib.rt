@@ -3,17 +3,17 @@
 
 mod changing;
 mod counting;
+mod marking;
 mod mending;
 mod picture;
+mod planar;
 mod playing;
 mod reading;
 mod saving;
-mod state;
 mod surveying;
 mod texts;
-mod words;
 
 pub use counting::WebCounts;
+pub use live_player::{Mark, PlainPlayer, PlainWords};
 pub use picture::WebShown;
 pub use reading::WebPack;
-pub use state::{PlainWords, WebPlayer};

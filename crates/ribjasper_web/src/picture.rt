@@ -4,12 +4,12 @@ ghost use Rattle.cdg_instructions.specs.Sizes.{colour_values, screen_pixels, scr
 ghost use Rattle.cdg_screen.specs.Memory.{seen};
 ghost use Rattle.cdg_screen.specs.Standing.{screen_pixel};
 ghost use Rattle.live_player.specs.Lives.{standing_on};
-ghost use Rattle.ribjasper_web.specs.Players.{player_of};
+ghost use Rattle.live_player.specs.Plain.{player_of};
 ghost use Rattle.ribjasper_web.specs.Shown.{IsShown, opaque, opaque_pixel};
 
-use crate::state::WebPlayer;
 use cdg_instructions::{SCREEN_HEIGHT, SCREEN_PIXELS, SCREEN_WIDTH};
 use cdg_screen::PlainScreen;
+use live_player::PlainPlayer;
 
 #[repr(C)]
 #[derive(Clone, Copy)]
@@ -27,7 +27,7 @@ pub struct WebShown {
 
 /// Writes the screen's pixels row by row, each as a number whose bytes, the lowest first, are red, green, blue and 255.
 #[unsafe(no_mangle)]
-pub extern "C" fn ribjasper_web_picture(player: &WebPlayer, pixels: &mut [u32; SCREEN_PIXELS])
+pub extern "C" fn ribjasper_web_picture(player: &PlainPlayer, pixels: &mut [u32; SCREEN_PIXELS])
     ensures { (n : ℕ) → n < screen_pixels
         → slice_index pixels.new n ≡ opaque_pixel (standing_on (player_of player.now)) n }
 {
@@ -44,7 +44,7 @@ pub extern "C" fn ribjasper_web_picture(player: &WebPlayer, pixels: &mut [u32; S
 
 /// Writes the numbers of the colours of the screen's pixels, row by row.
 #[unsafe(no_mangle)]
-pub extern "C" fn ribjasper_web_screen(player: &WebPlayer, pixels: &mut [u8; SCREEN_PIXELS])
+pub extern "C" fn ribjasper_web_screen(player: &PlainPlayer, pixels: &mut [u8; SCREEN_PIXELS])
     ensures { (n : ℕ) → n < screen_pixels → slice_index pixels.new n
         ≡ screen_pixel (standing_on (player_of player.now)) (n % screen_width) (n / screen_width) }
 {
@@ -59,7 +59,7 @@ pub extern "C" fn ribjasper_web_screen(player: &WebPlayer, pixels: &mut [u8; SCR
 
 /// Writes what stands beside the memory.
 #[unsafe(no_mangle)]
-pub extern "C" fn ribjasper_web_shown(player: &WebPlayer, shown: &mut WebShown)
+pub extern "C" fn ribjasper_web_shown(player: &PlainPlayer, shown: &mut WebShown)
     ensures { IsShown (standing_on (player_of player.now)) shown.new }
 {
     let screen = &player.screen;

@@ -1,44 +1,26 @@
 // A player that a page feeds.
-ghost use Rattle.std.specs.Prelude.{◌≡◌, ◌/◌, ◌&&◌, ◌∷◌, [], if◌then◌else◌, nat_le, nat_lt, List, ℕ, length, pos, negsuc};
+ghost use Rattle.std.specs.Prelude.{◌≡◌, ◌/◌, ◌&&◌, ◌∷◌, [], if◌then◌else◌, map, reverse, nat_le, nat_lt, List, ℕ, length, pos, negsuc};
 ghost use Rattle.disc_time.specs.Counts.{most_lead_in};
-ghost use Rattle.live_player.specs.Lives.{Given, HasPlayed, PlaysOn};
+ghost use Rattle.live_player.specs.Changes.{changes_on, KeepsUntold};
+ghost use Rattle.live_player.specs.Lives.{instruction_of, standing_on, Given, HasPlayed, PlaysOn};
 ghost use Rattle.live_player.specs.Lives.Given.{Drawn, Fed};
+ghost use Rattle.live_player.specs.Plain.{numbered_form, player_of};
 ghost use Rattle.live_player.specs.Steps.{DrawsPack, TakesBlock};
+ghost use Rattle.live_player.specs.Taken.{instructions_from, DrawsPacks, TakesBlocks};
 ghost use Rattle.raw_subcode.specs.Channels.{blocks_of, unit_size};
-ghost use Rattle.raw_subcode.specs.Sizes.{block_bytes};
 ghost use Rattle.raw_subcode.specs.declared.form.Form.{Form};
-ghost use Rattle.stream_stages.specs.Steps.{words_give};
-ghost use Rattle.ribjasper_web.specs.Players.{and_fed, numbered_form, player_of};
+ghost use Rattle.ribjasper_web.specs.Players.{and_fed};
 
-use crate::changing::read_pack;
-use crate::state::{PlainWords, WebPlayer};
-use crate::words::form_of;
 use block_survey::{block_at, unit_bytes};
 use disc_time::MOST_LEAD_IN;
-use live_player::play;
+use live_player::{PlainPlayer, ScreenChange, draw_all, feed_all, form_of};
 use raw_subcode::BLOCK_BYTES;
 use rw_code::SYMBOLS;
-use stream_stages::{BlockOfWords, BlockWords};
-
-impl WebPlayer {
-    /// Takes the next block, and gives the words that came with it.
-    pub(crate) fn step(&mut self, block: &[u8; BLOCK_BYTES]) -> Option<BlockOfWords>
-        ensures takes { TakesBlock block.now (player_of self.old) (player_of self.new) }
-        ensures gives { result ≡ words_give (player_of self.old).words block.now }
-        ensures size { length block.now ≡ block_bytes }
-    {
-        let mut words = self.words.words();
-        let came = play(&mut words, &mut self.screen, &mut self.bad, block);
-        self.words = PlainWords::of(&words);
-        self.blocks = self.blocks.saturating_add(1);
-        came
-    }
-}
 
 /// Begins anew, with so many lead-in blocks, at most 450,000. The form is 0 for a raw stream, or 1 for one of packs, four
 /// a block. 0, or -1 where a number is out of its range, and then nothing is changed.
 #[unsafe(no_mangle)]
-pub extern "C" fn ribjasper_web_begin(player: &mut WebPlayer, form: u32, lead_in: u32) -> i32
+pub extern "C" fn ribjasper_web_begin(player: &mut PlainPlayer, form: u32, lead_in: u32) -> i32
     ensures begun { result ≡ pos 0 → HasPlayed (numbered_form form) lead_in [] (player_of player.new) }
     ensures answer { result ≡ (if nat_lt form 2 && nat_le lead_in most_lead_in then pos 0 else negsuc 0) }
     ensures refused { result ≡ negsuc 0 → player.new ≡ player.old }
@@ -46,29 +28,25 @@ pub extern "C" fn ribjasper_web_begin(player: &mut WebPlayer, form: u32, lead_in
     if form >= 2 || lead_in > MOST_LEAD_IN {
         return -1;
     }
-    let mut words = BlockWords::new();
-    words.begin(lead_in, form_of(form));
-    player.words = PlainWords::of(&words);
-    player.screen.reset();
-    player.lead_in = lead_in;
-    player.blocks = 0;
-    player.bad = 0;
+    player.begin(lead_in, form_of(form));
     0
 }
 
 /// Feeds a player the next block.
 #[unsafe(no_mangle)]
-pub extern "C" fn ribjasper_web_feed(player: &mut WebPlayer, block: &[u8; BLOCK_BYTES])
+pub extern "C" fn ribjasper_web_feed(player: &mut PlainPlayer, block: &[u8; BLOCK_BYTES])
     ensures takes { TakesBlock block.now (player_of player.old) (player_of player.new) }
     ensures fed { PlaysOn (Fed block.now ∷ []) (player_of player.old) (player_of player.new) }
 {
-    player.step(block);
+    player.feed(block);
 }
 
 /// Feeds a player the whole blocks of a stream, which are raw blocks (form 0), blocks of packs (1) or those of sectors
 /// (2). Their number.
 #[unsafe(no_mangle)]
-pub extern "C" fn ribjasper_web_feed_all(player: &mut WebPlayer, form: u32, stream: &[u8]) -> u64
+pub extern "C" fn ribjasper_web_feed_all(player: &mut PlainPlayer, form: u32, stream: &[u8]) -> u64
+    ensures takes { TakesBlocks (blocks_of (numbered_form form) stream.now) (player_of player.old)
+        (player_of player.new) }
     ensures fed { (begun : Form) (lead_in : ℕ) (given : List Given)
         → HasPlayed begun lead_in given (player_of player.old)
         → HasPlayed begun lead_in (and_fed (blocks_of (numbered_form form) stream.now) given)
@@ -79,16 +57,50 @@ pub extern "C" fn ribjasper_web_feed_all(player: &mut WebPlayer, form: u32, stre
     let count = stream.len() / unit_bytes(form);
     for b in 0..count {
         let block = block_at(form, stream, b);
-        player.step(&block);
+        player.feed(&block);
     }
     count as u64
 }
 
+/// Feeds a player blocks of 96 bytes in turn, and writes what of the screen may have changed.
+#[unsafe(no_mangle)]
+pub extern "C" fn ribjasper_web_feed_changes(
+    player: &mut PlainPlayer,
+    blocks: &[[u8; BLOCK_BYTES]],
+    change: &mut ScreenChange,
+)
+    ensures takes { TakesBlocks blocks.now (player_of player.old) (player_of player.new) }
+    ensures fed { PlaysOn (map Fed (reverse blocks.now)) (player_of player.old) (player_of player.new) }
+    ensures told { change.new ≡ changes_on (standing_on (player_of player.old))
+        (instructions_from (player_of player.old).words blocks.now) }
+    ensures keeps { KeepsUntold change.new (standing_on (player_of player.old))
+        (standing_on (player_of player.new)) }
+{
+    *change = feed_all(player, blocks);
+}
+
 /// Draws a pack of 24 bytes, whose parity has no part in it. The stream goes on as if the pack were not there.
 #[unsafe(no_mangle)]
-pub extern "C" fn ribjasper_web_draw(player: &mut WebPlayer, pack: &[u8; SYMBOLS])
+pub extern "C" fn ribjasper_web_draw(player: &mut PlainPlayer, pack: &[u8; SYMBOLS])
     ensures draws { DrawsPack pack.now (player_of player.old) (player_of player.new) }
     ensures drawn { PlaysOn (Drawn pack.now ∷ []) (player_of player.old) (player_of player.new) }
 {
-    player.screen.obey(&read_pack(pack));
+    player.draw(pack);
+}
+
+/// Draws packs in turn, and writes what of the screen may have changed.
+#[unsafe(no_mangle)]
+pub extern "C" fn ribjasper_web_draw_all(
+    player: &mut PlainPlayer,
+    packs: &[[u8; SYMBOLS]],
+    change: &mut ScreenChange,
+)
+    ensures draws { DrawsPacks packs.now (player_of player.old) (player_of player.new) }
+    ensures drawn { PlaysOn (map Drawn (reverse packs.now)) (player_of player.old) (player_of player.new) }
+    ensures told { change.new
+        ≡ changes_on (standing_on (player_of player.old)) (map instruction_of packs.now) }
+    ensures keeps { KeepsUntold change.new (standing_on (player_of player.old))
+        (standing_on (player_of player.new)) }
+{
+    *change = draw_all(player, packs);
 }

@@ -5,10 +5,10 @@ ghost use Rattle.live_player.specs.Lives.Given.{Fed};
 ghost use Rattle.live_player.specs.Steps.{TakesBlock, words_come};
 ghost use Rattle.stream_stages.specs.Steps.{words_give};
 ghost use Rattle.ribjasper_web.specs.Packs.{AreTakenAs, IsTakenAs};
-ghost use Rattle.ribjasper_web.specs.Players.{player_of};
+ghost use Rattle.live_player.specs.Plain.{player_of};
 ghost use Rattle.raw_subcode.specs.Channels.{IsPlanarForm};
 
-use crate::state::WebPlayer;
+use live_player::PlainPlayer;
 use raw_subcode::{BLOCK_BYTES, Block};
 use rw_code::{SYMBOLS, Word, correct};
 
@@ -24,7 +24,7 @@ pub struct WebPack {
 /// number, 0 to 4.
 #[unsafe(no_mangle)]
 pub extern "C" fn ribjasper_web_take(
-    player: &mut WebPlayer,
+    player: &mut PlainPlayer,
     block: &[u8; BLOCK_BYTES],
     packs: &mut [WebPack; 4],
 ) -> i32

@@ -3,18 +3,16 @@ ghost use Rattle.std.specs.Prelude.{◌≡◌, ◌≢◌, ◌⊎◌, pos, negsuc
 ghost use Rattle.cdg_checkpoint.specs.Checkpoint.{checkpoint_in, file_of};
 ghost use Rattle.cdg_checkpoint.specs.Table.{IsBadAt, IsCheckpointFile};
 ghost use Rattle.live_player.specs.Saving.{checkpoint_of, IsAt};
-ghost use Rattle.ribjasper_web.specs.Players.{player_of};
+ghost use Rattle.live_player.specs.Plain.{player_of};
 
-use crate::state::{PlainWords, WebPlayer};
-use cdg_checkpoint::{FILE_BYTES, PlainFile, StreamCounts, gathered_slots};
+use cdg_checkpoint::{FILE_BYTES, PlainFile};
 use cdg_io::SteadySource;
-use raw_subcode::Form;
-use stream_stages::BlockWords;
+use live_player::PlainPlayer;
 
 /// Writes the file of the checkpoint at which a player is. 0, or -1 where its stream is not raw, or is longer than a
 /// checkpoint can say.
 #[unsafe(no_mangle)]
-pub extern "C" fn ribjasper_web_save(player: &WebPlayer, file: &mut [u8; FILE_BYTES]) -> i32
+pub extern "C" fn ribjasper_web_save(player: &PlainPlayer, file: &mut [u8; FILE_BYTES]) -> i32
     ensures saved { result ≡ pos 0 → (file.new ≡ file_of (checkpoint_of (player_of player.now)))
         × IsCheckpointFile file.new }
     ensures refused { result ≡ negsuc 0 → (player.now.words.form ≢ 0)
@@ -36,28 +34,11 @@ pub extern "C" fn ribjasper_web_save(player: &WebPlayer, file: &mut [u8; FILE_BY
     }
 }
 
-impl WebPlayer {
-    // Writes the file of the checkpoint at which the player is.
-    fn compose(&self, file: &mut PlainFile)
-        ensures { file.new ≡ file_of (checkpoint_of (player_of self.now)) }
-    {
-        let read = self.blocks.min(self.lead_in);
-        let counts = StreamCounts {
-            to_come: self.lead_in - read,
-            lead_in: read,
-            program: self.blocks - read,
-            bad: self.bad,
-        };
-        let slots = self.words.words().gather.symbols();
-        file.compose(&counts, &slots, &self.screen);
-    }
-}
-
 /// Brings a player to the checkpoint of a file, in a raw stream. 0; or 3 where the file is none: then the byte that shows
 /// it is told, and the player stays.
 #[unsafe(no_mangle)]
 pub extern "C" fn ribjasper_web_load(
-    player: &mut WebPlayer,
+    player: &mut PlainPlayer,
     file: &[u8; FILE_BYTES],
     byte: &mut u32,
 ) -> i32
@@ -87,24 +68,4 @@ fn take_bytes(saved: &mut PlainFile, file: &[u8; FILE_BYTES])
 {
     let mut source = SteadySource::new(file);
     saved.read(&mut source).unwrap();
-}
-
-impl WebPlayer {
-    // Goes to the checkpoint of a file, in a raw stream.
-    fn go_to(&mut self, file: &PlainFile)
-        requires { IsCheckpointFile file.now }
-        ensures { IsAt (checkpoint_in file.now) (player_of self.new) }
-    {
-        let counts = file.counts();
-        let words = BlockWords {
-            form: Form::Raw,
-            lead_in: counts.to_come,
-            gather: gathered_slots(file),
-        };
-        self.words = PlainWords::of(&words);
-        self.lead_in = counts.to_come + counts.lead_in;
-        self.blocks = counts.lead_in + counts.program;
-        self.bad = counts.bad;
-        file.bring_back(&mut self.screen);
-    }
 }

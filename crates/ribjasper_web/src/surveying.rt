@@ -3,11 +3,11 @@ ghost use Rattle.std.specs.Prelude.{◌≡◌, ◌≢◌, ◌/◌, ◌++◌, ◌
 ghost use Rattle.block_survey.specs.Rows.{survey_rows};
 ghost use Rattle.disc_time.specs.Counts.{most_lead_in};
 ghost use Rattle.raw_subcode.specs.Channels.{unit_size};
-ghost use Rattle.ribjasper_web.specs.Players.{numbered_form};
+ghost use Rattle.live_player.specs.Plain.{numbered_form};
 
-use crate::words::form_of;
 use block_survey::{BlockRow, survey, unit_bytes};
 use disc_time::MOST_LEAD_IN;
+use live_player::form_of;
 
 /// Writes a row for each whole block of a stream to the front of some rows. 0; or 2 where the form is above 2 or the
 /// lead-in above 450,000 blocks, or 6 where there are fewer rows than blocks, and then nothing is written.

@@ -4,8 +4,8 @@ ghost use Rattle.cdtext_packs.specs.LeadIn.{pack_at};
 ghost use Rattle.cdtext_packs.specs.Packs.{check_matches};
 ghost use Rattle.raw_subcode.specs.Sizes.{slots_a_block};
 
+use bit_lists::crc16;
 use raw_subcode::{BLOCK_BYTES, Block, SLOTS_A_BLOCK};
-use subcode_crc::crc16;
 
 const TEXT_PACK: usize = 18;
 

@@ -23,10 +23,10 @@ use Rattle.stream_stages.specs.Screen.{AreMeant, IsScreenAt, moment}
 use Rattle.stream_stages.proofs.Restoring.{Recovers, program_small}
 use Rattle.rw_code.specs.Packs.{idle_pack}
 use Rattle.cdg_press.specs.Pressed.{file_begin, file_pack, file_packs, IsPressed, press_of}
-use Rattle.cdg_thin.specs.Thin.{AreInstructionsOf}
-use Rattle.cdg_thin.specs.Steps.{pack_instruction}
-use Rattle.cdg_thin.proofs.Meanings.{has_instruction}
-use Rattle.cdg_thin.proofs.Forms.{first_read, instructions_of, read_each}
+use Rattle.cdg_press.specs.Thin.{AreInstructionsOf}
+use Rattle.cdg_press.specs.Steps.{pack_instruction}
+use Rattle.cdg_press.proofs.Meanings.{has_instruction}
+use Rattle.cdg_press.proofs.Forms.{first_read, instructions_of, read_each}
 use Rattle.round_trips.specs.Damaged.{DamagedPress, IsFileText}
 use Rattle.round_trips.proofs.Meanings.{same_meaning}
 use Rattle.round_trips.proofs.Standings.{idle_around, InTurn}

@@ -10,7 +10,7 @@ use Rattle.cdg_instructions.specs.declared.instr.Instr.{Instr}
 use Rattle.cdg_screen.specs.Standing.{blank, standing_after}
 use Rattle.cdg_screen.specs.Texts.{pixmap}
 use Rattle.raw_subcode.specs.Sizes.{most_units, symbols_a_slot}
-use Rattle.cdg_thin.specs.Thin.{AreInstructionsOf}
+use Rattle.cdg_press.specs.Thin.{AreInstructionsOf}
 use Rattle.cdg_press.specs.Pressed.{IsPressed, press_of}
 
 -- What was pressed, where these are whole units of a form whose program differs from that of a pressed stream in at

@@ -9,7 +9,7 @@ use Rattle.rw_interleave.specs.Interleave.{place, word_of}
 use Rattle.rw_interleave.proofs.Places.{swapped-lt}
 use Rattle.rw_mend.specs.Trails.{AreSameFrom, IsTrail}
 use Rattle.rw_mend.specs.Voices.{voice_of}
-use Rattle.rw_mend.specs.Words.{block_at, blocks_under, coverage_of, is_blank_block, is_empty_block, reading_at}
+use Rattle.rw_mend.specs.Words.{block_at, blocks_under, coverage_of, is_blank_block, is_unread_block, reading_at}
 use Rattle.rw_mend.specs.declared.cover.Trail.{Trail}
 use Rattle.rw_mend.specs.declared.voices.WordReading.{WordReading}
 use Rattle.rw_mend.proofs.Unread.{in_block}
@@ -91,9 +91,9 @@ same_trail first program n from trail is low was =
     let three : n % 4 ≢ 0 → block_at first (n / 4 + 2) ≡ block_at program (n / 4 + 2) =
     λ (apart : n % 4 ≢ 0). sym (same (n / 4 + 2) (omega arith) (omega (arith, apart))) in
     record {
-      first = was.first ∙ ap is_empty_block one;
-      second = was.second ∙ ap is_empty_block two;
-      third = λ apart. was.third apart ∙ ap is_empty_block (three apart);
+      first = was.first ∙ ap is_unread_block one;
+      second = was.second ∙ ap is_unread_block two;
+      third = λ apart. was.third apart ∙ ap is_unread_block (three apart);
       first_blank = was.first_blank ∙ ap is_blank_block one;
       second_blank = was.second_blank ∙ ap is_blank_block two;
       third_blank = λ apart. was.third_blank apart ∙ ap is_blank_block (three apart);

@@ -13,7 +13,7 @@ use Rattle.rw_mend.specs.Choice.{IsFirstBest, IsMending, IsMendedBy, is_best, st
 use Rattle.rw_mend.specs.Drops.{IsDropped, IsSaid}
 use Rattle.rw_mend.specs.Laws.{AllGive, AreEnough}
 use Rattle.rw_mend.specs.Streams.{AreMended, mended_bytes, mended_text}
-use Rattle.rw_mend.specs.Voices.{is_idle_voice, is_idle_pack}
+use Rattle.rw_mend.specs.Voices.{is_idle_voice, is_idle_pack, is_quiet_voice}
 use Rattle.rw_mend.specs.Words.{given_at}
 use Rattle.rw_mend.specs.declared.choice.Mended.{Mended}
 use Rattle.rw_mend.specs.declared.choice.WordSource.{WordSource}
@@ -21,7 +21,7 @@ use Rattle.rw_mend.specs.declared.choice.WordSource.TheVariants.{Reading, Agreed
 use Rattle.rw_mend.specs.declared.voices.Voice.{Voice}
 use Rattle.rw_mend.specs.declared.voices.Voice.TheVariants.{Silent, Lost, Near}
 use Rattle.rw_mend.proofs.Clean.{both_hold, first_holds, has_first, is_of_near, least, less, pack_of, same_test, second_holds, test_same}
-use Rattle.rw_mend.proofs.Kept.{flat_joined, graphics_are, said_kept}
+use Rattle.rw_mend.proofs.Kept.{doubtful_are, flat_joined, graphics_are, said_kept}
 use Rattle.rw_mend.proofs.Missing.{some_passes}
 use Rattle.rw_mend.proofs.Once.{best_counts, not_agreed}
 use Rattle.rw_mend.proofs.Same.{same_is}
@@ -162,22 +162,28 @@ enough_text words programs packs said found is mended =
     (mended.each n within)) in
     flat_joined mended_bytes found ∙ ap concat same
 
--- no reading drops where all give the same
+-- nothing counts for nothing where all give the same
 none_drops : (words : ℕ) (programs packs : List (List ℕ)) (r n : ℕ) → AllGive words programs packs
-    → r < length programs
-    → ¬ IsDropped words programs r n
-none_drops words programs packs r n is within dropped =
-    let m : ℕ = dropped.drops.word in
-    let lt : m < words = dropped.drops.within in
-    let misses = dropped.drops.misses in
+    → n < words → r < length programs → ¬ IsDropped words programs r n
+none_drops words programs packs r n is here within (inl lacking) =
+    let m : ℕ = lacking.lacks.word in
+    let lt : m < words = lacking.lacks.within in
+    let misses = lacking.lacks.misses in
     let s : ℕ = misses.graphics.reading in
     let busy = graphics_are (given_at programs s m) misses.graphics.graphics in
     let there = is.gives m s lt misses.graphics.within in
     let same : busy.0 ≡ get_or packs m [] =
-    one_near busy.0 (get_or packs m []) 0 (is.doubts m s) (sym busy.1 ∙ there) in
+    one_near busy.0 (get_or packs m []) busy.1 (is.doubts m s) (sym busy.2 ∙ there) in
     let idle : is_idle_pack (get_or packs m []) ≡ true =
     ap is_idle_voice (sym (is.gives m r lt within)) ∙ misses.idle in
-    false≢true (sym busy.2 ∙ ap is_idle_pack same ∙ idle)
+    false≢true (sym busy.3 ∙ ap is_idle_pack same ∙ idle)
+none_drops words programs packs r n is here within (inr doubted) =
+    let odd = doubtful_are (given_at programs r n) doubted.doubtful in
+    let same : odd.0 ≡ get_or packs n [] =
+    one_near odd.0 (get_or packs n []) odd.1 (is.doubts n r) (sym odd.2 ∙ is.gives n r here within) in
+    let idle : is_idle_pack (get_or packs n []) ≡ true =
+    ap is_quiet_voice (sym (is.gives n doubted.reading here doubted.within)) ∙ doubted.quiet in
+    false≢true (sym odd.3 ∙ ap is_idle_pack same ∙ idle)
 
 pub all_enough : (words : ℕ) (programs packs : List (List ℕ)) → AllGive words programs packs
     → AreEnough words programs packs
@@ -186,7 +192,7 @@ all_enough words programs packs is = record {
   doubts = λ n. is.doubts n 0;
   count = is.count;
   within = λ n lt. is.some;
-  counts = λ n lt. none_drops words programs packs 0 n is is.some;
+  counts = λ n lt. none_drops words programs packs 0 n is lt is.some;
   gives = λ n lt. is.gives n 0 lt is.some;
   alone =
       λ n s other more lt within kept given.

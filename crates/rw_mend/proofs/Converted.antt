@@ -39,7 +39,7 @@ use Rattle.rw_mend.proofs.Damaged.{IsOrIdle, near_given, unread_or_not, written}
 use Rattle.rw_mend.proofs.Givens.{is_word, reading-word}
 use Rattle.rw_mend.proofs.Heaps.{part_whole, parts_length}
 use Rattle.rw_mend.proofs.Hearing.{lost_is, silent_is}
-use Rattle.rw_mend.proofs.Kept.{clean_text, each_text, flat_joined, graphics_are, said_kept}
+use Rattle.rw_mend.proofs.Kept.{clean_text, each_text, flat_joined, graphics_are, graphics_are_sure, said_kept}
 use Rattle.rw_mend.proofs.Once.{best_counts}
 
 -- ---- A reading by itself.
@@ -98,24 +98,29 @@ near_bytes Silent is = absurd (false≢true is)
 near_bytes (Lost word) is = absurd (false≢true is)
 near_bytes (Near pack doubts) is = is
 
-never_dropped : (words : ℕ) (programs : List (List ℕ)) (r n : ℕ) → CountsAlone words programs r
+never_dropped : (words : ℕ) (programs : List (List ℕ)) (r n : ℕ) → CountsAlone words programs r → n < words
     → ¬ IsDropped words programs r n
-never_dropped words programs r n is dropped =
-    let m : ℕ = dropped.drops.word in
-    let lt : m < words = dropped.drops.within in
-    let misses = dropped.drops.misses in
+never_dropped words programs r n is here (inl lacking) =
+    let m : ℕ = lacking.lacks.word in
+    let lt : m < words = lacking.lacks.within in
+    let misses = lacking.lacks.misses in
     let s : ℕ = misses.graphics.reading in
     let busy = graphics_are (given_at programs s m) misses.graphics.graphics in
     let idle : is_idle_pack (voice_bytes (given_at programs r m)) ≡ true =
     near_bytes (given_at programs r m) misses.idle in
+    let counts : ¬ IsDropped words programs s m =
+    λ (dropped : IsDropped words programs s m).
+    elim dropped [
+      | inl left ↦ false≢true (sym busy.3 ∙ ap is_idle_voice (sym busy.2) ∙ left.idle)
+      | inr doubted ↦ graphics_are_sure (given_at programs s m) misses.graphics.graphics doubted.doubtful
+    ] in
     let same : busy.0 ≡ voice_bytes (given_at programs r m) =
     elim (cases_eq s r) [
-      | inl own ↦ ap voice_bytes (sym busy.1) ∙ ap (λ k. voice_bytes (given_at programs k m)) own
-      | inr other ↦
-          is.others m s busy.0 0 lt misses.graphics.within other
-          (λ left. false≢true (sym busy.2 ∙ ap is_idle_voice (sym busy.1) ∙ left.idle)) busy.1
+      | inl own ↦ ap voice_bytes (sym busy.2) ∙ ap (λ k. voice_bytes (given_at programs k m)) own
+      | inr other ↦ is.others m s busy.0 busy.1 lt misses.graphics.within other counts busy.2
     ] in
-    false≢true (sym busy.2 ∙ ap is_idle_pack same ∙ idle)
+    false≢true (sym busy.3 ∙ ap is_idle_pack same ∙ idle)
+never_dropped words programs r n is here (inr doubted) = is.sure n here doubted
 
 -- whatever codeword is said is that of the reading
 said_alone : (words : ℕ) (programs : List (List ℕ)) (r n s : ℕ) (voices : List Voice) (codeword : List ℕ)
@@ -165,7 +170,7 @@ word_alone words programs r n said found is mended lt apart =
     let are = mended.voices n lt in
     found_beside voices (given_at programs r n) r (get_or found n None) (omega (arith, is.within, are.count))
     (said_kept words programs n r (voice_of_reading voices r) (are.each r is.within)
-    (never_dropped words programs r n is))
+    (never_dropped words programs r n is lt))
     (λ s other more inside near.
     said_alone words programs r n s voices other more is lt are (omega (arith, inside, are.count)) near)
     apart (mended.each n lt)

@@ -19,7 +19,7 @@ use Rattle.rw_mend.specs.Drops.{IsDropped}
 use Rattle.rw_mend.specs.Laws.{AreDamagedReadings}
 use Rattle.rw_mend.specs.Many.{AreAllMendedInto, words_in_each}
 use Rattle.rw_mend.specs.Streams.{AreMended, IsMendedInto, mended_bytes, mended_text}
-use Rattle.rw_mend.specs.Voices.{doubts_of, is_idle_pack, is_idle_voice, voice_of}
+use Rattle.rw_mend.specs.Voices.{doubts_of, is_idle_pack, is_idle_voice, is_quiet_voice, voice_of}
 use Rattle.rw_mend.specs.Words.{given_at, program_of, reading_at}
 use Rattle.rw_mend.specs.declared.streams.MendCounts.{MendCounts}
 use Rattle.rw_mend.specs.declared.tallies.Tallies.{Tallies}
@@ -36,7 +36,7 @@ use Rattle.rw_mend.proofs.Clean.{pack_of}
 use Rattle.rw_mend.proofs.Givens.{is_word, reading-word}
 use Rattle.rw_mend.proofs.Heaps.{part_whole, parts_length}
 use Rattle.rw_mend.proofs.Hearing.{near_is, silent_is}
-use Rattle.rw_mend.proofs.Kept.{flat_joined, graphics_are, said_kept}
+use Rattle.rw_mend.proofs.Kept.{doubtful_are, flat_joined, graphics_are, idle_is, said_kept}
 use Rattle.rw_mend.proofs.Once.{best_counts}
 use Rattle.rw_mend.proofs.Unread.{idle_where_unread}
 
@@ -118,21 +118,33 @@ idle_pack_of voice codeword (inl (doubts, is)) idle = ap is_idle_voice (sym is) 
 idle_pack_of voice codeword (inr (silent, zeros)) idle =
     absurd (false≢true (ap is_idle_voice (sym silent) ∙ idle))
 
+quiet_pack_of : (voice : Voice) (codeword : List ℕ) → IsOrIdle voice codeword → is_quiet_voice voice ≡ true
+    → is_idle_pack codeword ≡ true
+quiet_pack_of voice codeword (inl (doubts, is)) quiet = ap is_quiet_voice (sym is) ∙ quiet
+quiet_pack_of voice codeword (inr (silent, zeros)) quiet = ap is_idle_pack zeros ∙ idle_is
+
 none_dropped : (words : ℕ) (programs packs : List (List ℕ)) (r n : ℕ) → EachGives words programs packs
-    → r < length programs
-    → ¬ IsDropped words programs r n
-none_dropped words programs packs r n each within dropped =
-    let m : ℕ = dropped.drops.word in
-    let lt : m < words = dropped.drops.within in
-    let misses = dropped.drops.misses in
+    → n < words → r < length programs → ¬ IsDropped words programs r n
+none_dropped words programs packs r n each here within (inl lacking) =
+    let m : ℕ = lacking.lacks.word in
+    let lt : m < words = lacking.lacks.within in
+    let misses = lacking.lacks.misses in
     let s : ℕ = misses.graphics.reading in
     let busy = graphics_are (given_at programs s m) misses.graphics.graphics in
     let same : busy.0 ≡ get_or packs m [] =
-    other_codeword (given_at programs s m) (get_or packs m []) busy.0 0
-    (each m s lt misses.graphics.within) busy.1 in
+    other_codeword (given_at programs s m) (get_or packs m []) busy.0 busy.1
+    (each m s lt misses.graphics.within) busy.2 in
     false≢true
-    (sym busy.2 ∙ ap is_idle_pack same
+    (sym busy.3 ∙ ap is_idle_pack same
     ∙ idle_pack_of (given_at programs r m) (get_or packs m []) (each m r lt within) misses.idle)
+none_dropped words programs packs r n each here within (inr doubted) =
+    let odd = doubtful_are (given_at programs r n) doubted.doubtful in
+    let same : odd.0 ≡ get_or packs n [] =
+    other_codeword (given_at programs r n) (get_or packs n []) odd.0 odd.1 (each n r here within) odd.2 in
+    false≢true
+    (sym odd.3 ∙ ap is_idle_pack same
+    ∙ quiet_pack_of (given_at programs doubted.reading n) (get_or packs n [])
+    (each n doubted.reading here doubted.within) doubted.quiet)
 
 each_text : (words : ℕ) (programs packs : List (List ℕ)) (said : List (List Voice))
     (found : List (Option Mended)) → 0 < length programs → length packs ≡ words
@@ -150,7 +162,7 @@ each_text words programs packs said found some count each mended =
     let reading : r < length programs = omega (arith, inside, are.count) in
     subst (λ v. IsOrIdle v pack)
     (sym (said_kept words programs n r (voice_of_reading voices r) (are.each r reading)
-    (none_dropped words programs packs r n each reading)))
+    (none_dropped words programs packs r n each within reading)))
     (each n r within reading) in
     let first : 0 < length voices = omega (arith, some, are.count) in
     get_or-map mended_bytes found n None [] (omega (arith, within, mended.count))

@@ -6,9 +6,9 @@ use Rattle.std.proofs.lemmas.List.{drop-drop, ext_get_or, get_or-map, length-map
 use Rattle.bit_lists.specs.Counting.{parts}
 use Rattle.rw_interleave.specs.Interleave.{whole_packs}
 use Rattle.rw_mend.specs.Drops.{AreDropCounts, AreVoices}
-use Rattle.rw_mend.specs.Many.{AreAllMendedInto, words_in_each}
+use Rattle.rw_mend.specs.Many.{AreAllReported, words_in_each}
 use Rattle.rw_mend.specs.Readings.{program_in, programs_in, size_in}
-use Rattle.rw_mend.specs.Steps.{AreTold, IsMendedTo}
+use Rattle.rw_mend.specs.Steps.{AreReported, IsMendedTo}
 use Rattle.rw_mend.specs.Streams.{mended_text}
 use Rattle.rw_mend.specs.Tallies.{source_byte}
 use Rattle.rw_mend.specs.Words.{program_of}
@@ -92,7 +92,7 @@ many_programs readings count size lead_in bytes same long first others first_siz
     (omega (arith, within, parts_length count size bytes))))
 
 pub many_mended : (readings : Readings) (count lead_in : ℕ)
-    (bytes old new old_sources new_sources : List ℕ) (tallies : Tallies)
+    (bytes old new old_sources new_sources : List ℕ) (tallies : Tallies) (lost : List ℕ)
     → readings.count ≡ count
     → length bytes ≡ count * (length bytes / count) → (length bytes / count) % 96 ≡ 0
     → readings.first.now ≡ take (length bytes / count) bytes
@@ -100,11 +100,12 @@ pub many_mended : (readings : Readings) (count lead_in : ℕ)
     → length readings.first.now ≡ length bytes / count
     → readings.start ≡ min (96 * lead_in) (length bytes / count)
     → IsMendedTo readings (whole_packs (size_in readings / 96)) (whole_packs (size_in readings / 96)) old new
-    (AreTold old_sources (whole_packs (size_in readings / 96)) new_sources tallies)
+    (AreReported old_sources (whole_packs (size_in readings / 96)) new_sources tallies lost)
     → AreDropCounts (whole_packs (size_in readings / 96)) (programs_in readings)
     (whole_packs (size_in readings / 96)) tallies.dropped
-    → AreAllMendedInto count lead_in bytes old new old_sources new_sources tallies
-many_mended readings count lead_in bytes old new old_sources new_sources tallies same long whole first others
+    → AreAllReported count lead_in bytes old new old_sources new_sources tallies lost
+many_mended readings count lead_in bytes old new old_sources new_sources tallies lost same long whole first
+    others
     first_size start done dropped =
     let size : ℕ = length bytes / count in
     let programs = many_programs readings count size lead_in bytes same long first others first_size start in
@@ -112,27 +113,30 @@ many_mended readings count lead_in bytes old new old_sources new_sources tallies
     ap (λ n. whole_packs ((n - readings.start) / 96)) first_size
     ∙ ap whole_packs (blocks_left size lead_in readings.start whole start) in
     record {
-      said = done.said;
-      found = done.found;
-      mended = record {
-        said_count = done.said_count ∙ words;
-        count = done.count ∙ words;
-        voices =
-            λ n lt.
-            subst₂ (λ w p. AreVoices w p n (get_or done.said n [])) words programs
-            (done.voices n (omega (arith, lt, words)));
-        each = λ n lt. done.each n (omega (arith, lt, words));
+      into = record {
+        said = done.said;
+        found = done.found;
+        mended = record {
+          said_count = done.said_count ∙ words;
+          count = done.count ∙ words;
+          voices =
+              λ n lt.
+              subst₂ (λ w p. AreVoices w p n (get_or done.said n [])) words programs
+              (done.voices n (omega (arith, lt, words)));
+          each = λ n lt. done.each n (omega (arith, lt, words));
+        };
+        tallies_are = done.has_it.0.tallies_are;
+        dropped =
+            subst₂ (λ w p. AreDropCounts w p w tallies.dropped) words programs dropped;
+        size = done.size ∙ ap (λ n. 24 * n) words;
+        text = done.text ∙ ap (λ n. mended_text done.found ++ drop n old) (sym done.size);
+        sources_size = done.has_it.0.size;
+        sources =
+            λ room.
+            done.has_it.0.put (omega (arith, room, words))
+            ∙ ap (λ n. map source_byte done.found ++ drop n old_sources) (done.count ∙ words);
       };
-      tallies_are = done.has_it.tallies_are;
-      dropped =
-          subst₂ (λ w p. AreDropCounts w p w tallies.dropped) words programs dropped;
-      size = done.size ∙ ap (λ n. 24 * n) words;
-      text = done.text ∙ ap (λ n. mended_text done.found ++ drop n old) (sym done.size);
-      sources_size = done.has_it.size;
-      sources =
-          λ room.
-          done.has_it.put (omega (arith, room, words))
-          ∙ ap (λ n. map source_byte done.found ++ drop n old_sources) (done.count ∙ words);
+      losses = done.has_it.1;
     }
 
 -- the first reading is as long as each of all
@@ -157,18 +161,19 @@ all_long size (suc n) some =
     ap (λ k. size + size * k) one ∙ omega arith
 
 pub split_mended : (readings : Readings) (lead_in : ℕ)
-    (bytes old new old_sources new_sources : List ℕ) (tallies : Tallies)
+    (bytes old new old_sources new_sources : List ℕ) (tallies : Tallies) (lost : List ℕ)
     → length bytes / readings.count ≡ length readings.first.now
     → bytes ≡ readings.first.now ++ readings.others.now
     → 0 < readings.count → length readings.others.now ≡ length readings.first.now * (readings.count - 1)
     → length readings.first.now % 96 ≡ 0
     → readings.start ≡ min (96 * lead_in) (length readings.first.now)
     → IsMendedTo readings (whole_packs (size_in readings / 96)) (whole_packs (size_in readings / 96)) old new
-    (AreTold old_sources (whole_packs (size_in readings / 96)) new_sources tallies)
+    (AreReported old_sources (whole_packs (size_in readings / 96)) new_sources tallies lost)
     → AreDropCounts (whole_packs (size_in readings / 96)) (programs_in readings)
     (whole_packs (size_in readings / 96)) tallies.dropped
-    → AreAllMendedInto readings.count lead_in bytes old new old_sources new_sources tallies
-split_mended readings lead_in bytes old new old_sources new_sources tallies size_is is some others whole start
+    → AreAllReported readings.count lead_in bytes old new old_sources new_sources tallies lost
+split_mended readings lead_in bytes old new old_sources new_sources tallies lost size_is is some others whole
+    start
     done dropped =
     let first : List ℕ = readings.first.now in
     let rest : List ℕ = readings.others.now in
@@ -180,6 +185,6 @@ split_mended readings lead_in bytes old new old_sources new_sources tallies size
     ap₂ (λ (n : ℕ) (l : List ℕ). take n l) size_is is ∙ take-append_seam first rest in
     let rest_is : drop (length bytes / count) bytes ≡ rest =
     ap₂ (λ (n : ℕ) (l : List ℕ). drop n l) size_is is ∙ drop-append_seam first rest in
-    many_mended readings count lead_in bytes old new old_sources new_sources tallies refl
+    many_mended readings count lead_in bytes old new old_sources new_sources tallies lost refl
     (all ∙ ap (λ n. count * n) (sym size_is)) (ap (λ n. n % 96) size_is ∙ whole) (sym first_is) (sym rest_is)
     (sym size_is) (start ∙ ap (min (96 * lead_in)) (sym size_is)) done dropped

@@ -1,5 +1,5 @@
 -- A reading without a wrong symbol comes out whole.
-use Rattle.std.proofs.Common.{◌≡◌, ◌==◌, ◌&&◌, ℕ, ◌<◌, Bool, true, false, not, List, [], ◌∷◌, ◌++◌, length, get_or, map, refl, sym, ap, ◌∙◌, inl, inr, arith, None}
+use Rattle.std.proofs.Common.{◌≡◌, ◌==◌, ◌&&◌, ◌||◌, ℕ, ◌<◌, Bool, true, false, not, List, [], ◌∷◌, ◌++◌, length, get_or, map, refl, sym, ap, ◌∙◌, subst, inl, inr, arith, None}
 use Rattle.std.specs.List.{concat, flat_map}
 use Rattle.std.specs.declared.option.Option.{Option}
 use Rattle.std.proofs.lemmas.Bool.{false≢true}
@@ -11,17 +11,17 @@ use Rattle.rw_code.specs.Codeword.{IsCodeword, differences}
 use Rattle.rw_code.specs.Packs.{idle_pack}
 use Rattle.rw_code.proofs.Differing.{differences_none, differences_self}
 use Rattle.rw_mend.specs.Choice.{IsMending, voice_of_reading}
-use Rattle.rw_mend.specs.Drops.{AreVoices, IsDropped, IsSaid}
+use Rattle.rw_mend.specs.Drops.{AreVoices, HasGraphics, IsDropped, IsLacking, IsSaid}
 use Rattle.rw_mend.specs.Laws.{IsCleanBeside, voice_bytes, given_text}
 use Rattle.rw_mend.specs.Streams.{AreMended, mended_bytes, mended_text}
-use Rattle.rw_mend.specs.Voices.{is_clean_graphics, is_idle_voice, is_idle_pack}
+use Rattle.rw_mend.specs.Voices.{has_used_mode, is_doubtful_voice, is_graphics_pack, is_graphics_voice, is_idle_voice, is_idle_pack, is_quiet_voice}
 use Rattle.rw_mend.specs.Words.{given_at}
 use Rattle.rw_mend.specs.declared.choice.Mended.{Mended}
 use Rattle.rw_mend.specs.declared.voices.Voice.{Voice}
 use Rattle.rw_mend.specs.declared.voices.Voice.TheVariants.{Silent, Lost, Near}
-use Rattle.rw_mend.proofs.Clean.{clean_wins}
+use Rattle.rw_mend.proofs.Clean.{both_hold, clean_wins, first_holds, second_holds}
 use Rattle.rw_mend.proofs.Givens.{given_codeword}
-use Rattle.rw_mend.proofs.Missing.{told}
+use Rattle.rw_mend.proofs.Missing.{idle_is_quiet, told}
 
 -- ---- Graphics and idle packs.
 
@@ -36,20 +36,52 @@ both_of : (a b : Bool) → (a && b) ≡ true → (a ≡ true) × (b ≡ true)
 both_of true b is = (refl, is)
 both_of false b is = absurd (false≢true is)
 
--- graphics are a clean codeword that is not idle
-pub graphics_are : (voice : Voice) → is_clean_graphics voice ≡ true
-    → (pack : List ℕ) × (voice ≡ Near pack 0) × (is_idle_pack pack ≡ false)
+pub second_of : (a b : Bool) → (a || b) ≡ true → a ≡ false → b ≡ true
+second_of true b is fails = absurd (false≢true (sym fails))
+second_of false b is fails = is
+
+-- graphics are a codeword that is not idle
+pub graphics_are : (voice : Voice) → is_graphics_voice voice ≡ true
+    → (pack : List ℕ) × (doubts : ℕ) × (voice ≡ Near pack doubts) × (is_idle_pack pack ≡ false)
 graphics_are Silent is = absurd (false≢true is)
 graphics_are (Lost word) is = absurd (false≢true is)
 graphics_are (Near pack doubts) is =
-    let tests = both_of (doubts == 0) (not (is_idle_pack pack)) is in
-    elim (eqb_tells doubts 0) [
-      | inl none ↦ (pack, ap (Near pack) none.1, not_true (is_idle_pack pack) tests.1)
-      | inr some ↦ absurd (false≢true (sym some.0 ∙ tests.0))
-    ]
+    let tests = both_of (not (is_idle_pack pack)) ((doubts == 0) || is_graphics_pack pack) is in
+    (pack, doubts, refl, not_true (is_idle_pack pack) tests.0)
 
-clean_graphics : (pack : List ℕ) → is_idle_pack pack ≡ false → is_clean_graphics (Near pack 0) ≡ true
-clean_graphics pack other = ap not other
+-- and so is a doubtful codeword
+pub doubtful_are : (voice : Voice) → is_doubtful_voice voice ≡ true
+    → (pack : List ℕ) × (doubts : ℕ) × (voice ≡ Near pack doubts) × (is_idle_pack pack ≡ false)
+doubtful_are Silent is = absurd (false≢true is)
+doubtful_are (Lost word) is = absurd (false≢true is)
+doubtful_are (Near pack doubts) is =
+    let tests = both_of (not (is_idle_pack pack)) (not (doubts == 0) && not (has_used_mode pack)) is in
+    (pack, doubts, refl, not_true (is_idle_pack pack) tests.0)
+
+-- graphics are never doubtful
+pub graphics_are_sure : (voice : Voice) → is_graphics_voice voice ≡ true → ¬ (is_doubtful_voice voice ≡ true)
+graphics_are_sure Silent is doubtful = false≢true is
+graphics_are_sure (Lost word) is doubtful = false≢true is
+graphics_are_sure (Near pack doubts) is doubtful =
+    let tests = both_of (not (is_idle_pack pack)) ((doubts == 0) || is_graphics_pack pack) is in
+    let doubts_are =
+    both_of (not (is_idle_pack pack)) (not (doubts == 0) && not (has_used_mode pack)) doubtful in
+    let parts = both_of (not (doubts == 0)) (not (has_used_mode pack)) doubts_are.1 in
+    let some : (doubts == 0) ≡ false = not_true (doubts == 0) parts.0 in
+    let unused : has_used_mode pack ≡ false = not_true (has_used_mode pack) parts.1 in
+    let graphics : is_graphics_pack pack ≡ true =
+    second_of (doubts == 0) (is_graphics_pack pack) tests.1 some in
+    let mode = both_of (get_or pack 0 0 == 9) _ graphics in
+    false≢true
+    (sym unused ∙ second_holds (get_or pack 0 0 == 8) _ (first_holds (get_or pack 0 0 == 9) _ mode.0))
+
+pub clean_graphics : (pack : List ℕ) → is_idle_pack pack ≡ false → is_graphics_voice (Near pack 0) ≡ true
+clean_graphics pack other =
+    both_hold (not (is_idle_pack pack)) ((0 == 0) || is_graphics_pack pack) (ap not other) refl
+
+pub clean_sure : (pack : List ℕ) → ¬ (is_doubtful_voice (Near pack 0) ≡ true)
+clean_sure pack is =
+    false≢true ((both_of (not (is_idle_pack pack)) (not (0 == 0) && not (has_used_mode pack)) is).1)
 
 -- ---- What is said.
 
@@ -64,27 +96,49 @@ pub said_kept : (words : ℕ) (programs : List (List ℕ)) (n r : ℕ) (voice : 
 said_kept words programs n r voice (inl (dropped, silent)) kept = absurd (kept dropped)
 said_kept words programs n r voice (inr (kept', given)) kept = given
 
--- the clean reading drops nowhere
-clean_kept : (words : ℕ) (programs : List (List ℕ)) (r n : ℕ) → IsCleanBeside words programs r
+-- nothing of the clean reading counts for nothing
+clean_kept : (words : ℕ) (programs : List (List ℕ)) (r n : ℕ) → IsCleanBeside words programs r → n < words
     → ¬ IsDropped words programs r n
-clean_kept words programs r n is dropped =
-    let m : ℕ = dropped.drops.word in
-    let misses = dropped.drops.misses in
-    let s : ℕ = misses.graphics.reading in
-    let found = graphics_are (given_at programs s m) misses.graphics.graphics in
+clean_kept words programs r n is lt (inl lacking) =
+    let m : ℕ = lacking.lacks.word in
+    let misses = lacking.lacks.misses in
     let idle : is_idle_pack (is.codeword m) ≡ true =
-    ap is_idle_voice (sym (is.clean m dropped.drops.within)) ∙ misses.idle in
-    elim (is.others m s found.0 dropped.drops.within misses.graphics.within found.1) [
-      | inl same ↦ false≢true (sym found.2 ∙ ap is_idle_pack same ∙ idle)
-      | inr zeros ↦ false≢true (sym found.2 ∙ ap is_idle_pack zeros ∙ idle_is)
-    ]
+    ap is_idle_voice (sym (is.clean m lacking.lacks.within)) ∙ misses.idle in
+    false≢true
+    (sym (is.quiet m misses.graphics.reading lacking.lacks.within misses.graphics.within idle)
+    ∙ misses.graphics.graphics)
+clean_kept words programs r n is lt (inr doubted) =
+    clean_sure (is.codeword n) (ap is_doubtful_voice (sym (is.clean n lt)) ∙ doubted.doubtful)
 
-zeros_are : (pack : List ℕ) → IsCodeword pack → is_idle_pack pack ≡ true → pack ≡ idle_pack
+pub zeros_are : (pack : List ℕ) → IsCodeword pack → is_idle_pack pack ≡ true → pack ≡ idle_pack
 zeros_are pack codeword is =
     elim (eqb_tells (differences pack idle_pack) 0) [
       | inl none ↦ differences_none pack idle_pack codeword.is_word.size none.1
       | inr some ↦ absurd (false≢true (sym some.0 ∙ is))
     ]
+
+-- a reading that gives the idle pack where another gives graphics lacks them there
+pub lacking_here : (words : ℕ) (programs : List (List ℕ)) (r n : ℕ) → n < words
+    → is_idle_voice (given_at programs r n) ≡ true → HasGraphics programs n → IsLacking words programs r n
+lacking_here words programs r n lt idle graphics =
+    let quiet : (k : ℕ) → n ≡ k → is_quiet_voice (given_at programs r k) ≡ true =
+    λ (k : ℕ) (same : n ≡ k).
+    subst (λ j. is_quiet_voice (given_at programs r j) ≡ true) same
+    (idle_is_quiet (given_at programs r n) idle) in
+    record {
+      idle = idle;
+      lacks = record {
+        word = n;
+        within = lt;
+        quiet =
+            λ k within between.
+            elim between [
+              | inl after ↦ quiet k (omega (arith, after.0, after.1))
+              | inr before ↦ quiet k (omega (arith, before.0, before.1))
+            ];
+        misses = record { idle = idle; graphics = graphics };
+      };
+    }
 
 -- another clean codeword that is said is the same
 only_clean : (words : ℕ) (programs : List (List ℕ)) (r n s : ℕ) (voice : Voice) (other : List ℕ)
@@ -103,23 +157,12 @@ only_clean words programs r n s voice other is lt within said near =
                 idle)
             | inr busy ↦
                 absurd
-                (given.0 (record {
-                  idle = ap is_idle_voice given.1 ∙ ap is_idle_pack zeros ∙ idle_is;
-                  drops = record {
-                    word = n;
-                    within = lt;
-                    after = omega arith;
-                    before = omega arith;
-                    misses = record {
-                      idle = ap is_idle_voice given.1 ∙ ap is_idle_pack zeros ∙ idle_is;
-                      graphics = record {
-                        reading = r;
-                        within = is.within;
-                        graphics = ap is_clean_graphics (is.clean n lt) ∙ clean_graphics (is.codeword n) busy;
-                      };
-                    };
-                  };
-                }))
+                (given.0 (inl (lacking_here words programs s n lt
+                (ap is_idle_voice given.1 ∙ ap is_idle_pack zeros ∙ idle_is) (record {
+                  reading = r;
+                  within = is.within;
+                  graphics = ap is_graphics_voice (is.clean n lt) ∙ clean_graphics (is.codeword n) busy;
+                }))))
           ]
     ]
 
@@ -131,7 +174,7 @@ clean_word : (words : ℕ) (programs : List (List ℕ)) (r n : ℕ) (voices : Li
 clean_word words programs r n voices found is lt said mended =
     let here : voice_of_reading voices r ≡ Near (is.codeword n) 0 =
     said_kept words programs n r (voice_of_reading voices r) (said.each r is.within)
-    (clean_kept words programs r n is) ∙ is.clean n lt in
+    (clean_kept words programs r n is lt) ∙ is.clean n lt in
     clean_wins voices r (is.codeword n) found (omega (arith, is.within, said.count)) here
     (λ s other inside near.
     let within : s < length programs = omega (arith, inside, said.count) in

@@ -11,6 +11,7 @@ pub mod Givens
 pub mod Heaps
 pub mod Hearing
 pub mod Kept
+pub mod Losing
 pub mod Missing
 pub mod Once
 pub mod Pairs
@@ -21,3 +22,4 @@ pub mod Running
 pub mod Same
 pub mod Telling
 pub mod Unread
+pub mod Whole

@@ -1,7 +1,7 @@
--- Which readings miss graphics, word by word.
+-- Which readings lack graphics, and what they say, word by word.
 use Rattle.std.proofs.Common.{◌≡◌, ◌⊎◌, ℕ, ◌+◌, ◌-◌, ◌<◌, ◌≤◌, Bool, true, false, ◌||◌, List, [], ◌∷◌, ◌++◌, suc, length, length-append, below_more, get_or, refl, sym, ap, ◌∙◌, subst, inl, inr, arith}
 use Rattle.std.specs.List.{list_any}
-use Rattle.std.specs.Prelude.{◌&&◌, nat_lt, if◌then◌else◌, MatchBool, count_by}
+use Rattle.std.specs.Prelude.{◌&&◌, if◌then◌else◌, MatchBool, count_by}
 use Rattle.std.proofs.lemmas.Bool.{cases_eq, false≢true}
 use Rattle.std.proofs.lemmas.Bool.Decides.{leb_tells}
 use Rattle.std.proofs.lemmas.List.{get_or_append_left}
@@ -10,22 +10,19 @@ use Rattle.std.proofs.lemmas.List.Sums.{count_by-le-length}
 use Rattle.std.proofs.lemmas.List.Folds.{list_any_at}
 use Rattle.rw_mend.proofs.Counting.{count_push}
 use Rattle.rw_mend.specs.Choice.{voice_of_reading}
-use Rattle.rw_mend.specs.Drops.{HasGraphics, IsDropCount, IsDropped, IsSaid, Misses}
-use Rattle.rw_mend.specs.Rows.{AreLastMissed, IsLastMissed, IsRow, is_left, said_after}
-use Rattle.rw_mend.specs.Voices.{is_clean_graphics, is_idle_voice}
+use Rattle.rw_mend.specs.Drops.{IsDropCount, IsDropped, IsSaid, Lacks}
+use Rattle.rw_mend.specs.Rows.{IsRow}
+use Rattle.rw_mend.specs.Silences.{IsSilence, WillMiss, is_left, said_after}
+use Rattle.rw_mend.specs.Voices.{is_doubtful_voice, is_idle_voice, is_quiet_voice}
 use Rattle.rw_mend.specs.Words.{given_at}
+use Rattle.rw_mend.specs.declared.silences.Silence.{Silence}
 use Rattle.rw_mend.specs.declared.voices.Voice.{Voice}
-use Rattle.rw_mend.specs.declared.voices.Voice.TheVariants.{Silent}
+use Rattle.rw_mend.specs.declared.voices.Voice.TheVariants.{Silent, Lost, Near}
 
 -- a Boolean is one or the other
 pub told : (b : Bool) → (b ≡ true) ⊎ (b ≡ false)
 told true = inl refl
 told false = inr refl
-
-reached : (words n heard word : ℕ) → (words ≤ heard) ⊎ (n + 8 ≤ heard) → word < words → word ≤ n + 7
-    → word < heard
-reached words n heard word (inl all) within before = omega (arith, all, within)
-reached words n heard word (inr all) within before = omega (arith, all, before)
 
 either_true : (a b : Bool) → (a || b) ≡ true → a ≡ false → b ≡ true
 either_true true b is fails = cc
@@ -43,152 +40,242 @@ some_passes p (x ∷ xs) d is =
           (suc later.0, omega (arith, later.1), later.2)
     ]
 
-has_graphics : (programs : List (List ℕ)) (n : ℕ) (row : List Voice) → length programs ≡ length row
-    → IsRow programs n row → list_any is_clean_graphics row ≡ true → HasGraphics programs n
-has_graphics programs n row size is some =
-    let found = some_passes is_clean_graphics row Silent some in
-    let within : found.0 < length programs = omega (arith, size, found.1) in
-    record {
-      reading = found.0;
-      within = within;
-      graphics = ap is_clean_graphics (sym (is.each found.0 within)) ∙ found.2;
-    }
+-- ---- Tests.
 
-missed_here : (programs : List (List ℕ)) (n r missed : ℕ) → missed ≡ n + 1 → Misses programs r n
-    → IsLastMissed programs r (n + 1) missed
-missed_here programs n r missed is misses = record {
-  within = omega (arith, is);
-  last = λ m at. subst (λ k. Misses programs r k) (omega (arith, is, at)) misses;
-  none_later = λ m from to. absurd (omega (arith, is, from, to));
-}
+pub decided : (b : Bool) (A : Type 0) → (b ≡ true → A) → (b ≡ false → ¬ A) → MatchBool b A (¬ A)
+decided true A holds fails = holds refl
+decided false A holds fails = fails refl
 
-missed_before : (programs : List (List ℕ)) (n r missed before : ℕ) → missed ≡ before
-    → ¬ Misses programs r n → IsLastMissed programs r n before
-    → IsLastMissed programs r (n + 1) missed
-missed_before programs n r missed before is none was = record {
-  within = omega (arith, is, was.within);
-  last = λ m at. was.last m (omega (arith, is, at));
-  none_later =
-      λ m from to misses.
-      elim (cases_eq m n) [
-        | inl same ↦ none (subst (λ k. Misses programs r k) same misses)
-        | inr differs ↦ was.none_later m (omega (arith, is, from)) (omega (arith, to, differs)) misses
-      ];
-}
+-- what a test tells of one thing it tells of another that goes with it
+pub match_other : (b : Bool) (A B : Type 0) → (A → B) → (B → A) → MatchBool b A (¬ A) → MatchBool b B (¬ B)
+match_other true A B there back is = there is
+match_other false A B there back is = λ other. is (back other)
 
-pub noted : (programs : List (List ℕ)) (n : ℕ) (row : List Voice) (missed before : List ℕ)
-    → length programs ≡ length row → IsRow programs n row → list_any is_clean_graphics row ≡ true
-    → ((k : ℕ) → k < length row → is_idle_voice (voice_of_reading row k) ≡ true → get_or missed k 0 ≡ n + 1)
-    → ((k : ℕ) → k < length row → is_idle_voice (voice_of_reading row k) ≡ false
-    → get_or missed k 0 ≡ get_or before k 0)
-    → AreLastMissed programs n before → AreLastMissed programs (n + 1) missed
-noted programs n row missed before size is some idle other was = record {
-  each =
-      λ r lt.
-      let within : r < length row = omega (arith, size, lt) in
-      let same : is_idle_voice (voice_of_reading row r) ≡ is_idle_voice (given_at programs r n) =
-      ap is_idle_voice (is.each r lt) in
-      elim (told (is_idle_voice (voice_of_reading row r))) [
-        | inl is_idle_voice ↦ missed_here programs n r (get_or missed r 0) (idle r within is_idle_voice)
-            (record { idle = sym same ∙ is_idle_voice; graphics = has_graphics programs n row size is some })
-        | inr is_other ↦
-            missed_before programs n r (get_or missed r 0) (get_or before r 0) (other r within is_other)
-            (λ misses. false≢true (sym is_other ∙ same ∙ misses.idle)) (was.each r lt)
-      ];
-}
+pub match_true : (b : Bool) (A : Type 0) → b ≡ true → MatchBool b A (¬ A) → A
+match_true true A is holds = holds
+match_true false A is holds = absurd (false≢true is)
 
-pub none_noted : (programs : List (List ℕ)) (n : ℕ) (row : List Voice) (missed : List ℕ)
-    → length programs ≡ length row → IsRow programs n row → list_any is_clean_graphics row ≡ false
-    → AreLastMissed programs n missed → AreLastMissed programs (n + 1) missed
-none_noted programs n row missed size is none was = record {
-  each =
-      λ r lt.
-      missed_before programs n r (get_or missed r 0) (get_or missed r 0) refl
-      (λ misses.
-      let s = misses.graphics.reading in
-      let within : s < length row = omega (arith, size, misses.graphics.within) in
-      let here : is_clean_graphics (voice_of_reading row s) ≡ true =
-      ap is_clean_graphics (is.each s misses.graphics.within) ∙ misses.graphics.graphics in
-      false≢true (sym none ∙ list_any_at is_clean_graphics row s Silent within here))
-      (was.each r lt);
-}
+pub match_not : (b : Bool) (A : Type 0) → b ≡ false → MatchBool b A (¬ A) → ¬ A
+match_not true A fails is = absurd (false≢true (sym fails))
+match_not false A fails is = is
 
--- ---- What is said.
-
--- a reading drops where the last word at which it misses graphics is near enough
-is_dropped : (words : ℕ) (programs : List (List ℕ)) (r n heard missed : ℕ)
-    → IsLastMissed programs r heard missed → heard ≤ words → heard ≤ n + 8
-    → is_idle_voice (given_at programs r n) ≡ true → n - 7 < missed
-    → IsDropped words programs r n
-is_dropped words programs r n heard missed is few near idle reaches = record {
-  idle = idle;
-  drops = record {
-    word = missed - 1;
-    within = omega (arith, reaches, is.within, few);
-    after = omega (arith, reaches);
-    before = omega (arith, reaches, is.within, near);
-    misses = is.last (missed - 1) (omega (arith, reaches));
-  };
-}
-
-not_far : (words : ℕ) (programs : List (List ℕ)) (r n heard missed : ℕ)
-    → IsLastMissed programs r heard missed → (words ≤ heard) ⊎ (n + 8 ≤ heard) → missed ≤ n - 7
-    → ¬ IsDropped words programs r n
-not_far words programs r n heard missed is all far dropped =
-    is.none_later dropped.drops.word (omega (arith, far, dropped.drops.after))
-    (reached words n heard dropped.drops.word all dropped.drops.within dropped.drops.before)
-    dropped.drops.misses
-
-not_idle : (words : ℕ) (programs : List (List ℕ)) (r n : ℕ) → is_idle_voice (given_at programs r n) ≡ false
-    → ¬ IsDropped words programs r n
-not_idle words programs r n other dropped = false≢true (sym other ∙ dropped.idle)
+pub match_has : (b : Bool) (A : Type 0) → A → MatchBool b A (¬ A) → b ≡ true
+match_has true A has is = refl
+match_has false A has is = absurd (is has)
 
 both : (a b : Bool) → a ≡ true → b ≡ true → (a && b) ≡ true
 both true b is is' = is'
 both false b is is' = is
 
-first_fails : (a b : Bool) → a ≡ false → (a && b) ≡ false
-first_fails true b is = absurd (false≢true (sym is))
-first_fails false b is = refl
+both_of : (a b : Bool) → (a && b) ≡ true → (a ≡ true) × (b ≡ true)
+both_of true b is = (refl, is)
+both_of false b is = absurd (false≢true is)
 
-second_fails : (a b : Bool) → b ≡ false → (a && b) ≡ false
-second_fails true b is = is
-second_fails false b is = refl
+pub either_of : (a b : Bool) → (a || b) ≡ true → (a ≡ true) ⊎ (b ≡ true)
+either_of true b is = inl refl
+either_of false b is = inr is
 
--- nothing counts for nothing where no reading misses graphics within reach
-pub not_left : (n missed last : ℕ) (given : Voice) → missed ≤ last → last ≤ n - 7
-    → is_left missed n given ≡ false
-not_left n missed last given few far =
-    elim (leb_tells (suc (n - 7)) missed) [
-      | inl close ↦ absurd (omega (arith, close.1, few, far))
-      | inr less ↦ first_fails (nat_lt (n - 7) missed) (is_idle_voice given) less.0
+neither_of : (a b : Bool) → (a || b) ≡ false → (a ≡ false) × (b ≡ false)
+neither_of true b is = absurd (false≢true (sym is))
+neither_of false b is = (refl, is)
+
+-- ---- A silence.
+
+pub idle_is_quiet : (voice : Voice) → is_idle_voice voice ≡ true → is_quiet_voice voice ≡ true
+idle_is_quiet Silent is = refl
+idle_is_quiet (Lost word) is = is
+idle_is_quiet (Near pack doubts) is = is
+
+lacks_on : (words : ℕ) (programs : List (List ℕ)) (r n : ℕ)
+    → is_quiet_voice (given_at programs r (n + 1)) ≡ true
+    → Lacks words programs r n → Lacks words programs r (n + 1)
+lacks_on words programs r n here was = record {
+  word = was.word;
+  within = was.within;
+  quiet =
+      λ k lt between.
+      elim between [
+        | inl after ↦ was.quiet k lt (inl (omega (arith, after.0), after.1))
+        | inr before ↦
+            elim (cases_eq k (n + 1)) [
+              | inl same ↦ subst (λ j. is_quiet_voice (given_at programs r j) ≡ true) (sym same) here
+              | inr differs ↦ was.quiet k lt (inr (before.0, omega (arith, before.1, differs)))
+            ]
+      ];
+  misses = was.misses;
+}
+
+lacks_back : (words : ℕ) (programs : List (List ℕ)) (r n : ℕ) → is_quiet_voice (given_at programs r n) ≡ true
+    → Lacks words programs r (n + 1) → Lacks words programs r n
+lacks_back words programs r n here was = record {
+  word = was.word;
+  within = was.within;
+  quiet =
+      λ k lt between.
+      elim between [
+        | inl after ↦
+            elim (cases_eq k n) [
+              | inl same ↦ subst (λ j. is_quiet_voice (given_at programs r j) ≡ true) (sym same) here
+              | inr differs ↦ was.quiet k lt (inl (omega (arith, after.0, differs), after.1))
+            ]
+        | inr before ↦ was.quiet k lt (inr (before.0, omega (arith, before.1)))
+      ];
+  misses = was.misses;
+}
+
+will_lacks : (words : ℕ) (programs : List (List ℕ)) (r n : ℕ) → WillMiss words programs r n
+    → Lacks words programs r n
+will_lacks words programs r n will = record {
+  word = will.word;
+  within = will.within;
+  quiet =
+      λ k lt between.
+      elim between [
+        | inl after ↦ will.quiet k after.0 after.1
+        | inr before ↦
+            will.quiet k (omega (arith, before.0, before.1, will.from))
+            (omega (arith, before.0, before.1, will.from))
+      ];
+  misses = will.misses;
+}
+
+lacks_will : (words : ℕ) (programs : List (List ℕ)) (r n : ℕ) → n < words
+    → (0 < n → is_quiet_voice (given_at programs r (n - 1)) ≡ false)
+    → Lacks words programs r n → WillMiss words programs r n
+lacks_will words programs r n lt begins lacks =
+    elim (leb_tells n lacks.word) [
+      | inl from ↦
+          record {
+            word = lacks.word;
+            from = from.1;
+            within = lacks.within;
+            quiet =
+                λ k after before. lacks.quiet k (omega (arith, before, lacks.within)) (inl (after, before));
+            misses = lacks.misses;
+          }
+      | inr past ↦
+          absurd (false≢true (sym (begins (omega (arith, past.1)))
+          ∙ lacks.quiet (n - 1) (omega (arith, lt)) (inr (omega (arith, past.1), omega arith))))
+    ]
+
+silence_of : (words : ℕ) (programs : List (List ℕ)) (r n : ℕ) (silence : Silence)
+    → (silence.quiet ≡ true → is_quiet_voice (given_at programs r n) ≡ true)
+    → (silence.quiet ≡ false → is_quiet_voice (given_at programs r n) ≡ false)
+    → (silence.quiet ≡ true → MatchBool silence.lacks (Lacks words programs r n) (¬ Lacks words programs r n))
+    → IsSilence words programs r (n + 1) silence
+silence_of words programs r n silence quiet loud lacks =
+    let same : n ≡ n + 1 - 1 = omega arith in
+    record {
+      some = λ is. omega arith;
+      quiet = λ is. subst (λ k. is_quiet_voice (given_at programs r k) ≡ true) same (quiet is);
+      loud = λ is some. subst (λ k. is_quiet_voice (given_at programs r k) ≡ false) same (loud is);
+      lacks =
+          λ is.
+          subst (λ k. MatchBool silence.lacks (Lacks words programs r k) (¬ Lacks words programs r k)) same
+          (lacks is);
+    }
+
+pub loud_silence : (words : ℕ) (programs : List (List ℕ)) (r n : ℕ) (silence : Silence)
+    → silence.quiet ≡ false
+    → is_quiet_voice (given_at programs r n) ≡ false → IsSilence words programs r (n + 1) silence
+loud_silence words programs r n silence is loud =
+    silence_of words programs r n silence (λ quiet. absurd (false≢true (sym is ∙ quiet))) (λ quiet. loud)
+    (λ quiet. absurd (false≢true (sym is ∙ quiet)))
+
+pub new_silence : (words : ℕ) (programs : List (List ℕ)) (r n : ℕ) (was silence : Silence) → n < words
+    → IsSilence words programs r n was → was.quiet ≡ false → silence.quiet ≡ true
+    → is_quiet_voice (given_at programs r n) ≡ true
+    → MatchBool silence.lacks (WillMiss words programs r n) (¬ WillMiss words programs r n)
+    → IsSilence words programs r (n + 1) silence
+new_silence words programs r n was silence lt before loud is quiet will =
+    silence_of words programs r n silence (λ now. quiet) (λ now. absurd (false≢true (sym now ∙ is)))
+    (λ now.
+    match_other silence.lacks (WillMiss words programs r n) (Lacks words programs r n)
+    (will_lacks words programs r n) (lacks_will words programs r n lt (before.loud loud)) will)
+
+pub same_silence : (words : ℕ) (programs : List (List ℕ)) (r n : ℕ) (silence : Silence)
+    → IsSilence words programs r n silence → silence.quiet ≡ true
+    → is_quiet_voice (given_at programs r n) ≡ true → IsSilence words programs r (n + 1) silence
+same_silence words programs r n silence before is quiet =
+    let m : ℕ = n - 1 in
+    let next : m + 1 ≡ n = omega (arith, before.some is) in
+    let here : is_quiet_voice (given_at programs r (m + 1)) ≡ true =
+    subst (λ k. is_quiet_voice (given_at programs r k) ≡ true) (sym next) quiet in
+    silence_of words programs r n silence (λ now. quiet) (λ now. absurd (false≢true (sym now ∙ is)))
+    (λ now.
+    subst (λ k. MatchBool silence.lacks (Lacks words programs r k) (¬ Lacks words programs r k)) next
+    (match_other silence.lacks (Lacks words programs r m) (Lacks words programs r (m + 1))
+    (lacks_on words programs r m here) (lacks_back words programs r m (before.quiet is)) (before.lacks is)))
+
+-- ---- What is said.
+
+-- a reading that gives the idle pack is quiet, and its silence tells whether it lacks graphics
+idle_lacks : (words : ℕ) (programs : List (List ℕ)) (r n : ℕ) (silence : Silence)
+    → IsSilence words programs r (n + 1) silence → is_idle_voice (given_at programs r n) ≡ true
+    → MatchBool silence.lacks (Lacks words programs r n) (¬ Lacks words programs r n)
+idle_lacks words programs r n silence is idle =
+    let same : n + 1 - 1 ≡ n = omega arith in
+    let quiet : is_quiet_voice (given_at programs r (n + 1 - 1)) ≡ true =
+    subst (λ k. is_quiet_voice (given_at programs r k) ≡ true) (sym same)
+    (idle_is_quiet (given_at programs r n) idle) in
+    elim (told silence.quiet) [
+      | inl now ↦
+          subst (λ k. MatchBool silence.lacks (Lacks words programs r k) (¬ Lacks words programs r k)) same
+          (is.lacks now)
+      | inr loud ↦ absurd (false≢true (sym (is.loud loud (omega arith)) ∙ quiet))
     ]
 
 -- whether what a reading gives counts for nothing
-pub left_is : (words : ℕ) (programs : List (List ℕ)) (r n heard missed : ℕ) (given : Voice)
-    → IsLastMissed programs r heard missed → heard ≤ words → heard ≤ n + 8
-    → (words ≤ heard) ⊎ (n + 8 ≤ heard) → given ≡ given_at programs r n
-    → MatchBool (is_left missed n given) (IsDropped words programs r n) (¬ IsDropped words programs r n)
-left_is words programs r n heard missed given is few near all given_is =
-    elim (leb_tells (suc (n - 7)) missed) [
-      | inl close ↦
-          elim (told (is_idle_voice given)) [
-            | inl idle ↦
-                subst (λ b. MatchBool b (IsDropped words programs r n) (¬ IsDropped words programs r n))
-                (sym (both (nat_lt (n - 7) missed) (is_idle_voice given) close.0 idle))
-                (is_dropped words programs r n heard missed is few near
-                (ap is_idle_voice (sym given_is) ∙ idle)
-                (omega (arith, close.1)))
-            | inr other ↦
-                subst (λ b. MatchBool b (IsDropped words programs r n) (¬ IsDropped words programs r n))
-                (sym (second_fails (nat_lt (n - 7) missed) (is_idle_voice given) other))
-                (not_idle words programs r n (ap is_idle_voice (sym given_is) ∙ other))
-          ]
-      | inr far ↦
-          subst (λ b. MatchBool b (IsDropped words programs r n) (¬ IsDropped words programs r n))
-          (sym (first_fails (nat_lt (n - 7) missed) (is_idle_voice given) far.0))
-          (not_far words programs r n heard missed is all (omega (arith, far.1)))
-    ]
+pub left_is : (words : ℕ) (programs : List (List ℕ)) (r n : ℕ) (row : List Voice) (silence : Silence)
+    (given : Voice) → length row ≡ length programs → IsRow programs n row
+    → IsSilence words programs r (n + 1) silence → given ≡ given_at programs r n
+    → MatchBool (is_left (list_any is_quiet_voice row) silence given) (IsDropped words programs r n)
+    (¬ IsDropped words programs r n)
+left_is words programs r n row silence given size rows is given_is =
+    let some : Bool = list_any is_quiet_voice row in
+    let lacking : Bool = silence.lacks && is_idle_voice given in
+    let doubted : Bool = some && is_doubtful_voice given in
+    decided (is_left some silence given) (IsDropped words programs r n)
+    (λ left.
+    elim (either_of lacking doubted left) [
+      | inl lacks ↦
+          let parts = both_of silence.lacks (is_idle_voice given) lacks in
+          let idle : is_idle_voice (given_at programs r n) ≡ true =
+          ap is_idle_voice (sym given_is) ∙ parts.1 in
+          inl (record {
+            idle = idle;
+            lacks =
+                match_true silence.lacks (Lacks words programs r n) parts.0
+                (idle_lacks words programs r n silence is idle);
+          })
+      | inr doubts ↦
+          let parts = both_of some (is_doubtful_voice given) doubts in
+          let found = some_passes is_quiet_voice row Silent parts.0 in
+          let within : found.0 < length programs = omega (arith, size, found.1) in
+          inr (record {
+            doubtful = ap is_doubtful_voice (sym given_is) ∙ parts.1;
+            reading = found.0;
+            within = within;
+            quiet = ap is_quiet_voice (sym (rows.each found.0 within)) ∙ found.2;
+          })
+    ])
+    (λ stays dropped.
+    let parts = neither_of lacking doubted stays in
+    elim dropped [
+      | inl lacking_is ↦
+          false≢true (sym parts.0 ∙ both silence.lacks (is_idle_voice given)
+          (match_has silence.lacks (Lacks words programs r n) lacking_is.lacks
+          (idle_lacks words programs r n silence is lacking_is.idle))
+          (ap is_idle_voice given_is ∙ lacking_is.idle))
+      | inr doubted_is ↦
+          let s : ℕ = doubted_is.reading in
+          let within : s < length row = omega (arith, size, doubted_is.within) in
+          let quiet : is_quiet_voice (voice_of_reading row s) ≡ true =
+          ap is_quiet_voice (rows.each s doubted_is.within) ∙ doubted_is.quiet in
+          false≢true (sym parts.1 ∙ both some (is_doubtful_voice given)
+          (list_any_at is_quiet_voice row s Silent within quiet)
+          (ap is_doubtful_voice given_is ∙ doubted_is.doubtful))
+    ])
 
 said_by_case : (words : ℕ) (programs : List (List ℕ)) (r n : ℕ) (given said : Voice) (b : Bool)
     → MatchBool b (IsDropped words programs r n) (¬ IsDropped words programs r n)
@@ -197,16 +284,17 @@ said_by_case words programs r n given said true is given_is is_said = inl (is, i
 said_by_case words programs r n given said false is given_is is_said = inr (is, is_said ∙ given_is)
 
 -- what is said by a reading
-pub said_is : (words : ℕ) (programs : List (List ℕ)) (r n heard missed : ℕ) (given said : Voice)
-    → IsLastMissed programs r heard missed → heard ≤ words → heard ≤ n + 8
-    → (words ≤ heard) ⊎ (n + 8 ≤ heard) → given ≡ given_at programs r n → said ≡ said_after missed n given
-    → IsSaid words programs n r said
-said_is words programs r n heard missed given said is few near all given_is is_said =
-    said_by_case words programs r n given said (is_left missed n given)
-    (left_is words programs r n heard missed given is few near all given_is) given_is is_said
+pub said_is : (words : ℕ) (programs : List (List ℕ)) (r n : ℕ) (row : List Voice) (silence : Silence)
+    (given said : Voice) → length row ≡ length programs → IsRow programs n row
+    → IsSilence words programs r (n + 1) silence → given ≡ given_at programs r n
+    → said ≡ said_after (list_any is_quiet_voice row) silence given → IsSaid words programs n r said
+said_is words programs r n row silence given said size rows is given_is is_said =
+    said_by_case words programs r n given said (is_left (list_any is_quiet_voice row) silence given)
+    (left_is words programs r n row silence given size rows is given_is) given_is is_said
 
 -- one mark more
-count_case : (b : Bool) (n : ℕ) → (n + (if b then 1 else 0)) ≡ n + count_by (λ (mark : Bool). mark) (b ∷ [])
+pub count_case : (b : Bool) (n : ℕ)
+    → (n + (if b then 1 else 0)) ≡ n + count_by (λ (mark : Bool). mark) (b ∷ [])
 count_case true n = refl
 count_case false n = refl
 

@@ -10,19 +10,19 @@ use Rattle.std.proofs.lemmas.List.Edits.{length-swap, swapped_from_swap}
 use Rattle.std.proofs.lemmas.List.Folds.{list_any_at}
 use Rattle.std.proofs.lemmas.List.FromFn.{get_or-map-range_with_len, get_or-range_with_len, length-map-range_with_len, length-range_with_len}
 use Rattle.std.proofs.lemmas.List.Sorted.{IsPermutation-keeps, IsPermutation-map, IsPermutation-sym, length_permutation, list_any-IsPermutation, sum_by-IsPermutation}
-use Rattle.std.proofs.lemmas.List.Sums.{AllPass-from_list_all, sum_by-cons}
+use Rattle.std.proofs.lemmas.List.Sums.{AllPass-from_list_all, list_all-from_AllPass, sum_by-cons}
 use Rattle.bit_lists.specs.Counting.{below, parts}
 use Rattle.rw_code.specs.Codeword.{IsCodeword, differences}
 use Rattle.rw_code.proofs.Differing.{differences_none}
 use Rattle.rw_interleave.specs.Interleave.{whole_packs}
 use Rattle.rw_merge.specs.Agreement.{IsAgreed, equally_wrong}
 use Rattle.rw_mend.specs.Choice.{AreAgreed, IsAgreedAlone, IsFirstBest, IsMending, IsMendedBy, IsPairAgreed, is_best, is_near, is_of, stands, voice_of_reading, votes}
-use Rattle.rw_mend.specs.Drops.{AreVoices, IsDropCount, IsDropped, IsSaid}
+use Rattle.rw_mend.specs.Drops.{AreVoices, HasGraphics, IsBetween, IsDoubted, IsDropCount, IsDropped, IsLacking, IsSaid}
 use Rattle.rw_mend.specs.Laws.{IsSameFind, IsSameSource}
 use Rattle.rw_mend.specs.Many.{AreAllMendedInto, programs_of, words_in_each}
 use Rattle.rw_mend.specs.Streams.{AreMended, mended_bytes, mended_text}
 use Rattle.rw_mend.specs.Tallies.{source_byte, source_number}
-use Rattle.rw_mend.specs.Voices.{is_clean_graphics, is_idle_voice, voice_of}
+use Rattle.rw_mend.specs.Voices.{is_doubtful_voice, is_graphics_voice, is_idle_voice, is_quiet_voice, voice_of}
 use Rattle.rw_mend.specs.Words.{given_at, program_of, reading_at}
 use Rattle.rw_mend.specs.declared.choice.Mended.{Mended}
 use Rattle.rw_mend.specs.declared.choice.WordSource.{WordSource}
@@ -31,12 +31,12 @@ use Rattle.rw_mend.specs.declared.tallies.Tallies.{Tallies}
 use Rattle.rw_mend.specs.declared.voices.Voice.{Voice}
 use Rattle.rw_mend.specs.declared.voices.Voice.TheVariants.{Silent, Lost, Near}
 use Rattle.rw_mend.proofs.Alone.{counted}
-use Rattle.rw_mend.proofs.Clean.{best_is_near, has_first, is_of_near, pack_of, same_test}
+use Rattle.rw_mend.proofs.Clean.{best_is_near, first_holds, has_first, is_of_near, pack_of, same_test, second_holds}
 use Rattle.rw_mend.proofs.Damaged.{written}
 use Rattle.rw_mend.proofs.Givens.{given_codeword}
 use Rattle.rw_mend.proofs.Heaps.{parts_length}
-use Rattle.rw_mend.proofs.Kept.{flat_joined}
-use Rattle.rw_mend.proofs.Missing.{some_passes, told}
+use Rattle.rw_mend.proofs.Kept.{flat_joined, second_of}
+use Rattle.rw_mend.proofs.Missing.{either_of, some_passes, told}
 use Rattle.rw_mend.proofs.Once.{best_counts, not_agreed}
 
 -- ---- Lists that are one another in another order.
@@ -74,19 +74,31 @@ count_reordered p xs ys is = sym (sum_by-IsPermutation (λ x. if p x then 1 else
 
 -- ---- What is said, as a function of a reading and of all readings.
 
-pub near_by : ℕ → ℕ → Bool
-near_by n m = nat_le n (m + 7) && nat_le m (n + 7)
+pub between_by : ℕ → ℕ → ℕ → Bool
+between_by n m k = (nat_le n k && nat_le k m) || (nat_le m k && nat_le k n)
 
 abbrev pub busy : List (List ℕ) → ℕ → Bool
-busy programs m = list_any (λ program. is_clean_graphics (voice_of (reading_at program m))) programs
+busy programs m = list_any (λ program. is_graphics_voice (voice_of (reading_at program m))) programs
 
-abbrev pub drops_by : List (List ℕ) → List ℕ → ℕ → ℕ → Bool
-drops_by programs program n m =
-    near_by n m && (is_idle_voice (voice_of (reading_at program m)) && busy programs m)
+abbrev pub quiet_by : List ℕ → ℕ → ℕ → ℕ → Bool
+quiet_by program n m k = not (between_by n m k) || is_quiet_voice (voice_of (reading_at program k))
+
+abbrev pub lacks_by : ℕ → List (List ℕ) → List ℕ → ℕ → ℕ → Bool
+lacks_by words programs program n m = list_all (quiet_by program n m) (below words)
+    && (is_idle_voice (voice_of (reading_at program m)) && busy programs m)
+
+abbrev pub lacking_by : ℕ → List (List ℕ) → ℕ → List ℕ → Bool
+lacking_by words programs n program = is_idle_voice (voice_of (reading_at program n))
+    && list_any (lacks_by words programs program n) (below words)
+
+abbrev pub some_quiet : List (List ℕ) → ℕ → Bool
+some_quiet programs n = list_any (λ program. is_quiet_voice (voice_of (reading_at program n))) programs
+
+abbrev pub doubted_by : List (List ℕ) → ℕ → List ℕ → Bool
+doubted_by programs n program = is_doubtful_voice (voice_of (reading_at program n)) && some_quiet programs n
 
 abbrev pub left_out : ℕ → List (List ℕ) → ℕ → List ℕ → Bool
-left_out words programs n program = is_idle_voice (voice_of (reading_at program n))
-    && list_any (drops_by programs program n) (below words)
+left_out words programs n program = lacking_by words programs n program || doubted_by programs n program
 
 abbrev pub says : ℕ → List (List ℕ) → ℕ → List ℕ → Voice
 says words programs n program =
@@ -107,68 +119,140 @@ is_at_most : (a b : ℕ) → nat_le a b ≡ true → a ≤ b
 is_at_most a b is =
     elim (leb_tells a b) [ inl le ↦ le.1 | inr other ↦ absurd (false≢true (sym other.0 ∙ is)) ]
 
-near_true : (n m : ℕ) → n ≤ m + 7 → m ≤ n + 7 → near_by n m ≡ true
-unfolding near_by
-near_true n m after before =
-    both (nat_le n (m + 7)) (nat_le m (n + 7)) (at_most n (m + 7) after) (at_most m (n + 7) before)
+between_true : (n m k : ℕ) → IsBetween n m k → between_by n m k ≡ true
+unfolding between_by
+between_true n m k (inl after) =
+    first_holds (nat_le n k && nat_le k m) _
+    (both (nat_le n k) (nat_le k m) (at_most n k after.0) (at_most k m after.1))
+between_true n m k (inr before) =
+    second_holds (nat_le n k && nat_le k m) _
+    (both (nat_le m k) (nat_le k n) (at_most m k before.0) (at_most k n before.1))
 
-near_is : (n m : ℕ) → near_by n m ≡ true → (n ≤ m + 7) × (m ≤ n + 7)
-unfolding near_by
-near_is n m is =
-    let parts = both_of (nat_le n (m + 7)) (nat_le m (n + 7)) is in
-    (is_at_most n (m + 7) parts.0, is_at_most m (n + 7) parts.1)
+between_is : (n m k : ℕ) → between_by n m k ≡ true → IsBetween n m k
+unfolding between_by
+between_is n m k is =
+    elim (either_of (nat_le n k && nat_le k m) (nat_le m k && nat_le k n) is) [
+      | inl after ↦
+          let parts = both_of (nat_le n k) (nat_le k m) after in
+          inl (is_at_most n k parts.0, is_at_most k m parts.1)
+      | inr before ↦
+          let parts = both_of (nat_le m k) (nat_le k n) before in
+          inr (is_at_most m k parts.0, is_at_most k n parts.1)
+    ]
 
-left_true : (words : ℕ) (programs : List (List ℕ)) (r n : ℕ) → IsDropped words programs r n
-    → left_out words programs n (get_or programs r []) ≡ true
-left_true words programs r n dropped =
+quiet_true : (program : List ℕ) (n m k : ℕ)
+    → (IsBetween n m k → is_quiet_voice (voice_of (reading_at program k)) ≡ true)
+    → quiet_by program n m k ≡ true
+quiet_true program n m k quiet =
+    elim (told (between_by n m k)) [
+      | inl between ↦ second_holds (not (between_by n m k)) _ (quiet (between_is n m k between))
+      | inr apart ↦ first_holds (not (between_by n m k)) _ (ap not apart)
+    ]
+
+quiet_is : (program : List ℕ) (n m k : ℕ) → quiet_by program n m k ≡ true → IsBetween n m k
+    → is_quiet_voice (voice_of (reading_at program k)) ≡ true
+quiet_is program n m k is between =
+    second_of (not (between_by n m k)) _ is (ap not (between_true n m k between))
+
+at_word : (words m : ℕ) → m < words → get_or (below words) m 0 ≡ m
+at_word words m lt = get_or-range_with_len 0 words m 0 lt ∙ omega arith
+
+any_busy : (programs : List (List ℕ)) (m : ℕ) → HasGraphics programs m → busy programs m ≡ true
+any_busy programs m graphics =
+    list_any_at (λ p. is_graphics_voice (voice_of (reading_at p m))) programs graphics.reading []
+    graphics.within
+    graphics.graphics
+
+lacking_true : (words : ℕ) (programs : List (List ℕ)) (r n : ℕ) → IsLacking words programs r n
+    → lacking_by words programs n (get_or programs r []) ≡ true
+lacking_true words programs r n lacking =
     let program : List ℕ = get_or programs r [] in
-    let m : ℕ = dropped.drops.word in
-    let misses = dropped.drops.misses in
+    let m : ℕ = lacking.lacks.word in
     let size : length (below words) ≡ words = length-range_with_len 0 words in
-    let at : get_or (below words) m 0 ≡ m =
-    get_or-range_with_len 0 words m 0 dropped.drops.within ∙ omega arith in
-    let busy_is : busy programs m ≡ true =
-    list_any_at (λ p. is_clean_graphics (voice_of (reading_at p m))) programs misses.graphics.reading []
-    misses.graphics.within misses.graphics.graphics in
-    let here : drops_by programs program n m ≡ true =
-    both (near_by n m) _ (near_true n m dropped.drops.after dropped.drops.before)
-    (both (is_idle_voice (voice_of (reading_at program m))) (busy programs m) misses.idle busy_is) in
-    both (is_idle_voice (voice_of (reading_at program n))) _ dropped.idle
-    (list_any_at (drops_by programs program n) (below words) m 0 (omega (arith, dropped.drops.within, size))
-    (ap (drops_by programs program n) at ∙ here))
+    let silence : list_all (quiet_by program n m) (below words) ≡ true =
+    list_all-from_AllPass (quiet_by program n m) (below words) (λ k d lt.
+    let within : k < words = omega (arith, lt, size) in
+    let here : get_or (below words) k d ≡ k = get_or-range_with_len 0 words k d within ∙ omega arith in
+    ap (quiet_by program n m) here ∙ quiet_true program n m k (lacking.lacks.quiet k within)) in
+    let there : lacks_by words programs program n m ≡ true =
+    both (list_all (quiet_by program n m) (below words)) _ silence
+    (both (is_idle_voice (voice_of (reading_at program m))) (busy programs m) lacking.lacks.misses.idle
+    (any_busy programs m lacking.lacks.misses.graphics)) in
+    both (is_idle_voice (voice_of (reading_at program n))) _ lacking.idle
+    (list_any_at (lacks_by words programs program n) (below words) m 0
+    (omega (arith, lacking.lacks.within, size))
+    (ap (lacks_by words programs program n) (at_word words m lacking.lacks.within) ∙ there))
 
-left_dropped : (words : ℕ) (programs : List (List ℕ)) (r n : ℕ)
-    → left_out words programs n (get_or programs r []) ≡ true → IsDropped words programs r n
-left_dropped words programs r n is =
+lacking_is : (words : ℕ) (programs : List (List ℕ)) (r n : ℕ)
+    → lacking_by words programs n (get_or programs r []) ≡ true → IsLacking words programs r n
+lacking_is words programs r n is =
     let program : List ℕ = get_or programs r [] in
     let parts =
     both_of (is_idle_voice (voice_of (reading_at program n)))
-    (list_any (drops_by programs program n) (below words)) is in
+    (list_any (lacks_by words programs program n) (below words)) is in
     let size : length (below words) ≡ words = length-range_with_len 0 words in
-    let found = some_passes (drops_by programs program n) (below words) 0 parts.1 in
+    let found = some_passes (lacks_by words programs program n) (below words) 0 parts.1 in
     let m : ℕ = found.0 in
     let within : m < words = omega (arith, found.1, size) in
-    let at : get_or (below words) m 0 ≡ m = get_or-range_with_len 0 words m 0 within ∙ omega arith in
-    let here : drops_by programs program n m ≡ true = ap (drops_by programs program n) (sym at) ∙ found.2 in
-    let near =
-    both_of (near_by n m) (is_idle_voice (voice_of (reading_at program m)) && busy programs m) here in
-    let missed = both_of (is_idle_voice (voice_of (reading_at program m))) (busy programs m) near.1 in
+    let here : lacks_by words programs program n m ≡ true =
+    ap (lacks_by words programs program n) (sym (at_word words m within)) ∙ found.2 in
+    let tests =
+    both_of (list_all (quiet_by program n m) (below words))
+    (is_idle_voice (voice_of (reading_at program m)) && busy programs m) here in
+    let missed = both_of (is_idle_voice (voice_of (reading_at program m))) (busy programs m) tests.1 in
     let graphics =
-    some_passes (λ p. is_clean_graphics (voice_of (reading_at p m))) programs [] missed.1 in
-    let reach = near_is n m near.0 in
+    some_passes (λ p. is_graphics_voice (voice_of (reading_at p m))) programs [] missed.1 in
     record {
       idle = parts.0;
-      drops = record {
+      lacks = record {
         word = m;
         within = within;
-        after = reach.0;
-        before = reach.1;
+        quiet =
+            λ k lt between.
+            quiet_is program n m k
+            (ap (quiet_by program n m) (sym (at_word words k lt))
+            ∙ AllPass-from_list_all (quiet_by program n m) (below words) tests.0 k 0
+            (omega (arith, lt, size)))
+            between;
         misses = record {
           idle = missed.0;
           graphics = record { reading = graphics.0; within = graphics.1; graphics = graphics.2 };
         };
       };
     }
+
+doubted_true : (programs : List (List ℕ)) (r n : ℕ) → IsDoubted programs r n
+    → doubted_by programs n (get_or programs r []) ≡ true
+doubted_true programs r n doubted =
+    both (is_doubtful_voice (voice_of (reading_at (get_or programs r []) n))) (some_quiet programs n)
+    doubted.doubtful
+    (list_any_at (λ p. is_quiet_voice (voice_of (reading_at p n))) programs doubted.reading [] doubted.within
+    doubted.quiet)
+
+doubted_is : (programs : List (List ℕ)) (r n : ℕ) → doubted_by programs n (get_or programs r []) ≡ true
+    → IsDoubted programs r n
+doubted_is programs r n is =
+    let parts =
+    both_of (is_doubtful_voice (voice_of (reading_at (get_or programs r []) n))) (some_quiet programs n) is in
+    let found = some_passes (λ p. is_quiet_voice (voice_of (reading_at p n))) programs [] parts.1 in
+    record { doubtful = parts.0; reading = found.0; within = found.1; quiet = found.2 }
+
+left_true : (words : ℕ) (programs : List (List ℕ)) (r n : ℕ) → IsDropped words programs r n
+    → left_out words programs n (get_or programs r []) ≡ true
+left_true words programs r n (inl lacking) =
+    first_holds (lacking_by words programs n (get_or programs r [])) _
+    (lacking_true words programs r n lacking)
+left_true words programs r n (inr doubted) =
+    second_holds (lacking_by words programs n (get_or programs r [])) _ (doubted_true programs r n doubted)
+
+left_dropped : (words : ℕ) (programs : List (List ℕ)) (r n : ℕ)
+    → left_out words programs n (get_or programs r []) ≡ true → IsDropped words programs r n
+left_dropped words programs r n is =
+    elim (either_of (lacking_by words programs n (get_or programs r []))
+    (doubted_by programs n (get_or programs r [])) is) [
+      | inl lacking ↦ inl (lacking_is words programs r n lacking)
+      | inr doubted ↦ inr (doubted_is programs r n doubted)
+    ]
 
 says_is : (words : ℕ) (programs : List (List ℕ)) (n r : ℕ) (voice : Voice)
     → IsSaid words programs n r voice → voice ≡ says words programs n (get_or programs r [])
@@ -195,10 +279,16 @@ left_same : (words : ℕ) (programs others : List (List ℕ)) (n : ℕ) → IsPe
 left_same words programs others n is program =
     let graphics : (m : ℕ) → busy others m ≡ busy programs m =
     λ m.
-    sym (list_any-IsPermutation (λ p. is_clean_graphics (voice_of (reading_at p m))) programs others is) in
-    ap (λ b. is_idle_voice (voice_of (reading_at program n)) && b)
-    (any_same (drops_by others program n) (drops_by programs program n) (below words) (λ m.
-    ap (λ b. near_by n m && (is_idle_voice (voice_of (reading_at program m)) && b)) (graphics m)))
+    sym (list_any-IsPermutation (λ p. is_graphics_voice (voice_of (reading_at p m))) programs others is) in
+    let quiet : some_quiet others n ≡ some_quiet programs n =
+    sym (list_any-IsPermutation (λ p. is_quiet_voice (voice_of (reading_at p n))) programs others is) in
+    let lacks : list_any (lacks_by words others program n) (below words)
+    ≡ list_any (lacks_by words programs program n) (below words) =
+    any_same (lacks_by words others program n) (lacks_by words programs program n) (below words) (λ m.
+    ap (λ b. list_all (quiet_by program n m) (below words)
+    && (is_idle_voice (voice_of (reading_at program m)) && b)) (graphics m)) in
+    ap₂ (λ a b. (is_idle_voice (voice_of (reading_at program n)) && a)
+    || (is_doubtful_voice (voice_of (reading_at program n)) && b)) lacks quiet
 
 pub says_same : (words : ℕ) (programs others : List (List ℕ)) (n : ℕ) → IsPermutation programs others
     → (program : List ℕ) → says words others n program ≡ says words programs n program

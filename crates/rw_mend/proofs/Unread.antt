@@ -14,7 +14,7 @@ use Rattle.rw_code.proofs.Differing.{differences_self}
 use Rattle.rw_code.proofs.Errors.{idle_near}
 use Rattle.rw_interleave.specs.Interleave.{place, word_of}
 use Rattle.rw_interleave.proofs.Places.{swapped-lt}
-use Rattle.rw_mend.specs.Words.{block_at, blocks_under, coverage_of, is_blank_block, is_empty_block, reading_at}
+use Rattle.rw_mend.specs.Words.{block_at, blocks_under, coverage_of, is_blank_block, is_unread_block, reading_at}
 use Rattle.rw_mend.specs.declared.voices.Coverage.TheVariants.{Whole, Partly, Unread}
 use Rattle.rw_mend.proofs.Givens.{is_word, reading-word}
 
@@ -23,20 +23,32 @@ pub reading-coverage : (program : List ℕ) (n : ℕ)
 unfolding reading_at
 reading-coverage program n = refl
 
--- all blocks are empty where nothing was read
+-- all blocks are unread where nothing was read
 unread_all : (all any : Bool) → (if all then Unread else (if any then Partly else Whole)) ≡ Unread
     → all ≡ true
 unread_all true any is = refl
 unread_all false true is = cc
 unread_all false false is = cc
 
-both_true : (a b : Bool) → (a && b) ≡ true → a ≡ true
-both_true true b is = refl
-both_true false b is = is
+both_true : (a b : Bool) → (a && b) ≡ true → (a ≡ true) × (b ≡ true)
+both_true true b is = (refl, is)
+both_true false b is = absurd (false≢true is)
 
-empty_blank : (block : List ℕ) → is_empty_block block ≡ true → is_blank_block block ≡ true
-unfolding is_empty_block
-empty_blank block is = both_true _ _ is
+both_hold : (a b : Bool) → a ≡ true → b ≡ true → (a && b) ≡ true
+both_hold true b is is' = is'
+both_hold false b is is' = is
+
+-- what was not read has no symbols
+pub unread_blank : (block : List ℕ) → is_unread_block block ≡ true → is_blank_block block ≡ true
+unread_blank [] is = refl
+unread_blank (byte ∷ rest) is =
+    let parts = both_true (byte == 0) (is_unread_block rest) is in
+    elim (eqb_tells byte 0) [
+      | inl zeros ↦
+          both_hold (byte % 64 == 0) (is_blank_block rest) (ap (λ b. b % 64 == 0) zeros.1)
+          (unread_blank rest parts.1)
+      | inr other ↦ absurd (false≢true (sym other.0 ∙ parts.0))
+    ]
 
 zero_symbol : (block : List ℕ) (j : ℕ) → is_blank_block block ≡ true → get_or (symbols_of block) j 0 ≡ 0
 zero_symbol block j is =
@@ -67,9 +79,9 @@ in_block program b j lt =
     ∙ sym (symbol_get program (96 * b + j))
 
 -- where all blocks under a word are empty, each is
-empty_under : (program : List ℕ) (n b : ℕ) → list_all is_empty_block (blocks_under program n) ≡ true
+empty_under : (program : List ℕ) (n b : ℕ) → list_all is_unread_block (blocks_under program n) ≡ true
     → n / 4 ≤ b → b ≤ (n + 7) / 4
-    → is_empty_block (block_at program b) ≡ true
+    → is_unread_block (block_at program b) ≡ true
 empty_under program n b all low high =
     let count : ℕ = (n + 7) / 4 - n / 4 + 1 in
     let blocks : List (List ℕ) = map (block_at program) (range_with_len (n / 4) count) in
@@ -77,8 +89,8 @@ empty_under program n b all low high =
     let lt : k < count = omega (arith, low, high) in
     let here : get_or blocks k [] ≡ block_at program b =
     get_or-map-range_with_len (block_at program) (n / 4) count k b [] lt (omega (arith, low)) in
-    ap is_empty_block (sym here)
-    ∙ AllPass-from_list_all is_empty_block blocks all k []
+    ap is_unread_block (sym here)
+    ∙ AllPass-from_list_all is_unread_block blocks all k []
     (omega (arith, lt, length-map-range_with_len (block_at program) (n / 4) count))
 
 -- the blocks under a word are without symbols
@@ -114,10 +126,10 @@ unread_zero : (program : List ℕ) (n : ℕ) → (reading_at program n).coverage
 unread_zero program n is =
     let blocks : List (List ℕ) = blocks_under program n in
     let all =
-    unread_all (list_all is_empty_block blocks) (list_any is_empty_block blocks)
+    unread_all (list_all is_unread_block blocks) (list_any is_unread_block blocks)
     (sym (reading-coverage program n) ∙ is) in
     blank_word program n
-    (λ b low high. empty_blank (block_at program b) (empty_under program n b all low high))
+    (λ b low high. unread_blank (block_at program b) (empty_under program n b all low high))
 
 -- the same by the marks of the two or three blocks
 pub blank_by_blocks : (program : List ℕ) (n : ℕ) → is_blank_block (block_at program (n / 4)) ≡ true

@@ -1,40 +1,51 @@
--- Where a reading carries no graphics though another does: its idle packs count for nothing there.
-use Rattle.std.specs.Prelude.{◌≡◌, ◌⊎◌, ℕ, ◌+◌, ◌<◌, ◌≤◌, Bool, true, false, MatchBool, List, length, count_by, slice_index_or}
+-- Which codewords of a reading count for nothing: idle packs where the reading lacks graphics that another reading has, and
+-- doubtful codewords where another reading is quiet.
+use Rattle.std.specs.Prelude.{◌≡◌, ◌⊎◌, ℕ, ◌<◌, ◌≤◌, Bool, true, false, MatchBool, List, length, count_by, slice_index_or}
 use Rattle.rw_mend.specs.Choice.{voice_of_reading}
-use Rattle.rw_mend.specs.Voices.{is_clean_graphics, is_idle_voice}
+use Rattle.rw_mend.specs.Voices.{is_doubtful_voice, is_graphics_voice, is_idle_voice, is_quiet_voice}
 use Rattle.rw_mend.specs.Words.{given_at}
 use Rattle.rw_mend.specs.declared.voices.Voice.{Voice}
 use Rattle.rw_mend.specs.declared.voices.Voice.TheVariants.{Silent}
 
--- how many words to each side are looked at, as many as share a slot with a word
-abbrev pub reach : ℕ
-reach = 7
-
--- Some reading gives graphics at word m: a codeword that is not idle, with no wrong symbol.
+-- Some reading gives graphics at word m.
 pub record HasGraphics (programs : List (List ℕ)) (m : ℕ) : Type 0 where
   pub reading : ℕ
   pub within : reading < length programs
-  pub graphics : is_clean_graphics (given_at programs reading m) ≡ true
+  pub graphics : is_graphics_voice (given_at programs reading m) ≡ true
 
 -- Reading r misses graphics at word m: it gives the idle pack where another gives graphics.
 pub record Misses (programs : List (List ℕ)) (r m : ℕ) : Type 0 where
   pub idle : is_idle_voice (given_at programs r m) ≡ true
   pub graphics : HasGraphics programs m
 
--- Reading r drops at word n of so many: it misses graphics within seven words.
-pub record Drops (words : ℕ) (programs : List (List ℕ)) (r n : ℕ) : Type 0 where
+-- word k is one of two words, or stands between them
+abbrev pub IsBetween : ℕ → ℕ → ℕ → Type 0
+IsBetween n m k = ((n ≤ k) × (k ≤ m)) ⊎ ((m ≤ k) × (k ≤ n))
+
+-- Reading r of so many words lacks graphics at word n: it misses graphics at some word, and is quiet from there to n.
+pub record Lacks (words : ℕ) (programs : List (List ℕ)) (r n : ℕ) : Type 0 where
   pub word : ℕ
   pub within : word < words
-  pub after : n ≤ word + reach
-  pub before : word ≤ n + reach
+  pub quiet : (k : ℕ) → k < words → IsBetween n word k → is_quiet_voice (given_at programs r k) ≡ true
   pub misses : Misses programs r word
 
--- Its idle pack counts for nothing there.
-pub record IsDropped (words : ℕ) (programs : List (List ℕ)) (r n : ℕ) : Type 0 where
+-- It gives the idle pack there.
+pub record IsLacking (words : ℕ) (programs : List (List ℕ)) (r n : ℕ) : Type 0 where
   pub idle : is_idle_voice (given_at programs r n) ≡ true
-  pub drops : Drops words programs r n
+  pub lacks : Lacks words programs r n
 
--- what reading r says at word n: nothing where its idle pack counts for nothing, or else what it gives
+-- Reading r gives a doubtful codeword at word n where some reading is quiet.
+pub record IsDoubted (programs : List (List ℕ)) (r n : ℕ) : Type 0 where
+  pub doubtful : is_doubtful_voice (given_at programs r n) ≡ true
+  pub reading : ℕ
+  pub within : reading < length programs
+  pub quiet : is_quiet_voice (given_at programs reading n) ≡ true
+
+-- what reading r gives at word n counts for nothing
+abbrev pub IsDropped : ℕ → List (List ℕ) → ℕ → ℕ → Type 0
+IsDropped words programs r n = IsLacking words programs r n ⊎ IsDoubted programs r n
+
+-- what reading r says at word n: nothing where what it gives counts for nothing, or else what it gives
 abbrev pub IsSaid : ℕ → List (List ℕ) → ℕ → ℕ → Voice → Type 0
 IsSaid words programs n r voice = (IsDropped words programs r n × (voice ≡ Silent))
     ⊎ ((¬ IsDropped words programs r n) × (voice ≡ given_at programs r n))
@@ -44,7 +55,7 @@ pub record AreVoices (words : ℕ) (programs : List (List ℕ)) (n : ℕ) (voice
   pub count : length voices ≡ length programs
   pub each : (r : ℕ) → r < length programs → IsSaid words programs n r (voice_of_reading voices r)
 
--- At so many of the first n words the idle pack of reading r counts for nothing: there is a mark for each.
+-- At so many of the first n words what reading r gives counts for nothing: there is a mark for each.
 pub record IsDropCount (words : ℕ) (programs : List (List ℕ)) (r n count : ℕ) : Type 0 where
   pub marks : List Bool
   pub size : length marks ≡ n

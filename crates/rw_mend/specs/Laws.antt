@@ -1,5 +1,5 @@
 -- What readings have to be for the laws of mending.
-use Rattle.std.specs.Prelude.{⊤, ◌≡◌, ◌≢◌, ◌⊎◌, ℕ, ◌+◌, ◌*◌, ◌<◌, List, [], All, length, slice_index_or, Option, Some, None}
+use Rattle.std.specs.Prelude.{⊤, true, false, ◌≡◌, ◌≢◌, ◌⊎◌, ℕ, ◌+◌, ◌*◌, ◌<◌, List, [], All, length, slice_index_or, Option, Some, None}
 use Rattle.std.specs.List.{flat_map}
 use Rattle.bit_lists.specs.Counting.{below}
 use Rattle.raw_subcode.specs.Channels.{program_symbols}
@@ -8,14 +8,16 @@ use Rattle.raw_subcode.specs.declared.form.Form.TheVariants.{Raw}
 use Rattle.rw_code.specs.Packs.{idle_pack}
 use Rattle.rw_interleave.specs.Interleave.{Carries}
 use Rattle.rw_interleave.specs.Stream.{IsDamaged}
-use Rattle.rw_mend.specs.Drops.{IsDropped}
+use Rattle.rw_mend.specs.Choice.{AreAgreed}
+use Rattle.rw_mend.specs.Drops.{IsDoubted, IsDropped}
+use Rattle.rw_mend.specs.Voices.{is_graphics_voice, is_idle_pack, is_quiet_voice}
 use Rattle.rw_mend.specs.Words.{given_at}
 use Rattle.rw_mend.specs.declared.choice.Mended.{Mended}
 use Rattle.rw_mend.specs.declared.choice.WordSource.{WordSource}
 use Rattle.rw_mend.specs.declared.choice.WordSource.TheVariants.{Reading, Agreed}
 use Rattle.rw_mend.specs.declared.streams.MendCounts.{MendCounts}
 use Rattle.rw_mend.specs.declared.voices.Voice.{Voice}
-use Rattle.rw_mend.specs.declared.voices.Voice.TheVariants.{Near}
+use Rattle.rw_mend.specs.declared.voices.Voice.TheVariants.{Near, Silent}
 
 -- the symbols of the codeword that is given, or zeros
 abbrev pub voice_bytes : Voice → List ℕ
@@ -26,14 +28,34 @@ voice_bytes voice = idle_pack
 abbrev pub given_text : ℕ → List (List ℕ) → ℕ → List ℕ
 given_text words programs r = flat_map (λ n. voice_bytes (given_at programs r n)) (below words)
 
--- Reading r is without a wrong symbol, and whatever another gives without a wrong symbol is the same codeword or the idle
--- pack: so it is with noise, with scratches, and with readings without channels R to W.
+-- Reading r is without a wrong symbol. Whatever another gives without a wrong symbol is the same codeword or the idle pack;
+-- and where reading r gives the idle pack no other gives a graphics pack, also with one or two wrong symbols. So it is with
+-- noise, with scratches, and with readings without channels R to W.
 pub record IsCleanBeside (words : ℕ) (programs : List (List ℕ)) (r : ℕ) : Type 0 where
   pub within : r < length programs
   pub codeword : ℕ → List ℕ
   pub clean : (n : ℕ) → n < words → given_at programs r n ≡ Near (codeword n) 0
   pub others : (n s : ℕ) (other : List ℕ) → n < words → s < length programs
       → given_at programs s n ≡ Near other 0 → (other ≡ codeword n) ⊎ (other ≡ idle_pack)
+  pub quiet : (n s : ℕ) → n < words → s < length programs → is_idle_pack (codeword n) ≡ true
+      → is_graphics_voice (given_at programs s n) ≡ false
+
+-- The same of a reading whose idle stretches may count as unread, as those of a dump without Q do. There no other gives a
+-- codeword that counts and is not idle, and no two agree on one.
+pub record IsErrorFreeBeside (words : ℕ) (programs : List (List ℕ)) (r : ℕ) : Type 0 where
+  pub within : r < length programs
+  pub codeword : ℕ → List ℕ
+  pub whole : (n : ℕ) → n < words → (given_at programs r n ≡ Near (codeword n) 0)
+      ⊎ ((is_quiet_voice (given_at programs r n) ≡ true) × (codeword n ≡ idle_pack))
+  pub others : (n s : ℕ) (other : List ℕ) → n < words → s < length programs
+      → given_at programs s n ≡ Near other 0 → (other ≡ codeword n) ⊎ (other ≡ idle_pack)
+  pub quiet : (n s : ℕ) → n < words → s < length programs → is_idle_pack (codeword n) ≡ true
+      → is_graphics_voice (given_at programs s n) ≡ false
+  pub unsure : (n s : ℕ) (other : List ℕ) (more : ℕ) → n < words → s < length programs
+      → is_quiet_voice (given_at programs r n) ≡ true → ¬ IsDropped words programs s n
+      → given_at programs s n ≡ Near other more → other ≡ idle_pack
+  pub alone : (n s t : ℕ) (codeword : List ℕ) → n < words → given_at programs r n ≡ Silent
+      → ¬ AreAgreed (given_at programs s n) (given_at programs t n) codeword
 
 -- For each word one reading gives its pack, and that counts, and no reading gives another codeword that counts.
 pub record AreEnough (words : ℕ) (programs packs : List (List ℕ)) : Type 0 where
@@ -66,12 +88,13 @@ pub record AreDamagedReadings (lead_in blocks : ℕ) (packs readings : List (Lis
   pub damage : All (λ bytes. IsDamaged symbols Raw (program_symbols Raw bytes lead_in)) readings
 
 -- Whatever codeword another reading than r gives counts for nothing, or is what is written of reading r: the codeword
--- that it gives, or zeros.
+-- that it gives, or zeros. And no doubtful codeword of reading r counts for nothing.
 pub record CountsAlone (words : ℕ) (programs : List (List ℕ)) (r : ℕ) : Type 0 where
   pub within : r < length programs
   pub others : (n s : ℕ) (codeword : List ℕ) (doubts : ℕ) → n < words → s < length programs → s ≢ r
       → ¬ IsDropped words programs s n → given_at programs s n ≡ Near codeword doubts
       → codeword ≡ voice_bytes (given_at programs r n)
+  pub sure : (n : ℕ) → n < words → ¬ IsDoubted programs r n
 
 -- it is a codeword on which two readings agree
 abbrev pub IsAgreedWord : Option Mended → Type 0

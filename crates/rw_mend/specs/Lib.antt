@@ -2,11 +2,13 @@ pub mod Agreements
 pub mod Choice
 pub mod Drops
 pub mod Laws
+pub mod Losses
 pub mod Many
 pub mod Mender
 pub mod Readings
 pub mod Refusals
 pub mod Rows
+pub mod Silences
 pub mod Steps
 pub mod Streams
 pub mod Tallies

@@ -4,6 +4,7 @@ use Rattle.bit_lists.specs.Counting.{parts}
 use Rattle.raw_subcode.specs.Sizes.{block_bytes, symbols_a_slot}
 use Rattle.rw_interleave.specs.Interleave.{whole_packs}
 use Rattle.rw_mend.specs.Drops.{AreDropCounts}
+use Rattle.rw_mend.specs.Losses.{AreLosses}
 use Rattle.rw_mend.specs.Streams.{AreMended, mended_text}
 use Rattle.rw_mend.specs.Tallies.{AreTallies, source_byte}
 use Rattle.rw_mend.specs.Words.{program_of}
@@ -35,3 +36,10 @@ pub record AreAllMendedInto (count lead_in : ℕ) (readings old new old_sources 
   pub sources_size : length new_sources ≡ length old_sources
   pub sources : words_in_each count lead_in readings ≤ length old_sources
       → new_sources ≡ map source_byte found ++ drop (words_in_each count lead_in readings) old_sources
+
+-- The same, and how many words of each reading are lost: it gives a codeword with no wrong symbol that counts, and another
+-- one or none came out.
+pub record AreAllReported (count lead_in : ℕ) (readings old new old_sources new_sources : List ℕ)
+    (tallies : Tallies) (lost : List ℕ) : Type 0 where
+  pub into : AreAllMendedInto count lead_in readings old new old_sources new_sources tallies
+  pub losses : AreLosses lost into.said into.found

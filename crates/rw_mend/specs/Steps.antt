@@ -3,6 +3,7 @@ use Rattle.std.specs.Prelude.{◌≡◌, ℕ, ◌*◌, ◌<◌, ◌≤◌, List,
 use Rattle.raw_subcode.specs.Sizes.{symbols_a_slot}
 use Rattle.rw_mend.specs.Choice.{IsMending}
 use Rattle.rw_mend.specs.Drops.{AreVoices}
+use Rattle.rw_mend.specs.Losses.{AreLosses}
 use Rattle.rw_mend.specs.Readings.{programs_in}
 use Rattle.rw_mend.specs.Streams.{AreCounts, mended_text, ways_of}
 use Rattle.rw_mend.specs.Tallies.{AreTallies, source_byte}
@@ -29,9 +30,15 @@ pub record IsMendedTo (readings : Readings) (words n : ℕ) (before packs : List
 abbrev pub AreCounted : MendCounts → List (List Voice) → List (Option Mended) → Type 0
 AreCounted counts said found = AreCounts (ways_of said found) counts
 
--- what is told of them, and the bytes that name their sources, where there is room for all words
+-- What is told of them, and the bytes that name their sources, where there is room for all words.
 pub record AreTold (before : List ℕ) (words : ℕ) (sources : List ℕ) (tallies : Tallies)
     (said : List (List Voice)) (found : List (Option Mended)) : Type 0 where
   pub tallies_are : AreTallies found tallies
   pub size : length sources ≡ length before
   pub put : words ≤ length before → sources ≡ map source_byte found ++ drop (length found) before
+
+-- the same, and how many words of each reading are lost
+abbrev pub AreReported : List ℕ → ℕ → List ℕ → Tallies → List ℕ → List (List Voice) → List (Option Mended)
+    → Type 0
+AreReported before words sources tallies lost said found =
+    AreTold before words sources tallies said found × AreLosses lost said found

@@ -1,13 +1,13 @@
 -- What is known of the blocks under a word while a stream is mended.
 use Rattle.std.specs.Prelude.{◌≡◌, ◌≢◌, ℕ, ◌+◌, ◌/◌, ◌%◌, ◌<◌, ◌≤◌, List}
-use Rattle.rw_mend.specs.Words.{block_at, is_blank_block, is_empty_block}
+use Rattle.rw_mend.specs.Words.{block_at, is_blank_block, is_unread_block}
 use Rattle.rw_mend.specs.declared.cover.Trail.{Trail}
 
--- whether the two or three blocks under word n are empty, and whether they are without symbols
+-- whether the two or three blocks under word n are unread, and whether they are without symbols
 pub record IsTrail (program : List ℕ) (n : ℕ) (trail : Trail) : Type 0 where
-  pub first : trail.first ≡ is_empty_block (block_at program (n / 4))
-  pub second : trail.second ≡ is_empty_block (block_at program (n / 4 + 1))
-  pub third : n % 4 ≢ 0 → trail.third ≡ is_empty_block (block_at program (n / 4 + 2))
+  pub first : trail.first ≡ is_unread_block (block_at program (n / 4))
+  pub second : trail.second ≡ is_unread_block (block_at program (n / 4 + 1))
+  pub third : n % 4 ≢ 0 → trail.third ≡ is_unread_block (block_at program (n / 4 + 2))
   pub first_blank : trail.first_blank ≡ is_blank_block (block_at program (n / 4))
   pub second_blank : trail.second_blank ≡ is_blank_block (block_at program (n / 4 + 1))
   pub third_blank : n % 4 ≢ 0 → trail.third_blank ≡ is_blank_block (block_at program (n / 4 + 2))

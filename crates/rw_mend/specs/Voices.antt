@@ -1,5 +1,6 @@
 -- What a reading of a word gives.
-use Rattle.std.specs.Prelude.{◌≡◌, ℕ, ◌==◌, ◌&&◌, Bool, false, not, if◌then◌else◌, List, Option, Some, None, IfSome}
+use Rattle.std.specs.Prelude.{◌≡◌, ℕ, ◌==◌, ◌&&◌, ◌||◌, Bool, true, false, not, if◌then◌else◌, List, [], ◌∷◌, Option, Some, None, IfSome, slice_index_or}
+use Rattle.std.specs.List.{list_any}
 use Rattle.rw_code.specs.Codeword.{Reads, differences}
 use Rattle.rw_code.specs.Finding.{finding}
 use Rattle.rw_code.specs.Packs.{idle_pack}
@@ -20,7 +21,7 @@ abbrev pub is_idle_pack : List ℕ → Bool
 is_idle_pack codeword = differences codeword idle_pack == 0
 
 -- How many symbols stand against a codeword near a word: those in which they differ; but three, and so more than against
--- any other, where it is the idle pack and one of the blocks under the word is empty.
+-- any other, where it is the idle pack and one of the blocks under the word is unread.
 abbrev pub doubts_of : Coverage → List ℕ → List ℕ → ℕ
 doubts_of Partly word codeword = if is_idle_pack codeword then 3 else differences word codeword
 doubts_of coverage word codeword = differences word codeword
@@ -44,7 +45,37 @@ abbrev pub is_idle_voice : Voice → Bool
 is_idle_voice (Near pack doubts) = is_idle_pack pack
 is_idle_voice voice = false
 
--- whether it is another codeword, and no symbol stands against it
-abbrev pub is_clean_graphics : Voice → Bool
-is_clean_graphics (Near pack doubts) = (doubts == 0) && not (is_idle_pack pack)
-is_clean_graphics voice = false
+-- whether a voice is the idle pack, or nothing was read
+abbrev pub is_quiet_voice : Voice → Bool
+is_quiet_voice Silent = true
+is_quiet_voice voice = is_idle_voice voice
+
+-- the instructions of graphics packs
+abbrev pub instructions : List ℕ
+instructions = 1 ∷ 2 ∷ 6 ∷ 20 ∷ 24 ∷ 28 ∷ 30 ∷ 31 ∷ 38 ∷ []
+
+-- whether a codeword is a graphics pack: its mode and item are those of graphics, and its instruction is known
+abbrev pub is_graphics_pack : List ℕ → Bool
+is_graphics_pack codeword = (slice_index_or codeword 0 0 == 9)
+    && list_any (λ known. slice_index_or codeword 1 0 == known) instructions
+
+-- Whether a voice shows that the word is not idle: it is another codeword than the idle pack, and either no symbol stands
+-- against it or it is a graphics pack.
+abbrev pub is_graphics_voice : Voice → Bool
+is_graphics_voice (Near pack doubts) = not (is_idle_pack pack) && ((doubts == 0) || is_graphics_pack pack)
+is_graphics_voice voice = false
+
+-- the modes and items that discs carry: line graphics, graphics, extended graphics, MIDI
+abbrev pub used_modes : List ℕ
+used_modes = 8 ∷ 9 ∷ 10 ∷ 24 ∷ []
+
+-- whether the mode and item of a codeword are among them
+abbrev pub has_used_mode : List ℕ → Bool
+has_used_mode codeword = list_any (λ mode. slice_index_or codeword 0 0 == mode) used_modes
+
+-- whether a voice is a doubtful codeword: not the idle pack, of a mode and item that no disc carries, and some symbol
+-- stands against it
+abbrev pub is_doubtful_voice : Voice → Bool
+is_doubtful_voice (Near pack doubts) = not (is_idle_pack pack)
+    && (not (doubts == 0) && not (has_used_mode pack))
+is_doubtful_voice voice = false

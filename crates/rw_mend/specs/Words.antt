@@ -1,9 +1,8 @@
 -- The words of a program, as they were read.
-use Rattle.std.specs.Prelude.{◌==◌, ◌&&◌, ℕ, ◌+◌, ◌-◌, ◌*◌, ◌/◌, ◌≤◌, Bool, not, if◌then◌else◌, List, [], map, drop, slice_range, slice_index_or, is_ok}
+use Rattle.std.specs.Prelude.{◌==◌, ℕ, ◌+◌, ◌-◌, ◌*◌, ◌/◌, ◌≤◌, Bool, if◌then◌else◌, List, [], map, drop, slice_range, slice_index_or}
 use Rattle.std.specs.List.{list_all, list_any, range_with_len}
-use Rattle.raw_subcode.specs.Channels.{q_bits, symbols_of}
+use Rattle.raw_subcode.specs.Channels.{symbols_of}
 use Rattle.raw_subcode.specs.Sizes.{block_bytes}
-use Rattle.q_channel.specs.ReadingOf.{reading_of}
 use Rattle.rw_interleave.specs.Interleave.{word_of}
 use Rattle.rw_mend.specs.Voices.{voice_of}
 use Rattle.rw_mend.specs.declared.voices.Coverage.{Coverage}
@@ -27,9 +26,9 @@ HoldsWord n size = block_bytes * ((n + 7) / 4) + block_bytes ≤ size
 abbrev pub is_blank_block : List ℕ → Bool
 is_blank_block block = list_all (λ symbol. symbol == 0) (symbols_of block)
 
--- whether a block is empty: it is without symbols, and its Q channel is no frame
-unfoldable pub is_empty_block : List ℕ → Bool
-is_empty_block block = is_blank_block block && not (is_ok (reading_of (q_bits block)))
+-- whether a block was not read: all its bytes are 0
+abbrev pub is_unread_block : List ℕ → Bool
+is_unread_block block = list_all (λ byte. byte == 0) block
 
 -- the blocks in which the symbols of word n stand, which are those of eight slots
 abbrev pub blocks_under : List ℕ → ℕ → List (List ℕ)
@@ -37,8 +36,8 @@ blocks_under program n = map (block_at program) (range_with_len (n / 4) ((n + 7)
 
 -- how much of some blocks was read
 abbrev pub coverage_of : List (List ℕ) → Coverage
-coverage_of blocks = if list_all is_empty_block blocks then Unread
-    else (if list_any is_empty_block blocks then Partly else Whole)
+coverage_of blocks = if list_all is_unread_block blocks then Unread
+    else (if list_any is_unread_block blocks then Partly else Whole)
 
 -- the reading of word n of a program
 unfoldable pub reading_at : List ℕ → ℕ → WordReading

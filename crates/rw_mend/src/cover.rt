@@ -1,15 +1,14 @@
-// Which blocks under a word are empty.
+// Which blocks under a word were not read.
 ghost use Rattle.std.specs.Prelude.{true, ◌≡◌, ◌≢◌, ◌==◌, ◌≤◌, ◌<◌, ◌+◌, ◌-◌, ◌*◌, ◌/◌, ◌%◌, ◌^◌, List, ℕ, length, if◌then◌else◌};
 ghost use Rattle.std.specs.List.{list_all};
-ghost use Rattle.rw_mend.specs.Words.{HoldsWord, block_at, blocks_under, coverage_of, is_blank_block, is_empty_block};
+ghost use Rattle.rw_mend.specs.Words.{HoldsWord, block_at, blocks_under, coverage_of, is_blank_block, is_unread_block};
 ghost use Rattle.rw_mend.specs.Trails.{IsTrail};
 ghost use Rattle.raw_subcode.specs.Sizes.{block_bytes};
 
 use crate::Coverage;
-use q_channel::is_frame;
-use raw_subcode::{BLOCK_BYTES, Block};
+use raw_subcode::BLOCK_BYTES;
 
-/// Whether the blocks under a word are empty, and whether they are without symbols: two of them, or three where the word
+/// Whether the blocks under a word are unread, and whether they are without symbols: two of them, or three where the word
 /// does not begin with its block.
 #[derive(Clone, Copy)]
 pub(crate) struct Trail {
@@ -34,6 +33,27 @@ impl Trail {
         }
     }
 
+    /// Of word n of a program.
+    pub(crate) fn at(program: &[u8], n: usize) -> Trail
+        requires { HoldsWord n (length program.now) }
+        ensures { IsTrail program.now n result }
+    {
+        let b = n / 4;
+        let mut trail = Trail {
+            first: is_unread_at(program, b),
+            second: is_unread_at(program, b + 1),
+            third: false,
+            first_blank: is_blank_at(program, b),
+            second_blank: is_blank_at(program, b + 1),
+            third_blank: false,
+        };
+        if n % 4 != 0 {
+            trail.third = is_unread_at(program, b + 2);
+            trail.third_blank = is_blank_at(program, b + 2);
+        }
+        trail
+    }
+
     /// Comes to word n of a program from the word before it.
     pub(crate) fn advance(&mut self, program: &[u8], n: usize)
         requires before { 0 < n → IsTrail program.now (n - 1) self.old }
@@ -42,9 +62,9 @@ impl Trail {
     {
         if n == 0 {
             self.first_blank = is_blank_at(program, 0);
-            self.first = is_empty_at(program, 0, self.first_blank);
+            self.first = is_unread_at(program, 0);
             self.second_blank = is_blank_at(program, 1);
-            self.second = is_empty_at(program, 1, self.second_blank);
+            self.second = is_unread_at(program, 1);
         } else if n % 4 == 0 {
             self.first = self.second;
             self.second = self.third;
@@ -52,7 +72,7 @@ impl Trail {
             self.second_blank = self.third_blank;
         } else if n % 4 == 1 {
             self.third_blank = is_blank_at(program, n / 4 + 2);
-            self.third = is_empty_at(program, n / 4 + 2, self.third_blank);
+            self.third = is_unread_at(program, n / 4 + 2);
         }
     }
 
@@ -84,7 +104,7 @@ impl Trail {
     }
 }
 
-// How much was read where all blocks, or any, are empty.
+// How much was read where all blocks, or any, are unread.
 fn covered(all: bool, any: bool) -> Coverage
     ensures { result ≡ (if all then Coverage.Unread else (if any then Coverage.Partly else Coverage.Whole)) }
 {
@@ -115,35 +135,32 @@ fn is_blank(block: &[u8]) -> bool
     has_no_symbol(block)
 }
 
+// Whether a block of a program was not read.
 #[inline]
-fn is_empty_at(program: &[u8], b: usize, blank: bool) -> bool
-    requires within { block_bytes * b + block_bytes ≤ length program.now }
-    requires blank { blank ≡ is_blank_block (block_at program.now b) }
-    ensures { result ≡ is_empty_block (block_at program.now b) }
+fn is_unread_at(program: &[u8], b: usize) -> bool
+    requires { block_bytes * b + block_bytes ≤ length program.now }
+    ensures { result ≡ is_unread_block (block_at program.now b) }
 {
     let at = BLOCK_BYTES * b;
-    is_empty(&program[at..at + BLOCK_BYTES], blank)
+    is_unread(&program[at..at + BLOCK_BYTES])
 }
 
-/// Whether a block of a stream is empty: no symbol of it is other than 0, and its Q channel is no frame.
-pub fn is_empty_block(block: &[u8]) -> bool
-    requires { length block.now ≡ block_bytes }
-    ensures { result ≡ is_empty_block block.now }
+/// Whether a block of a stream was not read: all its bytes are 0.
+pub fn is_unread_block(block: &[u8]) -> bool
+    ensures { result ≡ is_unread_block block.now }
 {
-    is_empty(block, is_blank(block))
+    is_unread(block)
 }
 
-fn is_empty(block: &[u8], blank: bool) -> bool
-    requires size { length block.now ≡ block_bytes }
-    requires blank { blank ≡ is_blank_block block.now }
-    ensures { result ≡ is_empty_block block.now }
+#[inline]
+fn is_unread(block: &[u8]) -> bool
+    ensures { result ≡ is_unread_block block.now }
 {
-    if !blank {
-        return false;
+    let mut most = 0;
+    for i in 0..block.len() {
+        most = most.max(block[i]);
     }
-    let mut bytes = [0; BLOCK_BYTES];
-    bytes.copy_from_slice(block);
-    !is_frame(&Block::from_bytes(&bytes).q_frame())
+    most == 0
 }
 
 // Whether all symbols of a block are 0: all are looked at, which is faster than to stop at the first.

@@ -12,7 +12,7 @@ ghost use Rattle.rw_interleave.specs.Texts.{cdg_bytes};
 ghost use Rattle.rw_merge.specs.Readings.{IsDamagedTwice};
 ghost use Rattle.rw_mend.specs.Choice.{IsMending, voice_of_reading};
 ghost use Rattle.rw_mend.specs.Drops.{IsDropCount};
-ghost use Rattle.rw_mend.specs.Laws.{AllGive, AreDamagedReadings, AreEnough, AreExchanged, CountsAlone, IsAgreedWord, IsCleanBeside, IsSameFind, given_text, voice_bytes};
+ghost use Rattle.rw_mend.specs.Laws.{AllGive, AreDamagedReadings, AreEnough, AreExchanged, CountsAlone, IsAgreedWord, IsCleanBeside, IsErrorFreeBeside, IsSameFind, given_text, voice_bytes};
 ghost use Rattle.rw_mend.specs.Many.{AreAllMendedInto, programs_of, words_in_each};
 ghost use Rattle.rw_mend.specs.Streams.{AreMended, IsMendedInto, mended_bytes, mended_text};
 ghost use Rattle.rw_mend.specs.Words.{given_at, program_of};
@@ -54,6 +54,15 @@ pub fn a_clean_reading_comes_out()
         → IsRecovered Raw (program_symbols Raw
         (slice_index_or (parts count (length readings / count) readings) r []) lead_in) found
         → new ≡ cdg_bytes found ++ drop (length (cdg_bytes found)) old }
+{}
+
+/// A law: the same of a reading in which every word is error-free and idle stretches may count as unread, as in a dump
+/// without Q: there no other reading gives a codeword that counts and is not idle, and no two agree on one.
+pub fn an_error_free_reading_comes_out()
+    ensures { (words r : ℕ) (programs : List (List ℕ)) (said : List (List Voice))
+        (found : List (Option Mended))
+        → IsErrorFreeBeside words programs r → AreMended words programs said found
+        → mended_text found ≡ given_text words programs r }
 {}
 
 /// A law: for the voices of a word one codeword at most is mended, of one source; so it is for each word of readings.

@@ -3,17 +3,29 @@ ghost use Rattle.std.specs.Prelude.{◌≡◌, ◌≤◌, ◌<◌, ◌-◌, ◌*
 ghost use Rattle.raw_subcode.specs.Sizes.{block_bytes, most_units};
 ghost use Rattle.rw_interleave.specs.Interleave.{whole_packs};
 ghost use Rattle.rw_mend.specs.Drops.{AreDropCounts};
-ghost use Rattle.rw_mend.specs.Many.{AreAllMendedInto};
+ghost use Rattle.rw_mend.specs.Many.{AreAllMendedInto, AreAllReported};
 ghost use Rattle.rw_mend.specs.Readings.{AreHeldReadings, programs_in, size_in};
-ghost use Rattle.rw_mend.specs.Steps.{AreTold, IsMendedTo};
+ghost use Rattle.rw_mend.specs.Steps.{AreReported, IsMendedTo};
 ghost use Rattle.rw_mend.specs.Streams.{HasWordRoom};
 
+use crate::choice::MOST_READINGS;
+use crate::losses::count_lost;
 use crate::mend;
 use crate::mender::Mender;
 use crate::readings::Readings;
 use crate::streams::put;
 use crate::tallies::{Tallies, put_source};
 use raw_subcode::BLOCK_BYTES;
+
+/// What is told of readings that were mended, and how many words of each are lost.
+#[repr(C)]
+#[derive(Clone, Copy)]
+pub struct MendReport {
+    /// How many words are mended in each way, and how often what a reading gives counts for nothing.
+    pub tallies: Tallies,
+    /// Words that each reading gives with no wrong symbol, and that did not come out.
+    pub lost: [u32; MOST_READINGS],
+}
 
 /// Mends readings of a raw stream, 1 to 254 of equal length that lie one behind another, word by word: writes 24 bytes
 /// for each word of the program, which are the blocks after the lead-in, to the front of a buffer: the symbols of its
@@ -32,6 +44,26 @@ pub fn mend_readings(
     requires short { length readings.now / count ≤ block_bytes * most_units }
     requires room { HasWordRoom (length readings.now / count / block_bytes - lead_in) packs.old }
     ensures { AreAllMendedInto count lead_in readings.now packs.old packs.new sources.old sources.new result }
+{
+    mend_report(readings, count, lead_in, packs, sources).tallies
+}
+
+/// The same, with a report of the words that are lost.
+pub fn mend_report(
+    readings: &[u8],
+    count: usize,
+    lead_in: u32,
+    packs: &mut [u8],
+    sources: &mut [u8],
+) -> MendReport
+    requires some { 0 < count }
+    requires few { count ≤ 254 }
+    requires equal { length readings.now ≡ count * (length readings.now / count) }
+    requires whole { (length readings.now / count) % block_bytes ≡ 0 }
+    requires short { length readings.now / count ≤ block_bytes * most_units }
+    requires room { HasWordRoom (length readings.now / count / block_bytes - lead_in) packs.old }
+    ensures { AreAllReported count lead_in readings.now packs.old packs.new sources.old sources.new
+        result.tallies result.lost }
 {
     let size = readings.len() / count;
     mend_split(
@@ -52,7 +84,7 @@ fn mend_split(
     lead_in: u32,
     packs: &mut [u8],
     sources: &mut [u8],
-) -> Tallies
+) -> MendReport
     requires some { 0 < count }
     requires few { count ≤ 254 }
     requires equal { length others.now ≡ length first.now * (count - 1) }
@@ -61,7 +93,8 @@ fn mend_split(
     requires room { HasWordRoom (length first.now / block_bytes - lead_in) packs.old }
     ensures { (readings : List ℕ) → length readings / count ≡ length first.now
         → readings ≡ first.now ++ others.now
-        → AreAllMendedInto count lead_in readings packs.old packs.new sources.old sources.new result }
+        → AreAllReported count lead_in readings packs.old packs.new sources.old sources.new
+        result.tallies result.lost }
 {
     let all = Readings {
         first,
@@ -73,26 +106,29 @@ fn mend_split(
 }
 
 // The same of readings in a struct.
-fn mend_all(readings: &Readings, packs: &mut [u8], sources: &mut [u8]) -> Tallies
+fn mend_all(readings: &Readings, packs: &mut [u8], sources: &mut [u8]) -> MendReport
     requires readings { AreHeldReadings readings.now }
     requires few { size_in readings.now ≤ block_bytes * most_units }
     requires room { HasWordRoom (size_in readings.now / block_bytes) packs.old }
     ensures mended { IsMendedTo readings.now (whole_packs (size_in readings.now / block_bytes))
         (whole_packs (size_in readings.now / block_bytes)) packs.old packs.new
-        (AreTold sources.old (whole_packs (size_in readings.now / block_bytes)) sources.new result) }
+        (AreReported sources.old (whole_packs (size_in readings.now / block_bytes)) sources.new
+        result.tallies result.lost) }
     ensures dropped { AreDropCounts (whole_packs (size_in readings.now / block_bytes))
-        (programs_in readings.now) (whole_packs (size_in readings.now / block_bytes)) result.dropped }
+        (programs_in readings.now) (whole_packs (size_in readings.now / block_bytes)) result.tallies.dropped }
 {
     let mut mender = Mender::new(readings);
     let mut tallies = Tallies::new();
+    let mut lost = [0; MOST_READINGS];
     for n in 0..mender.words() {
         mender.come_to(readings, n);
-        let voices = mender.voices(n, readings.count);
+        let voices = mender.voices(readings.count);
         let found = mend(voices);
         put(packs, n, &found);
         put_source(sources, n, &found);
         tallies.add(&found);
+        count_lost(voices, &found, &mut lost);
     }
     tallies.dropped = mender.dropped();
-    tallies
+    MendReport { tallies, lost }
 }

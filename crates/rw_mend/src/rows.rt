@@ -1,28 +1,27 @@
 // The words of some readings in turn.
-ghost use Rattle.std.specs.Prelude.{◌≡◌, ◌⊎◌, ◌<◌, ◌≤◌, ◌+◌, ◌-◌, ◌*◌, ◌/◌, nat_lt, List, ℕ, length, slice_index, slice_index_or, take, if◌then◌else◌};
+ghost use Rattle.std.specs.Prelude.{◌≡◌, ◌<◌, ◌≤◌, ◌+◌, ◌-◌, ◌*◌, ◌/◌, ℕ, length, slice_index, slice_index_or, take, if◌then◌else◌};
 ghost use Rattle.raw_subcode.specs.Channels.{symbols_of};
 ghost use Rattle.raw_subcode.specs.Sizes.{symbols_a_slot};
 ghost use Rattle.rw_code.specs.Sizes.{word_symbols};
 ghost use Rattle.rw_interleave.specs.Interleave.{place, word_of};
 ghost use Rattle.std.specs.List.{list_any};
 ghost use Rattle.rw_mend.specs.Choice.{voice_of_reading};
-ghost use Rattle.rw_mend.specs.Voices.{is_clean_graphics, voice_of};
+ghost use Rattle.rw_mend.specs.Silences.{is_left, no_silence, said_after};
+ghost use Rattle.rw_mend.specs.Voices.{is_quiet_voice, voice_of};
 ghost use Rattle.rw_mend.specs.Readings.{AreHeldReadings, program_in, programs_in, size_in};
 ghost use Rattle.rw_mend.specs.Trails.{AreSameFrom, IsTrail};
 ghost use Rattle.rw_mend.specs.Words.{HoldsWord, reading_at};
-ghost use Rattle.rw_mend.specs.Rows.{AreFollowed, AreLastMissed, AreTrails, IsRow, is_left, no_trail, said_after};
+ghost use Rattle.rw_mend.specs.Rows.{AreFollowed, AreTrails, IsRow, no_trail};
 
 use crate::choice::MOST_READINGS;
 use crate::cover::Trail;
 use crate::readings::{Readings, follow};
+use crate::silences::Silence;
 use crate::voices::{hear_blank, hear_likely};
 use crate::{Voice, WordReading};
 use raw_subcode::SLOTS_A_BLOCK;
 use rw_code::{SYMBOLS, Word};
 use rw_interleave::place;
-
-// How many words to each side are looked at.
-const REACH: usize = 7;
 
 /// What each reading gives for a word.
 #[derive(Clone, Copy)]
@@ -175,9 +174,9 @@ fn hear_one(other: &Voice, program: &[u8], n: usize, trail: &mut Trail, voice: &
     *voice = heard(other, program, n, trail);
 }
 
-// What one reading gives for word n. One without symbols, as most are, is not looked at again.
+/// What one reading gives for word n. One without symbols, as most are, is not looked at again.
 #[inline]
-fn heard(other: &Voice, program: &[u8], n: usize, trail: &Trail) -> Voice
+pub(crate) fn heard(other: &Voice, program: &[u8], n: usize, trail: &Trail) -> Voice
     requires size { symbols_a_slot * (n + 8) ≤ length program.now }
     requires trail { IsTrail program.now n trail.now }
     ensures { result ≡ voice_of (reading_at program.now n) }
@@ -188,55 +187,26 @@ fn heard(other: &Voice, program: &[u8], n: usize, trail: &Trail) -> Voice
     hear_likely(other, &reading(program, n, trail))
 }
 
-/// Notes which readings miss graphics at word n.
-pub(crate) fn note_missed(row: &[Voice], n: usize, missed: &mut [usize], last_missed: &mut usize)
-    requires size { length row.now ≤ length missed.old }
-    requires word { n < 4000000 }
-    ensures size { length missed.new ≡ length missed.old }
-    ensures last { (last_missed.new ≡ n + 1)
-        ⊎ (last_missed.new ≡ last_missed.old) × (missed.new ≡ missed.old) }
-    ensures noted { (programs : List (List ℕ)) → length programs ≡ length row.now → IsRow programs n row.now
-        → AreLastMissed programs n missed.old → AreLastMissed programs (n + 1) missed.new }
-{
-    if !has_graphics(row) {
-        return;
-    }
-    for r in 0..row.len() {
-        if row[r].is_idle() {
-            missed[r] = n + 1;
-            *last_missed = n + 1;
-        }
-    }
-}
-
-/// Whether what some reading gives at word n may count for nothing, by 1 more than the last word at which any misses
-/// graphics.
-#[inline]
-pub(crate) fn may_be_left(last_missed: usize, n: usize) -> bool
-    ensures { result ≡ nat_lt (n - 7) last_missed }
-{
-    n.saturating_sub(REACH) < last_missed
-}
-
-/// What each reading says at word n, of those that were heard before this.
-pub(crate) fn say_all(row: &[Voice], missed: &[usize], n: usize, said: &mut [Voice])
-    requires missed { length row.now ≤ length missed.now }
+/// What each reading says at a word, beside what all give.
+pub(crate) fn say_all(row: &[Voice], silences: &[Silence], said: &mut [Voice])
+    requires silences { length row.now ≤ length silences.now }
     requires said { length row.now ≤ length said.old }
     ensures size { length said.new ≡ length said.old }
     ensures each { (r : ℕ) → r < length row.now
-        → voice_of_reading said.new r
-        ≡ said_after (slice_index_or missed.now r 0) n (voice_of_reading row.now r) }
+        → voice_of_reading said.new r ≡ said_after (list_any is_quiet_voice row.now)
+        (slice_index_or silences.now r no_silence) (voice_of_reading row.now r) }
 {
+    let some_quiet = is_any_quiet(row);
     for r in 0..row.len() {
-        said[r] = say(row[r], missed[r], n);
+        said[r] = say(some_quiet, silences[r], row[r]);
     }
 }
 
 #[inline]
-fn say(given: Voice, missed: usize, n: usize) -> Voice
-    ensures { result ≡ said_after missed n given }
+fn say(some_quiet: bool, silence: Silence, given: Voice) -> Voice
+    ensures { result ≡ said_after some_quiet silence given }
 {
-    if is_left(&given, missed, n) {
+    if is_left(some_quiet, silence, &given) {
         Voice::Silent
     } else {
         given
@@ -245,36 +215,38 @@ fn say(given: Voice, missed: usize, n: usize) -> Voice
 
 // Whether what a reading gives counts for nothing.
 #[inline]
-fn is_left(given: &Voice, missed: usize, n: usize) -> bool
-    ensures { result ≡ is_left missed n given.now }
+fn is_left(some_quiet: bool, silence: Silence, given: &Voice) -> bool
+    ensures { result ≡ is_left some_quiet silence given.now }
 {
-    n.saturating_sub(REACH) < missed && given.is_idle()
+    silence.lacks() && given.is_idle() || some_quiet && given.is_doubtful()
 }
 
-/// Counts for each reading that what it gives at word n counts for nothing, where it does.
-pub(crate) fn count_left(row: &[Voice], missed: &[usize], n: usize, counts: &mut [u32])
-    requires missed { length row.now ≤ length missed.now }
+/// Counts for each reading that what it gives counts for nothing, where it does.
+pub(crate) fn count_left(row: &[Voice], silences: &[Silence], counts: &mut [u32])
+    requires silences { length row.now ≤ length silences.now }
     requires counts { length row.now ≤ length counts.old }
     requires few { (r : ℕ) → r < length row.now → slice_index_or counts.old r 0 < 4000000 }
     ensures size { length counts.new ≡ length counts.old }
     ensures each { (r : ℕ) → r < length row.now → slice_index_or counts.new r 0
         ≡ slice_index_or counts.old r 0
-        + (if is_left (slice_index_or missed.now r 0) n (voice_of_reading row.now r) then 1 else 0) }
+        + (if is_left (list_any is_quiet_voice row.now) (slice_index_or silences.now r no_silence)
+        (voice_of_reading row.now r) then 1 else 0) }
     ensures others { (r : ℕ) → length row.now ≤ r
         → slice_index_or counts.new r 0 ≡ slice_index_or counts.old r 0 }
 {
+    let some_quiet = is_any_quiet(row);
     for r in 0..row.len() {
-        if is_left(&row[r], missed[r], n) {
+        if is_left(some_quiet, silences[r], &row[r]) {
             counts[r] += 1;
         }
     }
 }
 
-// Whether some reading gives graphics.
-fn has_graphics(row: &[Voice]) -> bool
-    ensures { result ≡ list_any is_clean_graphics row.now }
+// Whether some reading is quiet.
+fn is_any_quiet(row: &[Voice]) -> bool
+    ensures { result ≡ list_any is_quiet_voice row.now }
 {
-    row.iter().any(|voice| voice.is_graphics())
+    row.iter().any(|voice| voice.is_quiet())
 }
 
 fn reading(program: &[u8], n: usize, trail: &Trail) -> WordReading

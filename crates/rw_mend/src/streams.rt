@@ -61,7 +61,7 @@ fn mend_two(readings: &Readings, packs: &mut [u8]) -> MendCounts
     let mut counts = MendCounts::zero();
     for n in 0..mender.words() {
         mender.come_to(readings, n);
-        let voices = mender.voices(n, readings.count);
+        let voices = mender.voices(readings.count);
         let found = mend(voices);
         put(packs, n, &found);
         counts.add(&found_by(voices, &found));

@@ -1,9 +1,10 @@
 // What a reading of a word gives.
-ghost use Rattle.std.specs.Prelude.{◌≡◌, List, ℕ};
+ghost use Rattle.std.specs.Prelude.{◌≡◌, ◌==◌, List, ℕ, slice_index_or};
+ghost use Rattle.std.specs.List.{list_any};
 ghost use Rattle.rw_code.specs.Codeword.{IsWord, differences};
 ghost use Rattle.rw_code.specs.Packs.{idle_pack};
 ghost use Rattle.rw_mend.specs.declared.voices.WordReading.{WordReading};
-ghost use Rattle.rw_mend.specs.Voices.{GivesNear, doubts_of, is_clean_graphics, is_idle_pack, is_idle_voice, voice_of};
+ghost use Rattle.rw_mend.specs.Voices.{GivesNear, doubts_of, has_used_mode, instructions, is_doubtful_voice, is_graphics_pack, is_graphics_voice, is_idle_pack, is_idle_voice, is_quiet_voice, voice_of};
 
 use rw_code::{Fixed, Pack, Word, correct, words_have_24_symbols};
 use rw_merge::differing;
@@ -160,13 +161,74 @@ impl Voice {
         }
     }
 
-    /// Whether it is another codeword, and no symbol is wrong.
-    pub(crate) fn is_graphics(&self) -> bool
-        ensures { result ≡ is_clean_graphics self.now }
+    /// Whether it is near the idle pack, or nothing was read.
+    pub(crate) fn is_quiet(&self) -> bool
+        ensures { result ≡ is_quiet_voice self.now }
     {
         match self {
-            Voice::Near { pack, doubts: 0 } => !is_idle_pack(pack),
+            Voice::Silent => true,
+            _ => self.is_idle(),
+        }
+    }
+
+    /// Whether it shows that the word is not idle.
+    pub(crate) fn is_graphics(&self) -> bool
+        ensures { result ≡ is_graphics_voice self.now }
+    {
+        match self {
+            Voice::Near { pack, doubts } => {
+                !is_idle_pack(pack) && (*doubts == 0 || is_graphics_pack(pack))
+            }
             _ => false,
         }
     }
+
+    /// Whether it is a codeword of a mode and item that no disc carries, and some symbol is wrong.
+    pub(crate) fn is_doubtful(&self) -> bool
+        ensures { result ≡ is_doubtful_voice self.now }
+    {
+        match self {
+            Voice::Near { pack, doubts } => {
+                !is_idle_pack(pack) && (!(*doubts == 0) && !has_used_mode(pack))
+            }
+            _ => false,
+        }
+    }
+}
+
+// The mode and item of graphics.
+const GRAPHICS: u8 = 9;
+
+// The instructions of graphics packs.
+static INSTRUCTIONS: [u8; 9] = [1, 2, 6, 20, 24, 28, 30, 31, 38];
+
+// The modes and items that discs carry.
+static USED_MODES: [u8; 4] = [8, 9, 10, 24];
+
+// Whether a codeword is a graphics pack.
+fn is_graphics_pack(pack: &Pack) -> bool
+    ensures { result ≡ is_graphics_pack pack.now }
+{
+    has_graphics_mode(pack) && has_known_instruction(pack)
+}
+
+fn has_graphics_mode(pack: &Pack) -> bool
+    ensures { result ≡ (slice_index_or pack.now 0 0 == 9) }
+{
+    pack.word().bytes()[0] == GRAPHICS
+}
+
+fn has_known_instruction(pack: &Pack) -> bool
+    ensures { result ≡ list_any (λ known. slice_index_or pack.now 1 0 == known) instructions }
+{
+    let bytes = pack.word().bytes();
+    INSTRUCTIONS.iter().any(|known| bytes[1] == *known)
+}
+
+// Whether the mode and item of a codeword are among those that discs carry.
+fn has_used_mode(pack: &Pack) -> bool
+    ensures { result ≡ has_used_mode pack.now }
+{
+    let bytes = pack.word().bytes();
+    USED_MODES.iter().any(|mode| bytes[0] == *mode)
 }

@@ -14,6 +14,8 @@ pub mod Views
 pub mod Counted
 pub mod IdlePacks
 pub mod NearIdle
+pub mod IdleBlocks
+pub mod Packing
 pub mod QListing
 pub mod Checks
 pub mod TextLists

@@ -3,35 +3,24 @@ use Rattle.std.proofs.Common.{◌≡◌, ℕ, ◌+◌, ◌^◌, ◌<◌, ◌≤�
 use Rattle.std.specs.declared.option.Option.{Option}
 use Rattle.std.specs.List.{concat, flat_map}
 use Rattle.std.proofs.lemmas.List.{length-map}
-use Rattle.cdg_io.specs.Run.{give, run_state, run_gives, then_gives}
-use Rattle.cdg_io.specs.declared.stage.Then.{Then}
+use Rattle.cdg_io.specs.Run.{give, run_state, run_gives}
 use Rattle.cdg_io.proofs.Frames.{machine_of}
-use Rattle.cdg_io.proofs.Runs.{then_next, then_next_second, then_next_gives}
 use Rattle.rw_code.specs.Finding.{finding}
 use Rattle.raw_subcode.specs.Channels.{block_of}
 use Rattle.rw_interleave.specs.Texts.{cdg_bytes}
 use Rattle.rw_interleave.specs.Stream.{bad_count}
-use Rattle.stream_stages.specs.Steps.{fresh_words, slots_of, window_next, window_gives, words_next, words_give, bad_after, correction_next, correction_gives}
+use Rattle.stream_stages.specs.Steps.{fresh_words, slots_of, window_next, window_gives, words_next, words_give, bad_after, packs_next, packs_give}
 use Rattle.raw_subcode.specs.declared.form.Form.{Form}
 use Rattle.stream_stages.specs.declared.block_words.BlockWords.{BlockWords}
-use Rattle.stream_stages.specs.declared.correction.Correction.{Correction}
+use Rattle.stream_stages.specs.declared.block_packs.BlockPacks.{BlockPacks}
 use Rattle.stream_stages.proofs.Slots.{length-all_slots}
 use Rattle.stream_stages.proofs.FormWords.{words_from, found_in}
-use Rattle.stream_stages.proofs.StageRuns.{all_items, words_run, correction_run, correction_counts, bad_counts}
+use Rattle.stream_stages.proofs.StageRuns.{all_items, words_run, packs_run, packs_counted, bad_counts}
 use Rattle.stream_stages.specs.Convert.{IsConverted}
 use Rattle.stream_stages.proofs.Playing.{Plays}
 use Rattle.stream_stages.proofs.WatchedBlocks.{given_on_units, run_on_units}
 use Rattle.stream_stages.specs.Watch.{on_units}
 use Rattle.stream_stages.proofs.Conversion.{converts_by}
-
-abbrev pub Blocks : Type 0
-Blocks = Then BlockWords Correction
-
-abbrev pub blocks_next : Blocks → List ℕ → Blocks
-blocks_next s x = then_next words_next words_give correction_next s x
-
-abbrev pub blocks_give : Blocks → List ℕ → Option (List ℕ)
-blocks_give s x = then_gives correction_gives s.second (words_give s.first x)
 
 -- at most one thing is given for an item
 give_few : {O : Type 0} (o : Option O) (rest : List O) → length (give o rest) ≤ length rest + 1
@@ -51,17 +40,16 @@ pub block_words : (form : Form) (lead_in : ℕ) (b : BlockWords) (blocks : List 
 block_words form lead_in b blocks start =
     ap (λ b. all_items (run_gives words_next words_give b blocks)) start ∙ words_run form lead_in [] blocks
 
-pub block_text : (form : Form) (lead_in : ℕ) (s : Blocks) (blocks : List (List ℕ))
-    → s.first ≡ fresh_words form lead_in
-    → concat (run_gives blocks_next blocks_give s blocks) ≡ cdg_bytes (found_in form (drop lead_in blocks))
+pub block_text : (form : Form) (lead_in : ℕ) (s : BlockPacks) (blocks : List (List ℕ))
+    → s.words ≡ fresh_words form lead_in
+    → concat (run_gives packs_next packs_give s blocks) ≡ cdg_bytes (found_in form (drop lead_in blocks))
 block_text form lead_in s blocks start =
-    ap concat (then_next_gives words_next words_give correction_next correction_gives s blocks)
-    ∙ correction_run s.second (run_gives words_next words_give s.first blocks)
-    ∙ ap (λ ws. cdg_bytes (map finding ws)) (block_words form lead_in s.first blocks start)
+    packs_run s blocks
+    ∙ ap (λ ws. cdg_bytes (map finding ws)) (block_words form lead_in s.words blocks start)
 
-pub block_bad : (form : Form) (lead_in : ℕ) (s : Blocks) (blocks : List (List ℕ))
-    → s.first ≡ fresh_words form lead_in → s.second.bad ≡ 0 → length blocks ≤ 1000000
-    → (run_state blocks_next s blocks).second.bad ≡ bad_count (found_in form (drop lead_in blocks))
+pub block_bad : (form : Form) (lead_in : ℕ) (s : BlockPacks) (blocks : List (List ℕ))
+    → s.words ≡ fresh_words form lead_in → s.bad ≡ 0 → length blocks ≤ 1000000
+    → (run_state packs_next s blocks).bad ≡ bad_count (found_in form (drop lead_in blocks))
 block_bad form lead_in s blocks start none few =
     let slots : List (List ℕ) = flat_map slots_of (drop lead_in blocks) in
     let few_words : 0 + length (words_from form slots) < 2 ^ 32 = omega (
@@ -74,22 +62,21 @@ block_bad form lead_in s blocks start none few =
     let alone : 0 + bad_count (found_in form (drop lead_in blocks))
     ≡ bad_count (found_in form (drop lead_in blocks)) =
     omega arith in
-    ap (λ (c : Correction). c.bad) (then_next_second words_next words_give correction_next s blocks)
-    ∙ correction_counts s.second (run_gives words_next words_give s.first blocks)
-    ∙ ap₂ bad_after none (block_words form lead_in s.first blocks start)
+    packs_counted s blocks
+    ∙ ap₂ bad_after none (block_words form lead_in s.words blocks start)
     ∙ bad_counts 0 (words_from form slots) few_words
     ∙ alone
 
 -- the packs of a stream in each form
-pub plays_stream : (form : Form) (lead_in : ℕ) (s : Blocks) → s.first ≡ fresh_words form lead_in
-    → s.second.bad ≡ 0
+pub plays_stream : (form : Form) (lead_in : ℕ) (s : BlockPacks) → s.words ≡ fresh_words form lead_in
+    → s.bad ≡ 0
     → Plays (IsConverted form lead_in) form
-    (machine_of (on_units form blocks_next) (on_units form blocks_give)) s (λ (t : Blocks). t.second.bad)
+    (machine_of (on_units form packs_next) (on_units form packs_give)) s (λ (t : BlockPacks). t.bad)
 plays_stream form lead_in s start none =
-    converts_by form lead_in (machine_of (on_units form blocks_next) (on_units form blocks_give)) s
-    (λ (t : Blocks). t.second.bad)
-    (λ units. ap concat (given_on_units form blocks_next blocks_give s units)
+    converts_by form lead_in (machine_of (on_units form packs_next) (on_units form packs_give)) s
+    (λ (t : BlockPacks). t.bad)
+    (λ units. ap concat (given_on_units form packs_next packs_give s units)
     ∙ block_text form lead_in s (map (block_of form) units) start)
-    (λ units few. ap (λ (t : Blocks). t.second.bad) (run_on_units form blocks_next s units)
+    (λ units few. ap (λ (t : BlockPacks). t.bad) (run_on_units form packs_next s units)
     ∙ block_bad form lead_in s (map (block_of form) units) start none
     (omega (arith, few, length-map units (block_of form))))

@@ -12,10 +12,10 @@ use Rattle.cdg_io.proofs.Runs.{run_gives-append, run_state-append}
 use Rattle.rw_code.specs.Finding.{finding}
 use Rattle.rw_interleave.specs.Texts.{entry_bytes, cdg_bytes}
 use Rattle.rw_interleave.specs.Stream.{bad_count}
-use Rattle.stream_stages.specs.Steps.{slots_of, window_next, window_gives, words_next, words_give, bad_next, bad_after, correction_next, correction_gives}
+use Rattle.stream_stages.specs.Steps.{slots_of, window_next, window_gives, words_next, words_give, bad_next, bad_after, bad_with, text_of_words, packs_next, packs_give}
 use Rattle.raw_subcode.specs.declared.form.Form.{Form}
 use Rattle.stream_stages.specs.declared.block_words.BlockWords.{BlockWords}
-use Rattle.stream_stages.specs.declared.correction.Correction.{Correction}
+use Rattle.stream_stages.specs.declared.block_packs.BlockPacks.{BlockPacks}
 
 -- all words of the lists that were given
 abbrev pub all_items : List (ArrayVec (List ℕ)) → List (List ℕ)
@@ -95,14 +95,21 @@ text_append (w ∷ words) others =
     ap (λ l. entry_bytes (finding w) ++ l) (text_append words others)
     ∙ sym (append_assoc (entry_bytes (finding w)) _ _)
 
-pub correction_run : (c : Correction) (vs : List (ArrayVec (List ℕ)))
-    → concat (run_gives correction_next correction_gives c vs) ≡ cdg_bytes (map finding (all_items vs))
-unfolding correction_next correction_gives
-correction_run c [] = refl
-correction_run c (v ∷ vs) =
-    ap (λ l. cdg_bytes (map finding v.items) ++ l)
-    (correction_run (record { bad = bad_after c.bad v.items }) vs)
-    ∙ sym (text_append v.items (all_items vs))
+text_on : (o : Option (ArrayVec (List ℕ))) (rest : List (ArrayVec (List ℕ)))
+    → text_of_words o ++ cdg_bytes (map finding (all_items rest))
+    ≡ cdg_bytes (map finding (all_items (give o rest)))
+text_on None rest = refl
+text_on (Some v) rest = sym (text_append v.items (all_items rest))
+
+-- the packs of some blocks
+pub packs_run : (s : BlockPacks) (blocks : List (List ℕ))
+    → concat (run_gives packs_next packs_give s blocks)
+    ≡ cdg_bytes (map finding (all_items (run_gives words_next words_give s.words blocks)))
+unfolding packs_next packs_give
+packs_run s [] = refl
+packs_run s (block ∷ blocks) =
+    ap (λ (l : List ℕ). text_of_words (words_give s.words block) ++ l) (packs_run (packs_next s block) blocks)
+    ∙ text_on (words_give s.words block) (run_gives words_next words_give (words_next s.words block) blocks)
 
 bad_append : (bad : ℕ) (words others : List (List ℕ))
     → bad_after bad (words ++ others) ≡ bad_after (bad_after bad words) others
@@ -110,13 +117,21 @@ unfolding bad_after
 bad_append bad [] others = refl
 bad_append bad (w ∷ words) others = bad_append (bad_next bad w) words others
 
-pub correction_counts : (c : Correction) (vs : List (ArrayVec (List ℕ)))
-    → (run_state correction_next c vs).bad ≡ bad_after c.bad (all_items vs)
-unfolding correction_next bad_after
-correction_counts c [] = refl
-correction_counts c (v ∷ vs) =
-    correction_counts (record { bad = bad_after c.bad v.items }) vs
-    ∙ sym (bad_append c.bad v.items (all_items vs))
+bad_on : (bad : ℕ) (o : Option (ArrayVec (List ℕ))) (rest : List (ArrayVec (List ℕ)))
+    → bad_after (bad_with bad o) (all_items rest) ≡ bad_after bad (all_items (give o rest))
+bad_on bad None rest = refl
+bad_on bad (Some v) rest = sym (bad_append bad v.items (all_items rest))
+
+-- and how many of them are bad
+pub packs_counted : (s : BlockPacks) (blocks : List (List ℕ))
+    → (run_state packs_next s blocks).bad
+    ≡ bad_after s.bad (all_items (run_gives words_next words_give s.words blocks))
+unfolding packs_next bad_after
+packs_counted s [] = refl
+packs_counted s (block ∷ blocks) =
+    packs_counted (packs_next s block) blocks
+    ∙ bad_on s.bad (words_give s.words block)
+    (run_gives words_next words_give (words_next s.words block) blocks)
 
 pub one_bad : (bad : ℕ) (found : Option (List ℕ)) → bad + 1 < 2 ^ 32
     → cond (is_none found) (min (bad + 1) (2 ^ 32 - 1)) bad ≡ bad + bad_count (found ∷ [])

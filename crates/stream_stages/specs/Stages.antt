@@ -1,17 +1,12 @@
 -- What gathers the words of a stream, and what is fed them, by name.
 use Rattle.cdg_io.specs.declared.stage.Then.{Then}
 use Rattle.stream_stages.specs.declared.block_words.BlockWords.{BlockWords}
-use Rattle.stream_stages.specs.declared.correction.Correction.{Correction}
 use Rattle.stream_stages.specs.declared.painting.Painting.{Painting}
 use Rattle.stream_stages.specs.declared.counting.WordCounts.{WordCounts}
 
 -- what gathers the words
 abbrev pub words_of : {G : Type 0} → Then BlockWords G → BlockWords
 words_of s = s.first
-
--- what corrects them to packs
-abbrev pub correction_of : Then BlockWords Correction → Correction
-correction_of s = s.second
 
 -- what draws their packs
 abbrev pub painting_of : Then BlockWords Painting → Painting

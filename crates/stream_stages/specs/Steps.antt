@@ -11,7 +11,7 @@ use Rattle.rw_interleave.specs.Texts.{cdg_bytes}
 use Rattle.raw_subcode.specs.declared.form.Form.{Form}
 use Rattle.raw_subcode.specs.declared.form.Form.TheVariants.{Raw, Sector, Cooked}
 use Rattle.stream_stages.specs.declared.block_words.BlockWords.{BlockWords}
-use Rattle.stream_stages.specs.declared.correction.Correction.{Correction}
+use Rattle.stream_stages.specs.declared.block_packs.BlockPacks.{BlockPacks}
 use Rattle.rw_code.specs.Packs.{idle_pack}
 
 -- slot i of a block
@@ -72,9 +72,22 @@ bad_after bad [] = bad
 bad_after bad (word ∷ words) = bad_after (bad_next bad word) words
 
 -- after the words of a block
-unfoldable pub correction_next : Correction → ArrayVec (List ℕ) → Correction
-correction_next s words = record { bad = bad_after s.bad words.items }
+abbrev pub bad_with : ℕ → Option (ArrayVec (List ℕ)) → ℕ
+bad_with bad None = bad
+bad_with bad (Some words) = bad_after bad words.items
 
 -- the bytes of what is found for them
-unfoldable pub correction_gives : Correction → ArrayVec (List ℕ) → Option (List ℕ)
-correction_gives s words = Some (cdg_bytes (map finding words.items))
+abbrev pub text_of_words : Option (ArrayVec (List ℕ)) → List ℕ
+text_of_words None = []
+text_of_words (Some words) = cdg_bytes (map finding words.items)
+
+-- the words that come with a block are corrected, and the bad ones counted
+unfoldable pub packs_next : BlockPacks → List ℕ → BlockPacks
+packs_next s block = record {
+  words = words_next s.words block;
+  bad = bad_with s.bad (words_give s.words block);
+}
+
+-- the bytes of their packs
+unfoldable pub packs_give : BlockPacks → List ℕ → Option (List ℕ)
+packs_give s block = Some (text_of_words (words_give s.words block))

@@ -95,10 +95,10 @@ impl BlockWords {
         self.gather.reset();
     }
 
-    // Whether a block is quickly seen to change nothing, so that four idle words come with it. It stands in line, so that
-    // of a run of blocks only the bytes are looked at one by one.
+    /// Whether a block is quickly seen to change nothing, so that four idle words come with it. It stands in line, so that
+    /// of a run of blocks only the bytes are looked at one by one.
     #[inline(always)]
-    fn stays_idle(&self, block: &[u8; BLOCK_BYTES]) -> bool
+    pub fn stays_idle(&self, block: &[u8; BLOCK_BYTES]) -> bool
         ensures { result ≡ true → IdlesOn self.now block.now }
     {
         // Of most blocks that are not idle the gatherer says so at once.
@@ -108,6 +108,26 @@ impl BlockWords {
         match self.form {
             Form::Raw | Form::Sector => true,
             Form::Cooked => false,
+        }
+    }
+
+    /// The words that come with a block. It does not look whether the block is idle.
+    #[inline]
+    #[tactic(auto, unfolding(crate::specs::Steps::words_next, crate::specs::Steps::words_give))]
+    pub(crate) fn gathered(
+        &mut self,
+        block: &[u8; BLOCK_BYTES],
+    ) -> Option<ArrayVec<Word, SLOTS_A_BLOCK>>
+        ensures next { self.new ≡ words_next self.old block.now }
+        ensures gives { result ≡ words_give self.old block.now }
+    {
+        if self.lead_in > 0 {
+            self.lead_in -= 1;
+            return None;
+        }
+        match self.form {
+            Form::Raw | Form::Sector => Some(self.gather.gather_block(block)),
+            Form::Cooked => Some(slots(block)),
         }
     }
 }
@@ -124,15 +144,13 @@ impl Stage for BlockWords {
     ghost idle = { Some (record { items = replicate slots_a_block idle_pack }) };
 
     #[inline]
-    #[tactic(auto, unfolding(crate::specs::Steps::words_next, crate::specs::Steps::words_give))]
     fn feed(&mut self, block: &[u8; BLOCK_BYTES]) -> Option<BlockOfWords> {
-        if self.lead_in > 0 {
-            self.lead_in -= 1;
-            return None;
+        if self.stays_idle(block) {
+            return Some(BlockOfWords::idle());
         }
-        match self.form {
-            Form::Raw | Form::Sector => Some(gathered(&mut self.gather, block)),
-            Form::Cooked => Some(BlockOfWords::new(slots(block))),
+        match self.gathered(block) {
+            Some(words) => Some(BlockOfWords::new(words)),
+            None => None,
         }
     }
 
@@ -146,19 +164,6 @@ impl Stage for BlockWords {
     fn idle_gives() -> Option<BlockOfWords> {
         Some(BlockOfWords::idle())
     }
-}
-
-// The words that come with a block.
-#[inline]
-fn gathered(gather: &mut Gather, block: &[u8; BLOCK_BYTES]) -> BlockOfWords
-    ensures next { gather.new ≡ run_state gather_next gather.old (slots_in block.now 0 slots_a_block) }
-    ensures gives { result.items
-        ≡ run_gives gather_next gather_gives gather.old (slots_in block.now 0 slots_a_block) }
-{
-    if gather.stays_idle(block) {
-        return BlockOfWords::idle();
-    }
-    BlockOfWords::new(gather.gather_block(block))
 }
 
 // The slots of a block, each as a word.
@@ -187,21 +192,6 @@ pub(crate) fn is_idle(word: &Word) -> bool
     ensures { result ≡ true → (word.now ≡ idle_pack) × IsCodeword word.now }
 {
     word.bytes() == Pack::idle().word().bytes()
-}
-
-/// Whether it is quickly seen that the idle pack is found for each word.
-#[inline]
-pub(crate) fn are_near_idle(words: &ArrayVec<Word, SLOTS_A_BLOCK>) -> bool
-    requires { IsCodeword idle_pack }
-    ensures { result ≡ true
-        → map finding words.now.items ≡ replicate (length words.now.items) (Some idle_pack) }
-{
-    for word in words.as_slice() {
-        if !word.is_near_idle() {
-            return false;
-        }
-    }
-    true
 }
 
 /// A law: the idle pack is a codeword.

@@ -4,14 +4,20 @@ ghost use Rattle.std.specs.List.{concat};
 ghost use Rattle.disc_time.specs.Counts.{most_lead_in};
 ghost use Rattle.raw_subcode.specs.declared.form.Form.{Form};
 ghost use Rattle.stream_stages.specs.Plays.{Plays, conversion};
-ghost use Rattle.stream_stages.specs.Steps.{fresh_words};
-ghost use Rattle.stream_stages.specs.Stages.{correction_of, words_of};
+ghost use Rattle.stream_stages.specs.Steps.{fresh_words, packs_next, packs_give};
+ghost use Rattle.cdg_io.specs.Causes.{TellsFault};
+ghost use Rattle.cdg_io.specs.Change.{moved};
+ghost use Rattle.cdg_io.specs.Pump.{Pumps};
+ghost use Rattle.cdg_io.specs.Reads.{ReadsUnits};
+ghost use Rattle.raw_subcode.specs.Channels.{unit_size};
+ghost use Rattle.raw_subcode.specs.Sizes.{most_units};
+ghost use Rattle.stream_stages.specs.Watch.{on_units};
 ghost use Rattle.rw_interleave.specs.Stream.{all_packs};
 ghost use Rattle.stream_stages.specs.Convert.{IsConverted, IsDamagedStream, Restores};
 
-use crate::{BlockWords, Correction, PlayStop, Played, SectorBlocks, play_stop, pump_blocks};
-use cdg_io::{Pumped, Sink, Source, Then};
-use raw_subcode::Form;
+use crate::{BlockPacks, BlockWords, PlayStop, Played, SectorBlocks, play_stop};
+use cdg_io::{PumpStop, Pumped, Sink, Source, pump_units};
+use raw_subcode::{Form, MOST_UNITS};
 use rw_interleave::{found_packs_are_the_text, packs_are_recovered};
 
 /// A law: the conversion of a stream that damage keeps within two symbols a word is its packs.
@@ -31,18 +37,21 @@ pub fn damaged_streams_give_packs()
 #[derive(Drop)]
 pub struct Converter {
     /// The words of a stream, and their packs.
-    pub stages: SectorBlocks<Then<BlockWords, Correction>>,
+    pub stages: SectorBlocks<BlockPacks>,
 }
 
 impl Converter {
     /// A converter that has read nothing.
     pub fn new() -> Converter
-        ensures words { words_of result.stages.blocks ≡ fresh_words Form.Raw 0 }
-        ensures bad { (correction_of result.stages.blocks).bad ≡ 0 }
+        ensures words { result.stages.blocks.words ≡ fresh_words Form.Raw 0 }
+        ensures bad { result.stages.blocks.bad ≡ 0 }
     {
         Converter {
             stages: SectorBlocks {
-                blocks: Then::new(BlockWords::new(), Correction { bad: 0 }),
+                blocks: BlockPacks {
+                    words: BlockWords::new(),
+                    bad: 0,
+                },
             },
         }
     }
@@ -74,30 +83,42 @@ impl Converter {
     {
         damaged_streams_give_packs();
         self.begin(lead_in, form);
-        match pump_blocks(form, source, &mut self.stages, out) {
-            Ok(pumped) => Ok(self.played(pumped, lead_in)),
+        match pump_packs(form, source, &mut self.stages, out) {
+            Ok(pumped) => Ok(Played {
+                blocks: pumped.units.saturating_sub(lead_in),
+                bad: self.stages.blocks.bad,
+            }),
             Err(stop) => Err(play_stop(stop)),
-        }
-    }
-
-    // What was played, after a pump that came to the end.
-    fn played(&self, pumped: Pumped, lead_in: u32) -> Played
-        ensures blocks { result.blocks ≡ pumped.units - lead_in }
-        ensures bad { result.bad ≡ (correction_of self.now.stages.blocks).bad }
-    {
-        let correction = &self.stages.blocks.second;
-        Played {
-            blocks: pumped.units.saturating_sub(lead_in),
-            bad: correction.bad,
         }
     }
 
     // Brings back the state after the start, for a stream of this form.
     fn begin(&mut self, lead_in: u32, form: Form)
-        ensures words { words_of self.new.stages.blocks ≡ fresh_words form lead_in }
-        ensures bad { (correction_of self.new.stages.blocks).bad ≡ 0 }
+        ensures words { self.new.stages.blocks.words ≡ fresh_words form lead_in }
+        ensures bad { self.new.stages.blocks.bad ≡ 0 }
     {
-        self.stages.blocks.first.begin(lead_in, form);
-        self.stages.blocks.second.bad = 0;
+        self.stages.blocks.words.begin(lead_in, form);
+        self.stages.blocks.bad = 0;
+    }
+}
+
+// Feeds the blocks of an input to what gives their packs, and writes these.
+fn pump_packs<S: Source, K: Sink>(
+    form: Form,
+    source: &mut S,
+    stages: &mut SectorBlocks<BlockPacks>,
+    out: &mut K,
+) -> Result<Pumped, PumpStop>
+    ensures pumps { (taken : List ℕ) × Pumps (record { size = unit_size form; limit = most_units })
+        (record { next = on_units form packs_next; gives = on_units form packs_give })
+        (moved S.left K.held (source.old, stages.old.blocks, out.old)
+        (source.new, stages.new.blocks, out.new)) result taken }
+    ensures reads { ReadsUnits S.Source (unit_size form) most_units source.old
+        source.new result }
+    ensures write_fault { TellsFault PumpStop.WriteFault (K.faults out.old) (K.faults out.new) result }
+{
+    match form {
+        Form::Sector => pump_units(source, MOST_UNITS, stages, out),
+        Form::Raw | Form::Cooked => pump_units(source, MOST_UNITS, &mut stages.blocks, out),
     }
 }

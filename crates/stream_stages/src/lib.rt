@@ -2,20 +2,20 @@
 //! plays a stream says of it.
 #![tactic(auto)]
 
+mod block_packs;
 mod block_words;
 mod check;
 mod convert;
-mod correction;
 mod counting;
 mod listings;
 mod painting;
 mod played;
 mod screen;
 
+pub use block_packs::BlockPacks;
 pub use block_words::{BlockOfWords, BlockWords, SectorBlocks};
 pub use check::Checker;
 pub use convert::Converter;
-pub use correction::Correction;
 pub use counting::{Counting, FrameCounts, WordCounts};
 pub use listings::{TextLister, list_frames};
 pub use painting::{Painting, draw_word};

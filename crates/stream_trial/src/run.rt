@@ -9,8 +9,7 @@ ghost use Rattle.stream_trial.specs.Course.{Knows};
 ghost use Rattle.stream_trial.specs.Replay.{IsDamagedSchedule, IsPlayedOut};
 
 use crate::course::Course;
-use byte_history::History;
-use cdg_io::{Failed, Sink};
+use cdg_io::{Failed, History, Sink};
 use cdg_workload::scratches_are_bursts;
 use picture_script::Script;
 use raw_subcode::{BLOCK_BYTES, MOST_UNITS};

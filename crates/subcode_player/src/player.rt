@@ -7,7 +7,6 @@ ghost use Rattle.rw_interleave.specs.Stream.{all_packs};
 ghost use Rattle.stream_stages.specs.Plays.{Plays, PlaysThenWrites, checking, conversion, frame_listing, showing, text_listing};
 ghost use Rattle.stream_stages.specs.Convert.{IsDamagedStream, Restores};
 ghost use Rattle.stream_stages.specs.Screen.{moment};
-ghost use Rattle.stream_stages.specs.Stages.{correction_of, words_of};
 ghost use Rattle.stream_stages.specs.Steps.{fresh_words};
 
 use cdg_io::{Sink, Source};
@@ -35,8 +34,8 @@ pub struct Player {
 impl Player {
     /// Takes the memory of the screen and of the texts.
     pub fn start(alloc: Global) -> Result<Player, AllocError>
-        ensures { IfOk result (λ p. (words_of p.converter.stages.blocks ≡ fresh_words Form.Raw 0)
-            × ((correction_of p.converter.stages.blocks).bad ≡ 0)) }
+        ensures { IfOk result (λ p. (p.converter.stages.blocks.words ≡ fresh_words Form.Raw 0)
+            × (p.converter.stages.blocks.bad ≡ 0)) }
     {
         let viewer = Viewer::start(alloc)?;
         let lister = TextLister::start(alloc)?;

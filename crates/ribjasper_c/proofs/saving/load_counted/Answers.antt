@@ -1,4 +1,4 @@
-use Rattle.std.proofs.Common.{rules}
+use Rattle.std.proofs.Common.{refl, rules}
 use Rattle.ribjasper_c.proofs.Saves.{plays_on}
 use Rattle.ribjasper_c.proofs.saving.load_counted.Goals as goal
 
@@ -6,8 +6,7 @@ pub returns-clause-loads : goal.returns-clause-loads
 returns-clause-loads c = record {
   loaded = search rules;
   goes_on = λ done saved lead_in given is played most few.
-      plays_on c.args.file.now _ _ _ saved lead_in given c.in-Ok.ensures.file c.go_to.ensures
-      c.put_back.ensures.held is.0
+      plays_on c.args.file.now _ _ _ saved lead_in given c.in-Ok.ensures.file c.go_to.ensures refl is.0
       (λ at. c.a_saved_player_goes_on.ensures.goes_on lead_in given saved _ played most few at);
   bad = search rules;
   memory = search rules;

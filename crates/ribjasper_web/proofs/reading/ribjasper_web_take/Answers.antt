@@ -1,5 +1,5 @@
 use Rattle.live_player.proofs.LiveViews.{fed_more}
-use Rattle.ribjasper_web.specs.Players.{player_of}
+use Rattle.live_player.specs.Plain.{player_of}
 use Rattle.ribjasper_web.proofs.reading.ribjasper_web_take.Goals as goal
 
 pub returns-in-Some-clause-fed : goal.returns-in-Some-clause-fed

@@ -1,5 +1,5 @@
 use Rattle.std.proofs.Common.{inr}
-use Rattle.ribjasper_web.specs.Players.{player_of}
+use Rattle.live_player.specs.Plain.{player_of}
 use Rattle.ribjasper_web.proofs.Refused.{is_none}
 use Rattle.ribjasper_web.proofs.saving.ribjasper_web_save.Goals as goal
 

@@ -1,8 +1,9 @@
-use Rattle.std.proofs.Common.{◌≡◌, ◌<◌, ◌+◌, ◌∙◌, subst, sym, refl, arith}
+use Rattle.std.proofs.Common.{◌≡◌, ◌<◌, ◌+◌, ◌∙◌, replicate, subst, sym, refl, arith}
 use Rattle.rw_mend.specs.Drops.{AreVoices}
 use Rattle.rw_mend.specs.Readings.{programs_in}
-use Rattle.rw_mend.specs.Steps.{AreTold, IsMendedTo}
+use Rattle.rw_mend.specs.Steps.{AreReported, IsMendedTo}
 use Rattle.rw_mend.proofs.Coming.{voices_are}
+use Rattle.rw_mend.proofs.Losing.{few_losses, losses_more, no_losses}
 use Rattle.rw_mend.proofs.Running.{mended_next, none_done}
 use Rattle.rw_mend.proofs.Telling.{has_source, tally_few, told_more}
 use Rattle.rw_mend.proofs.many.mend_all.Goals as goal
@@ -12,8 +13,9 @@ loop-n-init c = record {
   hearing = c.new-mender.ensures;
   words = refl;
   done = none_done c.args.readings.now c.new-mender.result.words c.args.packs.now
-      (AreTold c.args.sources.now c.new-mender.result.words c.args.sources.now c.new-tallies.result)
-      (record { tallies_are = c.new-tallies.ensures; size = refl; put = λ room. refl });
+      (AreReported c.args.sources.now c.new-mender.result.words c.args.sources.now c.new-tallies.result
+      (replicate 254 0))
+      (record { tallies_are = c.new-tallies.ensures; size = refl; put = λ room. refl }, no_losses);
 }
 
 pub add-requires : goal.add-requires
@@ -21,7 +23,7 @@ add-requires c =
     let done = c.loop-n.invariant.done in
     let few =
     tally_few c.args.sources.now c.loop-n.mender.words c.loop-n.n c.loop-n.sources c.loop-n.tallies done.said
-    done.found done.count done.has_it in
+    done.found done.count done.has_it.0 in
     let within : c.loop-n.n < 4000000 =
     omega (arith, c.loop-n-test.true, c.words-n-end.ensures, c.new-mender.ensures.few) in
     record {
@@ -32,6 +34,14 @@ add-requires c =
       of_reading = λ r lt. omega (arith, within, few.2 r lt);
     }
 
+pub count_lost-requires-clause-few : goal.count_lost-requires-clause-few
+count_lost-requires-clause-few c r lt =
+    let done = c.loop-n.invariant.done in
+    let few =
+    few_losses c.loop-n.n c.loop-n.lost done.said done.found r done.said_count done.count done.has_it.1
+    (omega (arith, lt, c.voices-voices.ensures.count, c.requires.readings.few)) in
+    omega (arith, few, c.loop-n-test.true, c.words-n-end.ensures, c.new-mender.ensures.few)
+
 pub loop-n-preserved : goal.loop-n-preserved
 loop-n-preserved c =
     let readings = c.args.readings.now in
@@ -40,25 +50,31 @@ loop-n-preserved c =
     let words : c.come_to.new.self.words ≡ all = c.come_to.ensures.words in
     let within : n < all =
     omega (arith, c.loop-n-test.true, c.words-n-end.ensures, c.loop-n.invariant.words) in
-    let said : AreVoices all (programs_in readings) n c.voices-voices.result.now =
-    subst (λ w. AreVoices w (programs_in readings) n c.voices-voices.result.now) words
-    (voices_are readings n c.come_to.new.self c.voices-voices.result.now c.come_to.ensures.at
+    let voices = c.voices-voices.result.now in
+    let found = c.mend-found.result in
+    let said : AreVoices all (programs_in readings) n voices =
+    subst (λ w. AreVoices w (programs_in readings) n voices) words
+    (voices_are readings n c.come_to.new.self voices c.come_to.ensures.at
     c.voices-voices.ensures.voices c.voices-voices.ensures.count) in
     let done =
     mended_next readings all n c.args.packs.now c.loop-n.packs c.put.new.packs
-    (AreTold c.args.sources.now all c.loop-n.sources c.loop-n.tallies)
-    (AreTold c.args.sources.now all c.put_source.new.sources c.add.new.self) c.voices-voices.result.now
-    c.mend-found.result
+    (AreReported c.args.sources.now all c.loop-n.sources c.loop-n.tallies c.loop-n.lost)
+    (AreReported c.args.sources.now all c.put_source.new.sources c.add.new.self c.count_lost.new.lost) voices
+    found
     c.loop-n.invariant.done said c.mend-found.ensures c.put.ensures.size c.put.ensures.packs
-    (told_more c.args.sources.now all n c.loop-n.sources c.put_source.new.sources c.loop-n.tallies
-    c.add.new.self
-    c.voices-voices.result.now c.mend-found.result within c.put_source.ensures.size c.put_source.ensures.put
-    c.add.ensures) in
+    (λ before before_found said_size found_size was. (
+      told_more c.args.sources.now all n c.loop-n.sources c.put_source.new.sources c.loop-n.tallies
+          c.add.new.self voices found within c.put_source.ensures.size c.put_source.ensures.put
+          c.add.ensures before before_found said_size found_size was.0,
+      losses_more n c.loop-n.lost c.count_lost.new.lost voices found c.count_lost.ensures.size
+          c.count_lost.ensures.each c.count_lost.ensures.others before before_found said_size found_size
+          was.1,
+    )) in
     record {
       hearing = c.come_to.ensures.at.hearing;
       words = words ∙ c.loop-n.invariant.words;
       done = subst
           (λ w. IsMendedTo readings w (n + 1) c.args.packs.now c.put.new.packs
-          (AreTold c.args.sources.now w c.put_source.new.sources c.add.new.self))
+          (AreReported c.args.sources.now w c.put_source.new.sources c.add.new.self c.count_lost.new.lost))
           (sym words) done;
     }

@@ -9,5 +9,6 @@ returns c readings size is =
       count = c.args.count;
       start = c.min.result;
     }) c.args.lead_in readings c.args.packs.now c.mend_all.new.packs c.args.sources.now c.mend_all.new.sources
-    c.mend_all.result size is c.requires.some c.requires.equal c.requires.whole c.min.ensures
+    c.mend_all.result.tallies c.mend_all.result.lost size is c.requires.some c.requires.equal c.requires.whole
+    c.min.ensures
     c.mend_all.ensures.mended c.mend_all.ensures.dropped

@@ -1,8 +1,10 @@
-use Rattle.std.proofs.Common.{◌≡◌, ◌∙◌, ◌<◌, ap, arith, length, get_or, below_more}
+use Rattle.std.proofs.Common.{◌≡◌, ◌∙◌, ◌<◌, Bool, ap, arith, length, get_or, below_more}
 use Rattle.std.proofs.Math.ListN.{set, length-set}
 use Rattle.std.proofs.lemmas.List.{get_or_default, get_or-set_other, get_or-set_same}
+use Rattle.std.specs.List.{list_any}
 use Rattle.rw_mend.specs.Choice.{voice_of_reading}
-use Rattle.rw_mend.specs.Rows.{said_after}
+use Rattle.rw_mend.specs.Silences.{no_silence, said_after}
+use Rattle.rw_mend.specs.Voices.{is_quiet_voice}
 use Rattle.rw_mend.specs.declared.voices.Voice.TheVariants.{Silent}
 use Rattle.rw_mend.proofs.rows.say_all.Goals as goal
 
@@ -12,7 +14,8 @@ loop-r-preserved c =
     let said = c.loop-r.said in
     let new = c.say.result in
     let row = c.args.row.now in
-    let missed = c.args.missed.now in
+    let silences = c.args.silences.now in
+    let some : Bool = list_any is_quiet_voice row in
     let long : r < length said =
     omega (arith, c.loop-r.invariant.size, c.loop-r-test.true, c.requires.said) in
     let here : c.index-row-r.result ≡ voice_of_reading row r =
@@ -21,9 +24,11 @@ loop-r-preserved c =
       size = length-set said r new ∙ c.loop-r.invariant.size;
       each = below_more
           (λ k. voice_of_reading (set said r new) k
-          ≡ said_after (get_or missed k 0) c.args.n (voice_of_reading row k)) r
+          ≡ said_after some (get_or silences k no_silence) (voice_of_reading row k)) r
           (λ k lt. get_or-set_other said r k new Silent (λ e. omega (arith, e, lt))
           ∙ c.loop-r.invariant.each k lt)
           (get_or-set_same said r new Silent long ∙ c.say.ensures
-          ∙ ap (said_after (get_or missed r 0) c.args.n) here);
+          ∙ ap (λ b. said_after b (get_or silences r no_silence) c.index-row-r.result)
+          c.is_any_quiet-some_quiet.ensures
+          ∙ ap (λ v. said_after some (get_or silences r no_silence) v) here);
     }

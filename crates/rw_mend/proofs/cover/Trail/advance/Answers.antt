@@ -1,5 +1,5 @@
 use Rattle.std.proofs.Common.{◌≡◌, ◌+◌, ◌/◌, ℕ, ap, ◌∙◌, arith}
-use Rattle.rw_mend.specs.Words.{block_at, is_blank_block, is_empty_block}
+use Rattle.rw_mend.specs.Words.{block_at, is_blank_block, is_unread_block}
 use Rattle.rw_mend.proofs.cover.Trail.advance.Goals as goal
 
 pub returns-then-n-eq0 : goal.returns-then-n-eq0
@@ -9,10 +9,10 @@ returns-then-n-eq0 c =
     let second : 1 ≡ c.args.n / 4 + 1 = omega arith in
     record {
       first =
-          c.is_empty_at-self.ensures ∙ ap (λ (b : ℕ). is_empty_block (block_at program b)) first;
+          c.is_unread_at-self.ensures ∙ ap (λ (b : ℕ). is_unread_block (block_at program b)) first;
       second =
-          c.is_empty_at-self-then-n-eq0.ensures
-          ∙ ap (λ (b : ℕ). is_empty_block (block_at program b)) second;
+          c.is_unread_at-self-then-n-eq0.ensures
+          ∙ ap (λ (b : ℕ). is_unread_block (block_at program b)) second;
       third = λ apart. absurd (omega (arith, apart));
       first_blank =
           c.is_blank_at-self.ensures ∙ ap (λ (b : ℕ). is_blank_block (block_at program b)) first;

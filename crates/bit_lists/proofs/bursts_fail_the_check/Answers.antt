@@ -1,5 +1,0 @@
-use Rattle.bit_lists.proofs.Bursts.{bursts_fail_the_check as the_law}
-use Rattle.bit_lists.proofs.bursts_fail_the_check.Goals as goal
-
-pub returns : goal.returns
-returns c = the_law

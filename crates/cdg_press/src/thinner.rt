@@ -1,0 +1,244 @@
+// From packs to those of the thin form.
+ghost use Rattle.std.specs.Prelude.{◌≡◌, ◌*◌, List, ℕ, [], ◌∷◌, length, IfOk, IfSome, Some, ◌/◌, IsTrue};
+ghost use Rattle.std.specs.List.{concat};
+ghost use Rattle.cdg_instructions.specs.Instruction.{InRange};
+ghost use Rattle.cdg_io.specs.Causes.{TellsFault};
+ghost use Rattle.cdg_io.specs.Change.{change, passed};
+ghost use Rattle.cdg_io.specs.Pump.{units_of};
+ghost use Rattle.cdg_io.specs.Reads.{ReadsUnits};
+ghost use Rattle.cdg_io.specs.Run.{run_state, run_gives};
+ghost use Rattle.cdg_screen.specs.Standing.{blank, standing_after};
+ghost use Rattle.raw_subcode.specs.Sizes.{symbols_a_slot};
+ghost use Rattle.cdg_press.specs.Calls.{Thins, ThinsAll, most_file_packs};
+ghost use Rattle.cdg_press.specs.Steps.{pack_instruction, is_needless, thin_next, thin_gives};
+ghost use Rattle.bit_lists.specs.Counting.{whole_parts};
+ghost use Rattle.cdg_press.specs.Thin.{AreInstructionsOf, IsInstructionOf, IsThinText, StandAlike, is_graphic};
+ghost use Rattle.cdg_instructions.specs.declared.instr.Instr.{Instr};
+ghost use Rattle.cdg_instructions.specs.declared.instr.Instr.TheVariants.{Idle};
+
+use cdg_instructions::{Instr, read_word};
+use cdg_io::{
+    InPlace, PassedUnits, Piece, PumpStop, Pumped, Sink, Source, UnitStage, pump_units,
+    take_in_place, take_row_in_place,
+};
+use cdg_screen::Screen;
+use raw_subcode::{MOST_UNITS, SLOTS_A_BLOCK, SYMBOLS_A_SLOT};
+use rw_code::Word;
+use std::alloc::{AllocError, Global};
+use std::marker::Model;
+
+// The most packs that are read: those of the most blocks.
+const MOST_PACKS: u32 = SLOTS_A_BLOCK as u32 * MOST_UNITS;
+
+/// Makes packs that change nothing idle. All its memory is taken at the start.
+#[derive(Drop)]
+pub struct Thinner {
+    screen: Screen,
+}
+
+impl Model for Thinner {
+    ghost use Rattle.cdg_screen.specs.Standing.{Standing};
+
+    ghost Value = { Standing };
+
+    ghost view = { λ t. t.screen };
+}
+
+impl Thinner {
+    /// Takes the memory of a screen.
+    pub fn start(alloc: Global) -> Result<Thinner, AllocError>
+        ensures { IfOk result (λ t. t ≡ blank) }
+    {
+        Ok(Thinner {
+            screen: Screen::start(alloc)?,
+        })
+    }
+
+    /// Writes the thin form of a file of packs as it is read: 24 zeros for each pack with a graphics instruction that
+    /// changes nothing where it stands, and every other pack as it is. `Ok` tells how many packs there are.
+    ///
+    /// A pack is 24 bytes, and at most 4,000,000 are read. Their parity is not looked at. Each call begins anew, with
+    /// all zero, whatever stopped the one before.
+    ///
+    /// # Errors
+    ///
+    /// `Torn` where the file ends within a pack, `TooLong` where a byte follows the last pack that is read,
+    /// `ReadFault` where a read failed: these come after all is written for the whole packs read. After `WriteFault`
+    /// the sink holds a prefix, and no later pack was read.
+    pub fn run<S: Source, K: Sink>(
+        &mut self,
+        source: &mut S,
+        out: &mut K,
+    ) -> Result<Pumped, PumpStop>
+        ensures thins { (taken : List ℕ)
+            × Thins (passed S.left K.held (source.old, out.old) (source.new, out.new)) result taken }
+        // Of a whole input: after each number of packs the same stands in what was put, and it is its own
+        // thin form.
+        ensures whole { IfSome (S.left source.old)
+            (λ all. ThinsAll all (change K.held out.old out.new) result) }
+        ensures reads { ReadsUnits S.Source symbols_a_slot most_file_packs
+            source.old source.new result }
+        ensures write_fault { TellsFault PumpStop.WriteFault
+            (K.faults out.old) (K.faults out.new) result }
+    {
+        thin_forms_stand_alike();
+        self.reset();
+        pump_units(source, MOST_PACKS, self, out)
+    }
+
+    // Makes all zero again.
+    fn reset(&mut self)
+        ensures { self.new ≡ blank }
+    {
+        self.screen.reset();
+    }
+
+    // Carries out an instruction, and tells whether it was needless.
+    #[inline]
+    fn passes_over(&mut self, instr: &Instr) -> bool
+        requires { InRange instr.now }
+        ensures next { self.new ≡ standing_after self.old (instr.now ∷ []) }
+        ensures needless { result ≡ is_needless self.old instr.now }
+    {
+        if self.screen.changes(instr) {
+            self.screen.obey(instr);
+            return false;
+        }
+        is_graphic(instr)
+    }
+
+    // The same of the instruction of a pack. Most packs are idle.
+    #[inline]
+    fn is_needless(&mut self, pack: &[u8; SYMBOLS_A_SLOT]) -> bool
+        ensures next { self.new ≡ thin_next self.old pack.now }
+        ensures needless { result ≡ is_needless self.old (pack_instruction pack.now) }
+    {
+        if is_idle(pack) {
+            // A law: what stands is as after no instructions, and so after an idle pack.
+            self.screen.what_stands_is_whole();
+            return false;
+        }
+        self.is_needless_drawing(pack)
+    }
+
+    // The same where the pack is seen to say something. It stands apart, so that idle packs do not pay for it.
+    #[inline(never)]
+    fn is_needless_drawing(&mut self, pack: &[u8; SYMBOLS_A_SLOT]) -> bool
+        ensures next { self.new ≡ thin_next self.old pack.now }
+        ensures needless { result ≡ is_needless self.old (pack_instruction pack.now) }
+    {
+        self.passes_over(&instruction(pack))
+    }
+
+    // Makes a pack idle where it is needless.
+    #[inline]
+    #[tactic(auto, unfolding(crate::specs::Steps::thin_gives))]
+    fn thin(&mut self, pack: &mut [u8; SYMBOLS_A_SLOT])
+        ensures next { self.new ≡ thin_next self.old pack.old }
+        ensures gives { Some pack.new ≡ thin_gives self.old pack.old }
+    {
+        if self.is_needless(pack) {
+            *pack = [0; SYMBOLS_A_SLOT];
+        }
+    }
+}
+
+impl InPlace for Thinner {
+    ghost SIZE = { symbols_a_slot };
+
+    ghost next = { thin_next };
+
+    ghost gives = { thin_gives };
+
+    const SIZE: usize = SYMBOLS_A_SLOT;
+
+    #[inline]
+    fn change(&mut self, bytes: &mut [u8]) {
+        match bytes.first_chunk_mut::<SYMBOLS_A_SLOT>() {
+            Some(pack) => self.thin(pack),
+            None => unreachable!(),
+        }
+    }
+
+    // Two at a time, since most packs are idle, which takes a look at a byte.
+    #[inline]
+    fn change_row(&mut self, packs: &mut [u8], count: usize) {
+        let mut at = 0;
+        'pairs: while packs.len() - at >= 2 * SYMBOLS_A_SLOT {
+            self.change(&mut packs[at..at + SYMBOLS_A_SLOT]);
+            self.change(&mut packs[at + SYMBOLS_A_SLOT..at + 2 * SYMBOLS_A_SLOT]);
+            at += 2 * SYMBOLS_A_SLOT;
+        }
+        'rest: while at < packs.len() {
+            self.change(&mut packs[at..at + SYMBOLS_A_SLOT]);
+            at += SYMBOLS_A_SLOT;
+        }
+    }
+}
+
+impl UnitStage for Thinner {
+    ghost SIZE = { symbols_a_slot };
+
+    ghost next = { thin_next };
+
+    ghost gives = { thin_gives };
+
+    const SIZE: usize = SYMBOLS_A_SLOT;
+
+    fn take_unit(&mut self, pack: &[u8], given: &mut Option<Piece>) {
+        take_in_place(self, pack, given);
+    }
+
+    #[inline]
+    fn take_row(
+        &mut self,
+        row: &mut &[u8],
+        _given: &mut Option<Piece>,
+        buffer: &mut [u8],
+        start: usize,
+        most: u32,
+    ) -> PassedUnits {
+        take_row_in_place(self, row, buffer, start, most)
+    }
+}
+
+/// Laws: after each number of packs the same stands in a file and in its thin form; the thin form of a thin form is
+/// itself; each file has exactly one thin form, of as many packs.
+pub fn thin_forms_stand_alike()
+    ensures alike { (bytes text : List ℕ) (m : ℕ) → IsThinText bytes text
+        → StandAlike m (whole_parts symbols_a_slot bytes) (whole_parts symbols_a_slot text) }
+    ensures again { (bytes text : List ℕ) → IsThinText bytes text → IsThinText text text }
+    ensures some { (bytes : List ℕ) → (text : List ℕ) × IsThinText bytes text }
+    ensures only { (bytes one other : List ℕ) → IsThinText bytes one → IsThinText bytes other → one ≡ other }
+    ensures size { (bytes text : List ℕ) → IsThinText bytes text
+        → length text ≡ symbols_a_slot * (length bytes / symbols_a_slot) }
+    // 24 bytes have an instruction, and packs have no more than one list of them.
+    ensures reading { (pack : List ℕ) → length pack ≡ symbols_a_slot
+        → (instr : Instr) × IsInstructionOf pack instr }
+    ensures one_reading { (packs : List (List ℕ)) (one other : List Instr)
+        → AreInstructionsOf packs one → AreInstructionsOf packs other → one ≡ other }
+{}
+
+// The instruction of 24 bytes, whose parity may be anything. The codeword that they make, whose parity is made good,
+// has the same.
+fn instruction(bytes: &[u8; SYMBOLS_A_SLOT]) -> Instr
+    ensures meaning { result ≡ pack_instruction bytes.now }
+    ensures range { InRange result }
+{
+    read_word(&Word::new(bytes))
+}
+
+// Whether 24 bytes are seen to say nothing, by the first of them.
+#[inline]
+fn is_idle(bytes: &[u8; SYMBOLS_A_SLOT]) -> bool
+    ensures { IsTrue result → pack_instruction bytes.now ≡ Idle }
+{
+    bytes[0] % 64 == 0
+}
+
+// Whether it is one of the nine graphics instructions.
+fn is_graphic(instr: &Instr) -> bool
+    ensures { result ≡ is_graphic instr.now }
+{
+    !matches!(instr, Instr::Idle | Instr::Foreign | Instr::Unknown)
+}

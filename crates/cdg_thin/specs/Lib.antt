@@ -1,3 +1,0 @@
-pub mod Thin
-pub mod Steps
-pub mod Calls

@@ -1,0 +1,166 @@
+// Rows of pixels as bytes.
+ghost use Rattle.std.specs.Prelude.{◌≡◌, ◌<◌, ◌≤◌, ◌+◌, ◌-◌, ◌*◌, nat_le, if◌then◌else◌, ℕ, IfSome, length, slice_index};
+ghost use Rattle.live_player.specs.Formats.{AreFirstBytes, AreLineBytes, ArePairs, AreColourNumbers, HasFourBytes};
+
+use crate::pairs::{PAIRS, write_pairs};
+use cdg_instructions::COLOURS;
+use std::simd::prelude::*;
+
+/// Writes two bytes for each pixel.
+pub(crate) fn write_twos(
+    pixels: &[u8],
+    table: &[[u8; 4]; COLOURS],
+    pairs: Option<&[[u8; 8]; PAIRS]>,
+    line: &mut [u8],
+)
+    requires size { length line.old ≡ 2 * length pixels.now }
+    requires numbers { AreColourNumbers pixels.now }
+    requires entries { HasFourBytes table.now }
+    requires pairs { IfSome pairs (λ pairs. ArePairs 2 table.now pairs.now) }
+    ensures { AreLineBytes 2 pixels.now table.now line.new }
+{
+    if pixels.is_empty() {
+        return;
+    }
+    let last = pixels.len() - 1;
+    write_first(
+        2,
+        last.saturating_sub(1) / 2,
+        last,
+        pixels,
+        table,
+        pairs,
+        line,
+    );
+    let last_colour = usize::from(pixels[last]);
+    put_two(line, 2 * last, &table[last_colour]);
+}
+
+/// Writes three bytes for each pixel.
+pub(crate) fn write_threes(
+    pixels: &[u8],
+    table: &[[u8; 4]; COLOURS],
+    pairs: Option<&[[u8; 8]; PAIRS]>,
+    line: &mut [u8],
+)
+    requires size { length line.old ≡ 3 * length pixels.now }
+    requires numbers { AreColourNumbers pixels.now }
+    requires entries { HasFourBytes table.now }
+    requires pairs { IfSome pairs (λ pairs. ArePairs 3 table.now pairs.now) }
+    ensures { AreLineBytes 3 pixels.now table.now line.new }
+{
+    if pixels.is_empty() {
+        return;
+    }
+    let last = pixels.len() - 1;
+    write_first(3, last / 2, last, pixels, table, pairs, line);
+    let last_colour = usize::from(pixels[last]);
+    put_three(line, 3 * last, &table[last_colour]);
+}
+
+/// Writes four bytes for each pixel.
+pub(crate) fn write_fours(
+    pixels: &[u8],
+    table: &[[u8; 4]; COLOURS],
+    pairs: Option<&[[u8; 8]; PAIRS]>,
+    line: &mut [u8],
+)
+    requires size { length line.old ≡ 4 * length pixels.now }
+    requires numbers { AreColourNumbers pixels.now }
+    requires entries { HasFourBytes table.now }
+    requires pairs { IfSome pairs (λ pairs. ArePairs 4 table.now pairs.now) }
+    ensures { AreLineBytes 4 pixels.now table.now line.new }
+{
+    let count = pixels.len();
+    write_first(4, count / 2, count, pixels, table, pairs, line);
+}
+
+// Writes so many bytes for each of the first pixels, some of them two at a time if there is a table of pairs. It is
+// inlined, so that the size is known.
+#[inline(always)]
+fn write_first(
+    size: usize,
+    paired: usize,
+    count: usize,
+    pixels: &[u8],
+    table: &[[u8; 4]; COLOURS],
+    pairs: Option<&[[u8; 8]; PAIRS]>,
+    line: &mut [u8],
+)
+    requires size { size ≤ 4 }
+    requires paired { 2 * paired ≤ count }
+    requires count { count ≤ length pixels.now }
+    requires room { size * count + 4 ≤ length line.old + size }
+    requires pair_room { (i : ℕ) → i < paired → 2 * size * i + 8 ≤ length line.old }
+    requires numbers { AreColourNumbers pixels.now }
+    requires entries { HasFourBytes table.now }
+    requires pairs { IfSome pairs (λ pairs. ArePairs size table.now pairs.now) }
+    ensures { AreFirstBytes size count pixels.now table.now line.new }
+{
+    match pairs {
+        Some(pairs) => {
+            write_pairs(size, paired, pixels, pairs, line);
+            write_more(size, 2 * paired, count - 2 * paired, pixels, table, line);
+        }
+        None => write_more(size, 0, count, pixels, table, line),
+    }
+}
+
+/// Writes so many bytes for each of some pixels, behind those of the pixels before them. Four are written at once, of
+/// which the next pixel writes over what is more than its size.
+#[inline(always)]
+pub(crate) fn write_more(
+    size: usize,
+    from: usize,
+    count: usize,
+    pixels: &[u8],
+    table: &[[u8; 4]; COLOURS],
+    line: &mut [u8],
+)
+    requires size { size ≤ 4 }
+    requires count { from + count ≤ length pixels.now }
+    requires room { size * (from + count) + 4 ≤ length line.old + size }
+    requires numbers { AreColourNumbers pixels.now }
+    requires entries { HasFourBytes table.now }
+    requires before { AreFirstBytes size from pixels.now table.now line.old }
+    ensures { AreFirstBytes size (from + count) pixels.now table.now line.new }
+{
+    for i in 0..count {
+        let colour = usize::from(pixels[from + i]);
+        put_four(line, size * (from + i), &table[colour]);
+    }
+}
+
+// Writes the first two of four bytes to a place.
+#[inline(always)]
+fn put_two(line: &mut [u8], at: usize, four: &[u8; 4])
+    requires room { at + 2 ≤ length line.old }
+    requires four { length four.now ≡ 4 }
+    ensures { (n : ℕ) → n < at + 2 → slice_index line.new n
+        ≡ (if nat_le at n then slice_index four.now (n - at) else slice_index line.old n) }
+{
+    line[at..at + 2].copy_from_slice(&four[..2]);
+}
+
+// Writes the first three of four bytes to a place.
+#[inline(always)]
+fn put_three(line: &mut [u8], at: usize, four: &[u8; 4])
+    requires room { at + 3 ≤ length line.old }
+    requires four { length four.now ≡ 4 }
+    ensures { (n : ℕ) → n < at + 3 → slice_index line.new n
+        ≡ (if nat_le at n then slice_index four.now (n - at) else slice_index line.old n) }
+{
+    line[at..at + 3].copy_from_slice(&four[..3]);
+}
+
+// Writes four bytes to a place.
+#[inline(always)]
+fn put_four(line: &mut [u8], at: usize, four: &[u8; 4])
+    requires room { at + 4 ≤ length line.old }
+    requires four { length four.now ≡ 4 }
+    ensures { (n : ℕ) → n < at + 4 → slice_index line.new n
+        ≡ (if nat_le at n then slice_index four.now (n - at) else slice_index line.old n) }
+{
+    // A vector is stored as one number, where `copy_from_slice` would look first whether the two lie over each other.
+    u8x4::from_array(*four).copy_to_slice(&mut line[at..at + 4]);
+}

@@ -1,0 +1,161 @@
+// What a block of a stream draws on a screen, and what of the screen changes by it.
+ghost use Rattle.std.specs.Prelude.{◌≡◌, ◌≤◌, ◌<◌, ◌^◌, ◌∷◌, [], map, true};
+ghost use Rattle.cdg_io.specs.Run.{run_state};
+ghost use Rattle.cdg_screen.specs.Memory.{seen};
+ghost use Rattle.cdg_screen.specs.Standing.{standing_after};
+ghost use Rattle.live_player.specs.Changes.{sees, IsWithinScreen};
+ghost use Rattle.live_player.specs.Lives.{bad_counted, drawn_for, instruction_of, instructions_of};
+ghost use Rattle.cdg_instructions.specs.Instruction.{InRange};
+ghost use Rattle.rw_code.specs.Codeword.{IsCodeword};
+ghost use Rattle.rw_code.specs.Finding.{finding};
+ghost use Rattle.rw_code.specs.Packs.{idle_pack};
+ghost use Rattle.rw_interleave.specs.Stream.{bad_count};
+ghost use Rattle.stream_stages.specs.Drawn.{entry_drawn};
+ghost use Rattle.stream_stages.specs.Steps.{bad_next, words_give, words_next, IdlesOn};
+
+use crate::watch::Watch;
+use arrayvec::ArrayVec;
+use cdg_instructions::{Instr, read, read_word};
+use cdg_io::Stage;
+use cdg_screen::PlainScreen;
+use raw_subcode::{BLOCK_BYTES, SLOTS_A_BLOCK};
+use rw_code::{Pack, SYMBOLS, Word, correct};
+use stream_stages::{BlockOfWords, BlockWords};
+
+/// Takes the next block of a stream, and sees what of the screen changes.
+#[inline(always)]
+pub(crate) fn play_seen(
+    words: &mut BlockWords,
+    screen: &mut PlainScreen,
+    bad: &mut u32,
+    watch: &mut Watch,
+    block: &[u8; BLOCK_BYTES],
+)
+    requires { IsWithinScreen watch.old.change }
+    ensures gathers { words.new ≡ words_next words.old block.now }
+    ensures draws { seen screen.new
+        ≡ standing_after (seen screen.old) (drawn_for (words_give words.old block.now)) }
+    ensures bad { bad.new ≡ bad_counted bad.old (words_give words.old block.now) }
+    ensures sees { watch.new ≡ run_state sees watch.old (drawn_for (words_give words.old block.now)) }
+    ensures within { IsWithinScreen watch.new.change }
+{
+    // Most blocks of a disc are idle.
+    if words.stays_idle(block) {
+        idle_block_changes_nothing(words, screen, bad, watch, block);
+    } else {
+        play_busy(words, screen, bad, watch, block);
+    }
+}
+
+/// Draws a pack as a file of packs has them, and sees what of the screen changes.
+#[inline]
+pub(crate) fn draw_seen(screen: &mut PlainScreen, watch: &mut Watch, pack: &[u8; SYMBOLS])
+    ensures draws { seen screen.new ≡ standing_after (seen screen.old) (instruction_of pack.now ∷ []) }
+    ensures sees { watch.new ≡ sees watch.old (instruction_of pack.now) }
+{
+    let instr = read_pack(pack);
+    screen.obey(&instr);
+    watch.see(&instr);
+}
+
+/// The instruction of a pack, whose parity has no part in it.
+pub fn read_pack(pack: &[u8; SYMBOLS]) -> Instr
+    ensures instruction { result ≡ instruction_of pack.now }
+    ensures range { InRange result }
+{
+    read_word(&Word::new(pack))
+}
+
+/// A law: a block with four idle packs changes nothing.
+#[inline(always)]
+pub(crate) fn idle_block_changes_nothing(
+    words: &BlockWords,
+    screen: &PlainScreen,
+    bad: &u32,
+    watch: &Watch,
+    block: &[u8; BLOCK_BYTES],
+)
+    requires idle { IdlesOn words.now block.now }
+    requires within { IsWithinScreen watch.now.change }
+    ensures draws { seen screen.now
+        ≡ standing_after (seen screen.now) (drawn_for (words_give words.now block.now)) }
+    ensures bad { bad.now ≡ bad_counted bad.now (words_give words.now block.now) }
+    ensures sees { watch.now ≡ run_state sees watch.now (drawn_for (words_give words.now block.now)) }
+{
+    screen.what_stands_is_whole();
+    idle_is_codeword();
+    let _bad = *bad;
+}
+
+// A law: the idle pack is a codeword.
+#[inline(always)]
+fn idle_is_codeword()
+    ensures { IsCodeword idle_pack }
+{
+    Pack::idle().word();
+}
+
+/// Takes the next block, which is not seen to be idle. It is a function of its own so that idle blocks do not pay for its
+/// variables.
+#[inline(never)]
+pub(crate) fn play_busy(
+    words: &mut BlockWords,
+    screen: &mut PlainScreen,
+    bad: &mut u32,
+    watch: &mut Watch,
+    block: &[u8; BLOCK_BYTES],
+)
+    ensures gathers { words.new ≡ words_next words.old block.now }
+    ensures draws { seen screen.new
+        ≡ standing_after (seen screen.old) (drawn_for (words_give words.old block.now)) }
+    ensures bad { bad.new ≡ bad_counted bad.old (words_give words.old block.now) }
+    ensures sees { watch.new ≡ run_state sees watch.old (drawn_for (words_give words.old block.now)) }
+{
+    let came = words.feed(block);
+    // A law: instructions are carried out on what stands.
+    screen.what_stands_is_whole();
+    match came {
+        Some(came) => {
+            let words = came.into_words();
+            let none_near = draw_words_seen(screen, watch, &words);
+            *bad = bad.saturating_add(none_near);
+        }
+        None => {}
+    }
+}
+
+// Draws words one by one, sees what changes, and counts those with no codeword near.
+fn draw_words_seen(
+    screen: &mut PlainScreen,
+    watch: &mut Watch,
+    words: &ArrayVec<Word, SLOTS_A_BLOCK>,
+) -> u32
+    ensures drawn { seen screen.new ≡ standing_after (seen screen.old) (instructions_of words.now.items) }
+    ensures bad { result ≡ bad_count (map finding words.now.items) }
+    ensures sees { watch.new ≡ run_state sees watch.old (instructions_of words.now.items) }
+{
+    // A law: instructions are carried out on what stands.
+    screen.what_stands_is_whole();
+    let mut bad = 0;
+    for word in words.as_slice() {
+        draw_word_seen(screen, &mut bad, watch, word);
+    }
+    bad
+}
+
+// Draws what the correction of a word finds and sees what changes, or counts the word.
+#[inline(always)]
+fn draw_word_seen(screen: &mut PlainScreen, bad: &mut u32, watch: &mut Watch, word: &Word)
+    ensures screen { seen screen.new ≡ entry_drawn (seen screen.old) (finding word.now) }
+    ensures bad { bad.new ≡ bad_next bad.old word.now }
+    ensures sees { watch.new ≡ run_state sees watch.old (instructions_of (word.now ∷ [])) }
+{
+    match correct(word) {
+        Some(fixed) => {
+            let instr = read(&fixed.pack);
+            screen.obey(&instr);
+            watch.see(&instr);
+        }
+        None => *bad = bad.saturating_add(1),
+    }
+}

@@ -1,2 +1,0 @@
-mod PairBytes
-mod Rows

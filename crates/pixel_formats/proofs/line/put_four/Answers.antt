@@ -1,5 +1,0 @@
-use Rattle.pixel_formats.proofs.Rows.{bytes_put}
-use Rattle.pixel_formats.proofs.line.put_four.Goals as goal
-
-pub returns : goal.returns
-returns c n = bytes_put 4 c.args.line.now c.args.four.now c.args.at n c.requires.room c.requires.four

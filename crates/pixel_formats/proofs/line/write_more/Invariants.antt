@@ -1,6 +1,0 @@
-use Rattle.std.proofs.Common.{◌+◌}
-use Rattle.pixel_formats.specs.Formats.{AreFirstBytes}
-use Rattle.pixel_formats.proofs.line.write_more.Given as goal
-
-abbrev pub invariant-loop-i : goal.invariant-loop-i
-invariant-loop-i l = AreFirstBytes l.size (l.from + l.i) l.pixels l.table l.line

@@ -1,6 +1,0 @@
-use Rattle.std.proofs.Common.{◌*◌}
-use Rattle.pixel_formats.specs.Formats.{AreFirstPairs}
-use Rattle.pixel_formats.proofs.pairs.write_pairs.Given as goal
-
-abbrev pub invariant-loop-r : goal.invariant-loop-r
-invariant-loop-r l = AreFirstPairs l.size (4 * l.r) l.pixels l.pairs l.line

@@ -1,0 +1,11 @@
+use Rattle.std.proofs.Common.{ap, ◌∙◌, rules}
+use Rattle.cdg_io.specs.Change.{from_to}
+use Rattle.ribjasper.proofs.running.report.Goals as goal
+
+pub returns : goal.returns
+returns g c = record {
+  err = from_to c.new-err.result c.tell-told.new.err;
+  over = ap (λ s. s.inner.writer) c.new-err.ensures ∙ c.new.ensures.writer;
+  taken = ap (λ s. s.inner.taken.bytes) c.new-err.ensures ∙ c.new.ensures.nothing;
+  told = search rules;
+}

@@ -1,0 +1,15 @@
+use Rattle.std.proofs.Common.{rules, ◌≡◌, true, ap, sym, ◌∙◌}
+use Rattle.rw_mend.specs.Readings.{programs_in}
+use Rattle.rw_mend.specs.Voices.{is_quiet_voice}
+use Rattle.rw_mend.specs.Words.{given_at}
+use Rattle.rw_mend.proofs.Missing.{same_silence}
+use Rattle.rw_mend.proofs.silences.Silence.advance.Goals as goal
+
+pub returns-else-not-self : goal.returns-else-not-self
+returns-else-not-self c =
+    let programs = programs_in c.args.readings.now in
+    let holds : c.is_quiet.result ≡ true = search rules in
+    let was : c.args.self.now.quiet ≡ true = search rules in
+    let quiet : is_quiet_voice (given_at programs c.args.r c.args.n) ≡ true =
+    ap is_quiet_voice (sym c.requires.given) ∙ sym c.is_quiet.ensures ∙ holds in
+    same_silence c.args.words programs c.args.r c.args.n c.args.self.now c.requires.before was quiet

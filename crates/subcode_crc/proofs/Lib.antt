@@ -1,3 +1,0 @@
-pub mod Remainders
-pub mod Registers
-pub mod Pairs

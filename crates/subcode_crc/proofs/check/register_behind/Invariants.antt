@@ -1,6 +1,0 @@
-use Rattle.std.proofs.Common.{◌*◌}
-use Rattle.subcode_crc.proofs.Registers.{GoesOn}
-use Rattle.subcode_crc.proofs.check.register_behind.Given as goal
-
-abbrev pub invariant-loop-k : goal.invariant-loop-k
-invariant-loop-k l = GoesOn l.begun l.bytes (2 * l.k) l.register
