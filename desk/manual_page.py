@@ -75,10 +75,16 @@ def commands(of: argparse.ArgumentParser) -> dict[str, argparse.ArgumentParser]:
 
 def page() -> str:
     top = parser()
-    lines = [r".\" Written by desk/manual_page.py from the parser of the desk.",
-             f'.TH RIBJASPER\\-DESK 1 "" "Ribjasper {WRITTEN}" "User commands"', ".SH NAME",
-             r"ribjasper\-desk \- whole jobs over dumps and songs of the subcode of Compact Discs",
-             ".SH SYNOPSIS", f".B {roff(call(top))}", ".SH DESCRIPTION", roff(top.description or "")]
+    lines = [
+        r".\" Written by desk/manual_page.py from the parser of the desk.",
+        f'.TH RIBJASPER\\-DESK 1 "" "Ribjasper {WRITTEN}" "User commands"',
+        ".SH NAME",
+        r"ribjasper\-desk \- whole jobs over dumps and songs of the subcode of Compact Discs",
+        ".SH SYNOPSIS",
+        f".B {roff(call(top))}",
+        ".SH DESCRIPTION",
+        roff(top.description or ""),
+    ]
     for action in shown(top):
         lines += option(action, top)
     lines.append(".SH COMMANDS")

@@ -10,33 +10,42 @@ import sys
 from types import FrameType
 from typing import Any, Iterator, NoReturn, Sequence
 
-from . import beside, failures, output
-from .failures import Failure, failure_of
-from .library import version
+from . import __version__
+from .common import beside, failures, output
+from .common.failures import Failure, failure_of
+from .common.library import version
 
 # Each command has a module with `add_parser(subparsers)`, which adds it with set_defaults(run=run), and
 # `run(arguments) -> int`, the exit number.
-COMMANDS = (
-    "identify", "damage", "mend", "q-fix", "convert", "sums", "report", "sheet", "texts",
-    "plan", "picture", "lyrics", "image", "film", "album", "pair", "look",
-)  # fmt: skip
+ARCHIVE = ("identify", "damage", "mend", "q-fix", "convert", "sums", "report", "sheet", "texts")
+PUBLISH = ("plan", "picture", "lyrics", "image", "film", "album", "pair", "look")
+COMMANDS = (*ARCHIVE, *PUBLISH)
 # Modules that are not called as their commands.
 MODULES = {"q-fix": "q_fix", "sheet": "sheets"}
 
 
 class Version(argparse.Action):
-    """Prints the version of the library that is at hand."""
+    """Prints the version of the desk, and whether the library is missing or has another one."""
 
     def __init__(self, option_strings: Sequence[str], dest: str, **options: Any) -> None:
         super().__init__(option_strings, dest, nargs=0, help=options.get("help"))
 
     def __call__(self, parser: argparse.ArgumentParser, *_: Any) -> None:
-        output.write_text(f"ribjasper-desk {version()}\n")
+        output.write_text(f"ribjasper-desk {__version__}\n")
+        try:
+            if version() != __version__:
+                output.tell(f"the library at hand has the version {version()}")
+        except output.Missing as missing:
+            output.tell(str(missing))
         parser.exit()
 
 
 class Parser(argparse.ArgumentParser):
-    """A parser whose help is written as all else is, so that a full standard output is told."""
+    """A parser that takes options only as they are spelled, and whose help reports a full standard output."""
+
+    def __init__(self, *words: Any, **options: Any) -> None:
+        options.setdefault("allow_abbrev", False)
+        super().__init__(*words, **options)
 
     def _print_message(self, message: str, file: Any = None) -> None:
         if message and file is not None:
@@ -47,6 +56,12 @@ class Parser(argparse.ArgumentParser):
                     file.write(message)
 
 
+def module_of(command: str) -> Any:
+    """The module of a command."""
+    package = "archive" if command in ARCHIVE else "publish"
+    return importlib.import_module(f".commands.{package}.{MODULES.get(command, command)}", __package__)
+
+
 @functools.lru_cache(maxsize=None)
 def parser(command: str | None = None) -> argparse.ArgumentParser:
     """The parser of all commands, or, which is there sooner, that of one of them."""
@@ -55,12 +70,12 @@ def parser(command: str | None = None) -> argparse.ArgumentParser:
         description="Works on dumps and songs of the subcode channels of Compact Discs, over the proved library.",
         epilog="Exit: 0 done, 1 damage was found or files differ, 2 wrong words, 3 a file was refused, 4 a picture is late, "
         "5 something has to be installed or built first, 6 an output cannot be written, 7 the memory is not enough, 8 a "
-        "fault of the desk, 128 and the number of the signal that ended it.",
+        "fault of the desk, 9 nothing to do, 128 and the number of the signal that ended it.",
     )
     top.add_argument("--version", action=Version, help="print the version and end")
     commands = top.add_subparsers(metavar="COMMAND", required=True, parser_class=Parser)
     for name in COMMANDS if command is None else [command]:
-        importlib.import_module(f".{MODULES.get(name, name)}", __package__).add_parser(commands)
+        module_of(name).add_parser(commands)
     return top
 
 
@@ -150,7 +165,8 @@ def main(words: Sequence[str] | None = None) -> int:
     # Names of files are bytes: what is no text in this locale goes out as it came in.
     for stream in (sys.stdout, sys.stderr):
         if isinstance(stream, io.TextIOWrapper):
-            stream.reconfigure(encoding=sys.getfilesystemencoding(), errors="surrogateescape")
+            # Lines end the same on every system.
+            stream.reconfigure(encoding=sys.getfilesystemencoding(), errors="surrogateescape", newline="\n")
     try:
         with stopping():
             status = followed(words)

@@ -40,7 +40,9 @@ def main() -> int:
     again = once_more(result)
     for test, why in [*again.failures, *again.errors]:
         print(f"{test} fails again\n{why}", file=sys.stderr)
-    print(f"desk: {again.testsRun} tests were run once more, {len(again.failures) + len(again.errors)} of them failed again")
+    print(
+        f"desk: {again.testsRun} tests were run once more, {len(again.failures) + len(again.errors)} of them failed again"
+    )
     return 0 if again.wasSuccessful() else 1
 
 

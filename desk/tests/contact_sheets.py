@@ -11,13 +11,13 @@ from PIL import Image, ImageDraw
 from fixtures import TOP, write_wav
 from test_album import random_packs
 
-from ribjasper.album import joined_packs, read_album, sing
-from ribjasper.library import HEIGHT, PACK, WIDTH, Player
-from ribjasper.output import png
-from ribjasper.song_files import read_song
-from ribjasper.song_script import Wishes, best
-from ribjasper.styles import read_style, shipped
-from ribjasper.tracks import packs_of
+from ribjasper.songs.albums import joined_packs, made_ready, read_album, sing_all
+from ribjasper.common.library import HEIGHT, PACK, WIDTH, Player
+from ribjasper.common.output import png
+from ribjasper.songs.song_files import read_song
+from ribjasper.songs.song_script import Wishes, best
+from ribjasper.drawing.styles import read_style, shipped
+from ribjasper.songs.tracks import packs_of
 
 DOCS = TOP / "docs"
 SONGS = TOP / "examples" / "album"
@@ -68,8 +68,11 @@ def song_packs(path: Path, wishes: Wishes) -> bytes:
 
 
 def styles() -> list[Cell]:
-    return [cell for name in shipped() for cell in
-            shown(song_packs(SONGS / "morning.lrc", Wishes(read_style(name), size=20)), [5, 9.5, 15.5], name)]
+    return [
+        cell
+        for name in shipped()
+        for cell in shown(song_packs(SONGS / "morning.lrc", Wishes(read_style(name), size=20)), [5, 9.5, 15.5], name)
+    ]
 
 
 def duet() -> list[Cell]:
@@ -82,12 +85,13 @@ def borders(folder: Path) -> list[Cell]:
     pictures on the screen."""
     for name, seconds in (("morning", 29), ("duet", 51), ("evening", 28)):
         write_wav(folder / f"{name}.wav", 44_100 * seconds)
-    tracks = "".join(f'[[track]]\nlyrics = "{SONGS}/{name}.lrc"\nsound = "{name}.wav"\n'
-                     for name in ("morning", "duet", "evening"))
+    tracks = "".join(
+        f'[[track]]\nlyrics = "{SONGS}/{name}.lrc"\nsound = "{name}.wav"\n' for name in ("morning", "duet", "evening")
+    )
     path = folder / "list.toml"
     path.write_text(f"gap = 2\n{tracks}")
     album = read_album(path)
-    sung = [sing(album, track) for track in album.tracks]
+    sung = sing_all(album, [made_ready(track) for track in album.tracks])
     packs, cells, start = joined_packs(album, sung), [], 0.0
     for number, one in enumerate(sung[:-1], 2):
         start += one.blocks / 75 + album.gap / 75
@@ -106,8 +110,12 @@ def alphabets(folder: Path) -> list[Cell]:
 def main() -> None:
     with tempfile.TemporaryDirectory() as name:
         folder = Path(name)
-        for sheet_name, cells, columns in (("styles", styles(), 3), ("duet", duet(), 3), ("album", borders(folder), 3),
-                                           ("alphabets", alphabets(folder), 3)):
+        for sheet_name, cells, columns in (
+            ("styles", styles(), 3),
+            ("duet", duet(), 3),
+            ("album", borders(folder), 3),
+            ("alphabets", alphabets(folder), 3),
+        ):
             (DOCS / f"{sheet_name}.png").write_bytes(png(sheet(cells, columns)))
 
 

@@ -16,8 +16,9 @@ import wave
 from pathlib import Path
 from typing import Any, Callable, NamedTuple, TypeVar
 
-from ribjasper import library, main, output, program as programs
-from ribjasper.lettering import DEFAULT_FONT
+from ribjasper import main
+from ribjasper.common import library, output, program as programs
+from ribjasper.drawing.lettering import DEFAULT_FONT
 
 # A shell that starts the tests in the background has them ignore signals, which the programs under test are to hear.
 for number in (signal.SIGINT, signal.SIGTERM, signal.SIGHUP):

@@ -14,11 +14,14 @@ import time
 import wave
 import zlib
 from pathlib import Path
-from typing import Callable, NamedTuple
+from typing import NamedTuple
 
 from hypothesis import HealthCheck, Phase, given, seed, settings, strategies as st
 
+from ribjasper.common.records import RECORD
 from fixtures import BLOCK, HELLO, as_sectors, desk, hello, hello_packs, program, with_burst, with_zeros
+
+from ribjasper.common import records
 
 # What the desk may end with; 8 is a fault of its own.
 STATUSES = {0, 1, 2, 3, 4, 5, 6, 7}
@@ -29,6 +32,7 @@ PREFIX = "ribjasper-desk: "
 
 def png(width: int, height: int, row: bytes) -> bytes:
     """A picture whose rows are all alike, by its parts."""
+
     def chunk(kind: bytes, content: bytes) -> bytes:
         return struct.pack(">I", len(content)) + kind + content + struct.pack(">I", zlib.crc32(kind + content))
 
@@ -45,16 +49,28 @@ def wav(blocks: int) -> bytes:
     return out.getvalue()
 
 
-SHEET = (b'PERFORMER "The Lead-Ins"\nTITLE "All"\nFILE "a.wav" WAVE\n  TRACK 01 AUDIO\n    TITLE "One"\n    ISRC GBAAA2600001\n'
-         b"    INDEX 00 00:00:00\n    INDEX 01 00:00:40\n  TRACK 02 AUDIO\n    PREGAP 00:00:10\n    INDEX 01 00:02:00\n")
+SHEET = (
+    b'PERFORMER "The Lead-Ins"\nTITLE "All"\nFILE "a.wav" WAVE\n  TRACK 01 AUDIO\n    TITLE "One"\n    ISRC GBAAA2600001\n'
+    b"    INDEX 00 00:00:00\n    INDEX 01 00:00:40\n  TRACK 02 AUDIO\n    PREGAP 00:00:10\n    INDEX 01 00:02:00\n"
+)
 ONE_TRACK = b'FILE "a.wav" WAVE\nTRACK 01 AUDIO\nINDEX 01 00:00:00\n'
 SCRIPT = b"colour 1 0F00\nrect 0 0 20 20 1\nshow 00:02:40 00:03:00\nfill 0\nrow 3 3 0123\nshow 00:05:00 00:06:00\n"
 LRC = b"[ti:A song]\n[ar:Somebody]\n[00:01.00]<00:01.10>One <00:01.60>two\n[00:02.00]Three four\n[00:03.00]\n"
-ASS = (b"[Script Info]\nTitle: Two\n[Events]\nFormat: Layer, Start, End, Style, Name, MarginL, MarginR, MarginV, Effect, Text\n"
-       b"Dialogue: 0,0:00:01.00,0:00:03.00,Default,,0,0,0,,{\\k50}One, {\\kf70}two\\N{\\k30}three\n")
-ALBUM = (b'title = "All"\nsinger = "Somebody"\ngap = 1\n[[track]]\nlyrics = "in-1"\nsound = "in-2"\ntitle = "One"\nsinger = ""\n')
-DAT = (b'<?xml version="1.0"?>\n<datafile><header><name>x</name></header><game name="in-0"><rom name="in-0" size="5" '
-       b'crc="00000000" md5="d41d8cd98f00b204e9800998ecf8427e"/></game></datafile>\n')
+ASS = (
+    b"[Script Info]\nTitle: Two\n[Events]\nFormat: Layer, Start, End, Style, Name, MarginL, MarginR, MarginV, Effect, Text\n"
+    b"Dialogue: 0,0:00:01.00,0:00:03.00,Default,,0,0,0,,{\\k50}One, {\\kf70}two\\N{\\k30}three\n"
+)
+VTT = b"WEBVTT\n\n00:01.000 --> 00:03.000\n<v Anna>One <00:01.500>two</v>\n<v Ben>three\n"
+BEATS = b"#BPM:150\n#GAP:500\n: 0 4 60 One\nB 8 300\n: 8 4 60  two\n- 16\n: 20 4 60 three\nE\n"
+PICTURES = (
+    b"[00:01.00]v3: One\n[image: in-0]\n[00:02.00][00:02.40]two[00:02.80]\n[colour:#08F]\n[00:03.50]\xd0\xe5\xea\xe0\n"
+)
+PAIR = b'gap = 1\nloudness = -20\n[[track]]\npair = "in-1"\nsound = "in-2"\nend = 3\nfade_out = 1\n'
+ALBUM = b'title = "All"\nsinger = "Somebody"\ngap = 1\n[[track]]\nlyrics = "in-1"\nsound = "in-2"\ntitle = "One"\nsinger = ""\n'
+DAT = (
+    b'<?xml version="1.0"?>\n<datafile><header><name>x</name></header><game name="in-0"><rom name="in-0" size="5" '
+    b'crc="00000000" md5="d41d8cd98f00b204e9800998ecf8427e"/></game></datafile>\n'
+)
 JOURNAL = b'{"stamp": "1 1.1.0 True 5 5 5", "row": {"file": "x", "status": "good", "form": null, "texts": null, "why": null}}\n'
 
 
@@ -64,21 +80,36 @@ def samples() -> dict[str, tuple[bytes, ...]]:
     stream = hello()[: BLOCK * 330]
     packs = hello_packs()[: 24 * 4 * 300]
     short = program("author", "--lead-in", 60, "--length", "00:04:00", "--", *authored())
+    # A sheet whose only file is itself.
+    sheeted = b'FILE "in-0" BINARY\n  TRACK 01 MODE1/2352\n    INDEX 01 00:00:00\nREM ' + b"x" * 2352
     return {
-        "dump": (stream, hello()[BLOCK * 30 : BLOCK * 230], program("planar", stdin=stream), as_sectors(stream[: BLOCK * 60]),
-                 with_burst(stream, 200, 80), with_zeros(stream, 100, 140), packs, short),
+        "dump": (
+            stream,
+            hello()[BLOCK * 30 : BLOCK * 230],
+            program("planar", stdin=stream),
+            as_sectors(stream[: BLOCK * 60]),
+            with_burst(stream, 200, 80),
+            with_zeros(stream, 100, 140),
+            packs,
+            short,
+        ),
+        "image-of-disc": (as_sectors(stream[: BLOCK * 200]), as_sectors(short[BLOCK * 210 :]), sheeted, stream),
         "stream": (short, stream, as_sectors(short[BLOCK * 210 :])),
         "cdg": (packs, packs[: 24 * 100], bytes(24)),
         "sheet": (SHEET, ONE_TRACK, HELLO[0].read_bytes()),
         "script": (SCRIPT, HELLO[1].read_bytes(), b""),
-        "lyrics": (LRC, ASS),
-        "image": (png(20, 24, b"\xff\0\0" * 20), png(30_000, 30_000, bytes(90_000)), png(288, 192, b"\0\xff\x80" * 288)),
+        "lyrics": (LRC, ASS, VTT, BEATS, PICTURES),
+        "image": (
+            png(20, 24, b"\xff\0\0" * 20),
+            png(30_000, 30_000, bytes(90_000)),
+            png(288, 192, b"\0\xff\x80" * 288),
+        ),
         "audio": (wav(300), wav(20), wav(0)),
         "packs": (text_packs(), text_packs() + b"\0", b"\0\x24\0\0" + text_packs()[:34]),
         "journal": (JOURNAL, b'{"stamp": 3, "row": []}\n'),
         "font": (b"no font",),
         "dat": (DAT, b"<?xml version='1.0'?><datafile><game><rom name='x' size='a'/></game></datafile>"),
-        "album": (ALBUM, ALBUM.replace(b"gap = 1", b"gap = 1e400"), ALBUM + b'title = "\\q"\n'),
+        "album": (ALBUM, PAIR, ALBUM.replace(b"gap = 1", b"gap = 1e400"), ALBUM + b'title = "\\q"\n'),
     }
 
 
@@ -112,7 +143,24 @@ def spoiled(draw: st.DrawFn, content: bytes) -> bytes:
                 changed[at] ^= draw(st.integers(1, 255))
             return bytes(changed)
         case "text":
-            odd = ("\0", "\xff", "9" * 30, "-1", '"', "[", "]", "\\", "{\\k", "\u202e", "\U0010ffff", "é", "\r", "\x1b", "<", ":")
+            odd = (
+                "\0",
+                "\xff",
+                "9" * 30,
+                "-1",
+                '"',
+                "[",
+                "]",
+                "\\",
+                "{\\k",
+                "\u202e",
+                "\U0010ffff",
+                "é",
+                "\r",
+                "\x1b",
+                "<",
+                ":",
+            )
             return content[:place] + draw(st.sampled_from(odd)).encode() + content[place:]
         case "away":
             return content[:place] + content[place + length :]
@@ -162,43 +210,195 @@ FORCE = Option("--force")
 FORM = Option("--form", ("raw", "planar", "sector", "cooked", "cdg", "pq", "raw-swapped", "x"))
 SKIP = Option("--skip", ("0", "96", "44", "1", "999999", "-1", "x"))
 PLACE = ("00:00:10", "20", "0", "00:10:00", "99:59:74", "-1", "x")
+LISTS = ("table", "ddrescue", "lba", "msf", "redumper", "readcd", "cdparanoia", "x")
+OFFSETS = ("0", "30", "-588", "2940", "2941", "x", "")
+BASES = ("file", "disc", "x")
+ENCODING = Option("--encoding", ("utf-8", "cp1251", "utf-16", "rot13", "x", ""))
+CAPACITY = Option("--capacity", ("79:57", "74:00:00", "00:02", "x", "٣:00"))
+LOOKS = (
+    ENCODING,
+    Option("--intro", ("0", "2.5", "601", *NUMBERS)),
+    Option("--lead", ("4", "0", *NUMBERS)),
+    Option("--missing", ("leave", "box", "x")),
+    Option("--legend"),
+    Option("--rows", ("2", "4", *NUMBERS)),
+)
 COMMANDS = (
-    Command(("identify",), ("dump", "dump"), (LEAD_IN, FORM, SKIP)),
+    Command(("identify",), ("dump", "dump"), (LEAD_IN, FORM, SKIP, Option("-v"))),
     Command(("damage",), ("dump",), (Option("--map", writes=True), LEAD_IN, FORM, SKIP, FORCE)),
-    Command(("mend",), ("dump", "dump"), (Option("-o", writes=True), Option("--map", writes=True), Option("--ddrescue-map", writes=True),
-                                          LEAD_IN, FORM, FORCE)),
+    Command(
+        ("damage",), ("dump",), (Option("--again", writes=True), Option("--again-as", LISTS), LEAD_IN, FORM, FORCE), 2
+    ),
+    Command(
+        ("mend",),
+        ("dump", "dump"),
+        (
+            Option("-o", writes=True),
+            Option("--map", writes=True),
+            Option("--ddrescue-map", writes=True),
+            LEAD_IN,
+            FORM,
+            FORCE,
+        ),
+    ),
     Command(("mend", "--compare"), ("dump", "dump"), (LEAD_IN, FORM), 2),
     Command(("mend",), ("dump", "dump", "dump"), (Option("-o", writes=True), FORCE), 2),
     Command(("q-fix",), ("dump",), (Option("-o", writes=True), Option("--sbi", writes=True), FORM, SKIP, FORCE)),
-    Command(("convert",), ("dump",), (Option("-o", writes=True, is_needed=True), Option("--as", FORM.values), Option("--from", PLACE),
-                                      Option("--to", PLACE), Option("--silent"), Option("--audio", reads="audio"),
-                                      Option("--sheet", reads="sheet"), FORCE)),
+    Command(("q-fix",), ("dump",), (Option("-o", writes=True), Option("--lsd", writes=True), FORCE), 1),
+    Command(
+        ("convert",),
+        ("dump",),
+        (
+            Option("-o", writes=True, is_needed=True),
+            Option("--as", FORM.values),
+            Option("--from", PLACE),
+            Option("--to", PLACE),
+            Option("--silent"),
+            Option("--audio", reads="audio"),
+            Option("--sheet", reads="sheet"),
+            FORCE,
+        ),
+    ),
     Command(("sums",), ("dump", "dump"), (Option("--dat", writes=True), Option("--check", reads="dat"), FORCE), 2),
-    Command(("sheet",), ("dump",), (Option("-o", writes=True), Option("--toc"), Option("--ccd"), Option("--latin-1"), LEAD_IN, SKIP, FORCE)),
-    Command(("sheet",), ("dump",), (Option("--compare", reads="sheet", is_needed=True), LEAD_IN), 2),
-    Command(("texts",), ("dump",), (Option("--packs", writes=True), Option("--header"), Option("--all"), LEAD_IN, FORCE)),
+    Command(
+        ("sums", "--tracks"),
+        ("image-of-disc",),
+        (Option("--dat", writes=True), Option("--check", reads="dat"), Option("--offset", OFFSETS), FORM, SKIP, FORCE),
+        2,
+    ),
+    Command(
+        ("sheet",),
+        ("dump",),
+        (
+            Option("-o", writes=True),
+            Option("--toc"),
+            Option("--ccd"),
+            Option("--latin-1"),
+            Option("--times", BASES),
+            Option("--session", NUMBERS),
+            LEAD_IN,
+            SKIP,
+            FORCE,
+        ),
+    ),
+    Command(
+        ("sheet",),
+        ("dump",),
+        (Option("--compare", reads="sheet", is_needed=True), Option("--times", BASES), LEAD_IN),
+        2,
+    ),
+    Command(
+        ("report", "--submission"), ("dump",), (Option("-o", writes=True), Option("--json"), LEAD_IN, FORM, FORCE), 2
+    ),
+    Command(
+        ("texts",), ("dump",), (Option("--packs", writes=True), Option("--header"), Option("--all"), LEAD_IN, FORCE)
+    ),
     Command(("texts", "--back"), ("packs",), (Option("--blocks", writes=True), FORCE)),
-    Command(("plan",), ("sheet", "script"), (Option("--length", TIMES, is_needed=True), Option("--chart", writes=True),
-                                             Option("--latin-1", writes=True), Option("--audio", reads="audio"), FORCE)),
-    Command(("picture",), ("image",), (Option("-o", writes=True), Option("--colours", NUMBERS), Option("--first", NUMBERS),
-                                       Option("--at", ("0,0", "40,10", "47,15", "48,0", "x", "1")), Option("--simple", NUMBERS),
-                                       Option("--dither"), FORCE), 1),
-    Command(("lyrics",), ("lyrics",), (Option("-o", writes=True), Option("--size", NUMBERS), Option("--sweep"),
-                                       Option("--font", reads="font"), Option("--audio", reads="audio"), FORCE), 1),
-    Command(("image",), ("sheet", "stream"), (Option("--audio", reads="audio", is_needed=True), Option("-o", writes=True), Option("--latin-1"),
-                                              Option("--hold-through-pause", reads="script"), FORCE), 2),
-    Command(("film",), ("cdg",), (Option("--stills", writes=True), Option("--rate", NUMBERS), Option("--every", NUMBERS),
-                                  Option("--audio", reads="audio"), FORCE), 2),
-    Command(("album",), ("album", "~lyrics", "~audio"), (Option("-o", writes=True), FORCE), 1),
-    Command(("album", "--new"), ("lyrics", "lyrics"), (Option("-o", writes=True), FORCE), 1),
-    Command(("pair",), ("lyrics",), (Option("--audio", reads="audio", is_needed=True), Option("-o", writes=True),
-                                     Option("--zip"), Option("--karaoke-cd"), FORCE), 1),
-    Command(("look",), ("lyrics",), (Option("--audio", reads="audio", is_needed=True), Option("-o", writes=True), FORCE), 1),
+    Command(
+        ("plan",),
+        ("sheet", "script"),
+        (
+            Option("--length", TIMES, is_needed=True),
+            Option("--chart", writes=True),
+            Option("--latin-1", writes=True),
+            Option("--audio", reads="audio"),
+            FORCE,
+        ),
+    ),
+    Command(
+        ("picture",),
+        ("image",),
+        (
+            Option("-o", writes=True),
+            Option("--colours", NUMBERS),
+            Option("--first", NUMBERS),
+            Option("--at", ("0,0", "40,10", "47,15", "48,0", "x", "1")),
+            Option("--simple", NUMBERS),
+            Option("--dither"),
+            FORCE,
+        ),
+        1,
+    ),
+    Command(
+        ("lyrics",),
+        ("lyrics",),
+        (
+            Option("-o", writes=True),
+            Option("--size", NUMBERS),
+            Option("--sweep"),
+            Option("--font", reads="font"),
+            Option("--audio", reads="audio"),
+            Option("--between", reads="image"),
+            *LOOKS,
+            FORCE,
+        ),
+        1,
+    ),
+    Command(
+        ("image",),
+        ("sheet", "stream"),
+        (
+            Option("--audio", reads="audio", is_needed=True),
+            Option("-o", writes=True),
+            Option("--latin-1"),
+            Option("--hold-through-pause", reads="script"),
+            FORCE,
+        ),
+        2,
+    ),
+    Command(
+        ("film",),
+        ("cdg",),
+        (
+            Option("--stills", writes=True),
+            Option("--rate", NUMBERS),
+            Option("--every", NUMBERS),
+            Option("--audio", reads="audio"),
+            FORCE,
+        ),
+        2,
+    ),
+    Command(("album",), ("album", "~lyrics", "~audio"), (Option("-o", writes=True), ENCODING, CAPACITY, FORCE), 1),
+    Command(("album",), ("album", "~cdg", "~audio"), (Option("-o", writes=True), FORCE), 1),
+    Command(("album", "--check"), ("album", "~cdg", "~audio"), (CAPACITY,), 1),
+    Command(("album", "--new"), ("lyrics", "lyrics"), (Option("-o", writes=True), ENCODING, FORCE), 1),
+    Command(
+        ("pair",),
+        ("lyrics",),
+        (
+            Option("--audio", reads="audio", is_needed=True),
+            Option("-o", writes=True),
+            Option("--zip"),
+            Option("--karaoke-cd"),
+            *LOOKS,
+            FORCE,
+        ),
+        1,
+    ),
+    Command(
+        ("look",), ("lyrics",), (Option("--audio", reads="audio", is_needed=True), Option("-o", writes=True), FORCE), 1
+    ),
     Command(("report", "--jobs", "1", "--no-pictures"), ("folder",), (Option("-o", writes=True), FORCE), 1),
 )
 # Where an output may be.
-PLACES = ("new", "new", "new", "input", "input", "existing", "notes", "folder", "missing/new", "-", "link", "link-to-input",
-          "dangling", "full", "null", "")
+PLACES = (
+    "new",
+    "new",
+    "new",
+    "input",
+    "input",
+    "existing",
+    "notes",
+    "folder",
+    "missing/new",
+    "-",
+    "link",
+    "link-to-input",
+    "dangling",
+    "full",
+    "null",
+    "",
+)
 
 
 class Made(NamedTuple):
@@ -236,7 +436,9 @@ def calls(draw: st.DrawFn, commands: tuple[Command, ...] = COMMANDS) -> Made:
         if kind == "folder":
             for number in range(draw(st.integers(0, 3))):
                 reads.add(f"dumps/{number}")
-                inputs[f"dumps/{number}"] = an_input(draw, draw(st.sampled_from(("dump", "cdg", "journal"))), is_careful())
+                inputs[f"dumps/{number}"] = an_input(
+                    draw, draw(st.sampled_from(("dump", "cdg", "journal"))), is_careful()
+                )
             return "@dumps"
         name = f"in-{len(inputs)}"
         inputs[name] = an_input(draw, kind, is_careful())
@@ -290,6 +492,8 @@ def state(folder: Path) -> dict[str, tuple[object, ...]]:
     """All that is in a folder: what each name is, and what it holds."""
     found: dict[str, tuple[object, ...]] = {}
     for path in folder.rglob("*"):
+        if path.name == records.RECORD:
+            continue
         known = os.lstat(path)
         content: object = None
         if stat.S_ISREG(known.st_mode):
@@ -306,6 +510,9 @@ REACHED = {"link": "target", "dangling": "nowhere", "link-to-input": "in-0"}
 
 
 def may_appear(call: Made, name: str) -> bool:
+    # A folder of outputs has a record of them.
+    if name.rsplit("/", 1)[-1] == RECORD:
+        return bool(call.outputs)
     for output in call.outputs:
         place = REACHED.get(output, output)
         if name in call.reads:
@@ -314,7 +521,11 @@ def may_appear(call: Made, name: str) -> bool:
         if name == place or name in [output + ending for ending in ENDINGS]:
             return True
         # A report is a folder, which may be made.
-        if call.words[0] == "report" and place and (name == place or name.startswith(f"{place}/") or place.startswith(f"{name}/")):
+        if (
+            call.words[0] == "report"
+            and place
+            and (name == place or name.startswith(f"{place}/") or place.startswith(f"{name}/"))
+        ):
             return True
     return False
 
@@ -344,7 +555,9 @@ def check(call: Made) -> int:
     for name in set(after) | set(before):
         if after.get(name) != before.get(name):
             assert may_appear(call, name), f"{said}\nchanged: {name}"
-            assert name not in before or before[name][0] == after[name][0], f"{said}\nturned into something else: {name}"
+            assert (
+                name not in before or before[name][0] == after[name][0]
+            ), f"{said}\nturned into something else: {name}"
     return ran.status
 
 
@@ -353,8 +566,13 @@ def main() -> int:
     ended: collections.Counter[tuple[str, int]] = collections.Counter()
 
     @seed(number)
-    @settings(max_examples=count, deadline=None, database=None, suppress_health_check=list(HealthCheck),
-              phases=(Phase.explicit, Phase.generate, Phase.shrink))
+    @settings(
+        max_examples=count,
+        deadline=None,
+        database=None,
+        suppress_health_check=list(HealthCheck),
+        phases=(Phase.explicit, Phase.generate, Phase.shrink),
+    )
     @given(calls())
     def try_all(call: Made) -> None:
         ended[call.words[0], check(call)] += 1

@@ -9,10 +9,12 @@ from pathlib import Path
 
 site.addsitedir(str(Path(__file__).resolve().parents[2] / "tests" / "peers"))
 
-from reckon_rows import bcd, digits, seal  # noqa: E402
+from reckon_rows import bcd as bcd  # noqa: E402
+from reckon_rows import digits as digits  # noqa: E402
+from reckon_rows import seal  # noqa: E402
 from reckon_rows import recording_code as recording_code  # noqa: E402
 from reckon_rows import time as time  # noqa: E402
-from subcode import PLACES  # noqa: E402
+from subcode import PLACES as PLACES  # noqa: E402
 from subcode import check as check  # noqa: E402
 
 BLOCK, AUDIO = 96, 2352
@@ -61,7 +63,9 @@ class Disc:
         index = max([1, *(number for number, at in track.indexes.items() if at <= block)])
         within = block - track.start
         where = (index, within) if within >= 0 else (0, -within)
-        return q_frame(bytes([track.control << 4 | 1, bcd(track.number), bcd(where[0])]) + time(where[1]) + bytes(1) + time(block))
+        return q_frame(
+            bytes([track.control << 4 | 1, bcd(track.number), bcd(where[0])]) + time(where[1]) + bytes(1) + time(block)
+        )
 
     def frame(self, block: int) -> bytes:
         """The frame of a block, one in a hundred a catalogue number, one a recording code. The first block of a track may
@@ -166,6 +170,61 @@ def redumper(disc: Disc, behind: int = 3000, density: float = 0.5) -> bytes:
     return bytes(BLOCK * REDUMPER_LEAD_IN) + program(disc, 0, disc.end, density) + bytes(BLOCK * behind)
 
 
+def two_sessions(first: Disc, second: Disc, lead_out: int = 6750, lead_in_blocks: int = 4500) -> bytes:
+    """What a drive reads of a disc with two sessions, from the first sector on: the program, the lead-out of the first
+    session, the lead-in of the second, and its program with the pause in front."""
+    begin = second.tracks[0].begin
+    return (
+        program(first, PAUSE, first.end + lead_out, 0)
+        + lead_in(second, lead_in_blocks)
+        + program(second, begin, second.end, 0)
+    )
+
+
+def after(first: Disc, tracks: int, seconds: int, control: int = 0) -> Disc:
+    """The second session of a disc: so many tracks of so many seconds, behind a lead-out of 90 seconds and a lead-in of 60."""
+    start = first.end + 6750 + 4500 + PAUSE
+    made = [
+        Track(
+            len(first.tracks) + 1 + number,
+            start + 75 * seconds * number,
+            start - PAUSE if number == 0 else None,
+            control,
+        )
+        for number in range(tracks)
+    ]
+    return Disc(made, start + 75 * seconds * tracks)
+
+
+# How frames are changed by design. The published frames of a protected disc show this: one bit of each time is turned, and two
+# bits of the check of the right frame, as in 41 01 01 07 06 05 00 23 08 05 38 39 at 03:08:05.
+
+
+def libcrypt(right: bytes, seed: int, check_bits: int = 0x8001, of_content: bool = False) -> bytes:
+    """A frame as LibCrypt changes it; `of_content` turns the bits in the check of the changed frame."""
+    chance, content = random.Random(seed), bytearray(right[:10])
+    for first in (3, 7):
+        content[first + chance.randrange(3)] ^= 1 << chance.randrange(8)
+    base = check(bytes(content)) if of_content else right[10:]
+    return bytes(content) + (int.from_bytes(base, "big") ^ check_bits).to_bytes(2, "big")
+
+
+def damaged_frame(right: bytes, chance: random.Random) -> bytes:
+    """A frame as a scratch or a weak drive leaves it: a few bits turned, a burst, or zeros."""
+    frame = int.from_bytes(right, "big")
+    kind = chance.randrange(4)
+    if kind == 0:
+        frame ^= 1 << chance.randrange(96)
+    elif kind == 1:
+        for _ in range(chance.randrange(2, 6)):
+            frame ^= 1 << chance.randrange(96)
+    elif kind == 2:
+        frame ^= chance.getrandbits(chance.randrange(8, 96)) << chance.randrange(8)
+    else:
+        frame = 0
+    return (frame & (1 << 96) - 1).to_bytes(12, "big")
+
+
 # How a block stands in a file.
 
 
@@ -202,6 +261,44 @@ def sound(sectors: int, seed: int = 4) -> list[bytes]:
 def in_sectors(subcode: list[bytes], silent: bool = False) -> bytes:
     audio = [bytes(AUDIO)] * len(subcode) if silent else sound(len(subcode))
     return b"".join(a + b for a, b in zip(audio, subcode))
+
+
+EDC_TERMS = 1 << 32 | 1 << 31 | 1 << 16 | 1 << 15 | 1 << 4 | 1 << 3 | 1 << 1 | 1
+
+
+def remainder(polynomial: int, length: int) -> int:
+    """What is left of a polynomial over the field of two elements after division by that of the code."""
+    for place in range(length - 1, 31, -1):
+        if polynomial >> place & 1:
+            polynomial ^= EDC_TERMS << place - 32
+    return polynomial
+
+
+EDC_OF = [remainder(byte << 32, 40) for byte in range(256)]
+
+
+def edc(content: bytes) -> bytes:
+    """The error detection code of a data sector: the remainder of its bits, the lowest of each byte first, by the polynomial
+    x^32 + x^31 + x^16 + x^15 + x^4 + x^3 + x + 1 = (x^16 + x^15 + x^2 + 1) (x^16 + x^2 + x + 1)."""
+    state = 0
+    for byte in content.translate(REVERSED):
+        state = state << 8 & 0xFFFF_FFFF ^ EDC_OF[state >> 24 ^ byte]
+    return state.to_bytes(4, "big").translate(REVERSED)
+
+
+@functools.lru_cache(maxsize=None)
+def data_sector(block: int, mode: int = 1, form: int = 1, seed: int = 5) -> bytes:
+    """A data sector at an absolute time, with its error detection code; the rest of its error correction is noise."""
+    chance = random.Random(1000 * seed + block)
+    head = b"\0" + b"\xff" * 10 + b"\0" + time(block) + bytes([mode])
+    if mode == 0:
+        return head + bytes(2336)
+    if mode == 1:
+        body = head + chance.randbytes(2048)
+        return body + edc(body) + bytes(8) + chance.randbytes(276)
+    sub = bytes([0, 0, 0x20 if form == 2 else 8, 0]) * 2
+    body = sub + chance.randbytes(2324 if form == 2 else 2048)
+    return head + body + edc(body) + (b"" if form == 2 else chance.randbytes(276))
 
 
 REVERSED = bytes(int(f"{byte:08b}"[::-1], 2) for byte in range(256))
@@ -262,7 +359,9 @@ def text_packs(language: int, first: int, kinds: dict[int, list[bytes]], width: 
     return packs
 
 
-def size_packs(language: int, first: int, code: int, tracks: int, packs: list[bytes], spoken: dict[int, int], last: dict[int, int]) -> list[bytes]:
+def size_packs(
+    language: int, first: int, code: int, tracks: int, packs: list[bytes], spoken: dict[int, int], last: dict[int, int]
+) -> list[bytes]:
     """The three size packs of a language: spoken says the language codes of all, last their last numbers."""
     counts = [sum(pack[0] == 0x80 + kind for pack in packs) for kind in range(16)]
     counts[15] = 3

@@ -14,8 +14,8 @@ from fixtures import (
     needs_plan, needs_program, program, write_wav,
 )  # fmt: skip
 
-from ribjasper.library import BLOCK, PACK, RAW, SECTOR, Player, convert
-from ribjasper.planning import least_lead_in
+from ribjasper.common.library import BLOCK, PACK, RAW, SECTOR, Player, convert
+from ribjasper.common.planning import least_lead_in
 
 Change = Callable[[str], str]
 # Lengths of the three songs in blocks; the second is no whole number of seconds.
@@ -28,9 +28,11 @@ PRESETS = [1, 2, 30, 31]
 
 def song(number: int) -> str:
     """A song of two lines, which ends with letters on the screen."""
-    return (f"[ti:Song {number}]\n[ar:Singer {number}]\n"
-            f"[00:0{6 + number}.00]<00:0{6 + number}.00>First <00:0{6 + number}.50>line <00:0{7 + number}.00>of {number}\n"
-            f"[00:12.00]<00:12.00>Second <00:12.50>line <00:13.00>\u00e9t\u00e9 {number} <00:17.50>\n")
+    return (
+        f"[ti:Song {number}]\n[ar:Singer {number}]\n"
+        f"[00:0{6 + number}.00]<00:0{6 + number}.00>First <00:0{6 + number}.50>line <00:0{7 + number}.00>of {number}\n"
+        f"[00:12.00]<00:12.00>Second <00:12.50>line <00:13.00>\u00e9t\u00e9 {number} <00:17.50>\n"
+    )
 
 
 def random_packs(seed: int) -> bytes:
@@ -40,8 +42,11 @@ def random_packs(seed: int) -> bytes:
     def pack(instruction: int, symbols: list[int]) -> bytes:
         return bytes([9, instruction, 0, 0, *symbols, 0, 0, 0, 0])
 
-    tiles = [pack(6, [dice.randrange(16), dice.randrange(16), row, column, *(dice.randrange(64) for _ in range(12))])
-             for row in range(18) for column in range(50)]
+    tiles = [
+        pack(6, [dice.randrange(16), dice.randrange(16), row, column, *(dice.randrange(64) for _ in range(12))])
+        for row in range(18)
+        for column in range(50)
+    ]
     colours = [pack(number, [dice.randrange(64) for _ in range(16)]) for number in (30, 31)]
     return b"".join([pack(2, [dice.randrange(16)] + 15 * [0]), *tiles, *colours])
 
@@ -85,10 +90,19 @@ class AlbumTest(SongsTest):
 
     def test_the_list(self) -> None:
         text = self.begun().read_text()
-        self.assertEqual(re.findall(r'^(lyrics|sound|title|singer) = "(.*)"', text, re.MULTILINE)[2:],
-                         [pair for number in (1, 2, 3) for pair in
-                          (("lyrics", f"{number}.lrc"), ("sound", f"{number}.wav"), ("title", f"Song {number}"),
-                           ("singer", f"Singer {number}"))])
+        self.assertEqual(
+            re.findall(r'^(lyrics|sound|title|singer) = "(.*)"', text, re.MULTILINE)[2:],
+            [
+                pair
+                for number in (1, 2, 3)
+                for pair in (
+                    ("lyrics", f"{number}.lrc"),
+                    ("sound", f"{number}.wav"),
+                    ("title", f"Song {number}"),
+                    ("singer", f"Singer {number}"),
+                )
+            ],
+        )
         ran = desk("album", "--new", self.folder / "1.lrc")
         self.assertIn("[[track]]", ran.out)
         # What was written into a list is not lost.
@@ -163,18 +177,23 @@ class AlbumTest(SongsTest):
         self.album()
         words = ["cdrdao", "show-toc", str(self.folder / "disc.toc")]
         shown = subprocess.run(words, capture_output=True, text=True, check=True).stdout
-        found = [[int(at) for at in re.findall(r"(?:PREGAP|START|END) .*\( *(\d+)\)", part)]
-                 for part in re.split(r"^TRACK +", shown, flags=re.MULTILINE)[1:]]
+        found = [
+            [int(at) for at in re.findall(r"(?:PREGAP|START|END) .*\( *(\d+)\)", part)]
+            for part in re.split(r"^TRACK +", shown, flags=re.MULTILINE)[1:]
+        ]
         starts = [start - PAUSE for start in self.starts()]
-        self.assertEqual([one[-2:] for one in found], [[0, starts[1] - GAP], [starts[1], starts[2] - GAP],
-                                                       [starts[2], starts[2] + LENGTHS[2]]])
+        self.assertEqual(
+            [one[-2:] for one in found],
+            [[0, starts[1] - GAP], [starts[1], starts[2] - GAP], [starts[2], starts[2] + LENGTHS[2]]],
+        )
         self.assertEqual([one[0] for one in found[1:]], [GAP, GAP])
 
     def test_texts_and_codes(self) -> None:
         def change(text: str) -> str:
             text = text.replace('title = "Song 2"', 'title = "Songs \u03a9 \\"x\\""', 1)
             return text.replace('title = ""\n', 'title = "Caf\u00e9"\ncatalogue = "4006381333931"\n', 1).replace(
-                '# isrc = "GBAAA2600001"', 'isrc = "GB-AAA-26-00001"', 1)
+                '# isrc = "GBAAA2600001"', 'isrc = "GB-AAA-26-00001"', 1
+            )
 
         ran = self.album(change=change)
         self.assertIn("track 2: Latin-1 has no \u03a9", ran.told)
@@ -187,7 +206,9 @@ class AlbumTest(SongsTest):
         self.album()
         sheet = self.write("a.cue", SHEET)
         for number in (1, 2, 3):
-            ran = desk("plan", sheet, self.folder / f"disc-{number:02}.script", "--audio", self.folder / f"{number}.wav")
+            ran = desk(
+                "plan", sheet, self.folder / f"disc-{number:02}.script", "--audio", self.folder / f"{number}.wav"
+            )
             self.assertEqual((ran.status, "0 of them late" in ran.told), (0, True), ran.told)
 
     def test_refusals(self) -> None:
@@ -253,11 +274,58 @@ class PairTest(SongsTest):
             self.assertEqual(self.instructions(together.read("one.cdg"), 4), PRESETS)
         self.assertFalse((self.folder / "one.cdg").exists())
 
+    def test_files_of_others_stay(self) -> None:
+        calls: tuple[tuple[str, tuple[str, ...]], ...] = (
+            ("pair.cdg", ("pair", "1.lrc", "-o", "pair")),
+            ("pair.wav", ("pair", "1.lrc", "-o", "pair")),
+            ("packed.zip", ("pair", "1.lrc", "--zip", "-o", "packed")),
+            ("burned.bin", ("pair", "1.lrc", "--karaoke-cd", "-o", "burned")),
+            ("a.script", ("lyrics", "1.lrc", "-o", "a.script")),
+        )
+        for name, words in calls:
+            outs = ("pair", "packed", "burned")
+            call: list[Word] = [
+                self.folder / word if "." in word or word in outs and place else word
+                for place, word in enumerate(words)
+            ]
+            self.assertEqual(desk(*call).status, 0)
+            made = (self.folder / name).read_bytes()
+            # Once more, and after the lyrics changed.
+            self.assertEqual(desk(*call).status, 0, name)
+            other = made[:-10] + bytes(byte ^ 1 for byte in made[-10:])
+            (self.folder / name).write_bytes(other)
+            ran = desk(*call)
+            self.assertEqual((ran.status, (self.folder / name).read_bytes()), (3, other), name)
+            self.assertIn("is there already, and", ran.told)
+            self.assertEqual(desk(*call, "--force").status, 0)
+            self.write("1.lrc", song(1).replace("First", "Other"))
+            self.assertEqual(desk(*call).status, 0, name)
+            self.write("1.lrc", song(1))
+        script = self.folder / "a.script"
+        script.write_text(script.read_text() + "# by hand\n")
+        ran = desk("lyrics", self.folder / "1.lrc", "-o", script)
+        self.assertEqual((ran.status, script.read_text().endswith("# by hand\n")), (3, True), ran.told)
+
+    def test_modes_in_a_zip(self) -> None:
+        self.pair("--zip")
+        with zipfile.ZipFile(self.folder / "one.zip") as together:
+            modes = [one.external_attr >> 16 & 0o777 for one in together.infolist()]
+        self.assertEqual(modes, [0o644 if os.umask(0o22) == 0o22 else modes[0], modes[1]])
+        self.assertTrue(all(mode & 0o444 == 0o444 for mode in modes), modes)
+
     @needs_ffmpeg
     def test_mp3(self) -> None:
         self.pair("--mp3")
-        words = ["ffprobe", "-v", "error", "-show_entries", "format=duration:format_tags=title,artist:stream=codec_name",
-                 "-of", "default=nw=1", str(self.folder / "one.mp3")]
+        words = [
+            "ffprobe",
+            "-v",
+            "error",
+            "-show_entries",
+            "format=duration:format_tags=title,artist:stream=codec_name",
+            "-of",
+            "default=nw=1",
+            str(self.folder / "one.mp3"),
+        ]
         told = subprocess.run(words, capture_output=True, text=True, check=True).stdout
         for word in ("codec_name=mp3", "TAG:title=Song 1", "TAG:artist=Singer 1"):
             self.assertIn(word, told)
@@ -267,12 +335,16 @@ class PairTest(SongsTest):
         self.pair("--karaoke-cd")
         image = self.folder / "one.bin"
         self.assertEqual(os.path.getsize(image), SECTOR * LENGTHS[0])
-        packs, _ = convert(b"".join(image.read_bytes()[at + 2352 : at + SECTOR] for at in range(0, SECTOR * LENGTHS[0], SECTOR)),
-                           RAW, 0)
+        packs, _ = convert(
+            b"".join(image.read_bytes()[at + 2352 : at + SECTOR] for at in range(0, SECTOR * LENGTHS[0], SECTOR)),
+            RAW,
+            0,
+        )
         # What is read of an image begins with the seventh pack of the file.
         self.assertEqual(packs[PACK:], (self.folder / "one.cdg").read_bytes()[PACK * 8 :])
 
     def test_no_sound(self) -> None:
+        self.assertIn("4.lrc: no such file", self.pair(song="4.lrc", status=3).told)
         os.unlink(self.folder / "1.wav")
         self.assertIn("has no sound of its name beside it", self.pair(status=3).told)
 

@@ -1,14 +1,16 @@
 """`sheet` of discs whose truth is known: codes, sessions, jumps, cuts, the sheets of other tools, and what differs."""
 import configparser
+import itertools
+import json
 import re
 import subprocess
 import unittest
 from pathlib import Path
 
 import known_dumps as known
-from fixtures import BLOCK, FolderTest, Ran, desk, needs_cdrdao, needs_library
+from fixtures import BLOCK, FolderTest, Ran, Word, desk, needs_cdrdao, needs_library
 from known_dumps import Disc, Track, program
-from ribjasper.comparing import read_cue
+from ribjasper.dumps.comparing import read_cue
 
 
 def coded(tracks: int = 99, seconds: int = 5) -> Disc:
@@ -68,7 +70,11 @@ class SheetOfDumpsTest(FolderTest):
         stream = program(disc, 150, disc.end, 0)
         lines, ran = self.sheet(stream[: BLOCK * 500] + stream[BLOCK * 575 :])
         self.assertIn("the time jumps from 00:08:49 to 00:09:50", ran.told)
+        self.assertEqual(lines[1], "REM TIMES FILE")
         self.assertIn("INDEX 01 00:19:00", lines)
+        lines, ran = self.sheet(stream[: BLOCK * 500] + stream[BLOCK * 575 :], "--times", "disc")
+        self.assertEqual(lines[1], "REM TIMES DISC")
+        self.assertIn("INDEX 01 00:20:00", lines)
         whole, _ = self.sheet(stream)
         self.assertIn("INDEX 01 00:20:00", whole)
         self.assertIn("INDEX 00 00:18:00", whole)
@@ -86,17 +92,25 @@ class SheetOfDumpsTest(FolderTest):
         disc = Disc([Track(1, 150 + 75 * 4, 0), Track(2, 150 + 75 * 10)], 150 + 75 * 20)
         for stream in (program(disc, 150, disc.end, 0), known.lead_in(disc, 60) + program(disc, 0, disc.end, 0)):
             lines, _ = self.sheet(stream)
-            self.assertEqual([line for line in lines if line.startswith("INDEX")], ["INDEX 00 00:00:00", "INDEX 01 00:04:00", "INDEX 01 00:10:00"])
+            self.assertEqual(
+                [line for line in lines if line.startswith("INDEX")],
+                ["INDEX 00 00:00:00", "INDEX 01 00:04:00", "INDEX 01 00:10:00"],
+            )
 
     def test_redumper(self) -> None:
         disc = three()
         lines, _ = self.sheet(known.redumper(disc, 300, 0))
         self.assertIn("--lead-in 45000", lines[0])
-        self.assertEqual([line for line in lines if line.startswith("INDEX 01")], [f"INDEX 01 00:{at}:00" for at in ("00", "20", "40")])
+        self.assertEqual(
+            [line for line in lines if line.startswith("INDEX 01")],
+            [f"INDEX 01 00:{at}:00" for at in ("00", "20", "40")],
+        )
 
     def test_sessions_of_files_beside(self) -> None:
         disc = three()
-        self.write("dump.ccd", "[CloneCD]\r\nVersion=3\r\n[Disc]\r\nSessions=2\r\n[Entry 0]\r\nSession=2\r\nPoint=0x03\r\n")
+        self.write(
+            "dump.ccd", "[CloneCD]\r\nVersion=3\r\n[Disc]\r\nSessions=2\r\n[Entry 0]\r\nSession=2\r\nPoint=0x03\r\n"
+        )
         lines, ran = self.sheet(program(disc, 150, disc.end, 0), name="dump.sub")
         place = lines.index("TRACK 03 AUDIO")
         self.assertEqual(lines[place - 1], "REM SESSION 02")
@@ -108,6 +122,130 @@ class SheetOfDumpsTest(FolderTest):
         first, second = program(disc, 150, 150 + 75 * 40, 0), program(disc, 150 + 75 * 40, disc.end, 0)
         lines, _ = self.sheet(first + known.lead_in(disc, 200) + second)
         self.assertEqual(lines[lines.index("TRACK 03 AUDIO") - 1], "REM SESSION 02")
+
+    def two_sessions(self) -> tuple[Disc, Disc]:
+        first = Disc([Track(1, 150, 0), Track(2, 150 + 75 * 20)], 150 + 75 * 40)
+        return first, known.after(first, 1, 30, control=4)
+
+    def test_two_sessions(self) -> None:
+        """Lead-outs are those of the disc, whichever of its lead-ins and lead-outs are in the dump."""
+        first, second = self.two_sessions()
+        whole = known.two_sessions(first, second)
+        ends = first.end, second.end
+        head, gap = known.lead_in(first, 300) + program(first, 0, 150, 0), first.end - 150
+        between = gap + 6750 + 4500
+        dumps = {
+            "whole": head + whole,
+            "no first lead-in": whole,
+            "no second lead-in": whole[: BLOCK * (gap + 6750)] + whole[BLOCK * between :],
+            "no lead-out": whole[: BLOCK * gap] + whole[BLOCK * (gap + 6750) :],
+            "the first lead-in, no gap": head + whole[: BLOCK * gap] + whole[BLOCK * between :],
+            "a few frames of the gap": whole[: BLOCK * (gap + 30)] + whole[BLOCK * (between - 40) :],
+        }
+        for case, content in dumps.items():
+            path = self.write("dump", content)
+            ran = desk("sheet", path, "--ccd")
+            self.assertEqual(ran.status, 0, ran.told)
+            sheet = configparser.ConfigParser()
+            sheet.read_string(ran.out)
+            entries = [sheet[name] for name in sheet.sections() if name.startswith("Entry")]
+            found = {(int(it["Session"]), int(it["Point"], 0)): int(it["PLBA"]) for it in entries}
+            self.assertEqual(sheet["Disc"]["Sessions"], "2", case)
+            self.assertEqual((found[1, 0xA2] + 150, found[2, 0xA2] + 150), ends, case)
+            self.assertEqual(
+                {key: time + 150 for key, time in found.items() if key[1] < 100},
+                {(1, 1): 150, (1, 2): 1650, (2, 3): second.tracks[0].start},
+                case,
+            )
+            row = desk("identify", path).rows()[0]
+            first_end, last_end = (f"{time // 4500:02}:{time // 75 % 60:02}:{time % 75:02}" for time in ends)
+            said = f"2 sessions: tracks 01 to 02, lead-out (by the usual gap, )?at {first_end}; track 03, lead-out .*{last_end}"
+            self.assertRegex(row["notes"], said, case)
+            by_session: dict[int | None, list[str]] = {None: ["00:20:00"] * 2, 1: ["00:20:00"] * 2, 2: ["00:32:00"]}
+            for session, lengths in by_session.items():
+                session_words: list[Word] = []
+                if session is not None:
+                    session_words = ["--session", session]
+                ran = desk("sheet", path, "--toc", *session_words)
+                self.assertEqual(ran.status, 0, ran.told)
+                tracks = re.findall(r'FILE "[^"]*" \S+ (\S+)', ran.out)
+                self.assertEqual(tracks, lengths, (case, session))
+                self.assertEqual("describes session 1 of 2" in ran.told, session is None)
+            self.assertEqual(desk("sheet", path, "--toc", "--session", 3).status, 3)
+
+    def test_two_sessions_without_a_word_of_the_gap(self) -> None:
+        """Nothing but a sheet beside says where a session ends: the usual gap is taken, and that is said."""
+        first, second = self.two_sessions()
+        whole = known.two_sessions(first, second)
+        gap = first.end - 150
+        path = self.write("dump.sub", whole[: BLOCK * gap] + whole[BLOCK * (gap + 6750 + 4500) :])
+        self.write(
+            "dump.cue",
+            'REM SESSION 01\nFILE "a" BINARY\nTRACK 01 AUDIO\nTRACK 02 AUDIO\nREM SESSION 02\nTRACK 03 MODE1/2352\n',
+        )
+        ran = desk("sheet", path, "--ccd")
+        self.assertIn("nothing says where the lead-out of session 1 begins: it is set by the usual gap", ran.told)
+        sheet = configparser.ConfigParser()
+        sheet.read_string(ran.out)
+        outs = [
+            int(sheet[name]["PLBA"]) + 150
+            for name in sheet.sections()
+            if name.startswith("Entry") and sheet[name]["Point"] == "0xa2"
+        ]
+        self.assertEqual(outs, [first.end, second.end])
+
+    def test_sessions_in_a_report(self) -> None:
+        first, second = self.two_sessions()
+        self.write("dumps/two", known.two_sessions(first, second))
+        self.write("dumps/one", program(three(), 150, three().end, 0))
+        self.assertEqual(desk("report", self.folder / "dumps", "-o", self.folder / "out", "--no-pictures").status, 0)
+        rows = [json.loads(line) for line in (self.folder / "out" / "table.jsonl").read_text().splitlines()]
+        self.assertEqual([len(row["sessions"]) for row in rows], [1, 2])
+        self.assertIn("tracks 01 to 02, lead-out at 00:42:00", rows[1]["sessions"][0])
+
+    def test_an_index_that_begins_with_a_code(self) -> None:
+        """A frame with the catalogue number or a code names no index: where codes or control bits of the tracks tell, the
+        index begins there, and otherwise the sheet says that it may."""
+        for where, hides, has_codes, controls in itertools.product((0, 2), (5, 6), (False, True), ((0, 0), (0, 4))):
+            start = 150 + 75 * 20
+            tracks = [
+                Track(1, 150, 0, controls[0]),
+                Track(2, start, start - 100, controls[1], indexes={2: start + 500}),
+            ]
+            if has_codes:
+                tracks[0].isrc, tracks[1].isrc = "DEXYZ2600001", "DEXYZ2600002"
+            disc = Disc(tracks, 150 + 75 * 40)
+            at = start - 100 if where == 0 else start + 500
+            parts = [disc.program_frame(block) for block in range(150, disc.end)]
+            if has_codes:
+                for block in (200, 400, at + 60):
+                    track = disc.track(block)
+                    parts[block - 150] = known.q_frame(
+                        bytes([track.control << 4 | 3])
+                        + known.recording_code(track.isrc)
+                        + bytes([known.bcd(block % 75)])
+                    )
+            track = disc.track(at)
+            if hides == 5:
+                hiding = known.q_frame(
+                    bytes([track.control << 4 | 2]) + known.digits("0123456789012000") + bytes([known.bcd(at % 75)])
+                )
+            else:
+                code = track.isrc or "DEXYZ2600009"
+                hiding = known.q_frame(
+                    bytes([track.control << 4 | 3]) + known.recording_code(code) + bytes([known.bcd(at % 75)])
+                )
+            parts[at - 150] = hiding
+            lines, ran = self.sheet(b"".join(known.with_q(bytes(BLOCK), frame) for frame in parts))
+            proved = where == 0 and (controls[0] != controls[1] or (has_codes and hides == 6))
+            found = [line for line in lines if line.startswith(f"INDEX {where:02}") and line != "INDEX 00 00:00:00"]
+            time = at - 150 + (not proved)
+            self.assertEqual(
+                found,
+                [f"INDEX {where:02} {time // 4500:02}:{time // 75 % 60:02}:{time % 75:02}"],
+                (where, hides, has_codes, controls),
+            )
+            self.assertEqual(f"index {where:02} begins between" in ran.told, not proved, ran.told)
 
     def test_texts_are_utf_8_or_latin_1(self) -> None:
         disc = three()
@@ -131,18 +269,28 @@ class SheetOfDumpsTest(FolderTest):
         self.assertEqual(sheet["Disc"]["Sessions"], "1")
         entries = {int(sheet[name]["Point"], 0): sheet[name] for name in sheet.sections() if name.startswith("Entry")}
         self.assertEqual(int(sheet["Disc"]["TocEntries"]), len(entries))
-        self.assertEqual({point: int(entry["PLBA"]) for point, entry in entries.items() if point < 100}, {1: 0, 2: 1500, 3: 3000})
+        self.assertEqual(
+            {point: int(entry["PLBA"]) for point, entry in entries.items() if point < 100}, {1: 0, 2: 1500, 3: 3000}
+        )
         self.assertEqual([entries[0xA2][name] for name in ("PMin", "PSec", "PFrame", "PLBA")], ["1", "2", "0", "4500"])
         self.assertEqual((entries[0xA0]["PMin"], entries[0xA1]["PMin"], entries[1]["Control"]), ("1", "3", "0x02"))
-        self.assertEqual((sheet["TRACK 2"]["INDEX 0"], sheet["TRACK 2"]["INDEX 1"], sheet["TRACK 3"]["INDEX 2"]), ("1350", "1500", "3375"))
+        self.assertEqual(
+            (sheet["TRACK 2"]["INDEX 0"], sheet["TRACK 2"]["INDEX 1"], sheet["TRACK 3"]["INDEX 2"]),
+            ("1350", "1500", "3375"),
+        )
 
     def test_cdrdao(self) -> None:
         disc = coded(3, 20)
         lines, _ = self.sheet(known.lead_in(disc, 60) + program(disc, 0, disc.end, 0), "--toc")
         self.assertEqual(lines[0], "CD_DA")
         self.assertIn('CATALOG "0123456789012"', lines)
-        self.assertEqual([line for line in lines if line.startswith("FILE")], [f'FILE "dump.wav" 00:{at}:00 00:20:00' for at in ("00", "20", "40")])
-        self.assertEqual([line for line in lines if line.startswith("ISRC")], [f'ISRC "{track.isrc}"' for track in disc.tracks])
+        self.assertEqual(
+            [line for line in lines if line.startswith("FILE")],
+            [f'FILE "dump.wav" 00:{at}:00 00:20:00' for at in ("00", "20", "40")],
+        )
+        self.assertEqual(
+            [line for line in lines if line.startswith("ISRC")], [f'ISRC "{track.isrc}"' for track in disc.tracks]
+        )
 
     @needs_cdrdao
     def test_cdrdao_takes_it(self) -> None:
@@ -160,7 +308,9 @@ class SheetOfDumpsTest(FolderTest):
         desk("sheet", path, "-o", own)
         ran = desk("sheet", path, "--compare", own)
         self.assertEqual((ran.status, ran.rows()), (0, []), ran.told)
-        changed = own.read_text().replace("INDEX 01 00:20:00", "INDEX 01 00:20:05").replace("DEXYZ2600003", "DEXYZ2600009")
+        changed = (
+            own.read_text().replace("INDEX 01 00:20:00", "INDEX 01 00:20:05").replace("DEXYZ2600003", "DEXYZ2600009")
+        )
         other = self.write("other.cue", changed.replace("CATALOG 0123456789012\n", ""))
         ran = desk("sheet", path, "--compare", other)
         self.assertEqual(ran.status, 1)
@@ -168,11 +318,34 @@ class SheetOfDumpsTest(FolderTest):
         self.assertEqual(
             rows,
             [
-                ("-", "catalog", "-", "0123456789012", "-"),
-                ("02", "index 01", "00:20:00", "00:20:00", "00:20:05"),
-                ("03", "isrc", "-", "DEXYZ2600003", "DEXYZ2600009"),
+                ("-", "catalog", "-", "0123456789012", "-", "-"),
+                ("02", "index 01", "00:20:00", "00:20:00", "00:20:05", "file"),
+                ("03", "isrc", "-", "DEXYZ2600003", "DEXYZ2600009", "-"),
             ],
         )
+
+    def test_a_sheet_compared_with_its_own_dump(self) -> None:
+        """Whatever the dump lacks, and whatever times count from, a sheet differs in nothing from the dump it was made of."""
+        disc = coded(3, 20)
+        whole = known.lead_in(disc, 60) + program(disc, 0, disc.end, 0)
+        program_only = program(disc, 150, disc.end, 0)
+        dumps = {
+            "whole": whole,
+            "a jump": whole[: BLOCK * 900] + whole[BLOCK * 975 :],
+            "two jumps": whole[: BLOCK * 900] + whole[BLOCK * 975 : BLOCK * 2500] + whole[BLOCK * 2700 :],
+            "a repeated second": program_only[: BLOCK * 900] + program_only[BLOCK * 850 :],
+            "begun late": program_only[BLOCK * 600 :],
+            "begun late, a jump": program_only[BLOCK * 600 : BLOCK * 2000] + program_only[BLOCK * 2100 :],
+        }
+        for case, content in dumps.items():
+            path = self.write("dump", content)
+            for words in ((), ("--times", "disc"), ("--times", "file")):
+                own = self.folder / "own.cue"
+                self.assertEqual(desk("sheet", path, "-o", own, *words).status, 0)
+                ran = desk("sheet", path, "--compare", own)
+                self.assertEqual((ran.status, ran.rows()), (0, []), (case, words))
+        own.write_text(own.read_text().replace("INDEX 01 00:40:00", "INDEX 01 00:39:74"))
+        self.assertEqual(desk("sheet", self.write("dump", whole), "--compare", own).rows()[0]["times"], "file")
 
     def test_a_cue_of_several_files(self) -> None:
         disc = three()

@@ -8,8 +8,8 @@ from unittest import mock
 
 from fixtures import FolderTest, needs_ffmpeg, write_wav
 
-from ribjasper import audio
-from ribjasper.output import Refusal
+from ribjasper.songs import audio
+from ribjasper.common.failures import Refusal
 
 SAMPLES = bytes(range(240)) * 49
 
@@ -18,8 +18,16 @@ def chunk(name: bytes, content: bytes) -> bytes:
     return name + struct.pack("<I", len(content)) + content + b"\0" * (len(content) & 1)
 
 
-def wav(samples: bytes = SAMPLES, form: int = 1, channels: int = 2, rate: int = 44_100, bits: int = 16,
-        size: int | None = None, more: bytes = b"", rest: bytes = b"") -> bytes:
+def wav(
+    samples: bytes = SAMPLES,
+    form: int = 1,
+    channels: int = 2,
+    rate: int = 44_100,
+    bits: int = 16,
+    size: int | None = None,
+    more: bytes = b"",
+    rest: bytes = b"",
+) -> bytes:
     """A WAV file, byte by byte."""
     block = channels * bits // 8
     head = struct.pack("<HHIIHH", form, channels, rate, rate * block, block, bits) + rest
@@ -32,6 +40,23 @@ def extensible(form: int = 1, bits: int = 16) -> bytes:
     """The longer header, whose form stands in its last sixteen bytes."""
     tail = struct.pack("<HHIH", 22, bits, 3, form) + bytes.fromhex("000000001000800000aa00389b71")
     return wav(form=0xFFFE, rest=tail, bits=bits)
+
+
+class BesideTest(FolderTest):
+    def test_names_in_capitals(self) -> None:
+        for lyrics, sound, is_found in (
+            ("A.LRC", "A.WAV", True),
+            ("b.lrc", "B.Mp3", True),
+            ("c.LRC", "c.flac", True),
+            ("d.lrc", "dd.WAV", False),
+        ):
+            path, other = self.write(lyrics, ""), self.write(sound, "")
+            self.assertEqual(audio.beside(path), other if is_found else None, lyrics)
+        # In doubt it is the one whose name has the same letters.
+        self.write("E.WAV", "")
+        self.assertEqual(audio.beside(self.write("e.lrc", "")), self.folder / "E.WAV")
+        self.write("e.WAV", "")
+        self.assertEqual(audio.beside(self.folder / "e.lrc"), self.folder / "e.WAV")
 
 
 class AudioTest(FolderTest):
@@ -75,11 +100,13 @@ class AudioTest(FolderTest):
         self.assertIn("ends before its samples begin", self.refused(self.sound(whole[:30], "b.wav")))
 
     def test_without_ffmpeg_the_line_is_told(self) -> None:
-        for path, what in ((write_wav(self.folder / "b.wav", 100, rate=48_000), "has 48000 Hz, 2 channels, 16 bits"),
-                           (write_wav(self.folder / "c.wav", 100, channels=1), "has 44100 Hz, 1 channel, 16 bits"),
-                           (write_wav(self.folder / "d.wav", 100, width=3), "has 44100 Hz, 2 channels, 24 bits"),
-                           (self.sound(extensible(form=3, bits=32), "e.wav"), "has 44100 Hz, 2 channels, 32 bits"),
-                           (self.sound(b"ID3 no sound", "f.mp3"), "is no WAV file")):
+        for path, what in (
+            (write_wav(self.folder / "b.wav", 100, rate=48_000), "has 48000 Hz, 2 channels, 16 bits"),
+            (write_wav(self.folder / "c.wav", 100, channels=1), "has 44100 Hz, 1 channel, 16 bits"),
+            (write_wav(self.folder / "d.wav", 100, width=3), "has 44100 Hz, 2 channels, 24 bits"),
+            (self.sound(extensible(form=3, bits=32), "e.wav"), "has 44100 Hz, 2 channels, 32 bits"),
+            (self.sound(b"ID3 no sound", "f.mp3"), "is no WAV file"),
+        ):
             with mock.patch.dict(os.environ, {"PATH": str(self.folder)}):
                 told = self.refused(path)
             self.assertIn(f"{what}, and ffmpeg is not installed", told)
@@ -88,8 +115,13 @@ class AudioTest(FolderTest):
     @needs_ffmpeg
     def test_other_forms_are_converted(self) -> None:
         source = write_wav(self.folder / "a.wav", 44_100)
-        forms: dict[str, list[str]] = {"a.flac": [], "b.wav": ["-ar", "48000"], "c.wav": ["-ac", "1"],
-                                       "d.wav": ["-c:a", "pcm_s24le"], "a.mp3": []}
+        forms: dict[str, list[str]] = {
+            "a.flac": [],
+            "b.wav": ["-ar", "48000"],
+            "c.wav": ["-ac", "1"],
+            "d.wav": ["-c:a", "pcm_s24le"],
+            "a.mp3": [],
+        }
         for name, words in forms.items():
             path = self.folder / name
             subprocess.run(["ffmpeg", "-v", "error", "-i", str(source), *words, str(path)], check=True)

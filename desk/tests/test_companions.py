@@ -54,7 +54,13 @@ class CompanionsTest(FolderTest):
     def test_what_tells_nothing(self) -> None:
         stream = known.program(DISC, 150, DISC.end)
         for number, (ending, content) in enumerate(
-            (("mds", b"text"), ("mds", b"MEDIA DESCRIPTOR"), ("ccd", b"no section"), ("ccd", b"[Entry 0]\nPoint=x\n"), ("cue", b"\xff\xfe\0"))
+            (
+                ("mds", b"text"),
+                ("mds", b"MEDIA DESCRIPTOR"),
+                ("ccd", b"no section"),
+                ("ccd", b"[Entry 0]\nPoint=x\n"),
+                ("cue", b"\xff\xfe\0"),
+            )
         ):
             row = self.found(stream, f"{number}.sub", **{ending: content})
             self.assertEqual((row["form"], row["lead-in"]), ("raw", "0"))

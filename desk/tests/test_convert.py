@@ -40,7 +40,10 @@ class ConvertTest(FolderTest):
         self.assertEqual(self.converted(sectors, "out", "--as", "cooked"), whole_blocks)
         pq = b"".join(map(known.formatted_q, known.split(self.raw)))
         self.assertEqual(self.converted(planar, "out", "--as", "pq"), pq)
-        self.assertEqual(self.converted(pq, "out.raw"), known.without_rw(self.raw).translate(bytes(byte & 0xC0 for byte in range(256))))
+        self.assertEqual(
+            self.converted(pq, "out.raw"),
+            known.without_rw(self.raw).translate(bytes(byte & 0xC0 for byte in range(256))),
+        )
 
     def test_audio_of_sectors(self) -> None:
         sound = known.sound(len(self.raw) // BLOCK)
@@ -59,14 +62,24 @@ class ConvertTest(FolderTest):
         for words in (("--from", "300", "--to", "600"), ("--from", "00:06:00", "--to", "00:10:00")):
             self.assertEqual(self.converted(self.raw, "out.raw", *words), wanted)
         sectors = known.in_sectors(known.split(self.raw))
-        self.assertEqual(self.converted(sectors, "out.bin", "--from", "300", "--to", "600"), sectors[2448 * 300 : 2448 * 600])
-        self.assertEqual(self.converted(sectors, "out.sub", "--from", "00:06:00"), known.as_planar(self.raw[BLOCK * 300 :]))
-        ran = desk("convert", self.write("dump", self.raw), "-o", self.folder / "none.raw", "--from", "600", "--to", "600")
+        self.assertEqual(
+            self.converted(sectors, "out.bin", "--from", "300", "--to", "600"), sectors[2448 * 300 : 2448 * 600]
+        )
+        self.assertEqual(
+            self.converted(sectors, "out.sub", "--from", "00:06:00"), known.as_planar(self.raw[BLOCK * 300 :])
+        )
+        ran = desk(
+            "convert", self.write("dump", self.raw), "-o", self.folder / "none.raw", "--from", "600", "--to", "600"
+        )
         self.assertEqual(ran.status, 3)
 
     def test_from_packs(self) -> None:
         """Packs that were pressed are read again where they were put."""
-        for content, name in ((known.file_of_packs(1000), "a.cdg"), (known.file_of_packs(1001), "b.cdg"), (known.file_of_packs(1000), "dump")):
+        for content, name in (
+            (known.file_of_packs(1000), "a.cdg"),
+            (known.file_of_packs(1001), "b.cdg"),
+            (known.file_of_packs(1000), "dump"),
+        ):
             raw = self.converted(content, "out.raw", given=name)
             again = run_program("convert", "--lead-in", 0, stdin=raw)
             before = PACK * (4 * 150 - 7)

@@ -102,7 +102,7 @@ class DamageTest(FolderTest):
     def test_map(self) -> None:
         from PIL import Image
 
-        from ribjasper.damage_map import CELL, LEFT, STATES, TOP
+        from ribjasper.dumps.damage_map import CELL, LEFT, STATES, TOP
 
         stream = hello()[: BLOCK * LEAD_IN] + hello()[BLOCK * LEAD_IN :] * 3
         stream = with_zeros(stream, 75 * 62, 75 * 62 + 5)

@@ -4,16 +4,18 @@ import unittest
 
 from fixtures import FolderTest, has, needs_program
 
-from ribjasper import library
-from ribjasper.discs import COPY, SheetDisc, SheetTrack, read_disc, tracks_of
-from ribjasper.library import SheetRow
-from ribjasper.output import Refusal
-from ribjasper.planning import ScriptWhy, SheetWhy, Why, without_line
+from ribjasper.common import library
+from ribjasper.common.discs import COPY, SheetDisc, SheetTrack, read_disc, tracks_of
+from ribjasper.common.library import SheetRow
+from ribjasper.common.failures import Refusal
+from ribjasper.common.planning import ScriptWhy, SheetWhy, Why, without_line
 
 needs_sheet = unittest.skipUnless(has("ribjasper_sheet"), "lib/ is not built, or has no ribjasper_sheet")
 
 
-def row(track: int, index: int, time: int, pregap: int = 0, postgap: int = 0, control: int = 0, code: bytes = b"") -> SheetRow:
+def row(
+    track: int, index: int, time: int, pregap: int = 0, postgap: int = 0, control: int = 0, code: bytes = b""
+) -> SheetRow:
     return SheetRow(time, pregap, postgap, track, index, control, bool(code), (ctypes.c_uint8 * 12)(*code))
 
 
@@ -22,10 +24,17 @@ class TracksTest(unittest.TestCase):
 
     def test_one_track(self) -> None:
         self.assertEqual(tracks_of([row(7, 1, 0)]), [SheetTrack(7, 0, [150], 0, 0, 0)])
-        self.assertEqual(tracks_of([row(1, 0, 0), row(1, 1, 75), row(1, 2, 300)]), [SheetTrack(1, 0, [225, 450], 0, 0, 0)])
+        self.assertEqual(
+            tracks_of([row(1, 0, 0), row(1, 1, 75), row(1, 2, 300)]), [SheetTrack(1, 0, [225, 450], 0, 0, 0)]
+        )
 
     def test_gaps(self) -> None:
-        rows = [row(1, 1, 0, postgap=75), row(2, 0, 400, pregap=20), row(2, 1, 500, pregap=20), row(3, 1, 1000, pregap=150)]
+        rows = [
+            row(1, 1, 0, postgap=75),
+            row(2, 0, 400, pregap=20),
+            row(2, 1, 500, pregap=20),
+            row(3, 1, 1000, pregap=150),
+        ]
         first, second, third = tracks_of(rows)
         self.assertEqual((first.begin, first.indices, first.postgap), (0, [150], 75))
         self.assertEqual((second.begin, second.indices, second.pregap), (150 + 400 + 75, [150 + 500 + 75 + 20], 20))
@@ -37,7 +46,9 @@ class TracksTest(unittest.TestCase):
 
     def test_control_and_codes(self) -> None:
         first, second = tracks_of([row(1, 1, 0, control=COPY, code=b"GBAAA2600001"), row(2, 1, 300)])
-        self.assertEqual((first.control, first.texts, second.control, second.texts), (COPY, {"code": b"GBAAA2600001"}, 0, {}))
+        self.assertEqual(
+            (first.control, first.texts, second.control, second.texts), (COPY, {"code": b"GBAAA2600001"}, 0, {})
+        )
 
     def test_silence(self) -> None:
         tracks = [SheetTrack(1, 0, [300], 1000, 150, 75), SheetTrack(2, 1000, [1020], 2000, 20, 0)]
@@ -76,10 +87,16 @@ class ReadTest(FolderTest):
     def test_a_long_text(self) -> None:
         """One that is longer than what the desk gives room for at first: more than a disc holds, so the sheet is refused."""
         title = b"x" * 70_000
-        self.assertEqual(library.sheet_text(b'TITLE "%b"\n' % title + SHEET.replace(b'TITLE "All"\n', b""), 0, 0), title)
+        self.assertEqual(
+            library.sheet_text(b'TITLE "%b"\n' % title + SHEET.replace(b'TITLE "All"\n', b""), 0, 0), title
+        )
 
     def test_refusals(self) -> None:
-        for sheet, why in ((b"FILE\n", "line 1: bad-argument"), (b"", "line 1: no-file"), (SHEET.replace(b"02 AUDIO", b"03 AUDIO"), "number-order")):
+        for sheet, why in (
+            (b"FILE\n", "line 1: bad-argument"),
+            (b"", "line 1: no-file"),
+            (SHEET.replace(b"02 AUDIO", b"03 AUDIO"), "number-order"),
+        ):
             with self.assertRaises(Refusal) as caught:
                 read_disc(self.folder / "a.cue", sheet, 750)
             self.assertIn(why, str(caught.exception))
@@ -90,8 +107,12 @@ class ReadTest(FolderTest):
 
 class ReasonsTest(unittest.TestCase):
     def test_words(self) -> None:
-        self.assertEqual([why.word for why in SheetWhy][:4], ["unknown-command", "second-file", "misplaced", "bad-argument"])
-        self.assertEqual([why.word for why in ScriptWhy], "unknown-command bad-argument out-of-range time-order too-many".split())
+        self.assertEqual(
+            [why.word for why in SheetWhy][:4], ["unknown-command", "second-file", "misplaced", "bad-argument"]
+        )
+        self.assertEqual(
+            [why.word for why in ScriptWhy], "unknown-command bad-argument out-of-range time-order too-many".split()
+        )
         self.assertEqual((Why(4), len(Why), len(SheetWhy)), (Why.LENGTH_SHORT, 8, 12))
 
     def test_without_a_line(self) -> None:

@@ -11,8 +11,20 @@ from unittest import mock
 
 from fixtures import FolderTest, Word, desk, hello, needs_library, needs_pillow
 
-from ribjasper import main, output
-from ribjasper.failures import Failure, Fault, Missing, NoMemory, Refusal, Refusals, Several, Unwritten, failure_of, reading
+from ribjasper import main
+from ribjasper.common import output
+from ribjasper.common.failures import (
+    Failure,
+    Fault,
+    Missing,
+    NoMemory,
+    Refusal,
+    Refusals,
+    Several,
+    Unwritten,
+    failure_of,
+    reading,
+)
 
 
 def called(error: BaseException, writing: bool = False) -> tuple[type[Failure], str, int]:
@@ -23,8 +35,12 @@ def called(error: BaseException, writing: bool = False) -> tuple[type[Failure], 
 
 class TableTest(unittest.TestCase):
     def test_what_the_system_refuses(self) -> None:
-        for number, said in ((errno.EACCES, "permission denied"), (errno.ENOENT, "no such file or directory"),
-                             (errno.EIO, "input/output error"), (errno.EISDIR, "is a directory")):
+        for number, said in (
+            (errno.EACCES, "permission denied"),
+            (errno.ENOENT, "no such file or directory"),
+            (errno.EIO, "input/output error"),
+            (errno.EISDIR, "is a directory"),
+        ):
             error = OSError(number, os.strerror(number))
             self.assertEqual(called(error), (Refusal, f"a\\tb: {said}", 3))
             self.assertEqual(called(error, True), (Unwritten, f"a\\tb: {said}", 6))
@@ -77,7 +93,7 @@ class MainTest(FolderTest):
     def ended(self, error: BaseException) -> tuple[int, str]:
         """What a command ends with in which this happens."""
         path = self.write("x", b"dump")
-        with mock.patch("ribjasper.loading.Dump", side_effect=error):
+        with mock.patch("ribjasper.dumps.loading.Dump", side_effect=error):
             ran = desk("identify", path)
         self.assertEqual(ran.told.count("\n"), 1)
         return ran.status, ran.told.removeprefix(f"ribjasper-desk: {path}: ").rstrip("\n")
@@ -119,8 +135,13 @@ class MemoryTest(FolderTest):
             resource.setrlimit(resource.RLIMIT_AS, (150 << 20, 150 << 20))
 
         calls: tuple[tuple[Word, ...], ...] = (
-            ("identify", dump), ("damage", dump), ("mend", dump, dump, "-o", self.folder / "new.cdg"), ("texts", dump),
-            ("sheet", dump, "-o", self.folder / "new.cue"), ("film", dump, "--stills", self.folder / "new.png"))
+            ("identify", dump),
+            ("damage", dump),
+            ("mend", dump, dump, "-o", self.folder / "new.cdg"),
+            ("texts", dump),
+            ("sheet", dump, "-o", self.folder / "new.cue"),
+            ("film", dump, "--stills", self.folder / "new.png"),
+        )
         for words in calls:
             ran = desk(*words, preexec_fn=little)
             told = f"ribjasper-desk: {dump}: there is not enough memory for it\n"
@@ -152,7 +173,7 @@ class ReadTest(FolderTest):
         self.assertEqual(str(caught.exception), f"{path}: was changed while it was read")
 
     def test_a_file_without_an_end(self) -> None:
-        with mock.patch("ribjasper.output.MOST_READ", 5_000_000), self.assertRaises(Refusal) as caught:
+        with mock.patch("ribjasper.common.output.MOST_READ", 5_000_000), self.assertRaises(Refusal) as caught:
             output.read_file("/dev/zero")
         self.assertEqual(str(caught.exception), "/dev/zero: has more than 5,000,000 bytes, which is too long")
 

@@ -8,8 +8,8 @@ from fixtures import (
     PAUSE, ROOMY_LEAD_IN as LEAD_IN, TOP, FolderTest, author_files as author, desk, needs_ffmpeg, needs_pillow,
     needs_plan, needs_program, program, screen, write_wav,
 )  # fmt: skip
-from ribjasper.film import Stills
-from ribjasper.streams import open_stream
+from ribjasper.commands.publish.film import Stills
+from ribjasper.dumps.streams import open_stream
 
 HELLO = TOP / "examples" / "hello.cue", TOP / "examples" / "hello.script"
 RATE, BLOCKS_A_FRAME = 25, 3
@@ -69,6 +69,13 @@ class FilmTest(FolderTest):
         self.assertIn("24.0 seconds, 120 frames", ran.told)
 
     @needs_ffmpeg
+    def test_an_audio_that_is_shorter(self) -> None:
+        audio = write_wav(self.folder / "a.wav", 44_100 * 9)
+        ran = desk("film", self.stream, "-o", self.folder / "a.mp4", "--audio", audio, "--rate", "5", "--scale", "1")
+        self.assertEqual(ran.status, 0, ran.told)
+        self.assertIn("a.wav: the sound ends 13.0 seconds before the pictures", ran.told)
+
+    @needs_ffmpeg
     def test_what_ffmpeg_refuses(self) -> None:
         ran = desk("film", self.stream, "-o", self.folder / "a.nothing")
         self.assertEqual(ran.status, 3)
@@ -85,6 +92,7 @@ class FilmTest(FolderTest):
     @needs_pillow
     def test_stills(self) -> None:
         from PIL import Image
+
         page = self.folder / "a.png"
         ran = desk("film", self.stream, "--stills", page)
         self.assertEqual(ran.status, 0, ran.told)

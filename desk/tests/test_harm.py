@@ -13,7 +13,7 @@ from fixtures import (
     needs_plan, text, with_burst, word, write_wav,
 )  # fmt: skip
 
-from ribjasper import kinds
+from ribjasper.common import kinds
 
 LRC = "[00:08.00]One line\n[00:12.00]Another\n"
 
@@ -32,8 +32,11 @@ class CallsTest(FolderTest):
     """A folder with an input of each kind, and what is in it before and after a call."""
 
     def content(self) -> dict[str, bytes]:
-        return {os.fspath(path.relative_to(self.folder)): path.read_bytes() for path in sorted(self.folder.rglob("*"))
-                if path.is_file()}
+        return {
+            os.fspath(path.relative_to(self.folder)): path.read_bytes()
+            for path in sorted(self.folder.rglob("*"))
+            if path.is_file()
+        }
 
     def refuses(self, *words: Word, why: str = "is read here", status: int = 3) -> Ran:
         """A call that is refused, and after which all is as it was."""
@@ -57,18 +60,24 @@ class SameFileTest(CallsTest):
         wav = write_wav(self.folder / "s.wav", 100)
         toc = self.write("h.toc", b"script")
         calls: tuple[tuple[Word, ...], ...] = (
-            ("mend", a, b, "-o", a), ("mend", a, b, "-o", b),
+            ("mend", a, b, "-o", a),
+            ("mend", a, b, "-o", b),
             ("sheet", dump, "-o", dump),
             ("damage", dump, "--map", dump),
-            ("texts", dump, "--packs", dump), ("texts", "--back", dump, "--blocks", dump),
-            ("lyrics", lrc, "-o", lrc), ("lyrics", lrc, "--title", image, "-o", image),
-            ("lyrics", lrc, "--audio", wav, "-o", wav), ("lyrics", lrc, "--font", image, "-o", image),
+            ("texts", dump, "--packs", dump),
+            ("texts", "--back", dump, "--blocks", dump),
+            ("lyrics", lrc, "-o", lrc),
+            ("lyrics", lrc, "--title", image, "-o", image),
+            ("lyrics", lrc, "--audio", wav, "-o", wav),
+            ("lyrics", lrc, "--font", image, "-o", image),
             ("picture", image, "-o", image),
             ("plan", sheet, script, "--length", "00:22:00", "--chart", script),
             ("plan", sheet, script, "--length", "00:22:00", "--chart", sheet),
             ("plan", sheet, script, "--length", "00:22:00", "--latin-1", sheet),
             ("plan", sheet, script, "--audio", wav, "--chart", wav),
-            ("film", cdg, "--stills", cdg), ("film", cdg, "-o", cdg), ("film", cdg, "--audio", wav, "-o", wav),
+            ("film", cdg, "--stills", cdg),
+            ("film", cdg, "-o", cdg),
+            ("film", cdg, "--audio", wav, "-o", wav),
             ("image", sheet, a, "--audio", wav, "--hold-through-pause", toc, "-o", self.folder / "h"),
             ("image", sheet, a, "--audio", wav, "-o", self.folder / "s"),
             ("report", self.folder, "-o", self.folder),
@@ -94,17 +103,23 @@ class SameFileTest(CallsTest):
         words = ("plan", sheet, script, "--length", "00:22:00")
         self.refuses(*words, "--chart", out, "--latin-1", out, why="is the same file as another output")
         os.symlink("out", self.folder / "link")
-        self.refuses("film", script, "--stills", out, "-o", self.folder / "link", why="is the same file as another output")
+        self.refuses(
+            "film", script, "--stills", out, "-o", self.folder / "link", why="is the same file as another output"
+        )
 
     def test_what_is_of_another_kind(self) -> None:
         dump, notes = self.write("x", b"dump"), self.write("notes", b"Dear diary,\n")
         calls: tuple[tuple[Word, ...], ...] = (
-            ("sheet", dump, "-o", notes), ("damage", dump, "--map", notes), ("texts", dump, "--packs", notes),
-            ("mend", dump, dump, "-o", notes), ("film", dump, "--stills", notes, "-o", notes.parent / "new"),
-            ("film", dump, "-o", notes))
+            ("sheet", dump, "-o", notes),
+            ("damage", dump, "--map", notes),
+            ("texts", dump, "--packs", notes),
+            ("mend", dump, dump, "-o", notes),
+            ("film", dump, "--stills", notes, "-o", notes.parent / "new"),
+            ("film", dump, "-o", notes),
+        )
         for words in calls:
             self.refuses(*words, why="is there already, and is not")
-        self.refuses("texts", "--back", dump, "--blocks", notes, why="is there already, and nobody can tell whether")
+        self.refuses("texts", "--back", dump, "--blocks", notes, why="is there already, and the desk did not write it")
 
     def test_names_of_which_several_files_cannot_be_made(self) -> None:
         file = write_wav(self.folder / "s.wav", 100)
@@ -117,8 +132,53 @@ class SameFileTest(CallsTest):
     def test_a_report_takes_a_folder_of_its_own(self) -> None:
         self.write("dumps/x", b"dump")
         self.write("mine/pictures/holiday.png", b"precious")
-        self.refuses("report", self.folder / "dumps", "-o", self.folder / "mine", "--no-pictures",
-                     why="is no folder of a report")
+        self.refuses(
+            "report", self.folder / "dumps", "-o", self.folder / "mine", "--no-pictures", why="is no folder of a report"
+        )
+
+
+@needs_library
+class CompanionsTest(CallsTest):
+    """Files that a command reads, though no argument names them, are inputs."""
+
+    def setUp(self) -> None:
+        super().setUp()
+        stream = hello()
+        self.dump = self.write("rip.raw", stream)
+        blocks = len(stream) // 96
+        self.write("rip.cue", 'REM by hand\nFILE "rip.bin" BINARY\n  TRACK 01 AUDIO\n    INDEX 01 00:00:00\n')
+        self.write("rip.toc", 'CD_DA\n\nTRACK AUDIO\nFILE "a.wav" 0\n')
+        self.write("rip.ccd", "[CloneCD]\nVersion=3\n[Disc]\nSessions=1\n")
+        self.write("rip.state", bytes(588 * blocks))
+        self.write("rip.c2", bytes(294 * blocks))
+
+    def test_a_companion_is_no_output(self) -> None:
+        calls: dict[str, tuple[Word, ...]] = {
+            "rip.cue": ("sheet", self.dump, "-o"),
+            "rip.toc": ("sheet", self.dump, "--toc", "-o"),
+            "rip.ccd": ("sheet", self.dump, "--ccd", "-o"),
+            "rip.state": ("damage", self.dump, "--again"),
+            "rip.c2": ("damage", self.dump, "--again"),
+        }
+        for name, words in calls.items():
+            self.refuses(*words, self.folder / name, "--force", why="is read here and would be overwritten")
+            ran = desk(*words, self.folder / name)
+            self.assertEqual(ran.status, 3)
+            os.link(self.folder / name, self.folder / "other")
+            self.refuses(*words, self.folder / "other", "--force", why="is read here as")
+            (self.folder / "other").unlink()
+        for command in ("q-fix", "convert", "mend"):
+            dumps = (self.dump, self.dump) if command == "mend" else (self.dump,)
+            form = ("--as", "raw") if command == "convert" else ()
+            before = self.content()
+            ran = desk(command, *dumps, "-o", self.folder / "rip.cue", "--force", *form)
+            self.assertEqual((ran.status, self.content()), (3, before), command)
+            self.assertIn("is read here", ran.told)
+        self.refuses("texts", self.dump, "--packs", self.folder / "rip.cue", "--force", why="is read here")
+
+    def test_other_names_are_outputs(self) -> None:
+        self.assertEqual(desk("sheet", self.dump, "-o", self.folder / "new.cue").status, 0)
+        self.assertTrue((self.folder / "new.cue").exists())
 
 
 @needs_library
@@ -211,24 +271,32 @@ class OutputsTest(CallsTest):
             self.assertEqual((ran.status, f"{node}: no space left on device" in ran.told), (6, True), (name, ran.told))
 
     def test_again(self) -> None:
-        """What a command wrote it replaces without asking; but a stream, which may be a dump, it does not."""
+        """What a command wrote it replaces without asking, until somebody changes it."""
         for name, words in self.calls(self.folder / "out.cdg").items():
-            self.assertEqual(desk(*words).status, 0, name)
-            if name == "back":
-                self.refuses(*words, why="nobody can tell whether a stream can be made again")
-            self.assertEqual(desk(*words, *["--force"] * (name == "back")).status, 0, name)
+            for _ in range(2):
+                self.assertEqual(desk(*words).status, 0, name)
+            (self.folder / "out.cdg").write_bytes(b"something else")
+            self.refuses(*words, why="is there already")
+            self.assertEqual(desk(*words, "--force").status, 0, name)
             (self.folder / "out.cdg").unlink()
 
     def test_standard_output_that_takes_no_more(self) -> None:
         before = self.content()
         with open("/dev/full", "wb") as full:
             calls: tuple[tuple[Word, ...], ...] = (
-                ("identify", self.dump), ("damage", self.dump), ("sheet", self.dump), ("--version",), ("--help",),
-                ("mend", self.dump, self.dump, "-o", self.folder / "new.cdg"))
+                ("identify", self.dump),
+                ("damage", self.dump),
+                ("sheet", self.dump),
+                ("--version",),
+                ("--help",),
+                ("mend", self.dump, self.dump, "-o", self.folder / "new.cdg"),
+            )
             for words in calls:
                 ran = self.process(full, *words)
-                self.assertEqual((ran.status, ran.told.splitlines()[-1]),
-                                 (6, "ribjasper-desk: standard output: no space left on device"))
+                self.assertEqual(
+                    (ran.status, ran.told.splitlines()[-1]),
+                    (6, "ribjasper-desk: standard output: no space left on device"),
+                )
         self.assertEqual(self.content(), before)
         ran = self.process(None, "mend", self.dump, self.dump, "-o", self.folder / "new.cdg")
         self.assertEqual((ran.status, self.content()), (6, before), ran.told)

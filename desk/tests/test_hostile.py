@@ -15,7 +15,9 @@ class HostileTest(unittest.TestCase):
 
         from hostile import Made, calls, check
 
-        @settings(max_examples=CASES, deadline=None, database=None, derandomize=True, suppress_health_check=list(HealthCheck))
+        @settings(
+            max_examples=CASES, deadline=None, database=None, derandomize=True, suppress_health_check=list(HealthCheck)
+        )
         @given(calls())
         def try_all(call: Made) -> None:
             check(call)

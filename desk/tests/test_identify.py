@@ -49,7 +49,9 @@ class IdentifyTest(FolderTest):
     def test_share_of_good_frames(self) -> None:
         stream = hello()
         for block in range(100, 283):
-            stream = stream[: BLOCK * block + 5] + bytes([stream[BLOCK * block + 5] ^ 0x40]) + stream[BLOCK * block + 6 :]
+            stream = (
+                stream[: BLOCK * block + 5] + bytes([stream[BLOCK * block + 5] ^ 0x40]) + stream[BLOCK * block + 6 :]
+            )
         self.assertEqual(self.told(stream)[-1], "0.9000")
 
     def test_without_q_the_words_tell(self) -> None:
@@ -74,20 +76,27 @@ class IdentifyTest(FolderTest):
         self.assertEqual(self.told(stream)[0], "raw")
 
     def test_what_is_no_dump(self) -> None:
+        """A file has one line, which says what it is or what to do; -v also says what speaks against each form."""
         chance = random.Random(5)
-        for content, cause in (
-            (chance.randbytes(96 * 500), "of 500 Q frames are good"),
-            (chance.randbytes(2448 * 50), "sector"),
-            (b"", "0 units"),
-            (bytes(96 * 100), "all bytes are zeros"),
+        unknown = "no known form fits; give --form, --lead-in or --skip if you know them (details: identify -v)"
+        for content, cause, against in (
+            (chance.randbytes(96 * 500), unknown, "of 500 Q frames are good"),
+            (chance.randbytes(2448 * 50), unknown, "sector"),
+            (b"short", unknown, "the size is 0 units of 96 bytes and 5 more"),
+            (b"", "is empty", ""),
+            (bytes(96 * 100), "all bytes are zeros", ""),
         ):
             path = self.write("dump", content)
             ran = desk("identify", path)
             self.assertEqual(ran.status, 3)
             self.assertEqual(ran.rows()[0]["form"], "none")
-            self.assertEqual(len(ran.told.splitlines()), 9)
-            self.assertIn(cause, ran.told)
+            self.assertEqual(ran.told, f"ribjasper-desk: {path}: {cause}\n")
+            ran = desk("identify", "-v", path)
+            self.assertIn(against, ran.told)
+            self.assertEqual(len(ran.told.splitlines()), 10 if against else 1)
             self.assertTrue(all(str(path) in line for line in ran.told.splitlines()))
+            for command in ("damage", "sheet", "texts", "q-fix"):
+                self.assertEqual(desk(command, path).told, f"ribjasper-desk: {path}: {cause}\n")
 
     def test_file_that_is_too_long(self) -> None:
         path = self.folder / "long"

@@ -102,15 +102,27 @@ class ImageTest(FolderTest):
         self.image()
         toc = (self.folder / "disc.toc").read_text()
         album, *tracks = re.split(r"^TRACK", toc, flags=re.MULTILINE)
-        self.assertEqual(re.findall(r'(TITLE|PERFORMER|SONGWRITER) "(.*)"', album),
-                         [("TITLE", "All the Gaps"), ("PERFORMER", "The Lead-Ins"), ("SONGWRITER", "")])
+        self.assertEqual(
+            re.findall(r'(TITLE|PERFORMER|SONGWRITER) "(.*)"', album),
+            [("TITLE", "All the Gaps"), ("PERFORMER", "The Lead-Ins"), ("SONGWRITER", "")],
+        )
         self.assertEqual([re.findall(r'TITLE "(.*)"', track) for track in tracks], [["Hello"], ["Test Card"], [""]])
         self.assertEqual([re.findall(r'SONGWRITER "(.*)"', track) for track in tracks], [[""], ["J. Jasper"], [""]])
         cue = (self.folder / "disc.cue").read_text()
-        self.assertEqual(re.findall(r"INDEX (\d\d) (\S+)", cue),
-                         [("00", "00:00:00"), ("01", "00:01:00"), ("02", "00:05:00"),
-                          ("00", "00:06:49"), ("01", "00:08:05"), ("02", "00:08:30"), ("03", "00:09:20"),
-                          ("00", "00:15:20"), ("01", "00:17:20")])
+        self.assertEqual(
+            re.findall(r"INDEX (\d\d) (\S+)", cue),
+            [
+                ("00", "00:00:00"),
+                ("01", "00:01:00"),
+                ("02", "00:05:00"),
+                ("00", "00:06:49"),
+                ("01", "00:08:05"),
+                ("02", "00:08:30"),
+                ("03", "00:09:20"),
+                ("00", "00:15:20"),
+                ("01", "00:17:20"),
+            ],
+        )
         self.assertEqual(re.findall(r"FLAGS (.*)", cue), ["DCP PRE", "4CH"])
 
     def test_latin_1(self) -> None:
@@ -142,23 +154,40 @@ class ImageTest(FolderTest):
 
     def test_a_pressed_file_is_not_told_to_have_a_script(self) -> None:
         plain = self.write("b.cue", 'FILE "a.wav" WAVE\nTRACK 01 AUDIO\nINDEX 01 00:00:00\n')
-        packs = program("convert", "--lead-in", LEAD_IN, "--", author(plain, HELLO, "00:22:00", self.folder / "b.raw"))[14_232:]
+        packs = program("convert", "--lead-in", LEAD_IN, "--", author(plain, HELLO, "00:22:00", self.folder / "b.raw"))[
+            14_232:
+        ]
         preset, idle = bytes([9, 1, 0, 0, 5]) + bytes(19), bytes(24)
         for name, first, is_told in (("early", preset + 11 * idle, True), ("late", 11 * idle + preset, False)):
-            pressed = self.write(f"{name}.raw", program(
-                "press", "--lead-in", LEAD_IN, "--length", "00:22:00", "--", plain,
-                self.write(f"{name}.cdg", first + packs[288:])))
+            pressed = self.write(
+                f"{name}.raw",
+                program(
+                    "press",
+                    "--lead-in",
+                    LEAD_IN,
+                    "--length",
+                    "00:22:00",
+                    "--",
+                    plain,
+                    self.write(f"{name}.cdg", first + packs[288:]),
+                ),
+            )
             ran = desk("image", plain, pressed, "--audio", self.audio, "-o", self.folder / name)
             self.assertEqual(ran.status, 0, ran.told)
             self.assertNotIn("--hold-through-pause", ran.told)
-            self.assertEqual("the first seven packs of its .cdg file begin in the first pause" in ran.told, is_told, ran.told)
+            self.assertEqual(
+                "the first seven packs of its .cdg file begin in the first pause" in ran.told, is_told, ran.told
+            )
 
     def test_without_texts_and_codes(self) -> None:
         self.sheet = self.write("b.cue", 'FILE "a.wav" WAVE\nTRACK 07 AUDIO\nINDEX 01 00:00:00\n')
         self.stream = author(self.sheet, HELLO, "00:22:00", self.stream)
         self.image()
-        self.assertEqual((self.folder / "disc.toc").read_text(), 'CD_DA\n\n// Track 7\nTRACK AUDIO RW_RAW\nNO COPY\n'
-                         'NO PRE_EMPHASIS\nTWO_CHANNEL_AUDIO\nDATAFILE "disc.bin" #0 00:22:00\n')
+        self.assertEqual(
+            (self.folder / "disc.toc").read_text(),
+            "CD_DA\n\n// Track 7\nTRACK AUDIO RW_RAW\nNO COPY\n"
+            'NO PRE_EMPHASIS\nTWO_CHANNEL_AUDIO\nDATAFILE "disc.bin" #0 00:22:00\n',
+        )
 
     def test_a_first_track_with_a_gap(self) -> None:
         """The gap of the first track comes behind the pause, which is not on the image."""
@@ -181,8 +210,10 @@ class ImageTest(FolderTest):
             self.assertFalse((self.folder / "disc.bin").exists())
 
         with mock.patch.dict(os.environ, {"PATH": str(self.folder)}):
-            refused("has 48000 Hz, 2 channels, 16 bits, and ffmpeg is not installed",
-                    audio=write_wav(self.folder / "b.wav", 100, rate=48_000))
+            refused(
+                "has 48000 Hz, 2 channels, 16 bits, and ffmpeg is not installed",
+                audio=write_wav(self.folder / "b.wav", 100, rate=48_000),
+            )
         refused("is no WAV file", audio=self.sheet)
         refused("no such file", audio=self.folder / "none.wav")
         refused("author it with --length 00:23:00", audio=write_wav(self.folder / "b.wav", 588 * 75 * 23))

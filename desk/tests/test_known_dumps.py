@@ -10,6 +10,8 @@ from typing import Callable, NamedTuple
 import known_dumps as known
 from fixtures import FolderTest, Word, desk, needs_library
 from known_dumps import BLOCK, REDUMPER_LEAD_IN, album, program
+from ribjasper.dumps.detection import form_of
+from ribjasper.dumps.dump import Dump
 
 DISC = album(4, 3, catalogue="0123456789012")
 SHORT = album(0.5, 1)
@@ -69,7 +71,17 @@ def high_bits(content: bytes) -> bytes:
 
 
 # Dumps that hold a part of the disc, or of another disc.
-PARTS = ("a block", "three blocks", "a few blocks", "pq, torn", "a sector", "lacks", "begun", "given up at", "sector, header")
+PARTS = (
+    "a block",
+    "three blocks",
+    "a few blocks",
+    "pq, torn",
+    "a sector",
+    "lacks",
+    "begun",
+    "given up at",
+    "sector, header",
+)
 HEADER = random.Random(9).randbytes
 FORMS: dict[str, Truth] = {
     "raw": Truth(raw, "raw"),
@@ -78,14 +90,18 @@ FORMS: dict[str, Truth] = {
     "raw, with lead-in": Truth(with_lead_in, "raw", 300),
     "raw, from 00:00:00": Truth(lambda: program(DISC, 0, DISC.end), "raw"),
     "raw, begun at 00:01:00": Truth(lambda: program(DISC, 4500, DISC.end), "raw"),
-    "raw, redumper": Truth(lambda: known.redumper(DISC), "raw", REDUMPER_LEAD_IN, note="45000 blocks in front, 3000 behind"),
+    "raw, redumper": Truth(
+        lambda: known.redumper(DISC), "raw", REDUMPER_LEAD_IN, note="45000 blocks in front, 3000 behind"
+    ),
     "raw, redumper, sparse": Truth(lambda: known.redumper(DISC, 3000, 0.02), "raw", REDUMPER_LEAD_IN),
     "raw, redumper, a multiple of 2,448": Truth(
         lambda: known.redumper(DISC, -(REDUMPER_LEAD_IN + DISC.end) % 51 + 51 * 60), "raw", REDUMPER_LEAD_IN
     ),
     "raw, redumper, no graphics": Truth(lambda: known.redumper(DISC, 3000, 0), "raw", REDUMPER_LEAD_IN, "not read"),
     "raw, without R to W": Truth(lambda: known.without_rw(raw()), "raw", graphics="not read"),
-    "raw, without P and Q": Truth(lambda: raw().translate(bytes(byte & 63 for byte in range(256))), "raw", note="Q: not read"),
+    "raw, without P and Q": Truth(
+        lambda: raw().translate(bytes(byte & 63 for byte in range(256))), "raw", note="Q: not read"
+    ),
     "raw, scratched": Truth(lambda: known.scratched(raw(), 1), "raw", state="damaged"),
     "raw, much scratched": Truth(lambda: known.scratched(raw(), 2, every=3), "raw", state="damaged"),
     "raw, scratched, with lead-in": Truth(lambda: known.scratched(with_lead_in(), 3), "raw", 300, state="damaged"),
@@ -99,7 +115,9 @@ FORMS: dict[str, Truth] = {
     "raw, given up within": Truth(lambda: zeros(raw(), 2000, 200), "raw", state="damaged"),
     "raw, given up at the ends": Truth(lambda: zeros(zeros(raw(), 0, 300), 17_500, 500), "raw"),
     "raw, torn": Truth(lambda: raw()[:-17], "raw", state="torn", note="torn: 79 bytes"),
-    "raw, redumper, torn": Truth(lambda: known.redumper(DISC)[:-50], "raw", REDUMPER_LEAD_IN, state="torn", note="torn: 46"),
+    "raw, redumper, torn": Truth(
+        lambda: known.redumper(DISC)[:-50], "raw", REDUMPER_LEAD_IN, state="torn", note="torn: 46"
+    ),
     "raw, a block": Truth(lambda: raw()[:BLOCK], "raw", graphics="no"),
     "raw, a block and a half": Truth(lambda: raw()[: BLOCK + 48], "raw", graphics="no", state="torn"),
     "raw, three blocks": Truth(lambda: raw()[: 3 * BLOCK], "raw"),
@@ -128,16 +146,24 @@ FORMS: dict[str, Truth] = {
     "sector, a sector": Truth(lambda: sectors(raw()[:BLOCK]), "sector", graphics="no"),
     "sector, header": Truth(lambda: HEADER(44) + sectors(raw(SHORT)), "sector", note="header: 44 bytes"),
     "sector-planar": Truth(lambda: known.in_sectors(list(map(known.planar, known.split(raw())))), "sector-planar"),
-    "sector-planar, a sector": Truth(lambda: known.in_sectors([known.planar(raw()[:BLOCK])]), "sector-planar", graphics="no"),
+    "sector-planar, a sector": Truth(
+        lambda: known.in_sectors([known.planar(raw()[:BLOCK])]), "sector-planar", graphics="no"
+    ),
     "sector-planar, silent": Truth(
         lambda: known.in_sectors(list(map(known.planar, known.split(raw()))), silent=True), "sector-planar"
     ),
     "planar, a few blocks of many": Truth(
-        lambda: known.as_planar(bytes(BLOCK * 803) + known.scratched(raw()[: BLOCK * 20], 6, 8)), "planar", 803 - 150, state="damaged"
+        lambda: known.as_planar(bytes(BLOCK * 803) + known.scratched(raw()[: BLOCK * 20], 6, 8)),
+        "planar",
+        803 - 150,
+        state="damaged",
     ),
     "sector-pq, a few blocks of many": Truth(
         lambda: known.in_sectors(
-            [known.formatted_q(it, False) for it in known.split(bytes(BLOCK * 1363) + raw()[: BLOCK * 60] + bytes(BLOCK * 500))]
+            [
+                known.formatted_q(it, False)
+                for it in known.split(bytes(BLOCK * 1363) + raw()[: BLOCK * 60] + bytes(BLOCK * 500))
+            ]
         ),
         "sector-pq",
         1363 - 150,
@@ -147,10 +173,15 @@ FORMS: dict[str, Truth] = {
         lambda: known.in_sectors(list(map(known.formatted_q, known.split(raw())))), "sector-pq", graphics="not read"
     ),
     "sector-pq, without checks": Truth(
-        lambda: known.in_sectors([known.formatted_q(it, False) for it in known.split(raw())]), "sector-pq", graphics="not read"
+        lambda: known.in_sectors([known.formatted_q(it, False) for it in known.split(raw())]),
+        "sector-pq",
+        graphics="not read",
     ),
     "pq, torn": Truth(
-        lambda: b"".join(map(known.formatted_q, known.split(raw()[: BLOCK * 300])))[:-12], "pq", graphics="not read", state="torn"
+        lambda: b"".join(map(known.formatted_q, known.split(raw()[: BLOCK * 300])))[:-12],
+        "pq",
+        graphics="not read",
+        state="torn",
     ),
     "pq": Truth(lambda: b"".join(map(known.formatted_q, known.split(raw()))), "pq", graphics="not read"),
     "cooked": Truth(packs, "cooked"),
@@ -196,6 +227,37 @@ class KnownDumpsTest(FolderTest):
         if has_q and not any(word in case for word in PARTS):
             tracks = re.findall(r"TRACK (\d\d) AUDIO(?:(?!TRACK).)*?INDEX 01 (\S+)", ran.out, re.DOTALL)
             self.assertEqual(tracks, [("01", "00:00:00"), ("02", "01:20:00"), ("03", "02:40:00")])
+
+    def test_packs_have_no_header(self) -> None:
+        """Whatever their number, with parity and without, dense and sparse, torn, and behind idle ones: the first pack is the
+        first of the file, unless --skip says otherwise."""
+        chance = random.Random(1)
+        for number in range(16):
+            content = packs(chance.randrange(15_990, 20_000), chance.choice((0.05, 0.5, 1)))
+            content = content if number % 3 else known.without_parity(content)
+            content = bytes(24 * chance.choice((0, 1, 400))) + content[: len(content) - chance.choice((0, 0, 5))]
+            path = self.write(f"song{number}.{('cdg', 'bin')[number % 2]}", content)
+            found, _ = form_of(Dump(path))
+            assert found is not None
+            self.assertEqual(found.skip, 0)
+            self.assertEqual(
+                found.form.name, "cooked" if number % 2 and number % 3 and len(content) % 96 == 0 else "cdg"
+            )
+        ran = desk("identify", path, "--skip", 24)
+        self.assertIn("header: 24 bytes in front", ran.out)
+
+    def test_a_file_that_convert_writes_is_read_whole(self) -> None:
+        """A minute of packs, whose number is no multiple of four."""
+        out, again = self.folder / "out.cdg", self.folder / "again.cdg"
+        self.assertEqual(desk("convert", self.write("a.raw", raw()), "-o", out).status, 0)
+        whole = out.read_bytes()
+        self.assertGreater(len(whole) // 24, 16_000)
+        self.assertTrue(len(whole) // 24 % 4)
+        self.assertEqual(desk("convert", out, "-o", again).status, 0)
+        self.assertEqual(again.read_bytes(), whole)
+        ran = desk("damage", out)
+        self.assertEqual((ran.status, ran.rows()), (0, []))
+        self.assertNotIn("header", ran.told)
 
     def test_states(self) -> None:
         for number, truth in enumerate(FORMS.values()):

@@ -3,7 +3,7 @@ import unittest
 
 from fixtures import has
 
-from ribjasper import library
+from ribjasper.common import library
 
 
 def rank(numbers: list[int]) -> int:

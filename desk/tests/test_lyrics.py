@@ -2,21 +2,22 @@
 import argparse
 import unittest
 from pathlib import Path
-from typing import Iterator
+from typing import Any, Iterator
 
 from fixtures import (
     PAUSE, ROOMY_LEAD_IN as LEAD_IN, SONG, TOP, FolderTest, Ran, Screen, Word, author_files as author, desk,
     needs_font, needs_pillow, needs_plan, needs_program, screen, write_wav,
 )  # fmt: skip
-from ribjasper.colours import Colour, contrast
-from ribjasper.library import HEIGHT, PACK, RAW, WIDTH, Player, convert
-from ribjasper.lyrics import add_parser, wishes_of
-from ribjasper.pages import DotOut, Placed
-from ribjasper.song_files import read_song
-from ribjasper.song_script import Maker, best
-from ribjasper.styles import read_style, shipped
-from ribjasper.timeline import EARLY, blocks_for
-from ribjasper.times import blocks, clock
+from ribjasper.drawing.colours import Colour, contrast
+from ribjasper.common.library import HEIGHT, PACK, RAW, WIDTH, Player, convert
+from ribjasper.commands.publish.lyrics import add_parser
+from ribjasper.songs.wishes import wishes_of
+from ribjasper.songs.pages import DotOut, Placed
+from ribjasper.songs.song_files import read_song
+from ribjasper.songs.song_script import Maker, best
+from ribjasper.drawing.styles import read_style, shipped
+from ribjasper.songs.timeline import EARLY, blocks_for
+from ribjasper.common.times import blocks, clock
 
 SHEET = 'FILE "a.wav" WAVE\nTRACK 01 AUDIO\nINDEX 01 00:00:00\n'
 # The Japanese font of the package fonts-vlgothic, which the desk finds by itself.
@@ -44,7 +45,7 @@ class StylesTest(FolderTest):
 
     def test_contrast(self) -> None:
         # By the formula of WCAG 2: black and white, and the grey of #777, which is known for its 4.48.
-        black, grey, white = (read_style(self.style(f'ground = "{word}"')).ground for word in ("#000", "#777", "#FFF"))
+        black, grey, white = (Colour(*(part,) * 3) for part in (0, 7, 15))
         self.assertAlmostEqual(contrast(black, white), 21, places=6)
         self.assertAlmostEqual(contrast(grey, white), 4.48, places=2)
 
@@ -53,25 +54,44 @@ class StylesTest(FolderTest):
 
     def test_all_keys(self) -> None:
         font = self.write("b.ttf", "")
-        style = read_style(self.style('font = "b.ttf"', "size = 20", 'ground = "#001122"', 'border = "#123"',
-                                      'outline = "#000"', 'align = "left"', "rows = 6", 'mode = "page"',
-                                      'background = "c.png"'))
-        self.assertEqual((style.fonts, style.size, style.align, style.rows, style.by_page),
-                         ((font,), 20, "left", 6, True))
+        style = read_style(
+            self.style(
+                'font = "b.ttf"',
+                "size = 20",
+                'ground = "#001122"',
+                'border = "#123"',
+                'outline = "#000"',
+                'align = "left"',
+                "rows = 6",
+                'mode = "page"',
+                'background = "c.png"',
+            )
+        )
+        self.assertEqual(
+            (style.fonts, style.size, style.align, style.rows, style.by_page), ((font,), 20, "left", 6, True)
+        )
         self.assertEqual((style.ground, style.border, style.outline), ((0, 1, 2), (1, 2, 3), (0, 0, 0)))
         self.assertEqual((style.background, style.voice(1).sung), (self.folder / "c.png", (15, 8, 0)))
 
     def test_refusals(self) -> None:
-        for line, why in (('rows = 7', "rows is 7, and has to be from 2 to 6"), ('rows = "4"', "rows is '4'"),
-                          ('ground = "blue"', "ground is 'blue'"), ('colour = "#000"', "knows nothing of 'colour'"),
-                          ('align = "middle"', "align is 'middle'"), ('font = "No Such Font"', "there is no font No"),
-                          ("rows = ", "is no TOML"), ("sweep = true", "knows nothing of 'sweep'")):
+        for line, why in (
+            ("rows = 7", "rows is 7, and has to be from 2 to 6"),
+            ('rows = "4"', "rows is '4'"),
+            ('ground = "blue"', "ground is 'blue'"),
+            ('colour = "#000"', "knows nothing of 'colour'"),
+            ('align = "middle"', "align is 'middle'"),
+            ('font = "No Such Font"', "there is no font No"),
+            ("rows = ", "is no TOML"),
+            ("sweep = true", "knows nothing of 'sweep'"),
+        ):
             ran = desk("lyrics", SONG / "song.lrc", "-o", self.folder / "a.script", "--style", self.style(line))
             self.assertEqual((ran.status, why in ran.told), (3, True), ran.told)
         ran = desk("lyrics", SONG / "song.lrc", "-o", self.folder / "a.script", "--style", "green")
         self.assertEqual((ran.status, "is no style; there are black, night, paper" in ran.told), (3, True), ran.told)
         for voices in ("", '[[voice]]\nunsung = "#FFF"\n', 3 * '[[voice]]\nunsung = "#FFF"\nsung = "#000"\n'):
-            ran = desk("lyrics", SONG / "song.lrc", "-o", self.folder / "a.script", "--style", self.style(voices=voices))
+            ran = desk(
+                "lyrics", SONG / "song.lrc", "-o", self.folder / "a.script", "--style", self.style(voices=voices)
+            )
             self.assertEqual((ran.status, "[[voice]]" in ran.told), (3, True), ran.told)
 
 
@@ -102,8 +122,12 @@ class ScriptTest(FolderTest):
 
     def pixels(self, placed: Placed, left: int, right: int, ink: int) -> list[tuple[int, int]]:
         """The pixels of a part of a line that have a number."""
-        return [(x, placed.top + y) for y, row in enumerate(self.letters(placed))
-                for x in range(left, min(right, 288)) if row[x] == ink]
+        return [
+            (x, placed.top + y)
+            for y, row in enumerate(self.letters(placed))
+            for x in range(left, min(right, 288))
+            if row[x] == ink
+        ]
 
     def screens(self, script: Path) -> Iterator[tuple[int, bytes]]:
         """What stands at each block of the program from the end of the pause on: the numbers of all pixels."""
@@ -146,8 +170,11 @@ class ScriptTest(FolderTest):
                 if full:
                     self.assertEqual({before.at(*pixel) for pixel in full}, {rgb(voice.unsung)}, placed.text())
                     self.assertEqual({after.at(*pixel) for pixel in full}, {rgb(voice.sung)}, placed.text())
-            box = [(x, placed.top + y) for y in range(len(self.letters(placed)))
-                   for x in range(light.left, min(light.right, 288))]
+            box = [
+                (x, placed.top + y)
+                for y in range(len(self.letters(placed)))
+                for x in range(light.left, min(light.right, 288))
+            ]
             self.assertIn(rgb(style.ground), {after.at(*pixel) for pixel in box})
         self.assertGreater(seen, len(lights[::step]) // 2)
 
@@ -164,8 +191,11 @@ class LyricsTest(ScriptTest):
         self.check_words(script, maker, 9)
 
     def test_rows_flow_over_pages_until_a_rest(self) -> None:
-        song = self.write("a.lrc", "[00:06.00]One\n[00:08.00]Two\n[00:10.00]Three\n[00:12.00]Four\n[00:14.00]Five\n"
-                                   "[00:16.00]\n[00:20.00]Six, after a rest\n[00:22.00]\n")
+        song = self.write(
+            "a.lrc",
+            "[00:06.00]One\n[00:08.00]Two\n[00:10.00]Three\n[00:12.00]Four\n[00:14.00]Five\n"
+            "[00:16.00]\n[00:20.00]Six, after a rest\n[00:22.00]\n",
+        )
         _, _, maker = self.made(song)
         texts = [[placed.text() for placed in page.placed if placed.letters] for page in maker.pages]
         self.assertEqual(texts, [["One", "Two", "Three", "Four"], ["Five"], ["Six, after a rest"], []])
@@ -183,8 +213,11 @@ class LyricsTest(ScriptTest):
 
     @needs_program
     def test_lines_of_which_the_beginning_is_told(self) -> None:
-        song = self.write("a.lrc", "[00:06.00]First line\n[00:09.00]Second line, which is rather long for one row\n"
-                                   "[00:12.00]Third\n[00:15.00]Fourth\n[00:18.00]Fifth\n[00:21.00]Sixth\n")
+        song = self.write(
+            "a.lrc",
+            "[00:06.00]First line\n[00:09.00]Second line, which is rather long for one row\n"
+            "[00:12.00]Third\n[00:15.00]Fourth\n[00:18.00]Fifth\n[00:21.00]Sixth\n",
+        )
         _, script, maker = self.made(song, "--style", "paper")
         self.check_words(script, maker, 2)
 
@@ -251,17 +284,93 @@ class LyricsTest(ScriptTest):
         stream = self.stream(script)
         self.assertEqual(set(screen(stream, 150).pixels), {0})
 
-    def test_letters_that_no_font_has_are_named_at_once(self) -> None:
-        song = self.write("a.lrc", "[ti:A \U0001f941]\n[00:06.00]Fine\n[00:08.00]\U00012000\n[00:09.00]\U0001f941 \U00012000\n")
-        ran = desk("lyrics", song, "-o", self.folder / "a.script")
-        self.assertEqual(ran.status, 3)
-        self.assertIn("(U+12000 cuneiform sign a) in line 3, line 4", ran.told)
-        self.assertIn("(U+1F941 drum with drumsticks) in line 4, the title", ran.told)
-        self.assertFalse((self.folder / "a.script").exists())
+    def test_letters_that_no_font_has(self) -> None:
+        song = self.write(
+            "a.lrc",
+            "[ti:A \U0001f941]\n[00:09.00]Fine\n[00:12.00]\U00012000\n[00:14.00]So \U0001f941\ufe0f long \U00012000\n",
+        )
+        ran, script, maker = self.made(song)
+        both = "\U00012000 (U+12000 cuneiform sign a), \U0001f941 (U+1F941 drum with drumsticks); they are left out"
+        self.assertIn(f"line 4: no font here has {both}", ran.told)
+        self.assertIn("line 3: no font here has any of its letters, and so it is left out", ran.told)
+        self.assertIn("the title: no font here has \U0001f941", ran.told)
+        self.assertIn(str(song), ran.told)
+        self.assertEqual([line.text for line in maker.song.lines], ["Fine", "So  long"])
+        self.assertEqual(maker.song.title.strip(), "A")
+        ran, script, maker = self.made(song, "--missing", "box")
+        self.assertEqual([line.text for line in maker.song.lines], ["Fine", "\u25a1", "So \u25a1 long \u25a1"])
+        self.assertIn("boxes stand for them", ran.told)
+        self.is_planned(script)
+        nothing = self.write("b.lrc", "[00:09.00]\U00012000\n")
+        ran = desk("lyrics", nothing, "-o", self.folder / "b.script")
+        self.assertEqual((ran.status, f"{nothing}: no font here has its letters" in ran.told), (3, True), ran.told)
+
+    def test_long_words_and_titles_are_broken(self) -> None:
+        word = "Donaudampfschifffahrtselektrizitaetenhauptbetriebswerkbauunterbeamtengesellschaft"
+        title = "A title of many words " * 30
+        song = self.write("a.lrc", f"[ti:{title}]\n[00:19.00]My {word} so\n[00:25.00]{'x' * 200}\n[00:40.00]end\n")
+        ran, script, maker = self.made(song)
+        rows = [placed for page in maker.pages for placed in page.placed if placed.letters and placed.is_sung]
+        shown = "".join(placed.text() for placed in rows)
+        self.assertIn(word, shown.replace(" ", ""))
+        self.assertEqual(shown.count("x"), 200)
+        for placed in rows:
+            assert placed.letters
+            self.assertGreaterEqual(min(left for left, _ in placed.letters.extents), 0)
+            self.assertLessEqual(max(right for _, right in placed.letters.extents), 288)
+        self.assertEqual([row.start for row in rows], sorted(row.start for row in rows))
+        self.is_planned(script)
+
+    def test_both_directions_in_one_line(self) -> None:
+        """Each word is lit where it stands: alone it has the same pixels, as Pillow draws the line."""
+        from PIL import Image, ImageDraw, ImageFont
+
+        texts = (
+            "\u05e9\u05dc\u05d5\u05dd hello world \u05ea\u05d5\u05d3\u05d4",
+            "hello \u05e9\u05dc\u05d5\u05dd \u05ea\u05d5\u05d3\u05d4 world",
+            "\u05e9\u05e0\u05ea 1984 (\u05d8\u05d5\u05d1\u05d4) yes",
+        )
+        for text in texts:
+            words = text.split(" ")
+            line = "".join(f"<00:{10 + number:02}.00>{word} " for number, word in enumerate(words))
+            _, script, maker = self.made(self.write("a.lrc", f"[00:10.00]{line}<00:18.00>\n"), "--size", "18")
+            placed = next(placed for page in maker.pages for placed in page.placed if placed.letters)
+            assert placed.letters
+            # The whole line as Pillow's own layout draws it, and each word as a picture of its own.
+            font = ImageFont.truetype(str(maker.font.paths[0]), 18)
+            whole = self.light(Image, ImageDraw, font, text)
+            left = next(x for x in range(288) if any(row[x] for row in self.letters(placed)))
+            for number, word in enumerate(words):
+                extents = [
+                    extent
+                    for part, extent in zip(placed.letters.syllables, placed.letters.extents)
+                    if part.start == 10 + number and part.text.strip()
+                ]
+                one = self.light(Image, ImageDraw, font, word)
+                at = min(extent[0] for extent in extents) - left
+                best = min(range(0, whole.width - one.width + 1), key=lambda x: self.differs(whole, one, x))
+                # A blank may belong to the word on either side.
+                self.assertLess(abs(best - at), 4 + font.getlength(" "), (text, word, extents, left))
+
+    @staticmethod
+    def light(image: Any, draw: Any, font: Any, text: str) -> Any:
+        """A text as Pillow lays it out by itself, without what is free around it."""
+        page = image.new("L", (600, 60), 0)
+        draw.Draw(page).text((100, 40), text, 255, font=font, anchor="ls")
+        box = page.getbbox()
+        return page.crop((box[0], 0, box[2], 60))
+
+    @staticmethod
+    def differs(whole: Any, one: Any, x: int) -> int:
+        part = whole.crop((x, 0, x + one.width, 60))
+        return sum(abs(a - b) for a, b in zip(part.getdata(), one.getdata()))
 
     def test_other_alphabets(self) -> None:
-        song = self.write("a.lrc", "[00:06.00]\u00dcber \u0388\u03bd\u03b1 \u0438 \u0434\u0432\u0430\n"
-                                   "[00:09.00]\u05e9\u05dc\u05d5\u05dd \u05e2\u05d5\u05dc\u05dd\n")
+        song = self.write(
+            "a.lrc",
+            "[00:06.00]\u00dcber \u0388\u03bd\u03b1 \u0438 \u0434\u0432\u0430\n"
+            "[00:09.00]\u05e9\u05dc\u05d5\u05dd \u05e2\u05d5\u05dc\u05dd\n",
+        )
         _, _, maker = self.made(song)
         extents = [placed.letters.extents for placed in maker.pages[0].placed if placed.letters]
         self.assertLess(extents[0][0][0], extents[0][1][0])
@@ -275,9 +384,15 @@ class LyricsTest(ScriptTest):
 
 
 # Lines that follow each other quickly, in the same places.
-QUICK = "".join(f"[00:{8 + 2 * number:02}.00]" + "".join(
-    f"<00:{8 + 2 * number + 0.4 * word:05.2f}>{text} " for word, text in enumerate(("my", "jumping", "kamps", f"{number}ly")))
-    + "\n" for number in range(12))
+QUICK = "".join(
+    f"[00:{8 + 2 * number:02}.00]"
+    + "".join(
+        f"<00:{8 + 2 * number + 0.4 * word:05.2f}>{text} "
+        for word, text in enumerate(("my", "jumping", "kamps", f"{number}ly"))
+    )
+    + "\n"
+    for number in range(12)
+)
 DUET = """[ti:Two]
 [singer:Anna]
 [00:10.00]<00:10.00>One <00:10.50>voice <00:11.00>
@@ -309,8 +424,13 @@ class ReadableTest(ScriptTest):
 
     def check_clear(self, script: Path, maker: Maker) -> None:
         """That the pixels that stand in a place of the page are of one line at each block."""
-        inks = {slot: [{(x, placed.top + y) for y, row in enumerate(self.letters(placed)) for x in range(288) if row[x]}
-                       for placed in some] for slot, some in self.slots(maker).items()}
+        inks = {
+            slot: [
+                {(x, placed.top + y) for y, row in enumerate(self.letters(placed)) for x in range(288) if row[x]}
+                for placed in some
+            ]
+            for slot, some in self.slots(maker).items()
+        }
         seen, before = set(), b""
         for block, pixels in self.screens(script):
             if block > PAUSE + 75 * 40:
@@ -321,8 +441,9 @@ class ReadableTest(ScriptTest):
             for slot, lines in inks.items():
                 shown = self.shown(pixels, maker, slot)
                 # A tile that takes two packs may show other pixels between them.
-                fits = [number for number, ink in enumerate(lines)
-                        if len({(x // 6, y // 12) for x, y in shown - ink}) <= 1]
+                fits = [
+                    number for number, ink in enumerate(lines) if len({(x // 6, y // 12) for x, y in shown - ink}) <= 1
+                ]
                 self.assertTrue(fits, (block, slot))
                 seen |= {(slot, fits[0])} if shown else set()
         self.assertEqual(len(seen), sum(len(lines) for lines in inks.values()))
@@ -367,8 +488,10 @@ class ReadableTest(ScriptTest):
         self.assertLess(lit_at[len(columns) - 1], PAUSE + 75 * 15 + 2)
 
     def test_a_broken_line_stands_on_neighbouring_rows(self) -> None:
-        text = "".join(f"[00:{8 + 4 * number:02}.00]{'A line that is too long for one row of this size' if number % 2 else 'Short'}\n"
-                       for number in range(8))
+        text = "".join(
+            f"[00:{8 + 4 * number:02}.00]{'A line that is too long for one row of this size' if number % 2 else 'Short'}\n"
+            for number in range(8)
+        )
         _, _, maker = self.made(self.write("a.lrc", text), "--size", "20", "--no-rests")
         rows: dict[int, list[tuple[int, int]]] = {}
         for number, page in enumerate(maker.pages):
@@ -386,7 +509,9 @@ class ReadableTest(ScriptTest):
         self.assertLess(maker.font.size, 24)
         self.assertIn("letters of 24 pixels break 6 of 6 lines, and so they have", ran.told)
         self.assertTrue(all(len({id(placed) for placed in page.placed}) for page in maker.pages))
-        self.assertEqual(sum(bool(placed.letters) for page in maker.pages for placed in page.placed if placed.is_sung), 6)
+        self.assertEqual(
+            sum(bool(placed.letters) for page in maker.pages for placed in page.placed if placed.is_sung), 6
+        )
 
     def test_titles_wrap(self) -> None:
         title = "A title that is as long as seventy letters, and that is on every disc"
@@ -401,7 +526,9 @@ class ReadableTest(ScriptTest):
     def test_two_voices_and_both(self) -> None:
         _, script, maker = self.made(self.write("a.lrc", DUET), "--size", "20")
         self.check_words(script, maker)
-        first, second, both = (placed for page in maker.pages for placed in page.placed if placed.letters and placed.is_sung)
+        first, second, both = (
+            placed for page in maker.pages for placed in page.placed if placed.letters and placed.is_sung
+        )
         numbers = [set(b"".join(self.letters(placed))) for placed in (first, second, both)]
         # Four levels each, the ground among them.
         self.assertEqual(numbers, [{0, 1, 2, 3}, {0, 5, 6, 7}, {0, 1, 2, 3, 5, 6, 7}])
@@ -422,8 +549,10 @@ class ReadableTest(ScriptTest):
         return sum(pixels[WIDTH * (placed.top - 7 + 12) + left + 3 + 6] == 3 for left in placed.dots)
 
     def test_a_line_after_a_rest_is_counted_in(self) -> None:
-        text = "[00:08.00]<00:08.00>La <00:09.00>la <00:10.00>\n[00:17.00]<00:17.00>So <00:17.50>on <00:18.00>\n" \
-               "[00:20.00]<00:20.00>and <00:20.50>on <00:21.00>\n"
+        text = (
+            "[00:08.00]<00:08.00>La <00:09.00>la <00:10.00>\n[00:17.00]<00:17.00>So <00:17.50>on <00:18.00>\n"
+            "[00:20.00]<00:20.00>and <00:20.50>on <00:21.00>\n"
+        )
         _, script, maker = self.made(self.write("a.lrc", text))
         lines = [placed for page in maker.pages for placed in page.placed if placed.letters]
         self.assertEqual([len(placed.dots) for placed in lines], [3, 3, 0])
@@ -439,12 +568,16 @@ class ReadableTest(ScriptTest):
         self.assertEqual(rest.text(), "instrumental 1:05")
         style = self.write("a.toml", 'rest = "Zwischenspiel"\n[[voice]]\nunsung = "#FFF"\nsung = "#28F"\n')
         _, _, german = self.made(self.folder / "a.lrc", "--style", style)
-        self.assertEqual(next(page.placed[-1] for page in german.pages if not page.group.is_sung).text(),
-                         "Zwischenspiel 1:05")
+        self.assertEqual(
+            next(page.placed[-1] for page in german.pages if not page.group.is_sung).text(), "Zwischenspiel 1:05"
+        )
         _, script, maker = self.made(self.folder / "a.lrc")
         ink = {(x, rest.top + y) for y, row in enumerate(self.letters(rest)) for x in range(288) if row[x]}
-        stands = {second: self.shown(pixels, maker, rest.slot) for second, pixels in
-                  ((block / 75 - 2, pixels) for block, pixels in self.screens(script)) if second in (11, 16, 60, 72)}
+        stands = {
+            second: self.shown(pixels, maker, rest.slot)
+            for second, pixels in ((block / 75 - 2, pixels) for block, pixels in self.screens(script))
+            if second in (11, 16, 60, 72)
+        }
         self.assertEqual([stands[second] == ink for second in (11, 16, 60, 72)], [False, True, True, False])
 
     def test_how_long_a_line_stands(self) -> None:
@@ -467,6 +600,7 @@ class ReadableTest(ScriptTest):
 
     def test_a_picture_behind_the_text(self) -> None:
         from PIL import Image
+
         image = Image.new("RGB", (288, 192))
         image.putdata([(17 * (x // 48), 17 * (y // 48), 102) for y in range(192) for x in range(288)])
         image.save(self.folder / "b.png")
@@ -480,9 +614,18 @@ class ReadableTest(ScriptTest):
         # Letters have an outline on it, and when they go the picture is whole again.
         placed = next(placed for page in maker.pages for placed in page.placed if placed.letters)
         self.assertIn(4, set(b"".join(self.letters(placed))))
-        differ = {(at % 288, at // 288) for at, (old, new) in enumerate(zip(ground, screens[PAUSE + 75 * 14])) if old != new}
-        inks = {(x, one.top + y) for page in maker.pages for one in page.placed if one.letters
-                for y, row in enumerate(self.letters(one)) for x in range(288) if row[x]}
+        differ = {
+            (at % 288, at // 288) for at, (old, new) in enumerate(zip(ground, screens[PAUSE + 75 * 14])) if old != new
+        }
+        inks = {
+            (x, one.top + y)
+            for page in maker.pages
+            for one in page.placed
+            if one.letters
+            for y, row in enumerate(self.letters(one))
+            for x in range(288)
+            if row[x]
+        }
         inks |= {(dot + x, placed.top - 9 + y) for dot in placed.dots for x in range(6) for y in range(6)}
         self.assertLessEqual(differ, inks)
         self.assertEqual(screens[max(screens)], ground)
@@ -494,7 +637,9 @@ class ReadableTest(ScriptTest):
     def test_rows_and_sides(self) -> None:
         for rows in (2, 3, 5, 6):
             _, _, maker = self.made(self.write("a.lrc", QUICK), "--rows", rows)
-            self.assertEqual(max(len([placed for placed in page.placed if placed.letters]) for page in maker.pages), rows)
+            self.assertEqual(
+                max(len([placed for placed in page.placed if placed.letters]) for page in maker.pages), rows
+            )
             for page in maker.pages:
                 for placed in page.placed:
                     if placed.letters:
@@ -507,7 +652,9 @@ class ReadableTest(ScriptTest):
                 for placed in page.placed:
                     if placed.letters:
                         edges = [extent[side == "right"] for extent in placed.letters.extents]
-                        self.assertAlmostEqual(min(edges) if side == "left" else max(edges), at + 6 * (side == "right"), delta=1)
+                        self.assertAlmostEqual(
+                            min(edges) if side == "left" else max(edges), at + 6 * (side == "right"), delta=1
+                        )
 
     def test_an_outline(self) -> None:
         style = self.write("a.toml", 'outline = "#F00"\n[[voice]]\nunsung = "#FFF"\nsung = "#28F"\n')
@@ -526,8 +673,10 @@ class ReadableTest(ScriptTest):
         song = self.write("a.lrc", "[00:10.00]\u65e5\u672c\u8a9e\u306e\u6b4c, and Latin\n[00:16.00]\n")
         _, _, maker = self.made(song)
         font = maker.font
-        self.assertEqual([font.paths[number].name for number, _ in font.runs("\u6b4c La")],
-                         ["VL-Gothic-Regular.ttf", "DejaVuSans-Bold.ttf"])
+        self.assertEqual(
+            [font.paths[run.face].name for run in font.runs("\u6b4c La", 20)],
+            ["VL-Gothic-Regular.ttf", "DejaVuSans-Bold.ttf"],
+        )
         ran = desk("lyrics", song, "-o", self.folder / "b.script", "--font", GOTHIC)
         self.assertEqual(ran.status, 0)
 
@@ -540,7 +689,11 @@ class ReadableTest(ScriptTest):
         self.assertIn("line 3 at [00:12.00] begins after", ran.told)
 
     def test_words_stand_lit_within_twenty_milliseconds(self) -> None:
-        for song in (SONG / "song.lrc", TOP / "examples" / "album" / "duet.lrc", TOP / "examples" / "album" / "morning.lrc"):
+        for song in (
+            SONG / "song.lrc",
+            TOP / "examples" / "album" / "duet.lrc",
+            TOP / "examples" / "album" / "morning.lrc",
+        ):
             _, script, maker = self.made(song)
             waiting = {}
             for page in maker.pages:

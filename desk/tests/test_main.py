@@ -19,7 +19,9 @@ class MainTest(FolderTest):
 
     @unittest.skipUnless(has("ribjasper_version"), "lib/ or the program is not built (make library, make)")
     def test_version(self) -> None:
-        self.assertEqual(desk("--version").out, f"ribjasper-desk {(TOP / 'VERSION').read_text().strip().removesuffix('-dev')}\n")
+        self.assertEqual(
+            desk("--version").out, f"ribjasper-desk {(TOP / 'VERSION').read_text().strip().removesuffix('-dev')}\n"
+        )
 
     def test_without_the_library(self) -> None:
         path = self.write("dump", bytes(96))
@@ -42,7 +44,10 @@ class MainTest(FolderTest):
         calls: tuple[tuple[tuple[Word, ...], str], ...] = (
             (("damage", dump, "--map", self.folder / "map.png"), "python3-pil"),
             (("report", dump.parent, "-o", self.folder / "out"), "python3-pil"),
-            (("report", dump.parent, "-o", self.folder / "out", "--no-pictures", "--cluster", "a:1"), "python3-distributed"),
+            (
+                ("report", dump.parent, "-o", self.folder / "out", "--no-pictures", "--cluster", "a:1"),
+                "python3-distributed",
+            ),
         )
         for words, package in calls:
             ran = desk(*words, **how)

@@ -1,18 +1,20 @@
 """`mend`: the best of any number of readings, put side by side by their times; never less than the better one."""
 import binascii
+import itertools
 import random
 import re
+import subprocess
 import unittest
-from pathlib import Path
 
 import known_dumps as known
+
 from fixtures import (
     BLOCK, LEAD_IN, PACK, PROGRAM_BLOCKS, FolderTest, Word, as_sectors, desk, has, hello, hello_packs, needs_library,
     program, with_bad_q, with_burst, with_zeros, without,
 )  # fmt: skip
 
-NAMES = ["reading", "words", "of-reading", "gives", "missed", "left-out"]
-needs_mending = unittest.skipUnless(has("ribjasper_mend_readings"), "lib/ has no ribjasper_mend_readings")
+NAMES = ["reading", "words", "of-reading", "left-out", "lost"]
+needs_mending = unittest.skipUnless(has("ribjasper_mend_report"), "lib/ has no ribjasper_mend_report")
 
 
 def noisy(stream: bytes, places: range, seed: int, length: int = 60) -> bytes:
@@ -33,13 +35,13 @@ def is_frame(block: bytes) -> bool:
     return binascii.crc_hqx(frame[:10], 0) ^ 0xFFFF == int.from_bytes(frame[10:], "big")
 
 
+def channels(block: bytes) -> bytes:
+    """Channels P and Q of a block."""
+    return bytes(byte & 0xC0 for byte in block)
+
+
 def blocks_of(stream: bytes) -> list[bytes]:
     return [stream[at : at + BLOCK] for at in range(0, len(stream), BLOCK)]
-
-
-def frames_of(stream: bytes) -> list[bytes]:
-    """The lines that the program prints of the Q frames of a stream, one for each block."""
-    return program("q", "--lead-in", 0, stdin=stream, statuses=(0, 1)).splitlines()
 
 
 class MendCase(FolderTest):
@@ -128,34 +130,46 @@ class MendTest(MendCase):
         self.assertEqual(len(self.ran.rows()), 3)
 
     def test_what_none_has(self) -> None:
-        lost = noisy(hello(), range(800, 810), 1, 96), noisy(hello(), range(800, 810), 2, 96)
+        both = noisy(hello(), range(800, 810), 1, 96), noisy(hello(), range(800, 810), 2, 96)
         map_of, ddrescue = self.folder / "map", self.folder / "ddrescue"
-        packs = self.mended(*lost, status=1, words=("--map", map_of, "--ddrescue-map", ddrescue))
+        packs = self.mended(*both, status=1, words=("--map", map_of, "--ddrescue-map", ddrescue))
         self.assertEqual(len(packs), len(hello_packs()))
         self.assertEqual(packs[: PACK * 3000], hello_packs()[: PACK * 3000])
         self.assertRegex(self.ran.told, r"\d+ words have no codeword")
         names, *rows = [line.split("\t") for line in map_of.read_text().splitlines()]
-        self.assertEqual(names, ["block", "time", "blocks"])
-        first, count = int(rows[0][0]), sum(int(row[2]) for row in rows)
+        self.assertEqual(names, ["pack", "time", "packs"])
+        lost = {pack for row in rows for pack in range(int(row[0]), int(row[0]) + int(row[2]))}
+        truth = hello_packs()
+        differ = {
+            n for n in range(len(packs) // PACK) if packs[PACK * n : PACK * (n + 1)] != truth[PACK * n : PACK * (n + 1)]
+        }
+        self.assertLessEqual(differ, lost)
+        self.assertIn(f"{len(lost)} words have no codeword", self.ran.told)
+        first = min(lost)
         # The first lost words begin up to two blocks before the damage.
-        self.assertTrue(800 - LEAD_IN - 2 <= first <= 800 - LEAD_IN and 10 <= count <= 14, rows)
-        self.assertEqual(rows[0][1], f"00:{first // 75:02}:{first % 75:02}")
+        self.assertTrue(4 * (800 - LEAD_IN - 2) <= first <= 4 * (800 - LEAD_IN + 1) and len(lost) <= 60, rows)
+        block = first // 4
+        self.assertEqual(rows[0][1], f"00:{block // 75:02}:{block % 75:02}")
         parts = [line.split() for line in ddrescue.read_text().splitlines() if not line.startswith("#")][1:]
-        self.assertEqual([part[2] for part in parts][:2], ["+", "-"])
-        self.assertEqual(int(parts[1][0], 16), BLOCK * first)
-        self.assertEqual(sum(int(part[1], 16) for part in parts), BLOCK * PROGRAM_BLOCKS)
+        self.assertEqual([part[2] for part in parts][:2], ["-", "+"])
+        self.assertEqual(int(parts[1][0], 16), PACK * first)
+        self.assertEqual(sum(int(part[1], 16) for part in parts), len(packs))
 
     def test_refusals(self) -> None:
         whole = self.write("whole", hello())
         packs = self.write("packs", hello_packs() + bytes(-len(hello_packs()) % BLOCK))
-        self.assertEqual(desk("mend", whole, "-o", self.folder / "out").status, 2)
+        self.assertEqual(desk("mend", whole, "-o", self.folder / "out.cdg").status, 2)
         self.assertEqual(desk("mend", whole, whole).status, 2)
-        for other, cause in ((packs, "is cooked"), (self.folder / "missing", "no such file"), (self.folder, "directory")):
-            ran = desk("mend", whole, other, "-o", self.folder / "out")
+        for other, cause in (
+            (packs, "is cooked"),
+            (self.folder / "missing", "no such file"),
+            (self.folder, "directory"),
+        ):
+            ran = desk("mend", whole, other, "-o", self.folder / "out.cdg")
             self.assertEqual(ran.status, 3)
             self.assertIn(f"{other}: ", ran.told)
             self.assertIn(cause, ran.told)
-        self.assertFalse((self.folder / "out").exists())
+        self.assertFalse((self.folder / "out.cdg").exists())
 
 
 @needs_library
@@ -173,16 +187,20 @@ class KnownReadingsTest(MendCase):
         bare = known.without_rw(self.whole)
         for readings in ((self.whole, bare), (bare, self.whole), (bare, self.whole, bare)):
             self.assertEqual(self.mended(*readings), self.truth)
-            self.assertRegex(self.ran.told, rf"reading {readings.index(bare) + 1} carries no graphics from 00:00:\d\d to \d\d:\d\d:\d\d; left out there")
+            self.assertEqual([int(row["lost"]) for row in self.ran.rows()], [0] * len(readings))
+            for reading, row in zip(readings, self.ran.rows()):
+                left = len(self.truth) // PACK if reading == bare else 0
+                self.assertEqual(int(row["left-out"]), left)
 
     def test_a_reading_without_graphics_in_a_part(self) -> None:
         first, end = 1000, 3000
-        part = self.whole[: BLOCK * first] + known.without_rw(self.whole[BLOCK * first : BLOCK * end]) + self.whole[BLOCK * end :]
+        part = (
+            self.whole[: BLOCK * first]
+            + known.without_rw(self.whole[BLOCK * first : BLOCK * end])
+            + self.whole[BLOCK * end :]
+        )
         self.assertEqual(self.mended(part, self.whole), self.truth)
-        found = re.search(r"reading 1 carries no graphics from (\S+) to (\S+);", self.ran.told)
-        assert found
-        begin, stop = (4500 * int(at[:2]) + 75 * int(at[3:5]) + int(at[6:]) for at in found.groups())
-        self.assertTrue(abs(begin - first) < 12 and abs(stop - end) < 12, found.groups())
+        self.assertTrue(abs(int(self.ran.rows()[0]["left-out"]) - 4 * (end - first)) < 48, self.ran.rows())
 
     def test_a_scratched_reading_beside_one_without_graphics(self) -> None:
         worn = known.scratched(self.whole, 3, 10, 60)
@@ -204,13 +222,15 @@ class KnownReadingsTest(MendCase):
         chance = random.Random(6)
         noise = bytes(byte & 0xC0 | chance.randrange(64) for byte in quiet)
         self.assertEqual(self.mended(quiet, noise), truth)
-        self.assertNotIn("carries no graphics", self.ran.told)
+        self.assertEqual(self.ran.rows()[0]["left-out"], "0")
 
     def test_never_less_than_the_better_reading(self) -> None:
         chance = random.Random(7)
         for case in range(12):
             readings = [self.reading(chance) for _ in range(chance.randrange(2, 5))]
-            alone = [wrong(program("convert", "--lead-in", 0, stdin=it, statuses=(0, 1)), self.truth) for it in readings]
+            alone = [
+                wrong(program("convert", "--lead-in", 0, stdin=it, statuses=(0, 1)), self.truth) for it in readings
+            ]
             names = [self.write(f"{case}-{number}", content) for number, content in enumerate(readings)]
             out = self.folder / f"{case}.cdg"
             ran = desk("mend", *names, "-o", out)
@@ -265,7 +285,10 @@ class KnownReadingsTest(MendCase):
         rows = ran.rows()
         self.assertEqual((rows[0]["first"], rows[0]["last"], rows[0]["from"]), ("0", "149", "00:00:00"))
         differing = sum(int(row["last"]) - int(row["first"]) + 1 for row in rows)
-        wanted = sum(self.whole[BLOCK * (150 + k) : BLOCK * (151 + k)] != later[BLOCK * k : BLOCK * (k + 1)] for k in range(len(later) // BLOCK))
+        wanted = sum(
+            self.whole[BLOCK * (150 + k) : BLOCK * (151 + k)] != later[BLOCK * k : BLOCK * (k + 1)]
+            for k in range(len(later) // BLOCK)
+        )
         self.assertEqual(differing, 150 + wanted)
         ran = desk("mend", self.write("one", self.whole), self.write("two", known.as_planar(self.whole)), "--compare")
         self.assertEqual((ran.status, ran.rows()), (0, []))
@@ -306,8 +329,8 @@ class MendedStreamTest(MendCase):
         none = int(re.search(r"(\d+) words have no codeword", self.ran.told)[1])  # type: ignore[index]
         self.assertEqual(int(counts["bad"]), none)
 
-    def test_frames_are_those_chosen(self) -> None:
-        """Of each block the first reading whose check is good gives P and Q, or else the first."""
+    def test_frames_are_good_ones(self) -> None:
+        """P and Q of each block are those of a reading whose frame is good there, if one is."""
         chance, readings = random.Random(11), []
         for _ in range(3):
             worn = bytearray(self.whole)
@@ -316,13 +339,22 @@ class MendedStreamTest(MendCase):
                 worn[BLOCK * block + chance.randrange(BLOCK)] ^= 0x80
             readings.append(bytes(worn))
         stream = self.mended(*readings, name="out.raw")
-        lines = [frames_of(reading) for reading in readings]
-        columns = [blocks_of(reading) for reading in readings]
-        chosen = [next((r for r in range(3) if is_frame(columns[r][n])), 0) for n in range(len(columns[0]))]
-        self.assertGreater(chosen.count(1), 100)
-        self.assertEqual(frames_of(stream), [lines[r][n] for n, r in enumerate(chosen)])
-        for block, (r, own) in enumerate(zip(chosen, blocks_of(stream))):
-            self.assertEqual(bytes(byte & 0xC0 for byte in own), bytes(byte & 0xC0 for byte in columns[r][block]), block)
+        columns, others = [blocks_of(reading) for reading in readings], 0
+        for block, own in enumerate(blocks_of(stream)):
+            here = [column[block] for column in columns]
+            good = [it for it in here if is_frame(it)] or here
+            others += len(good) < 3
+            self.assertIn(channels(own), [channels(it) for it in good], block)
+        self.assertGreater(others, 300)
+        for order in itertools.permutations(readings):
+            self.assertEqual(self.mended(*order, name="out.raw"), stream)
+
+    def test_the_order_of_readings_changes_nothing(self) -> None:
+        """Noise beside a whole reading: also the words that both ends cut are those of the whole one."""
+        chance = random.Random(12)
+        noise = bytes(byte & 0xC0 | chance.randrange(64) for byte in self.whole)
+        for readings in ((self.whole, noise), (noise, self.whole)):
+            self.assertEqual(self.mended(*readings, name="out.raw"), self.whole)
 
     def test_packs_of_all_forms(self) -> None:
         """The program finds the packs of the .cdg file in a stream of each form, and no wrong symbol."""
@@ -342,6 +374,170 @@ class MendedStreamTest(MendCase):
             other = with_bad_q(other, block)
         stream = self.mended(bare, other, name="out.raw")
         self.assertEqual(stream[: -2 * BLOCK], self.whole[: -2 * BLOCK])
+
+
+@needs_library
+@needs_mending
+class FaultsTest(MendCase):
+    """Dumps of known truth, each of which was once mended wrongly."""
+
+    def setUp(self) -> None:
+        super().setUp()
+        self.disc = known.album(1, 2)
+        self.chance = random.Random(31)
+        self.whole = self.with_idle_seconds(known.program(self.disc, 0, self.disc.end))
+        self.truth = program("convert", "--lead-in", 0, stdin=self.whole)
+
+    def with_idle_seconds(self, stream: bytes) -> bytes:
+        """A program whose packs stop for some seconds, as in an instrumental."""
+        for first in (600, 1800, 3200):
+            stream = self.with_idle(stream, first, first + 700)
+        return stream
+
+    @staticmethod
+    def with_idle(stream: bytes, first: int, end: int) -> bytes:
+        """A program without the packs of the slots from one block up to another."""
+        content = bytearray(stream)
+        for slot in range(4 * first, 4 * end):
+            for place in known.PLACES:
+                if 24 * slot + place < len(content):
+                    content[24 * slot + place] &= 0xC0
+        return bytes(content)
+
+    def worn(self, stream: bytes, count: int, length: int) -> bytes:
+        content = bytearray(stream)
+        for _ in range(count):
+            at = self.chance.randrange(len(content) - length)
+            content[at : at + length] = self.chance.randbytes(length)
+        return bytes(content)
+
+    def test_a_perfect_reading_with_idle_seconds(self) -> None:
+        """Scratched idle words are near codewords once in 267; they are no sign that a reading lacks graphics."""
+        for scratched in (self.worn(self.whole, 250, 60) for _ in range(3)):
+            for readings in ((self.whole, scratched), (scratched, self.whole)):
+                self.assertEqual(self.mended(*readings), self.truth, self.ran.told)
+                place = readings.index(self.whole)
+                self.assertEqual(self.ran.rows()[place]["left-out"], "0")
+                self.assertEqual(self.ran.rows()[place]["lost"], "0")
+
+    def test_a_perfect_reading_with_bad_q(self) -> None:
+        """Noise near a codeword does not win over an idle pack whose Q frames are bad."""
+        quiet = self.with_idle(known.program(self.disc, 0, self.disc.end), 300, 4400)
+        truth = program("convert", "--lead-in", 0, stdin=quiet)
+        perfect = quiet
+        for block in range(300, 4400):
+            if block % 40:
+                perfect = with_bad_q(perfect, block)
+        noise = bytes(byte & 0xC0 | self.chance.randrange(64) for byte in quiet)
+        self.assertEqual(self.mended(perfect, noise), truth)
+
+    def test_stale_blocks_have_their_own_place(self) -> None:
+        """A hundred blocks of another place, whose Q frames are good, do not take the place where they stand."""
+        stale = self.whole[: BLOCK * 2000] + self.whole[BLOCK * 700 : BLOCK * 800] + self.whole[BLOCK * 2100 :]
+        stale_busy = self.whole[: BLOCK * 2000] + self.whole[BLOCK * 100 : BLOCK * 200] + self.whole[BLOCK * 2100 :]
+        for worse in (stale, stale_busy):
+            for readings in ((self.whole, worse), (worse, self.whole)):
+                self.assertEqual(self.mended(*readings), self.truth, self.ran.told)
+                self.assertIn("have the times of others", self.ran.told)
+
+    def test_zeros_of_a_reading_without_graphics_are_never_believed(self) -> None:
+        half = self.whole[: BLOCK * (len(self.whole) // BLOCK // 2)]
+        packs = self.mended(half, known.without_rw(self.whole), status=1)
+        told = re.search(r"(\d+) words have no codeword", self.ran.told)
+        assert told
+        words = len(self.truth) // PACK
+        self.assertEqual(packs[: len(packs) // 2 - 48 * PACK], self.truth[: len(packs) // 2 - 48 * PACK])
+        self.assertTrue(abs(int(told[1]) - words // 2) < 20, self.ran.told)
+
+    def test_maps_count_the_written_file(self) -> None:
+        lead_in = known.lead_in(self.disc, 60)
+        lost = noisy(lead_in + self.whole, range(2060, 2063), 1, 96), noisy(
+            lead_in + self.whole, range(2060, 2063), 2, 96
+        )
+        map_of, ddrescue = self.folder / "map", self.folder / "domain"
+        stream = self.mended(*lost, status=1, words=("--map", map_of, "--ddrescue-map", ddrescue), name="out.raw")
+        row = map_of.read_text().splitlines()[1].split("\t")
+        self.assertTrue(2058 <= int(row[0]) <= 2060, row)
+        block = int(row[0]) - 60
+        self.assertEqual(row[1], f"00:{block // 75:02}:{block % 75:02}")
+        # With the map ddrescue reads just the lost blocks from another dump of the same size.
+        whole = self.write("whole.raw", lead_in + self.whole)
+        out = self.folder / "again.raw"
+        words = ["ddrescue", "-q", "-b", "96", "-m", str(ddrescue), str(whole), str(out)]
+        subprocess.run(words, check=True, stdin=subprocess.DEVNULL)
+        first, end = int(row[0]), int(row[0]) + int(row[2])
+        copied = out.read_bytes()
+        self.assertEqual(copied[BLOCK * first : BLOCK * end], (lead_in + self.whole)[BLOCK * first : BLOCK * end])
+        self.assertFalse(any(copied[: BLOCK * first]))
+        self.assertEqual(len(stream), len(lead_in + self.whole))
+
+    def test_maps_of_dumps_are_read(self) -> None:
+        """What a map says was not read counts for nothing, whatever the dump has there."""
+        bad = self.whole[: BLOCK * 1000] + self.chance.randbytes(BLOCK * 60) + self.whole[BLOCK * 1060 :]
+        first, second = self.write("one.raw", bad), self.write("two.raw", self.whole)
+        size = len(bad)
+        lines = [
+            "0x0 + 1",
+            f"0x0 {BLOCK * 1000:#x} +",
+            f"{BLOCK * 1000:#x} {BLOCK * 60:#x} -",
+            f"{BLOCK * 1060:#x} {size - BLOCK * 1060:#x} +",
+        ]
+        for name in ("one.map", "one.raw.map"):
+            told = self.write(name, "".join(f"{line}\n" for line in lines).encode())
+            ran = desk("mend", first, second, "-o", self.folder / "out.cdg", "--unread", told, "--force")
+            self.assertEqual(ran.status, 0, ran)
+            self.assertIn("60 blocks were not read", ran.told)
+            self.assertEqual((self.folder / "out.cdg").read_bytes(), self.truth)
+        for name, content, cause in (
+            ("three.map", b"0x0 +\n0 96 +\n", "is named as no reading"),
+            ("one.map", b"words\n", "no map of ddrescue"),
+        ):
+            ran = desk("mend", first, second, "-o", self.folder / "no.cdg", "--unread", self.write(name, content))
+            self.assertEqual(ran.status, 3, ran)
+            self.assertIn(cause, ran.told)
+
+    def test_every_number_is_true(self) -> None:
+        """Readings that contradict each other: what is reported as lost is what they give and the result has not."""
+        busy = [n for n in range(len(self.truth) // PACK) if any(self.truth[PACK * n : PACK * (n + 1)])]
+        turned = self.chance.sample(busy, 200)
+        first, other = bytearray(self.whole), known.pictures(3, 9)
+        for n in turned:
+            pack = next(it for it in other if it != self.truth[PACK * n : PACK * (n + 1)])
+            for place, symbol in zip(known.PLACES, pack):
+                first[PACK * n + place] = first[PACK * n + place] & 0xC0 | symbol
+        packs = self.mended(bytes(first), self.whole, status=1)
+        self.assertEqual([(row["lost"], row["left-out"]) for row in self.ran.rows()], [("200", "0")] * 2)
+        self.assertIn("200 words have no codeword", self.ran.told)
+        lost = {
+            n
+            for n in range(len(packs) // PACK)
+            if packs[PACK * n : PACK * (n + 1)] != self.truth[PACK * n : PACK * (n + 1)]
+        }
+        self.assertEqual(lost, set(turned))
+        self.assertEqual(self.mended(bytes(first), self.whole, self.whole, status=1), self.truth)
+        self.assertEqual([row["lost"] for row in self.ran.rows()], ["200", "0", "0"])
+
+    def test_the_limit_of_readings_comes_first(self) -> None:
+        ran = desk("mend", *["missing"] * 255, "-o", self.folder / "out.cdg")
+        self.assertEqual(ran.status, 2)
+        self.assertIn("no more than 254 readings", ran.told)
+
+    def test_unknown_endings_and_nothing_to_mend(self) -> None:
+        names = self.write("a", known.without_rw(self.whole)), self.write("b", known.without_rw(self.whole))
+        for name in ("out.bin", "out.doc", "out.cdg.bak"):
+            ran = desk("mend", *names, "-o", self.folder / name)
+            self.assertEqual(ran.status, 3, ran)
+            self.assertIn("its ending names nothing", ran.told)
+        ran = desk("mend", *names, "-o", self.folder / "out.cdg")
+        self.assertEqual(ran.status, 9, ran)
+        self.assertIn("nothing to mend", ran.told)
+        self.assertFalse((self.folder / "out.cdg").exists())
+
+    def test_p_and_q_alone_are_compared(self) -> None:
+        names = self.write("one", self.whole), self.write("two", known.without_rw(self.whole))
+        ran = desk("mend", *names, "--compare")
+        self.assertEqual((ran.status, ran.rows()), (0, []), ran)
+        self.assertIn("only P and Q are compared", ran.told)
 
 
 if __name__ == "__main__":

@@ -13,9 +13,9 @@ from unittest import mock
 
 from fixtures import TOP, FolderTest
 
-from ribjasper import beside, kinds, output
-from ribjasper.failures import Failure, Name, Refusal, Unwritten
-from ribjasper.output import Outputs, write_file
+from ribjasper.common import beside, kinds, output, records
+from ribjasper.common.failures import Failure, Name, Refusal, Unwritten
+from ribjasper.common.output import Outputs, write_file
 
 ANY = kinds.Kind("anything", lambda head, size: True)
 PNG = kinds.PNG_MARK + b"picture"
@@ -26,7 +26,7 @@ class OutputTest(FolderTest):
         return self.folder / name
 
     def names(self) -> list[str]:
-        return sorted(os.listdir(self.folder))
+        return sorted(set(os.listdir(self.folder)) - {records.RECORD})
 
     def refused(self, why: str, reads: list[Name], writes: list[tuple[Name, kinds.Kind]], **how: bool) -> None:
         before = {name: self.content(name) for name in self.names()}
@@ -70,12 +70,36 @@ class OutputTest(FolderTest):
         self.refused("is read here", [other], [(other, ANY)])
         self.refused("is read here", [path, other], [(self.path("new"), ANY), (path, ANY)])
 
+    def test_an_output_that_is_read_meanwhile(self) -> None:
+        """Whoever opens it to read, and by whichever name; nothing appears."""
+        path, new = self.write("in", "dump"), self.path("new")
+        os.link(path, self.path("hard"))
+        for name in ("in", "hard"):
+            for force in (False, True):
+                with self.assertRaises(Failure) as caught, Outputs([], [(new, ANY), (path, ANY)], force) as outputs:
+                    outputs.write(new, b"new")
+                    outputs.write(path, b"other")
+                    with open(self.path(name), "rb") as file:
+                        file.read()
+                self.assertIn("is read here", str(caught.exception))
+                self.assertEqual((path.read_bytes(), new.exists()), (b"dump", False))
+        with self.assertRaises(Failure), Outputs([], [(path, ANY)]) as outputs:
+            path.read_text()
+            outputs.open(path)
+        # What is read before and behind counts for nothing.
+        path.read_text()
+        with Outputs([], [(path, ANY)]) as outputs:
+            outputs.write(path, b"other")
+        self.assertEqual(path.read_text(), "other")
+
     def test_two_outputs_in_one_place(self) -> None:
         os.mkdir(self.path("folder"))
         os.symlink("folder", self.path("there"))
         os.symlink("folder/a", self.path("dangling"))
         for one, two in (("a", "a"), ("a", "./a"), ("folder/a", "there/a"), ("dangling", "folder/a")):
-            self.refused("is the same file as another output", [], [(self.path(one), ANY), (f"{self.folder}/{two}", ANY)])
+            self.refused(
+                "is the same file as another output", [], [(self.path(one), ANY), (f"{self.folder}/{two}", ANY)]
+            )
         self.write("b", "x")
         os.link(self.path("b"), self.path("c"))
         self.refused("is the same file as another output", [], [(self.path("b"), ANY), (self.path("c"), ANY)])
@@ -89,14 +113,84 @@ class OutputTest(FolderTest):
         self.assertEqual(len(caught.exception.lines), 4, caught.exception.lines)
 
     def test_a_file_of_another_kind(self) -> None:
-        for name, content in (("s.script", b"show 00:00:01 00:00:02\n"), ("notes.png", b"not a picture"), ("x.cdg", b"any")):
+        for name, content in (
+            ("s.script", b"show 00:00:01 00:00:02\n"),
+            ("notes.png", b"not a picture"),
+            ("x.cdg", b"any"),
+        ):
             path = self.write(name, content)
             self.refused("is there already, and is not a PNG picture; --force replaces it", [], [(path, kinds.PNG)])
             write_file(path, PNG, kinds.PNG, force=True)
             write_file(path, PNG + b"again", kinds.PNG)
             self.assertEqual(path.read_bytes(), PNG + b"again")
         write_file(self.write("nothing", b""), PNG, kinds.PNG)
-        self.refused("nobody can tell whether a stream can be made again; --force replaces it", [], [(self.write("a.raw", bytes(96)), kinds.STREAM)])
+        self.refused(
+            "the desk did not write it, or it was changed since; --force replaces it",
+            [],
+            [(self.write("a.raw", bytes(96)), kinds.STREAM)],
+        )
+
+    def test_only_own_outputs_are_replaced(self) -> None:
+        contents = {
+            kinds.PNG: PNG,
+            kinds.CDG: bytes(24),
+            kinds.ZIP: b"PK\3\4",
+            kinds.SOUND: b"RIFF",
+            kinds.SCRIPT: b"show 00:00:01 00:00:02\n",
+            kinds.CUE: b"TRACK 01 AUDIO\n",
+            kinds.TOC: b"CD_DA\n",
+            kinds.IMAGE: bytes(2448),
+            kinds.STREAM: bytes(96),
+            kinds.FILM: b"OggS",
+            kinds.ALBUM: b"gap = 2\n",
+        }
+        for kind, content in contents.items():
+            path = self.write("a" + "".join(kind.endings), content)
+            self.refused("the desk did not write it, or it was changed since", [], [(path, kind)])
+            path.unlink()
+            for again in (content, content + content, content):
+                write_file(path, again, kind)
+            # A change by hand, and one that leaves size and time as they were.
+            for other in (content * 3, content[:-1] + bytes([content[-1] ^ 1])):
+                times = os.stat(path)
+                path.write_bytes(other)
+                os.utime(path, ns=(times.st_atime_ns, times.st_mtime_ns))
+                self.refused("is there already", [], [(path, kind)])
+            write_file(path, content, kind, force=True)
+            write_file(path, content, kind)
+            path.unlink()
+
+    def test_a_record_that_is_lost_or_spoiled(self) -> None:
+        path = self.path("a.cdg")
+        for spoil in (b"", b'\0\xff\n[\n0 1\nx "a.cdg"\n'):
+            write_file(path, b"one", kinds.CDG)
+            self.path(records.RECORD).write_bytes(spoil)
+            self.refused("the desk did not write it", [], [(path, kinds.CDG)])
+            write_file(path, b"two", kinds.CDG, force=True)
+            write_file(path, b"three", kinds.CDG)
+            path.unlink()
+        os.unlink(self.path(records.RECORD))
+        os.mkdir(self.path(records.RECORD))
+        write_file(path, b"one", kinds.CDG)
+        self.refused("the desk did not write it", [], [(path, kinds.CDG)])
+
+    def test_a_record_stays_short(self) -> None:
+        name = self.path("a.cdg")
+        with mock.patch.object(records, "LONGEST", 1000):
+            for number in range(100):
+                write_file(name, b"%d" % number, kinds.CDG)
+            write_file(self.path("b.cdg"), b"b", kinds.CDG)
+            write_file(name, b"last", kinds.CDG)
+            write_file(self.path("b.cdg"), b"again", kinds.CDG)
+        self.assertLess(self.path(records.RECORD).stat().st_size, 1200)
+
+    def test_names_of_any_bytes_are_recorded(self) -> None:
+        for name in (b"\xff\n.cdg", "\u00fc \u2028.cdg".encode(), b'"\\.cdg'):
+            path = os.fsencode(self.folder) + b"/" + name
+            write_file(path, b"one", kinds.CDG)
+            write_file(path, b"two", kinds.CDG)
+            with open(path, "rb") as file:
+                self.assertEqual(file.read(), b"two")
 
     def test_a_file_that_is_protected(self) -> None:
         path = self.write("a", "old")
@@ -229,7 +323,9 @@ class OutputTest(FolderTest):
                 real_link(source, target)
 
             with mock.patch("os.replace", replace), mock.patch("os.link", link):
-                with self.assertRaises(Unwritten), Outputs([], [(path, ANY) for path in (one, two, three, four)]) as outputs:
+                with self.assertRaises(Unwritten), Outputs(
+                    [], [(path, ANY) for path in (one, two, three, four)]
+                ) as outputs:
                     for path in (one, two, three, four):
                         outputs.write(path, b"new")
             self.assertEqual(self.names(), ["1", "3", "4"])
@@ -306,18 +402,26 @@ class OutputTest(FolderTest):
     def test_signals(self) -> None:
         """A process that is stopped while it writes leaves nothing, whatever stops it, and a user's program that is
         started with a signal ignored goes on."""
-        code = ("import sys, time\nfrom ribjasper import kinds, output\nfrom ribjasper.main import stopping\n"
-                "with stopping(), output.Outputs([], [(sys.argv[1], kinds.CDG)]) as outputs:\n"
-                "    outputs.write(sys.argv[1], bytes(100000)); print('begun', flush=True)\n"
-                "    time.sleep(float(sys.argv[2]))\n")
+        code = (
+            "import sys, time\nfrom ribjasper.common import kinds, output\nfrom ribjasper.main import stopping\n"
+            "with stopping(), output.Outputs([], [(sys.argv[1], kinds.CDG)]) as outputs:\n"
+            "    outputs.write(sys.argv[1], bytes(100000)); print('begun', flush=True)\n"
+            "    time.sleep(float(sys.argv[2]))\n"
+        )
+
         def begun(*words: str) -> subprocess.Popen[bytes]:
-            running = subprocess.Popen(words, stdout=subprocess.PIPE, stderr=subprocess.DEVNULL,
-                                       env={**os.environ, "PYTHONPATH": str(TOP / "desk")})
+            running = subprocess.Popen(
+                words,
+                stdout=subprocess.PIPE,
+                stderr=subprocess.DEVNULL,
+                env={**os.environ, "PYTHONPATH": str(TOP / "desk")},
+            )
             assert running.stdout is not None
             running.stdout.readline()
             return running
 
-        old = self.write("old.cdg", "before")
+        old = self.path("old.cdg")
+        write_file(old, b"before", kinds.CDG)
         for number in (signal.SIGINT, signal.SIGTERM, signal.SIGHUP):
             for path in (old, self.path("new.cdg")):
                 with begun(sys.executable, "-c", code, str(path), "60") as running:
@@ -335,7 +439,7 @@ class KindTest(FolderTest):
         return kind.has(os.fspath(self.write(name, content)))
 
     def test_by_content(self) -> None:
-        self.assertTrue(self.is_kind(kinds.CUE, b"\xef\xbb\xbfREM x\r\n\r\nFILE \"a\" WAVE\r\n  TRACK 01 AUDIO\r\n"))
+        self.assertTrue(self.is_kind(kinds.CUE, b'\xef\xbb\xbfREM x\r\n\r\nFILE "a" WAVE\r\n  TRACK 01 AUDIO\r\n'))
         self.assertFalse(self.is_kind(kinds.CUE, b"REM x\nDear diary\n", "a.cue"))
         self.assertTrue(self.is_kind(kinds.SCRIPT, b"# a song\ncolour 0 0FFF\nshow 00:00:01 00:00:02\n"))
         self.assertFalse(self.is_kind(kinds.SCRIPT, b"#!/bin/sh\nrm -rf x\n", "a.script"))
@@ -348,8 +452,12 @@ class KindTest(FolderTest):
         self.assertFalse(self.is_kind(kinds.TEXT_PACKS, bytes(18)))
         for length in range(1, 18):
             self.assertFalse(self.is_kind(kinds.TEXT_PACKS, b"\x80" * length), length)
-        self.assertTrue(self.is_kind(kinds.PAGE, (TOP / "desk" / "ribjasper" / "look.html").read_bytes()))
-        self.assertFalse(self.is_kind(kinds.PAGE, b"<!DOCTYPE html>\n<html><head><title>My garden</title></head></html>"))
+        self.assertTrue(
+            self.is_kind(kinds.PAGE, (TOP / "desk" / "ribjasper" / "commands" / "publish" / "look.html").read_bytes())
+        )
+        self.assertFalse(
+            self.is_kind(kinds.PAGE, b"<!DOCTYPE html>\n<html><head><title>My garden</title></head></html>")
+        )
 
     def test_by_ending(self) -> None:
         self.assertTrue(self.is_kind(kinds.CDG, b"anything", "A.CDG"))

@@ -7,7 +7,7 @@ from fixtures import (
     FolderTest, Screen, Word, author_files as author, desk, needs_pillow, needs_plan, needs_program, screen,
 )  # fmt: skip
 
-from ribjasper.picture import whole
+from ribjasper.drawing.images import whole
 
 Pixel = Callable[[int, int], tuple[int, int, int]]
 SHEET = 'FILE "a.wav" WAVE\nTRACK 01 AUDIO\nINDEX 01 00:00:00\n'
@@ -23,6 +23,7 @@ def colour_of(number: int) -> tuple[int, int, int]:
 class PictureTest(FolderTest):
     def image(self, name: str, size: tuple[int, int], pixel: Pixel) -> Path:
         from PIL import Image
+
         image = Image.new("RGB", size)
         image.putdata([pixel(x, y) for y in range(size[1]) for x in range(size[0])])
         image.save(self.folder / name)
@@ -75,8 +76,9 @@ class PictureTest(FolderTest):
             return (x * 255 // 287, y * 255 // 191, (x * y) % 256)
 
         image = self.image("a.png", (288, 192), pixel)
-        needs = [int(desk("picture", image, "--simple", loss).told.partition("needs ")[2].split()[0])
-                 for loss in (0, 2, 40)]
+        needs = [
+            int(desk("picture", image, "--simple", loss).told.partition("needs ")[2].split()[0]) for loss in (0, 2, 40)
+        ]
         self.assertEqual(needs, sorted(needs, reverse=True))
         self.assertLess(needs[2], needs[0])
 
@@ -101,6 +103,7 @@ class PictureTest(FolderTest):
 
     def test_turned_by_what_a_camera_tells(self) -> None:
         from PIL import Image
+
         image = Image.new("RGB", (192, 288), (255, 0, 0))
         image.paste((0, 0, 255), (0, 0, 192, 144))
         exif = Image.Exif()
@@ -113,21 +116,27 @@ class PictureTest(FolderTest):
 
     def test_sixteen_bits_of_grey(self) -> None:
         from PIL import Image
+
         image = Image.new("I;16", (288, 192))
         image.putdata([257 * 17 * (x // 18) for _ in range(192) for x in range(288)])
         image.save(self.folder / "a.png")
         raster = whole(self.folder / "a.png")
-        self.assertEqual([raster.colours[raster.rows[50][18 * step + 9]] for step in range(16)],
-                         [(step, step, step) for step in range(16)])
+        self.assertEqual(
+            [raster.colours[raster.rows[50][18 * step + 9]] for step in range(16)],
+            [(step, step, step) for step in range(16)],
+        )
 
     def test_frames(self) -> None:
         from PIL import Image
+
         frames = [Image.new("P", (288, 192), number) for number in range(3)]
         for frame in frames:
             frame.putpalette([255, 0, 0, 0, 255, 0, 0, 0, 255] + 759 * [0])
         frames[0].save(self.folder / "a.gif", save_all=True, append_images=frames[1:])
         ran = desk("picture", self.folder / "a.gif")
-        self.assertEqual((ran.status, "has 3 frames; --frame N chooses one, from 1 to 3" in ran.told), (3, True), ran.told)
+        self.assertEqual(
+            (ran.status, "has 3 frames; --frame N chooses one, from 1 to 3" in ran.told), (3, True), ran.told
+        )
         ran = desk("picture", self.folder / "a.gif", "--frame", "4")
         self.assertEqual((ran.status, "has 3 frames, and no number 4" in ran.told), (3, True), ran.told)
         for number, colour in ((1, "0F00"), (2, "00F0"), (3, "000F")):
@@ -149,12 +158,19 @@ class PictureTest(FolderTest):
 
     def test_cropped(self) -> None:
         image = self.image("a.png", (576, 192), lambda x, y: (255, 0, 0) if x < 144 or x >= 432 else (0, 0, 255))
-        self.assertEqual({line.split()[2] for line in desk("picture", image, "--crop").out.splitlines()
-                          if line.startswith("colour")}, {"000F"})
+        self.assertEqual(
+            {
+                line.split()[2]
+                for line in desk("picture", image, "--crop").out.splitlines()
+                if line.startswith("colour")
+            },
+            {"000F"},
+        )
         self.assertIn("0F00", desk("picture", image).out)
 
     def test_too_many_pixels(self) -> None:
         from PIL import Image
+
         Image.new("1", (20_000, 20_000)).save(self.folder / "a.png")
         ran = desk("picture", self.folder / "a.png")
         self.assertEqual(ran.status, 3)

@@ -16,25 +16,34 @@ class PlanTest(FolderTest):
         self.assertEqual(ran.status, 0, ran.told)
         names, *rows = ran.cells()
         self.assertEqual(names, "picture line ready hold need free first late".split())
-        shows = [(number, line.split()[1:]) for number, line in enumerate(HELLO[1].read_text().splitlines(), 1)
-                 if line.startswith("show")]
-        self.assertEqual([row[:4] for row in rows],
-                         [[str(place), str(number), *times] for place, (number, times) in enumerate(shows)])
+        shows = [
+            (number, line.split()[1:])
+            for number, line in enumerate(HELLO[1].read_text().splitlines(), 1)
+            if line.startswith("show")
+        ]
+        self.assertEqual(
+            [row[:4] for row in rows],
+            [[str(place), str(number), *times] for place, (number, times) in enumerate(shows)],
+        )
         self.assertEqual({row[7] for row in rows}, {"no"})
         self.assertEqual([row[6] for row in rows[:2]], ["00:00:00", "00:03:73"])
         self.assertTrue(all(int(row[4]) <= int(row[5]) for row in rows))
 
     def test_all_late_pictures(self) -> None:
-        script = self.write("late.script", "fill 5\nshow 00:00:02 00:00:02\nrect 0 0 288 96 3\n"
-                                           "show 00:00:05 00:00:05\nfill 5\nshow 00:10:00 00:10:00\n")
+        script = self.write(
+            "late.script",
+            "fill 5\nshow 00:00:02 00:00:02\nrect 0 0 288 96 3\n"
+            "show 00:00:05 00:00:05\nfill 5\nshow 00:10:00 00:10:00\n",
+        )
         ran = desk("plan", self.write("a.cue", SHEET), script, "--length", "00:22:00")
         self.assertEqual(ran.status, 4)
         self.assertEqual([row[7] for row in ran.cells()[1:]], ["yes", "yes", "no"])
 
     @needs_program
     def test_first_late_is_that_of_author(self) -> None:
-        script = self.write("late.script", "show 00:00:20 00:00:20\nfill 5\nrect 6 12 60 60 7\n"
-                                           "show 00:00:22 00:00:22\n")
+        script = self.write(
+            "late.script", "show 00:00:20 00:00:20\nfill 5\nrect 6 12 60 60 7\n" "show 00:00:22 00:00:22\n"
+        )
         sheet = self.write("a.cue", SHEET)
         late = next(row for row in desk("plan", sheet, script, "--length", "00:22:00").cells() if row[-1] == "yes")
         words = "author", "--lead-in", "30", "--length", "00:22:00", "--", sheet, script
@@ -68,6 +77,7 @@ class PlanTest(FolderTest):
     @needs_pillow
     def test_chart(self) -> None:
         from PIL import Image
+
         chart = self.folder / "chart.png"
         self.assertEqual(desk("plan", *HELLO, "--length", "00:22:00", "--chart", chart).status, 0)
         with Image.open(chart) as image:

@@ -1,8 +1,10 @@
 """`q-fix`: what can stand in a block alone is filled in, what cannot is left; changed frames of copy protection; P and order."""
+import random
 import unittest
 from typing import Callable
 
 import known_dumps as known
+import test_known_dumps
 from fixtures import BLOCK, FolderTest, Ran, desk, needs_library
 from known_dumps import Disc, Track, program
 
@@ -49,7 +51,7 @@ class QFixTest(FolderTest):
     def test_frames_between_good_ones(self) -> None:
         stream = self.whole
         for block in (500, 501, 502, 700, 1360, 2000):
-            stream = spoiled(stream, block, 0x5A5A << 30)
+            stream = spoiled(stream, block, 0x5A5A << block % 61)
         stream = stream[: BLOCK * 900] + bytes(BLOCK * 10) + stream[BLOCK * 910 :]
         forms: list[Callable[[bytes], bytes]] = [bytes, known.as_planar, known.bytes_swapped, in_sectors]
         for form in forms:
@@ -60,7 +62,11 @@ class QFixTest(FolderTest):
             if form is bytes:
                 # Of blocks that were given up Q alone comes back.
                 for block in range(900, 910):
-                    wanted = wanted[: BLOCK * block] + known.with_q(bytes(BLOCK), self.disc.program_frame(150 + block)) + wanted[BLOCK * (block + 1) :]
+                    wanted = (
+                        wanted[: BLOCK * block]
+                        + known.with_q(bytes(BLOCK), self.disc.program_frame(150 + block))
+                        + wanted[BLOCK * (block + 1) :]
+                    )
                 self.assertEqual(copy, wanted)
             self.assertEqual(len(copy), len(wanted))
 
@@ -112,6 +118,118 @@ class QFixTest(FolderTest):
         first = min(changed)
         self.assertEqual(content[4:18], known.time(first) + b"\1" + changed[first][:10])
 
+    def spoil_others(self, stream: bytes, but: set[int], count: int, chance: random.Random) -> tuple[bytes, list[int]]:
+        """A stream in which so many other frames are damaged."""
+        parts = known.split(stream)
+        others = chance.sample([block for block in range(1, len(parts) - 1) if block not in but], count)
+        for block in others:
+            frame = known.damaged_frame(self.disc.frame(150 + block), chance)
+            own = parts[block].translate(bytes(byte & 0xBF for byte in range(256)))
+            parts[block] = known.with_q(own, frame)
+        return b"".join(parts), others
+
+    def test_copy_protection_among_other_bad_frames(self) -> None:
+        """Eight pairs stay, whatever else is bad, and the lists have them."""
+        self.disc = known.album(2, 2)
+        whole = program(self.disc, 150, self.disc.end, 0)
+        for seed, count in enumerate((0, 5, 50, 500) * 6):
+            chance = random.Random(seed)
+            firsts = [400 + 900 * pair + chance.randrange(600) for pair in range(8)]
+            kind, of_content = ((0x8001, False), (0x8001, True), (0x0080, False))[seed // 4 % 3]
+            frames = {}
+            for block in (first + step for first in firsts for step in (0, 5)):
+                frames[block] = known.libcrypt(
+                    self.disc.program_frame(150 + block), 100 * seed + block, kind, of_content
+                )
+            stream = whole
+            for block, frame in frames.items():
+                stream = with_frame(stream, block, frame)
+            spoiled_stream, _ = self.spoil_others(stream, set(frames), count, chance)
+            dump = self.write("dump", spoiled_stream)
+            out, sbi, lsd = (self.folder / f"out.{ending}" for ending in ("sub", "sbi", "lsd"))
+            ran = desk("q-fix", dump, "-o", out, "--sbi", sbi, "--lsd", lsd, "--force")
+            self.assertIn(ran.status, (0, 1), ran.told)
+            copy, rows = out.read_bytes(), ran.rows()
+            for block, frame in frames.items():
+                self.assertEqual(known.planar(copy[BLOCK * block : BLOCK * (block + 1)])[12:24], frame, (seed, block))
+            self.assertEqual(
+                {int(row["block"]) for row in rows if row["kind"] == "changed"}, set(frames), (seed, count)
+            )
+            times = [known.time(150 + block) for block in sorted(frames)]
+            own = [frames[block] for block in sorted(frames)]
+            self.assertEqual(sbi.read_bytes(), b"SBI\0" + b"".join(at + b"\1" + it[:10] for at, it in zip(times, own)))
+            self.assertEqual(lsd.read_bytes(), b"".join(at + it for at, it in zip(times, own)))
+            # All else is filled in or listed as left.
+            changed = [
+                block
+                for block in range(len(copy) // BLOCK)
+                if copy[BLOCK * block : BLOCK * (block + 1)] != spoiled_stream[BLOCK * block : BLOCK * (block + 1)]
+            ]
+            self.assertEqual({int(row["block"]) for row in rows if row["kind"] == "filled"}, set(changed))
+            self.assertGreaterEqual(len(changed), 0.9 * count - 2)
+            for block in changed:
+                frame = known.planar(copy[BLOCK * block : BLOCK * (block + 1)])[12:24]
+                self.assertIn(frame, (self.disc.frame(150 + block), self.disc.program_frame(150 + block)))
+
+    def test_frames_of_a_protected_disc_as_they_were_published(self) -> None:
+        """The frames of 03:08:05 and 03:08:10, of a disc of one data track."""
+        self.disc = Disc([Track(1, 150, 0, control=4)], 150 + 75 * 60 * 4)
+        stream = program(self.disc, 150, self.disc.end, 0)
+        published = {14105: "410101070605002308053839", 14110: "4101010306110003089 05da0".replace(" ", "")}
+        for time, frame in published.items():
+            stream = with_frame(stream, time - 150, bytes.fromhex(frame))
+        copy, rows = self.fixed(spoiled(stream, 9000))
+        self.assertEqual(copy, stream)
+        self.assertEqual([row["kind"] for row in rows], ["filled", "changed", "changed"])
+        self.assertEqual([row["time"] for row in rows[1:]], ["03:08:05", "03:08:10"])
+
+    def test_in_doubt_a_frame_stays(self) -> None:
+        """A changed frame whose partner was damaged, and a pair with one bit wrong in the times and right checks."""
+        right = [self.disc.program_frame(150 + block) for block in (400, 900, 905)]
+        one_bit = [it[:9] + bytes([it[9] ^ 4]) + it[10:] for it in right]
+        stream = with_frame(self.whole, 400, known.libcrypt(right[0], 1))
+        stream = spoiled(stream, 405, 0x5A5A << 30)
+        stream = with_frame(with_frame(stream, 900, one_bit[1]), 905, one_bit[2])
+        copy, rows = self.fixed(stream, status=1)
+        self.assertEqual(
+            [(row["kind"], row["block"]) for row in rows],
+            [("doubtful", "400"), ("filled", "405"), ("doubtful", "900"), ("doubtful", "905")],
+        )
+        self.assertEqual(copy[: BLOCK * 405], stream[: BLOCK * 405])
+        self.assertEqual(copy[BLOCK * 406 :], stream[BLOCK * 406 :])
+        self.assertNotIn("LibCrypt changes them", self.ran.told)
+
+    def test_no_disc_of_the_known_dumps_is_protected(self) -> None:
+        """Whatever is wrong with them, and with 500 more bad frames."""
+        for case, truth in test_known_dumps.FORMS.items():
+            ran = desk("q-fix", self.write("dump", truth.make()))
+            with self.subTest(case):
+                self.assertIn(ran.status, (0, 1, 3), ran.told)
+                self.assertNotIn("LibCrypt changes them", ran.told)
+                self.assertNotIn("\nchanged\t", ran.out)
+        self.disc = known.album(4, 3)
+        whole = program(self.disc, 150, self.disc.end, 0)
+        for seed in range(20):
+            content, _ = self.spoil_others(whole, set(), 500, random.Random(seed))
+            ran = desk("q-fix", self.write("dump", content))
+            self.assertNotIn("LibCrypt changes them", ran.told)
+            self.assertNotIn("\nchanged\t", ran.out)
+
+    def test_frames_with_a_regular_pattern(self) -> None:
+        """Frames that all differ in the same bits, and good frames that all tell the same wrong distance, stay and are listed."""
+        stream, blocks = self.whole, [300 + 131 * k for k in range(6)]
+        for block in blocks:
+            stream = spoiled(stream, block, 0b1011 << 40)
+        moved = [2500 + 77 * k for k in range(5)]
+        for block in moved:
+            stream = with_frame(stream, block, self.disc.program_frame(150 + block + 20))
+        stream = spoiled(stream, 2300)
+        copy, rows = self.fixed(stream, status=1)
+        self.assertEqual({int(row["block"]) for row in rows if row["kind"] == "regular"}, {*blocks, *moved})
+        self.assertEqual([row["block"] for row in rows if row["kind"] == "filled"], ["2300"])
+        self.assertEqual(copy, with_frame(stream, 2300, self.disc.frame(150 + 2300)))
+        self.assertNotIn("LibCrypt", self.ran.told)
+
     def test_no_copy_protection(self) -> None:
         stream = self.whole
         for block in range(400, 1200, 37):
@@ -136,7 +254,9 @@ class QFixTest(FolderTest):
             parts[block] = bytes(byte | 0x80 for byte in parts[block])
         for block in range(75 * 40 - 150, 75 * 40):
             parts[block] = bytes(byte | 0x80 for byte in parts[block])
-        right = [bytes(byte & 0x7F for byte in part) if block in (75 * 40,) else part for block, part in enumerate(parts)]
+        right = [
+            bytes(byte & 0x7F for byte in part) if block in (75 * 40,) else part for block, part in enumerate(parts)
+        ]
         _, rows = self.fixed(b"".join(right))
         self.assertEqual(rows, [])
         late = list(right)

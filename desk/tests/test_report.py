@@ -20,7 +20,7 @@ from fixtures import (
     BLOCK, DESK, LEAD_IN, FolderTest, Ran, Word, as_sectors, desk, hello, hello_packs, needs, needs_library,
     needs_pillow, program, with_bad_q, with_burst, with_zeros, without,
 )  # fmt: skip
-from ribjasper.examine import examine
+from ribjasper.dumps.examine import examine
 
 
 class Links(html.parser.HTMLParser):
@@ -88,7 +88,9 @@ class ReportTest(FolderTest):
         self.assertEqual(by_number[2]["damage"][0].split("-")[0], "402")
         self.assertEqual((by_number[2]["empty"], by_number[3]["jumps"], by_number[10]["rest"]), (21, 1, 85))
         self.assertEqual(by_number[0]["texts"][0], "title 00 Hello From the Subcode")
-        said = dict(line.split() for line in program("check", "--lead-in", LEAD_IN, stdin=hello()).decode().splitlines())
+        said = dict(
+            line.split() for line in program("check", "--lead-in", LEAD_IN, stdin=hello()).decode().splitlines()
+        )
         for name in ("clean", "one", "two", "bad", "q-bad"):
             self.assertEqual(by_number[0][name], int(said[name]))
         summed = subprocess.run(["sha256sum", self.dumps / "box-0/dump-000"], capture_output=True, text=True).stdout
@@ -150,7 +152,17 @@ class ReportTest(FolderTest):
         dumps(self.dumps, 50)
         whole = self.folder / "whole"
         self.report("--no-pictures", out=whole)
-        words: list[str | Path] = [sys.executable, DESK, "report", self.dumps, "-o", self.out, "--no-pictures", "--jobs", "2"]
+        words: list[str | Path] = [
+            sys.executable,
+            DESK,
+            "report",
+            self.dumps,
+            "-o",
+            self.out,
+            "--no-pictures",
+            "--jobs",
+            "2",
+        ]
         running = subprocess.Popen(words, stdout=subprocess.DEVNULL, stderr=subprocess.DEVNULL)
         journal = self.out / "journal.jsonl"
         until = time.monotonic() + 300
@@ -171,7 +183,17 @@ class ReportTest(FolderTest):
 
     def test_a_run_that_is_stopped_leaves_no_half_file(self) -> None:
         dumps(self.dumps, 30)
-        words: list[str | Path] = [sys.executable, DESK, "report", self.dumps, "-o", self.out, "--no-pictures", "--jobs", "2"]
+        words: list[str | Path] = [
+            sys.executable,
+            DESK,
+            "report",
+            self.dumps,
+            "-o",
+            self.out,
+            "--no-pictures",
+            "--jobs",
+            "2",
+        ]
         running = subprocess.Popen(words, stdout=subprocess.DEVNULL, stderr=subprocess.PIPE)
         journal = self.out / "journal.jsonl"
         while not (journal.exists() and journal.read_bytes().count(b"\n") >= 5) and running.poll() is None:
@@ -253,7 +275,10 @@ class ReportTest(FolderTest):
         self.assertEqual(ran.status, 0, ran.told)
         row = self.table()[0]
         said = desk("sums", self.dumps / row["file"]).rows()[0]
-        self.assertEqual([row[name] for name in ("crc32", "md5", "sha1", "sha256")], [said[name] for name in ("crc32", "md5", "sha1", "sha256")])
+        self.assertEqual(
+            [row[name] for name in ("crc32", "md5", "sha1", "sha256")],
+            [said[name] for name in ("crc32", "md5", "sha1", "sha256")],
+        )
 
     def test_a_folder_that_cannot_be_entered_is_a_row(self) -> None:
         self.write("dumps/good", hello())
@@ -302,15 +327,45 @@ class ReportTest(FolderTest):
                 os._exit(7)
             return before(path, name, *how)
 
-        with mock.patch("ribjasper.workers.examine", end):
+        with mock.patch("ribjasper.dumps.workers.examine", end):
             ran = self.report("--no-pictures", "--jobs", "3", status=3)
         self.assertIn("dump-005: could not be looked at", ran.told)
+        self.assertIn("a worker process ended unexpectedly; the files that were open are tried again", ran.told)
         rows = {row["file"][-3:]: row for row in self.table()}
         self.assertEqual(len(rows), 12)
         self.assertEqual([name for name, row in rows.items() if row["status"] == "unread"], ["005"])
         self.assertIn("could not be looked at", rows["005"]["why"])
         self.report("--no-pictures")
         self.assertEqual([row["status"] for row in self.table() if row["status"] == "unread"], [])
+
+    def test_a_worker_that_is_killed_once_is_named(self) -> None:
+        """The file is looked at again, and the report is whole."""
+        dumps(self.dumps, 8)
+        before, mark = examine, self.folder / "mark"
+
+        def end(path: str, name: str, *how: Any) -> Any:
+            if name.endswith("dump-003") and not mark.exists():
+                mark.touch()
+                os.kill(os.getpid(), signal.SIGKILL)
+            return before(path, name, *how)
+
+        with mock.patch("ribjasper.dumps.workers.examine", end):
+            ran = self.report("--no-pictures", "--jobs", "2")
+        self.assertIn("a worker process ended unexpectedly", ran.told)
+        self.assertIn("dump-003", ran.told)
+        self.assertEqual(len([row for row in self.table() if row["status"] != "unread"]), 8)
+
+    def test_a_folder_without_dumps(self) -> None:
+        kinds: list[list[str]] = [[], ["notes.txt"], ["notes.txt", "empty"]]
+        for names in kinds:
+            for name in names:
+                self.write(f"dumps/{name}", b"" if name == "empty" else b"Dear diary, " * 50)
+            ran = self.report("--no-pictures", status=3)
+            self.assertIn(f"{self.dumps}: has no dump", ran.told)
+            self.assertEqual([row["file"] for row in self.table()], sorted(names))
+        self.write("dumps/good", hello())
+        self.report("--no-pictures")
+        self.assertEqual({row["file"]: row["why"] for row in self.table()}["empty"], "is empty")
 
     def test_refusals(self) -> None:
         ran = desk("report", self.folder / "missing", "-o", self.out)
@@ -400,7 +455,9 @@ class ClusterTest(FolderTest):
         (self.folder / "dumps").mkdir()
         (self.folder / "dumps" / "a").write_bytes(hello())
         address = f"tcp://127.0.0.1:{free_port()}"
-        ran = self.by_itself("report", self.folder / "dumps", "-o", self.folder / "out", "--no-pictures", "--cluster", address)
+        ran = self.by_itself(
+            "report", self.folder / "dumps", "-o", self.folder / "out", "--no-pictures", "--cluster", address
+        )
         self.assertEqual(ran.status, 3)
         self.assertIn(f"{address}: no scheduler answers", ran.told)
 

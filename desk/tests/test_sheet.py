@@ -55,7 +55,7 @@ GAPS = b"""FILE "a.wav" WAVE
 def plain(sheet: bytes) -> list[bytes]:
     """The lines of a sheet without remarks, margins and the name of the file."""
     lines = [line.strip() for line in sheet.splitlines()]
-    return [re.sub(rb'^FILE .*', b"FILE", line) for line in lines if not line.startswith(b"REM")]
+    return [re.sub(rb"^FILE .*", b"FILE", line) for line in lines if not line.startswith(b"REM")]
 
 
 def in_order(sheet: bytes) -> list[list[bytes]]:
@@ -126,7 +126,7 @@ class SheetTest(FolderTest):
 
     def test_refusals(self) -> None:
         packs = hello_packs() + bytes(-len(hello_packs()) % BLOCK)
-        for content, cause in ((packs, "no Q channel"), (b"x" * 960, "is no dump")):
+        for content, cause in ((packs, "no Q channel"), (b"x" * 960, "no known form fits")):
             path = self.write("dump", content)
             ran = desk("sheet", path)
             self.assertEqual((ran.status, ran.out), (3, ""))

@@ -9,8 +9,8 @@ from fixtures import (
     screen,
 )  # fmt: skip
 
-from ribjasper.film import Stills
-from ribjasper.streams import open_stream
+from ribjasper.commands.publish.film import Stills
+from ribjasper.dumps.streams import open_stream
 
 LEAD_IN, RATE = 30, 25
 
@@ -40,6 +40,7 @@ class SongTest(FolderTest):
     def check_picture(self, raw: Path) -> None:
         """The picture in the documents is the first still after fifteen seconds, and stands on the image too."""
         from PIL import Image
+
         stream, stills = open_stream(raw), Stills(RATE, None)
         for picture in stream.frames(RATE, 20 * RATE):
             stills.see(picture)

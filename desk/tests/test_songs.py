@@ -1,12 +1,16 @@
 """Lyrics of all kinds: what is read of them, in whatever letters they are written, and that all faults are told at once."""
+import random
 import struct
+import sys
 import unittest
+from unittest import mock
 
 from fixtures import FolderTest, needs
+from languages import CORPORA
 
-from ribjasper.output import Refusal
-from ribjasper.song_files import read_song
-from ribjasper.songs import BOTH, FIRST, SECOND, Song
+from ribjasper.common.failures import Refusal
+from ribjasper.songs.song_files import read_song
+from ribjasper.songs.songs import BOTH, FIRST, FOURTH, SECOND, THIRD, Song
 
 ASS = """[Script Info]
 Title: Two lines
@@ -25,6 +29,15 @@ Format: Layer, Start, End, Style, Name, MarginL, MarginR, MarginV, Effect, Text
 Dialogue: 0,0:00:01.00,0:00:02.00,Anna,,0,0,0,,{\\k50}I {\\k50}sing
 Dialogue: 0,0:00:03.00,0:00:04.00,Ben,,0,0,0,,{\\k50}I {\\k50}too
 Dialogue: 0,0:00:05.00,0:00:06.00,Both,,0,0,0,,{\\k50}We {\\k50}all
+"""
+TEMPLATER = """[Events]
+Format: Layer, Start, End, Style, Name, MarginL, MarginR, MarginV, Effect, Text
+Comment: 0,0:00:00.00,0:00:00.00,Default,,0,0,0,template syl,{\\pos($x,$y)\\k99}
+Comment: 0,0:00:00.00,0:00:00.00,Default,,0,0,0,code once,k = 1
+Comment: 0,0:00:05.00,0:00:08.00,Default,,0,0,0,karaoke,{\\k50}Sa{\\k30}ku|<ku{\\k40}ra {\\k60\\-high}sky
+Comment: 0,0:00:01.00,0:00:02.00,Default,,0,0,0,,{\\k50}an old line
+Dialogue: 0,0:00:04.80,0:00:05.50,Default,,0,0,0,fx,{\\pos(1,2)}Sa
+Dialogue: 0,0:00:05.30,0:00:05.80,Default,,0,0,0,fx,{\\pos(1,2)}ku
 """
 ULTRASTAR = """#TITLE:Stars
 #ARTIST:Somebody
@@ -74,11 +87,15 @@ class SongTest(FolderTest):
 
 class LrcTest(SongTest):
     def test_lines_with_times(self) -> None:
-        song = self.song("[ti:A song]\n[ar: Somebody ]\n[00:05.50]First line\n[00:10]Second\n[00:12.5]\n"
-                         "[01:00.00]Third\n")
+        song = self.song(
+            "[ti:A song]\n[ar: Somebody ]\n[00:05.50]First line\n[00:10]Second\n[00:12.5]\n" "[01:00.00]Third\n"
+        )
         self.assertEqual((song.title, song.performer), ("A song", "Somebody"))
         self.assertEqual(words(song), [[("First line", 5.5)], [("Second", 10)], [("Third", 60)]])
-        self.assertEqual([line.end for line in song.lines], [10, 12.5, 70])
+        # A line whose end no time tells is swept over with at least twelve letters a second, and stays until the next one.
+        self.assertEqual([line.end for line in song.lines], [6.5, 12.5, 61])
+        self.assertEqual([line.stays for line in song.lines], [10, 12.5, 61])
+        self.assertEqual([line.is_open for line in song.lines], [True, False, True])
         self.assertEqual([line.is_whole for line in song.lines], [True] * 3)
 
     def test_words_with_times(self) -> None:
@@ -102,22 +119,74 @@ class LrcTest(SongTest):
         self.assertIn("line 1 has no time", song.told[0])
 
     def test_marks_of_voices_are_not_shown(self) -> None:
-        song = self.song("[00:01.00]Before\n[00:05.00]F: She\n[00:06.00]still she\n[00:07.00]M:He\n"
-                         "[00:08.00]<00:08.00>D: <00:08.50>We\n[00:09.00]A: no mark\n")
+        song = self.song(
+            "[00:01.00]Before\n[00:05.00]F: She\n[00:06.00]still she\n[00:07.00]M:He\n"
+            "[00:08.00]<00:08.00>D: <00:08.50>We\n[00:09.00]A: no mark\n"
+        )
         self.assertEqual([line.text for line in song.lines], ["Before", "She", "still she", "He", "We", "A: no mark"])
         self.assertEqual(voices(song), [FIRST, SECOND, SECOND, FIRST, BOTH, BOTH])
 
     def test_singers_by_name(self) -> None:
-        song = self.song("[singer:Anna]\n[00:01.00]a\n[singer:Ben]\n[00:02.00]b\n[singer:Anna & Ben]\n[00:03.00]c\n"
-                         "[singer:Anna]\n[00:04.00]d\n[singer:Carl]\n[00:05.00]e\n")
-        self.assertEqual(song.singers[:2], ["Anna", "Ben"])
-        self.assertEqual(voices(song), [FIRST, SECOND, BOTH, FIRST, SECOND])
-        self.assertIn("line 9 has a singer more, Carl", song.told[0])
+        song = self.song(
+            "[singer:Anna]\n[00:01.00]a\n[singer:Ben]\n[00:02.00]b\n[singer:Anna & Ben]\n[00:03.00]c\n"
+            "[singer:Anna]\n[00:04.00]d\n[singer:Ann]\n[00:05.00]e\n[singer:Dora]\n[00:06.00]f\n[singer:Eva]\n"
+            "[00:07.00]g\n[singer:Annabell]\n[00:08.00]h\n"
+        )
+        self.assertEqual(song.singers, ["Anna", "Ben", "Ann", "Dora", "Eva", "Annabell"])
+        self.assertEqual(voices(song), [FIRST, SECOND, BOTH, FIRST, THIRD, FOURTH, FOURTH, FOURTH])
+        self.assertEqual(song.voices, 4)
+        self.assertEqual(len(song.told), 1)
+        self.assertIn("line 13 has a fifth singer, Eva", song.told[0])
+
+    def test_four_voices_by_their_marks(self) -> None:
+        song = self.song("[00:01.00]v1: a\n[00:02.00]v2:b\n[00:03.00]v3: c\n[00:04.00]v4: d\n[00:05.00]D: e\n")
+        self.assertEqual(voices(song), [FIRST, SECOND, THIRD, FOURTH, BOTH])
+        self.assertEqual([line.text for line in song.lines], list("abcde"))
+
+    def test_times_of_words_in_square_brackets(self) -> None:
+        song = self.song(
+            "[00:06.00]Down[00:06.50] by [00:07.00]the[00:07.80]\n[00:09.00][00:29.00]Riv[00:09.40]er [00:10.00]side\n"
+        )
+        self.assertEqual(
+            words(song),
+            [
+                [("Down", 6), (" by ", 6.5), ("the", 7)],
+                [("Riv", 9), ("er ", 9.4), ("side", 10)],
+                [("Riv", 29), ("er ", 29.4), ("side", 30)],
+            ],
+        )
+        self.assertEqual(song.lines[0].end, 7.8)
+        for line in song.lines:
+            self.assertNotIn("[", line.text)
+            self.assertFalse(line.is_whole)
+
+    def test_a_line_is_swept_over_as_fast_as_its_letters(self) -> None:
+        song = self.song(
+            "[00:05.00]Twenty four letters, a line\n[00:30.00]La\n[00:31.00]\u65e5\u672c\u8a9e\u306e\u6b4c\n"
+        )
+        first, second, third = song.lines
+        letters = len("Twentyfourletters,aline")
+        self.assertAlmostEqual(first.end - first.start, letters / 12)
+        self.assertAlmostEqual(first.stays, first.end)
+        self.assertEqual((second.end, second.stays), (31, 31))
+        # A sign for a whole syllable counts as three letters.
+        self.assertAlmostEqual(third.end - third.start, 5 * 3 / 12)
+
+    def test_pictures_between_verses(self) -> None:
+        song = self.song(
+            "[00:05.00]La\n[image: a b.png]\n[00:30.00]Lo\n[00:45.00][colour:#08F]\n[00:50.00]Lu\n[re:x]\n"
+        )
+        self.assertEqual(
+            [(one.number, one.what, one.start, one.after) for one in song.inserts],
+            [(2, "a b.png", None, 5.0), (4, "#08F", 45.0, 30.0)],
+        )
+        self.assertEqual([line.text for line in song.lines], ["La", "Lo", "Lu"])
+        self.assertEqual(song.tags, {"re": "x"})
 
     def test_times_before_the_audio(self) -> None:
         song = self.song("[offset:+2000]\n[00:00.00]Heading\n[00:01.00]Gone\n[00:01.50]Half\n[00:05.00]La\n")
         self.assertEqual(words(song), [[("Half", 0)], [("La", 3)]])
-        self.assertEqual([line.end for line in song.lines][:1], [3])
+        self.assertEqual([line.stays for line in song.lines][:1], [3])
         told = "\n".join(song.told)
         self.assertIn("line 2 at [00:00.00] would be sung before the audio begins, and is left out: Heading", told)
         self.assertIn("line 4 at [00:01.50] would begin 0.50 seconds before the audio", told)
@@ -140,13 +209,54 @@ class LrcTest(SongTest):
 class LettersTest(SongTest):
     def test_other_letters(self) -> None:
         text = "[00:05.00]\u00dcber \u2019n See\n"
-        for encoding, told in (("utf-8", ""), ("utf-8-sig", ""), ("utf-16", "UTF-16"), ("utf-16-le", "UTF-16"),
-                               ("utf-16-be", "UTF-16"), ("cp1252", "Windows-1252")):
+        for encoding, told in (
+            ("utf-8", ""),
+            ("utf-8-sig", ""),
+            ("utf-16", "UTF-16"),
+            ("utf-16-le", "UTF-16"),
+            ("utf-16-be", "UTF-16"),
+            ("cp1252", "Windows-1252, a guess"),
+        ):
             song = self.song(text.encode(encoding))
             self.assertEqual(song.lines[0].text, "\u00dcber \u2019n See", encoding)
             self.assertIn(told, "".join(song.told))
             self.assertEqual(bool(song.told), bool(told))
-        self.assertIn("byte 10 is neither UTF-8 nor Windows-1252", self.refused(b"[00:05.00]\x81ber\n"))
+        told = self.refused(b"[00:01.00]a\n[00:05.00]\x81ber\n")
+        self.assertIn("is not UTF-8 (line 2, byte 22), and its encoding cannot be guessed; --encoding names it", told)
+
+    def test_an_encoding_that_is_asked_for(self) -> None:
+        for name in ("cp1251", "koi8-r", "utf-16", "shift_jis", "mac-cyrillic"):
+            path = self.write("a.lrc", "[00:05.00]\u0420\u0435\u043a\u0430\n".encode(name))
+            song = read_song(path, name)
+            self.assertEqual((song.lines[0].text, song.told), ("\u0420\u0435\u043a\u0430", []))
+        with self.assertRaises(Refusal) as refused:
+            read_song(self.write("a.lrc", b"[00:01.00]a\n[00:05.00]\xff\n"), "shift_jis")
+        self.assertIn("is not encoded as shift_jis: line 2, byte 22", str(refused.exception))
+
+    @needs("chardet", "python3-chardet")
+    def test_guesses_of_encodings(self) -> None:
+        """Songs of random lines in many languages, each as old programs wrote them."""
+        dice, seen = random.Random(3), 0
+        for language, (encodings, lines) in CORPORA.items():
+            for encoding in encodings:
+                for _ in range(12):
+                    some = dice.sample(lines, dice.randint(3, len(lines)))
+                    text = "".join(f"[00:{5 + 3 * number:02}.00]{line}\n" for number, line in enumerate(some))
+                    content = text.encode(encoding)
+                    if not content.isascii():
+                        song, seen = self.song(content), seen + 1
+                        self.assertEqual([line.text for line in song.lines], some, (language, encoding))
+                        self.assertIn("a guess; --encoding names another encoding", song.told[0])
+        self.assertGreater(seen, 200)
+
+    def test_without_a_detector_letters_of_no_known_alphabet_are_refused(self) -> None:
+        with mock.patch.dict(sys.modules, {"chardet": None, "charset_normalizer": None}):
+            text = "[00:05.00]\u0412\u043e \u043f\u043e\u043b\u0435 \u0431\u0435\u0440\u0451\u0437\u0430\n"
+            self.assertIn("cannot be guessed; --encoding names it", self.refused(text.encode("cp1251")))
+            self.assertEqual(self.song("[00:05.00]\u00dcber\n".encode("cp1252")).lines[0].text, "\u00dcber")
+            self.assertEqual(
+                self.song("[00:05.00]\u017b\u00f3\u0142w\n".encode("cp1250")).lines[0].text, "\u017b\u00f3\u0142w"
+            )
 
     def test_ends_of_lines(self) -> None:
         for end in ("\r\n", "\r"):
@@ -157,8 +267,14 @@ class AssTest(SongTest):
     def test_events(self) -> None:
         song = self.song(ASS, "a.ass")
         self.assertEqual(song.title, "Two lines")
-        self.assertEqual(words(song), [[("One, ", 5), ("two", 5.5), ("fold, ", 6.2), ("three", 6.7)],
-                                       [("plain line", 10.5)], [("and, with commas, another", 10.5)]])
+        self.assertEqual(
+            words(song),
+            [
+                [("One, ", 5), ("two", 5.5), ("fold, ", 6.2), ("three", 6.7)],
+                [("plain line", 10.5)],
+                [("and, with commas, another", 10.5)],
+            ],
+        )
         self.assertEqual(voices(song), [FIRST] * 3)
         self.assertEqual([line.is_whole for line in song.lines], [False, True, True])
 
@@ -173,19 +289,41 @@ class AssTest(SongTest):
         self.assertIn("line 9: 5 seconds is no time", told)
         self.assertIn("line 11: 0:x is no time", told)
 
+    def test_what_the_templater_reads_and_makes(self) -> None:
+        song = self.song(TEMPLATER, "a.ass")
+        self.assertEqual(words(song), [[("Sa", 5), ("ku", 5.5), ("ra ", 5.8), ("sky", 6.2)]])
+        # Without the comments only what the templater made is left out.
+        plain = "".join(f"{line}\n" for line in TEMPLATER.splitlines() if "Comment" not in line)
+        song = self.song(plain + "Dialogue: 0,0:00:09.00,0:00:10.00,Default,,0,0,0,,Plain\n", "a.ass")
+        self.assertEqual(words(song), [[("Plain", 9)]])
+
 
 class UltraStarTest(SongTest):
+    def test_changes_of_tempo(self) -> None:
+        song = self.song(
+            "#BPM:150\n#GAP:1000\n: 0 8 60 a\nB 16 300\n: 12 8 60 b\n- 24\nB 32 75\n: 36 4 60 c\nE\n", "a.txt"
+        )
+        # A tenth of a second a beat, then half of that, then two tenths.
+        found = [[(round(one.start, 3), round(one.end, 3)) for one in line.syllables] for line in song.lines]
+        self.assertEqual(found, [[(1.0, 1.8), (2.2, 2.8)], [(4.2, 5.0)]])
+        self.assertEqual(song.told, [])
+        self.assertIn("line 2: the tempo 0 is no number", self.refused("#BPM:150\nB 16 0\n: 0 4 60 a\nE\n", "a.txt"))
+
     def test_notes(self) -> None:
         song = self.song(ULTRASTAR, "a.txt")
         self.assertEqual((song.title, song.performer), ("Stars", "Somebody"))
         # 150 beats a minute, four of the file for each: a tenth of a second.
-        self.assertEqual(words(song), [[("Twin", 2), ("kle", 2.4), (" twin", 2.8), ("kle", 3.2)],
-                                       [("lit", 4), ("tle", 4.4), (" star", 6)]])
+        self.assertEqual(
+            words(song),
+            [[("Twin", 2), ("kle", 2.4), (" twin", 2.8), ("kle", 3.2)], [("lit", 4), ("tle", 4.4), (" star", 6)]],
+        )
         self.assertEqual([round(line.end, 2) for line in song.lines], [3.6, 6.4])
         self.assertEqual(round(song.lines[1].syllables[1].end, 2), 6)
 
     def test_relative_beats(self) -> None:
-        song = self.song("#BPM:150,0\n#GAP:0\n#RELATIVE:YES\n: 0 4 1 a\n- 10 12\n: 0 4 1 b\n- 8 8\n: 2 4 1 c\n", "a.txt")
+        song = self.song(
+            "#BPM:150,0\n#GAP:0\n#RELATIVE:YES\n: 0 4 1 a\n- 10 12\n: 0 4 1 b\n- 8 8\n: 2 4 1 c\n", "a.txt"
+        )
         self.assertEqual([round(line.start, 2) for line in song.lines], [0, 1.2, 2.2])
 
     def test_two_players(self) -> None:
@@ -200,10 +338,53 @@ class UltraStarTest(SongTest):
         self.assertIn("line 2: #GAP is soon", told)
 
 
+WEB_VTT = """WEBVTT - A song
+
+STYLE
+::cue { color: red }
+
+NOTE
+00:00:01.000 --> 00:00:02.000
+not sung
+
+first
+00:05.500 --> 00:09.500 align:start
+<v Anna><i>Four</i> &amp; more</v>
+<v.loud Ben>fold
+
+00:01:00.000 --> 00:01:02.000
+One <00:01:00.500><c>two</c><00:01:01.250>fold
+<00:01:01.500>three
+"""
+
+
+class VttTest(SongTest):
+    def test_cues(self) -> None:
+        song = self.song(WEB_VTT, "a.vtt")
+        self.assertEqual(
+            words(song),
+            [
+                [("Four & more", 5.5)],
+                [("fold", 8.43)],
+                [("One ", 60), ("two", 60.5), ("fold", 61.25)],
+                [("three", 61.5)],
+            ],
+        )
+        self.assertEqual([round(line.end, 2) for line in song.lines], [8.43, 9.5, 61.5, 62])
+        self.assertEqual((song.singers, voices(song)), (["Anna", "Ben"], [FIRST, SECOND, FIRST, FIRST]))
+        self.assertEqual([line.is_whole for line in song.lines], [True, True, False, False])
+
+    def test_faults(self) -> None:
+        told = self.refused("WEBVTT\n\n00:05.5 -> 00:06\na\n\n0:5 --> 0:7\nb\n", "a.vtt")
+        self.assertIn("line 6: 0:5 --> 0:7 is no time", told)
+
+
 class SrtTest(SongTest):
     def test_stretches(self) -> None:
-        song = self.song("1\n00:00:05,500 --> 00:00:09,500\n<i>Four</i>\n{\\an8}fold\n\n2\n00:01:00,000 --> 00:01:02,000\n"
-                         "Last\n", "a.srt")
+        song = self.song(
+            "1\n00:00:05,500 --> 00:00:09,500\n<i>Four</i>\n{\\an8}fold\n\n2\n00:01:00,000 --> 00:01:02,000\n" "Last\n",
+            "a.srt",
+        )
         self.assertEqual(words(song), [[("Four", 5.5)], [("fold", 7.5)], [("Last", 60)]])
         self.assertEqual([line.end for line in song.lines], [7.5, 9.5, 62])
         self.assertEqual([line.number for line in song.lines], [3, 4, 8])
@@ -224,7 +405,9 @@ def variable(number: int) -> bytes:
 
 def midi(*events: tuple[int, int, bytes], division: int = 480) -> bytes:
     """A MIDI file of one track: meta events with the ticks that they come after the one before."""
-    track = b"".join(variable(ticks) + b"\xff" + bytes([kind]) + variable(len(text)) + text for ticks, kind, text in events)
+    track = b"".join(
+        variable(ticks) + b"\xff" + bytes([kind]) + variable(len(text)) + text for ticks, kind, text in events
+    )
     track += b"\0\xff\x2f\0"
     return b"MThd" + struct.pack(">IHHH", 6, 0, 1, division) + b"MTrk" + struct.pack(">I", len(track)) + track
 
@@ -235,8 +418,18 @@ class KarTest(SongTest):
     SLOW, FAST = (500_000).to_bytes(3, "big"), (250_000).to_bytes(3, "big")
 
     def test_texts(self) -> None:
-        song = self.song(midi((0, 0x51, self.SLOW), (0, 1, b"@TA title"), (0, 1, b"@TSomebody"), (960, 1, b"\\Gr\xfcn"),
-                              (480, 1, b" ist"), (0, 0x51, self.FAST), (480, 1, b"/weit")), "a.kar")
+        song = self.song(
+            midi(
+                (0, 0x51, self.SLOW),
+                (0, 1, b"@TA title"),
+                (0, 1, b"@TSomebody"),
+                (960, 1, b"\\Gr\xfcn"),
+                (480, 1, b" ist"),
+                (0, 0x51, self.FAST),
+                (480, 1, b"/weit"),
+            ),
+            "a.kar",
+        )
         self.assertEqual((song.title, song.performer), ("A title", "Somebody"))
         self.assertEqual(words(song), [[("Gr\u00fcn", 1), (" ist", 1.5)], [("weit", 1.75)]])
         self.assertEqual(song.lines[0].end, 1.75)
@@ -248,7 +441,14 @@ class KarTest(SongTest):
     def test_refusals(self) -> None:
         whole = midi((0, 0x51, self.SLOW), (480, 5, b"One"))
         for size in (6, 20, len(whole) - 5):
-            self.assertIn("is no MIDI file that can be read", self.refused(whole[:size], "a.kar"))
+            self.assertRegex(self.refused(whole[:size], "a.kar"), r"is no MIDI file that can be read: \w+")
+
+    def test_an_encoding(self) -> None:
+        text = "\\\u0412\u043e \u043f\u043e\u043b\u0435".encode(
+            "cp1251"
+        ), "/\u0431\u0435\u0440\u0451\u0437\u0430".encode("cp1251")
+        path = self.write("a.kar", midi(*((480, 1, one) for one in text)))
+        self.assertEqual(read_song(path, "cp1251").lines[1].text, "\u0431\u0435\u0440\u0451\u0437\u0430")
 
 
 if __name__ == "__main__":

@@ -9,7 +9,11 @@ from fixtures import FolderTest, desk
 class SumsTest(FolderTest):
     def setUp(self) -> None:
         super().setUp()
-        self.files = [self.write("one.bin", b"123456789"), self.write("one.sub", bytes(100_000)), self.write("two & <2>.bin", b"")]
+        self.files = [
+            self.write("one.bin", b"123456789"),
+            self.write("one.sub", bytes(100_000)),
+            self.write("two & <2>.bin", b""),
+        ]
 
     def test_sums(self) -> None:
         ran = desk("sums", *self.files)
@@ -44,11 +48,16 @@ class SumsTest(FolderTest):
         new = self.write("new", b"x")
         ran = desk("sums", self.files[0], self.folder / "renamed.sub", new, "--check", dat)
         self.assertEqual(ran.status, 1)
-        self.assertEqual([row["found"] for row in ran.rows()], ["differs: crc32, md5, sha1, sha256", "same as one.sub", "not listed"])
+        self.assertEqual(
+            [row["found"] for row in ran.rows()], ["differs: crc32, md5, sha1, sha256", "same as one.sub", "not listed"]
+        )
         self.assertIn("two & <2>.bin is missing", ran.told)
 
     def test_a_list_with_fewer_sums(self) -> None:
-        dat = self.write("a.dat", '<?xml version="1.0"?><datafile><game name="g"><rom name="one.bin" size="9" crc="CBF43926"/></game></datafile>')
+        dat = self.write(
+            "a.dat",
+            '<?xml version="1.0"?><datafile><game name="g"><rom name="one.bin" size="9" crc="CBF43926"/></game></datafile>',
+        )
         ran = desk("sums", self.files[0], "--check", dat)
         self.assertEqual((ran.status, ran.rows()[0]["found"]), (0, "same"))
 

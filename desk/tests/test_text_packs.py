@@ -48,7 +48,10 @@ class TextPacksTest(FolderTest):
             [("title", "00", "Café"), ("title", "01", "One"), ("title", "02", "One"),
              ("title", "03", "A title that needs more than one pack of text")],
         )  # fmt: skip
-        self.assertEqual([row for row in english if row[0] == "performer"], [("performer", "00", "The Band"), ("performer", "02", "Guest")])
+        self.assertEqual(
+            [row for row in english if row[0] == "performer"],
+            [("performer", "00", "The Band"), ("performer", "02", "Guest")],
+        )
         self.assertIn(("disc-id", "00", "XY 123-4"), english)
         self.assertIn(("genre", "00", "Jazz: Smooth"), english)
         self.assertIn(("closed", "00", "for the makers"), english)

@@ -54,6 +54,14 @@ class TextsTest(FolderTest):
         self.assertEqual(ran.status, 0)
         self.assertIn("there is no text pack", ran.told)
 
+    def test_a_file_of_packs_names_the_option(self) -> None:
+        packs = self.packs(hello())
+        for content in (packs, (len(packs) + 2).to_bytes(2, "big") + bytes(2) + packs + b"\0"):
+            path = self.write("disc.cdt", content)
+            ran = desk("texts", path)
+            self.assertEqual(ran.status, 3)
+            self.assertEqual(ran.told, f"ribjasper-desk: {path}: is a file of text packs, which texts --back reads\n")
+
     def test_refusals(self) -> None:
         for content in (b"", bytes(17), bytes(19) + b"x", bytes(18 * 3 + 7)):
             path = self.write("given", content)

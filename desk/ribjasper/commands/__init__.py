@@ -1,0 +1,1 @@
+"""The commands of the desk, a module each."""

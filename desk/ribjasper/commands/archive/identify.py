@@ -1,0 +1,64 @@
+"""What a dump is: its form, its lead-in, and what it carries."""
+import argparse
+from typing import Any
+
+from ...common import library
+from ...common.failures import REFUSED, Refusal, shown
+from ...common.output import Table, add_json, tell
+from ...dumps.identity import identity, yes
+from ...dumps.loading import Asked, Unknown, add_options, asked, load_found
+from ...dumps.q_disc import sessions_in
+from ...dumps.sessions import notes as session_notes
+
+NAMES = ("file", "form", "lead-in", "graphics", "texts", "q-good", "notes")
+
+
+def add_parser(commands: Any) -> None:
+    parser = commands.add_parser(
+        "identify",
+        help="print the form of dumps, their lead-in, and what they carry",
+        description="Writes a line for each dump: its form, the blocks of its lead-in, whether it carries graphics and "
+        "texts, the share of good Q frames, and what else there is to say: a torn end, a header, blocks that were not "
+        "read, files beside it, several sessions. A file of no known form has a line on standard error.",
+    )
+    parser.add_argument("files", nargs="+", metavar="FILE")
+    parser.add_argument(
+        "-v",
+        "--verbose",
+        action="store_true",
+        help="also print what speaks against each form, for files of no known form",
+    )
+    add_options(parser)
+    add_json(parser)
+    parser.set_defaults(run=run)
+
+
+def cells(path: str, words: Asked, is_detailed: bool) -> tuple[object, ...]:
+    """The line of a dump, or a refusal."""
+    loaded = load_found(path, words)
+    if isinstance(loaded, Unknown):
+        tell(f"{shown(path)}: {loaded.cause}")
+        for reason in loaded.against if is_detailed else ():
+            tell(f"{shown(path)}: {reason}")
+        return (path, "none", *"-----")
+    found = identity(loaded)
+    texts = any(line.split(" ", 1)[0] != "packs" for line in found.texts.splitlines())
+    notes = "; ".join([*loaded.notes(), *session_notes(loaded, sessions_in(loaded))]) or "-"
+    return (path, loaded.form.name, loaded.survey.lead_in, found.graphics, yes(texts), found.q_good, notes)
+
+
+def run(arguments: argparse.Namespace) -> int:
+    status = 0
+    library.loaded()
+    table = Table(NAMES, arguments.json)
+    for path in arguments.files:
+        try:
+            row = cells(path, asked(arguments), arguments.verbose)
+        except Refusal as refusal:
+            tell(str(refusal))
+            status = REFUSED
+            continue
+        table.row(row)
+        if row[1] == "none":
+            status = REFUSED
+    return status

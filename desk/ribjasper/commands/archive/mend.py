@@ -1,0 +1,295 @@
+"""The packs or the stream of any number of readings of a disc, the best of each word."""
+import argparse
+import os
+from typing import Any, Callable, Iterator, NamedTuple, Sequence
+
+from ...common import kinds, library
+from ...common.failures import FOUND, Nothing, Refusal, shown
+from ...common.library import BLOCK, PACK
+from ...common.output import Outputs, Table, add_json, tell
+from ...common.times import spelled
+from ...dumps import mending
+from ...dumps.forms import to_planar
+from ...dumps.loading import add_options, asked
+from ...dumps.readings import Laid, Reading, read, side_by_side
+from ...dumps.rescue_maps import areas, domain, unread_units
+from ...dumps.survey import Clock, Run, has_graphics_bits
+from ...dumps.text_packs import packs_of
+
+NAMES = ("reading", "words", "of-reading", "left-out", "lost")
+DIFFERENCES = ("first", "last", "from", "to")
+# What an output holds, by its ending; one without an ending, as standard output or a pipe, holds packs.
+PACKS, STREAMS, PLANAR = ".cdg", (".raw", ".subcode"), ".sub"
+ENDINGS = (PACKS, *STREAMS, PLANAR)
+# Readings of one disc agree in so much of what both give.
+LEAST_SHARE = 0.5
+# So many packs that both give are too few to say so, and blocks whose tracks are compared.
+TOO_FEW, COMPARED = 12, 200
+PLANAR_AT_ONCE = 4096 * BLOCK
+
+
+def add_parser(commands: Any) -> None:
+    parser = commands.add_parser(
+        "mend",
+        help="make one .cdg file or stream of two readings or more",
+        description="Puts readings of one disc side by side by their Q times and writes, word by word, the codeword of the "
+        "reading that is the least wrong, or that on which readings agree. The output is a .cdg file; or a mended stream: "
+        "raw blocks (.raw, .subcode) or planar ones (.sub), with P and Q of a reading whose frame is good. "
+        "--compare says whether two dumps are of one disc, how they are offset, and the blocks that differ. Exit 1 if "
+        "a word has no codeword, if an error-free one of a reading did not come out, or if compared dumps differ; 9 if no "
+        "reading has graphics.",
+    )
+    parser.add_argument("files", nargs="+", metavar="READING")
+    parser.add_argument("-o", "--output", metavar="OUT.cdg", help="the packs, or .raw, .subcode, .sub for the stream")
+    parser.add_argument(
+        "--unread",
+        action="append",
+        default=[],
+        metavar="MAP",
+        help="a map of ddrescue, named as a reading with .map behind or in place of its ending: what it lacks was not read",
+    )
+    parser.add_argument("--map", metavar="FILE", help="a table of what no reading gives, by positions in the output")
+    parser.add_argument(
+        "--ddrescue-map", metavar="FILE", help="the same as a map of the output's bytes, for ddrescue's option -m"
+    )
+    parser.add_argument("--compare", action="store_true", help="compare two dumps, and write nothing but a table")
+    add_options(parser)
+    add_json(parser)
+    parser.add_argument(
+        "--force", action="store_true", help="mend readings that seem to be of different discs; replace any file"
+    )
+    parser.set_defaults(run=run, error=parser.error)
+
+
+def ending_of(path: str) -> str:
+    return os.path.splitext(path)[1].lower()
+
+
+def is_stream(path: str) -> bool:
+    return ending_of(path) in (*STREAMS, PLANAR)
+
+
+def kind_of(path: str) -> kinds.Kind:
+    return kinds.STREAM if is_stream(path) else kinds.CDG
+
+
+def at_time(laid: Laid, block: int) -> str:
+    return spelled(laid.time + block)
+
+
+def odd_ones(laid: Laid) -> Iterator[str]:
+    """Pairs of readings that are not of one disc, and why."""
+    for (a, b), own in mending.shared(laid).items():
+        # Parts that claim a place twice are of the same file.
+        if laid.readings[a].is_beside or laid.readings[b].is_beside:
+            continue
+        if own.all >= TOO_FEW and own.same < LEAST_SHARE * own.all:
+            yield f"readings {a + 1} and {b + 1} seem not to be of one disc: of {own.all} packs that both give {own.same} are the same"
+            continue
+        blocks, agree = tracks_that_agree(laid, a, b)
+        if blocks and agree < LEAST_SHARE * blocks:
+            yield f"readings {a + 1} and {b + 1} seem not to be of one disc: at {agree} of {blocks} times they are in the same track"
+
+
+def tracks_that_agree(laid: Laid, a: int, b: int) -> tuple[int, int]:
+    """At how many times, of so many that are spread over the disc, two readings are in the same track."""
+    clocks = [Clock(laid.readings[number].loaded.survey) for number in (a, b)]
+    if not all(clock.stretches for clock in clocks):
+        return 0, 0
+    found = agree = 0
+    for place in range(COMPARED):
+        time = laid.time + laid.blocks * place // COMPARED
+        tracks = [track_at(laid, number, clock, time) for number, clock in zip((a, b), clocks)]
+        if None not in tracks:
+            found += 1
+            agree += tracks[0] == tracks[1]
+    return found, agree
+
+
+def track_at(laid: Laid, number: int, clock: Clock, time: int) -> int | None:
+    """The track that a reading is in at a time, where it was read there."""
+    for part in laid.readings[number].parts:
+        if part.first <= time - part.shift < part.end:
+            return clock.track(time - part.shift)
+    return None
+
+
+def twice(laid: Laid) -> Iterator[str]:
+    """The parts of files that claim places which other parts of the same file have."""
+    for number, reading in enumerate(laid.readings, 1):
+        for part in reading.parts if reading.is_beside else ():
+            blocks = f"blocks {part.first} to {part.end - 1} of {shown(reading.path)}"
+            yield f"{blocks} have the times of others, from {spelled(part.time)} on: they are reading {number}"
+
+
+def write_stream(content: memoryview, path: str, write: Callable[[bytes], object]) -> None:
+    """Writes packs or raw blocks as the output has them."""
+    if ending_of(path) != PLANAR:
+        write(content)
+        return
+    for start in range(0, len(content), PLANAR_AT_ONCE):
+        write(to_planar(bytes(content[start : start + PLANAR_AT_ONCE])))
+
+
+class Units(NamedTuple):
+    """What maps of an output count: its blocks or its packs, the bytes of each, and how many stand before the program."""
+
+    name: str
+    size: int
+    before: int
+
+    def lost(self, mended: mending.Mended) -> list[Run]:
+        """What no reading gives, by positions in the output."""
+        found = mended.lost_blocks() if self.size == BLOCK else mended.lost_words()
+        return [Run(self.before + run.first, self.before + run.last) for run in found]
+
+    def block(self, place: int) -> int:
+        """The block of the program that a position is of."""
+        return (place - self.before) * self.size // BLOCK
+
+
+def table(laid: Laid, units: Units, lost: list[Run]) -> bytes:
+    rows = [
+        f"{run.first}\t{at_time(laid, laid.lead_in + units.block(run.first))}\t{run.last - run.first + 1}\n"
+        for run in lost
+    ]
+    return "".join([f"{units.name}\ttime\t{units.name}s\n", *rows]).encode()
+
+
+def lead_in_of(laid: Laid) -> tuple[int, bytes]:
+    """The lead-in of the reading with the fewest words lost that has texts, or else of the one that has a lead-in that was
+    read: the number of the reading, and the blocks."""
+    found = []
+    for number in mending.in_order(laid):
+        reading = laid.readings[number]
+        survey = reading.loaded.survey
+        if laid.time == 0 and survey.first < survey.lead_in:
+            found.append((number + 1, reading.loaded.stream[BLOCK * survey.first : BLOCK * survey.lead_in]))
+    with_texts = (it for it in found if packs_of(it[1]))
+    return next(with_texts, found[0] if found else (0, b""))
+
+
+def report(laid: Laid, mended: mending.Mended, table: Table) -> int:
+    """The table of what came of which reading, and what was lost; the exit number."""
+    for reading, counts in zip(laid.readings, mended.counts):
+        table.row((reading.path, len(mended.sources), *counts))
+    if mended.agreed:
+        tell(f"{mended.agreed} words are those on which two readings agree")
+    if mended.none:
+        tell(f"{mended.none} words have no codeword")
+    for number, counts in enumerate(mended.counts, 1):
+        if counts.left_out:
+            tell(
+                f"{counts.left_out} words of reading {number} count for nothing: it lacks graphics there, or gives doubtful ones"
+            )
+        if counts.lost:
+            tell(f"{counts.lost} words that reading {number} gives with no symbol wrong are not what came out")
+    return FOUND if mended.none or any(counts.lost for counts in mended.counts) else 0
+
+
+def run(arguments: argparse.Namespace) -> int:
+    if len(arguments.files) < 2:
+        arguments.error("two readings are needed")
+    if len(arguments.files) > library.READINGS:
+        arguments.error(f"no more than {library.READINGS} readings are mended at once")
+    if arguments.compare and (len(arguments.files) > 2 or arguments.output or arguments.map or arguments.ddrescue_map):
+        arguments.error("--compare takes two dumps and writes no file")
+    if not arguments.compare and not arguments.output:
+        arguments.error("the following arguments are required: -o/--output")
+    if arguments.output and ending_of(arguments.output) not in ("", *ENDINGS):
+        raise Refusal(arguments.output, f"its ending names nothing that is mended ({', '.join(ENDINGS)})")
+    files = [(arguments.map, kinds.TABLE_OF_BLOCKS), (arguments.ddrescue_map, kinds.DDRESCUE)]
+    if arguments.output:
+        files.append((arguments.output, kind_of(arguments.output)))
+    with Outputs([*arguments.files, *arguments.unread], files, arguments.force) as outputs:
+        laid = side_by_side(read_all(arguments))
+        if len(laid.readings) > library.READINGS:
+            laid.readings = laid.readings[: library.READINGS]
+            tell(f"no more than {library.READINGS} readings are mended at once: parts of files are left out")
+        for line in twice(laid):
+            tell(line)
+        odd = list(odd_ones(laid))
+        if arguments.compare:
+            return compare(laid, odd, outputs.table(DIFFERENCES, arguments.json))
+        if odd and not arguments.force:
+            raise Refusal(arguments.files[0], *odd, "--force mends them all the same")
+        for line in odd:
+            tell(line)
+        if not is_stream(arguments.output) and not mending.has_graphics(laid):
+            raise Nothing("there is nothing to mend: no reading has graphics")
+        return mend(arguments, laid, outputs)
+
+
+def read_all(arguments: argparse.Namespace) -> list[Reading]:
+    """The readings of a call, and notes on them. Nothing but what is returned keeps their streams."""
+    readings = [read(path, asked(arguments)) for path in arguments.files]
+    for path in arguments.unread:
+        leave_unread(readings, path)
+    for reading in readings:
+        for note in reading.loaded.notes():
+            tell(f"{shown(reading.path)}: {note}")
+    return readings
+
+
+def leave_unread(readings: Sequence[Reading], path: str) -> None:
+    """Takes a map of ddrescue for the reading beside which it lies."""
+    stem = os.path.splitext(path)[0]
+    own = [it for it in readings if stem in (it.path, os.path.splitext(it.path)[0])]
+    if not own:
+        raise Refusal(path, "is named as no reading with .map behind or in place of its ending")
+    for reading in own:
+        dump, form = reading.loaded.dump, reading.loaded.form
+        found = unread_units(areas(path), dump.skip, form.unit, dump.units(form))
+        reading.unread = found
+        blocks = sum(it.last - it.first + 1 for it in found)
+        tell(f"{shown(reading.path)}: {blocks} blocks were not read, as {shown(path)} says")
+
+
+def mend(arguments: argparse.Namespace, laid: Laid, outputs: Outputs) -> int:
+    out = outputs.open(arguments.output)
+    wants_blocks = is_stream(arguments.output)
+    before = 0
+    if wants_blocks:
+        number, lead_in = lead_in_of(laid)
+        before = len(lead_in) // BLOCK
+        if before:
+            write_stream(memoryview(lead_in), arguments.output, out.write)
+            tell(f"the lead-in of {before} blocks is that of reading {number}")
+    mended = mending.mend(laid, wants_blocks)
+    write_stream(mended.content, arguments.output, out.write)
+    units = Units("block", BLOCK, before) if wants_blocks else Units("pack", PACK, 0)
+    tell(f"{units.name} {before} of {shown(arguments.output)} is of the absolute time {at_time(laid, laid.lead_in)}")
+    lost = units.lost(mended)
+    if arguments.map:
+        outputs.write(arguments.map, table(laid, units, lost))
+    if arguments.ddrescue_map:
+        size = units.size * before + len(mended.content)
+        bytes_lost = [(units.size * run.first, units.size * (run.last + 1)) for run in lost]
+        outputs.write(arguments.ddrescue_map, domain(size, bytes_lost, "stream" if wants_blocks else "packs"))
+    return report(laid, mended, outputs.table(NAMES, arguments.json))
+
+
+def compare(laid: Laid, odd: list[str], table: Table) -> int:
+    """Whether two dumps are of one disc, by how many blocks they are offset, and where they differ. Where one has no graphics
+    at all only P and Q are compared."""
+    tell(odd[0] if odd else "the dumps seem to be of one disc")
+    has = [has_graphics_bits(reading.loaded.stream) for reading in laid.readings[:2]]
+    has_both = has[0] == has[1]
+    if not has_both:
+        tell(f"the {'second' if has[0] else 'first'} has no channels R to W: only P and Q are compared")
+    first, second = [reading for reading in laid.readings if not reading.is_beside]
+    if first.parts[0].known and second.parts[0].known:
+        offset = second.parts[0].shift - first.parts[0].shift
+        tell(f"block n of the first is block n {'-' if offset >= 0 else '+'} {abs(offset)} of the second")
+    differing = 0
+    for begin in range(0, laid.blocks, mending.AT_ONCE):
+        end = min(laid.blocks, begin + mending.AT_ONCE)
+        a, b = (bytes(laid.window(reading, begin, end)) for reading in (first, second))
+        if not has_both:
+            a, b = mending.without_graphics(a), mending.without_graphics(b)
+        for run in mending.differing_blocks(a, b):
+            found = Run(begin + run.first, begin + run.last)
+            differing += found.last - found.first + 1
+            table.row((found.first, found.last, at_time(laid, found.first), at_time(laid, found.last)))
+    tell(f"{differing} of {laid.blocks} blocks differ")
+    return FOUND if odd or differing else 0

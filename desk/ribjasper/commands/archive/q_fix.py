@@ -1,0 +1,88 @@
+"""Fills in bad Q frames between good ones where only one frame can stand, keeps frames that were changed by design, and checks
+P and the indexes against Q."""
+import argparse
+from typing import Any
+
+from ...common import kinds
+from ...common.failures import FOUND, Refusal, reading, shown
+from ...common.output import Outputs, add_force, add_json, tell
+from ...dumps.dump import READ_AT_ONCE
+from ...dumps.forms import Coding, Form, in_order, subcode, to_planar, to_pq
+from ...dumps.loading import Loaded, add_options, asked, load_raw
+from ...dumps.protection import lsd, sbi
+from ...dumps.q_disc import Source
+from ...dumps.q_repair import NAMES, fixed, with_q
+
+
+def as_unit(block: bytes, form: Form) -> bytes:
+    """The subcode of a unit, of its raw block."""
+    coded = {Coding.PLANAR: to_planar, Coding.PQ: to_pq}.get(form.coding, bytes)(block)
+    return in_order(coded, form.order)
+
+
+def write_copy(loaded: Loaded, frames: dict[int, bytes], out: Any) -> None:
+    """The file with these frames in place of those that are bad; all else as it is."""
+    form, start = loaded.form, loaded.dump.skip
+    at_once = READ_AT_ONCE // form.unit
+    with reading(loaded.path), open(loaded.path, "rb") as file:
+        out.write(file.read(start))
+        first = 0
+        while units := file.read(at_once * form.unit):
+            changed = bytearray(units)
+            for block in range(first, first + len(units) // form.unit):
+                if block in frames:
+                    end = (block - first + 1) * form.unit
+                    own = subcode(units[end - form.unit : end], form)
+                    changed[end - form.size : end] = as_unit(with_q(own, frames[block]), form)
+            out.write(changed)
+            first += at_once
+
+
+def add_parser(commands: Any) -> None:
+    parser = commands.add_parser(
+        "q-fix",
+        help="fill in bad Q frames between good ones, in a copy of a dump",
+        description="Lists the bad Q frames of a dump. -o writes a copy in which bad frames are filled in that stand between "
+        "good frames of one index of one track, whose times go on: only one frame can stand there. Other bad frames are "
+        "listed with the reason and stay as they are. So do frames that were changed by design: pairs as those of LibCrypt "
+        "('changed'), frames that may belong to such a pair ('doubtful'), and frames that all differ from the right ones in "
+        "the same way ('regular'). --sbi and --lsd write the pairs for emulators. P and the order of tracks and indexes are "
+        "checked against Q. Exit 1 if a bad frame is left, or if P or the order is wrong.",
+    )
+    parser.add_argument("file", metavar="DUMP")
+    parser.add_argument("-o", "--output", metavar="OUT", help="the copy, in the form of the dump")
+    parser.add_argument("--sbi", metavar="OUT.sbi", help="write the changed frames, without their checks")
+    parser.add_argument("--lsd", metavar="OUT.lsd", help="write the changed frames, with their checks")
+    add_options(parser)
+    add_json(parser)
+    add_force(parser)
+    parser.set_defaults(run=run)
+
+
+def run(arguments: argparse.Namespace) -> int:
+    path = arguments.file
+    writes = [(arguments.output, kinds.STREAM), (arguments.sbi, kinds.SBI), (arguments.lsd, kinds.LSD)]
+    with Outputs([path], writes, arguments.force) as outputs:
+        loaded = load_raw(path, asked(arguments), "Q channel")
+        if not loaded.survey.has_q:
+            raise Refusal(path, "Q was not read")
+        found = fixed(Source(loaded))
+        table = outputs.table(NAMES, arguments.json)
+        for row in found.rows:
+            table.row(row)
+        if found.changed:
+            tell(
+                f"{shown(path)}: {len(found.changed)} frames are changed in pairs, as LibCrypt changes them; they stay"
+            )
+        elif arguments.sbi or arguments.lsd:
+            raise Refusal(path, "no frames are changed in pairs, as LibCrypt changes them")
+        tell(
+            f"{shown(path)}: {len(found.frames)} frames {'are' if arguments.output else 'can be'} filled in, "
+            f"{found.left()} lines are left"
+        )
+        if arguments.output:
+            write_copy(loaded, found.frames, outputs.open(arguments.output))
+        for name, content in ((arguments.sbi, sbi), (arguments.lsd, lsd)):
+            if name:
+                outputs.write(name, content(found.changed))
+        return FOUND if found.left() else 0

@@ -1,0 +1,306 @@
+"""The sheet of a dump: what its Q channel and its lead-in say, as the program's `author`, cdrdao or CloneCD take it."""
+import argparse
+import os
+import re
+from typing import Any, Iterator
+
+from ...common import kinds
+from ...common.cue_sheets import COMMANDS, COPY, FLAGS, FOUR_CHANNELS, PRE_EMPHASIS, quoted
+from ...common.failures import FOUND, Refusal, shown
+from ...common.output import Outputs, add_force, add_json, read_file, tell
+from ...common.times import PAUSE, spelled
+from ...common.words import number_in
+from ...dumps import comparing
+from ...dumps.loading import Loaded, add_options, asked, load_raw
+from ...dumps.comparing import TimeBase, time_at
+from ...dumps.q_disc import CATALOGUE, DATA, Disc, ISRC, Source, Track, disc
+from ...dumps.sessions import BY_GAP, Session, notes as session_notes
+from ...dumps.survey import Clock
+
+MENTIONED = {"composer": b"COMPOSER", "arranger": b"ARRANGER", "message": b"MESSAGE"}
+# The absolute time of the first sector of an image, and the points of the table of contents beside tracks.
+FIRST_SECTOR, FIRST_TRACK, LAST_TRACK, LEAD_OUT = 150, 0xA0, 0xA1, 0xA2
+
+
+class Sheet:
+    """A disc with the name of its audio file, whether texts are written in Latin-1, and what times count from."""
+
+    def __init__(
+        self, source: Source, found: Disc, name: bytes, is_latin_1: bool, base: TimeBase = TimeBase.FILE
+    ) -> None:
+        self.source, self.disc, self.is_latin_1, self.base = source, found, is_latin_1, base
+        self.file = re.sub(rb'["\x00-\x1f\x7f]', b"_", name)
+
+    def at(self, time: int) -> int:
+        """The time of a sheet at an absolute time."""
+        return time_at(self.source, self.base, time)
+
+    def encoded(self, text: bytes) -> bytes:
+        """A text of a disc, which is Latin-1, as the sheet has it."""
+        return text if self.is_latin_1 else text.decode("latin-1").encode("utf-8")
+
+    def text_lines(self, number: int, margin: bytes) -> Iterator[bytes]:
+        """The texts of a track, or of the album; those that a sheet cannot say are mentioned."""
+        for kind, command in {**COMMANDS, **MENTIONED}.items():
+            text = self.disc.texts.get((kind, number))
+            if not text:
+                continue
+            spelling = quoted(self.encoded(text))
+            if spelling is None:
+                tell(f"the {kind} of track {number:02} cannot be spelled in a sheet: {text!r}")
+            else:
+                remark = b"" if kind in COMMANDS else b"REM "
+                yield b"%b%b%b %b" % (margin, remark, command, spelling)
+
+    def track_lines(self, track: Track, margin: bytes = b"  ") -> Iterator[bytes]:
+        kind = b"MODE1/2352" if track.control & DATA else b"AUDIO"
+        yield b"%bTRACK %02d %b" % (margin, track.number, kind)
+        inner = 2 * margin
+        yield from self.text_lines(track.number, inner)
+        flags = [name for bit, name in FLAGS if track.control & bit]
+        if flags:
+            yield b"%bFLAGS %b" % (inner, b" ".join(flags))
+        if ISRC.fullmatch(track.code):
+            yield b"%bISRC %b" % (inner, track.code)
+        first = self.at(track.indices[1])
+        for index, time in track.indices.items():
+            at = self.at(time)
+            # The pause of two seconds before the file is in every disc.
+            if index or at < first:
+                yield b"%bINDEX %02d %b" % (inner, index, spelled(at).encode())
+
+    def cue(self) -> bytes:
+        """The lines of a cue sheet. A remark tells what else `author` wants to be told."""
+        length = spelled(max(self.disc.blocks - PAUSE, 0))
+        lines = [f"REM ribjasper author --lead-in {self.source.survey.lead_in} --length {length}".encode()]
+        lines.append(self.base.remark)
+        if CATALOGUE.fullmatch(self.disc.catalogue):
+            lines.append(b"CATALOG " + self.disc.catalogue)
+        lines += self.text_lines(0, b"")
+        lines.append(b'FILE "%b" WAVE' % self.file)
+        sessions = {track.session for track in self.disc.tracks}
+        session = 0
+        for track in self.disc.tracks:
+            if len(sessions) > 1 and track.session != session:
+                session = track.session
+                lines.append(b"REM SESSION %02d" % session)
+            lines += self.track_lines(track)
+        return b"".join(line + b"\n" for line in lines)
+
+    def toc(self, session: int = 1) -> bytes:
+        """A sheet for cdrdao, which is of one session, and whose audio file begins with the first sector of the dump."""
+        lines = [b"CD_DA" if not any(track.control & DATA for track in self.disc.tracks) else b"CD_ROM"]
+        if CATALOGUE.fullmatch(self.disc.catalogue):
+            lines.append(b'CATALOG "%b"' % self.disc.catalogue)
+        has_texts = any(self.disc.texts.get((kind, number)) for kind in COMMANDS for number in range(100))
+        if has_texts:
+            lines += [
+                b"CD_TEXT {",
+                b"  LANGUAGE_MAP { 0 : 9 }",
+                b"  LANGUAGE 0 {",
+                *self.toc_texts(0, b"    "),
+                b"  }",
+                b"}",
+            ]
+        tracks = [track for track in self.disc.tracks if track.session == session]
+        end = next((it.lead_out for it in self.disc.sessions if it.number == session), self.disc.blocks)
+        begins = [self.source.in_file(min(track.indices.values())) for track in tracks]
+        ends = [*begins[1:], self.source.end_in_file(end)]
+        for track, begin, end in zip(tracks, begins, ends):
+            lines += [b"", b"TRACK " + (b"MODE1_RAW" if track.control & DATA else b"AUDIO")]
+            lines.append(b"COPY" if track.control & COPY else b"NO COPY")
+            if not track.control & DATA:
+                lines.append(b"PRE_EMPHASIS" if track.control & PRE_EMPHASIS else b"NO PRE_EMPHASIS")
+                lines.append(b"FOUR_CHANNEL_AUDIO" if track.control & FOUR_CHANNELS else b"TWO_CHANNEL_AUDIO")
+            if ISRC.fullmatch(track.code):
+                lines.append(b'ISRC "%b"' % track.code)
+            if has_texts:
+                lines += [b"CD_TEXT {", b"  LANGUAGE 0 {", *self.toc_texts(track.number, b"    "), b"  }", b"}"]
+            word = b"DATAFILE" if track.control & DATA else b"FILE"
+            lines.append(b'%b "%b" %b %b' % (word, self.file, spelled(begin).encode(), spelled(end - begin).encode()))
+            first = self.source.in_file(track.indices[1])
+            if first > begin:
+                lines.append(b"START " + spelled(first - begin).encode())
+            for index, time in track.indices.items():
+                if index > 1:
+                    lines.append(b"INDEX " + spelled(self.source.in_file(time) - first).encode())
+        return b"".join(line + b"\n" for line in lines)
+
+    def toc_texts(self, number: int, margin: bytes) -> Iterator[bytes]:
+        for kind, command in COMMANDS.items():
+            text = self.disc.texts.get((kind, number), b"")
+            spelling = self.encoded(text).replace(b"\\", b"\\\\").replace(b'"', b'\\"')
+            if not any(byte < 0x20 or byte == 0x7F for byte in text):
+                yield b'%b%b "%b"' % (margin, command, spelling)
+
+    def ccd(self) -> bytes:
+        """A sheet of CloneCD, whose image begins with the first sector."""
+        sessions = [session.number for session in self.disc.sessions]
+        entries = [entry for session in self.disc.sessions for entry in self.entries(session)]
+        lines = ["[CloneCD]", "Version=3", "[Disc]", f"TocEntries={len(entries)}", f"Sessions={len(sessions)}"]
+        lines += ["DataTracksScrambled=0", "CDTextLength=0"]
+        if CATALOGUE.fullmatch(self.disc.catalogue):
+            lines.append(f"CATALOG={self.disc.catalogue.decode()}")
+        for session in sessions:
+            first = next(track for track in self.disc.tracks if track.session == session)
+            lines += [f"[Session {session}]", f"PreGapMode={int(bool(first.control & DATA))}", "PreGapSubC=0"]
+        for number, (session, point, bits, (minute, second, frame)) in enumerate(entries):
+            place = 4500 * minute + 75 * second + frame - FIRST_SECTOR
+            lines += [
+                f"[Entry {number}]",
+                f"Session={session}",
+                f"Point=0x{point:02x}",
+                "ADR=0x01",
+                f"Control=0x{bits:02x}",
+            ]
+            lines += ["TrackNo=0", "AMin=0", "ASec=0", "AFrame=0", "ALBA=-150", "Zero=0"]
+            lines += [f"PMin={minute}", f"PSec={second}", f"PFrame={frame}", f"PLBA={place}"]
+        for track in self.disc.tracks:
+            lines += [f"[TRACK {track.number}]", f"MODE={int(bool(track.control & DATA))}"]
+            if ISRC.fullmatch(track.code):
+                lines.append(f"ISRC={track.code.decode()}")
+            lines += [
+                f"INDEX {index}={time - FIRST_SECTOR}" for index, time in track.indices.items() if time >= FIRST_SECTOR
+            ]
+        return "".join(f"{line}\r\n" for line in lines).encode()
+
+    def entries(self, session: Session) -> Iterator[tuple[int, int, int, tuple[int, int, int]]]:
+        """The entries of a table of contents: session, point, control bits, and a time or what stands in its place."""
+        own = [track for track in self.disc.tracks if track.session == session.number]
+        yield session.number, FIRST_TRACK, own[0].control, (own[0].number, 0, 0)
+        yield session.number, LAST_TRACK, own[-1].control, (own[-1].number, 0, 0)
+        yield session.number, LEAD_OUT, own[-1].control, parts_of(session.lead_out)
+        for track in own:
+            yield session.number, track.number, track.control, parts_of(track.indices[1])
+
+
+def parts_of(time: int) -> tuple[int, int, int]:
+    return time // 4500, time // 75 % 60, time % 75
+
+
+def remarks(loaded: Loaded, source: Source, found: Disc) -> Iterator[str]:
+    """What a sheet cannot say of a disc, what is missing, and what not all frames say."""
+    numbers = [track.number for track in found.tracks]
+    missing = sorted(set(range(numbers[0], numbers[-1] + 1)) - set(numbers))
+    if missing:
+        yield f"no frame is left of the tracks {' '.join(map(str, missing))}"
+    for track in found.tracks:
+        if track.control & DATA:
+            yield f"track {track.number:02} is data, which `author` refuses"
+    if found.tracks[0].indices[1] < PAUSE:
+        yield "the first track begins before 00:02:00, which no sheet can say"
+    yield from session_notes(loaded, found.sessions)
+    for session in found.sessions:
+        if not session.is_sure and session is not found.sessions[-1]:
+            how = (
+                "it is set by the usual gap before the next session"
+                if session.by == BY_GAP
+                else "it follows the last frame"
+            )
+            yield f"nothing says where the lead-out of session {session.number} begins: {how}"
+    yield from found.votes
+    yield from found.unsure
+    yield from cuts(source, found)
+
+
+def cuts(source: Source, found: Disc) -> Iterator[str]:
+    """Where the dump lacks a part of the disc."""
+    begin = source.pieces[0].shift + source.survey.first
+    if source.pieces[0].shift > PAUSE:
+        yield f"the file begins at the absolute time {spelled(begin)}"
+    for _, before, after in Clock(source.survey).jumps():
+        if source.is_in_order(after):
+            yield f"the time jumps from {spelled(before)} to {spelled(after.time)}"
+    last = source.pieces[-1].end + source.pieces[-1].shift
+    if found.end is not None and last < found.end:
+        yield f"the file ends at the absolute time {spelled(last)}, before the lead-out at {spelled(found.end)}"
+
+
+def add_parser(commands: Any) -> None:
+    parser = commands.add_parser(
+        "sheet",
+        help="write the cue sheet of a dump",
+        description="Writes a cue sheet of what the Q channel and the lead-in of a dump say: tracks, indices and pauses, "
+        "flags, the catalogue number, recording codes, texts and sessions. The program's author takes it again, with the "
+        "words in its first line. Gaps that no file has stand as pauses within the file. --compare lists in what the table "
+        "of contents, Q and a cue sheet differ, and ends with 1 if they do. Times count from where the audio of the file "
+        "begins; with --times disc, from the first sector of the disc, 00:02:00. The sheet and the comparison name which.",
+    )
+    parser.add_argument("file", metavar="DUMP")
+    parser.add_argument("-o", "--output", metavar="OUT", help="the file to write; otherwise standard output")
+    what = parser.add_mutually_exclusive_group()
+    what.add_argument("--toc", action="store_true", help="write a sheet for cdrdao")
+    what.add_argument("--ccd", action="store_true", help="write a sheet of CloneCD")
+    what.add_argument("--compare", metavar="CUE", help="list what differs, and write no sheet")
+    parser.add_argument(
+        "--times",
+        choices=[base.value for base in TimeBase],
+        help="count times from the begin of the file's audio (the default) or of the disc; --compare goes by the sheet",
+    )
+    parser.add_argument(
+        "--session", type=number_in(1, 99), metavar="N", help="with --toc: the session to write; otherwise the first"
+    )
+    parser.add_argument(
+        "--latin-1", action="store_true", help="texts as bytes of Latin-1, as author wants them; otherwise UTF-8"
+    )
+    add_options(parser)
+    add_json(parser)
+    add_force(parser)
+    parser.set_defaults(run=run, error=parser.error)
+
+
+def toc_session(path: str, found: Disc, asked_for: int | None) -> int:
+    """The session that a sheet for cdrdao describes; it takes one."""
+    numbers = [session.number for session in found.sessions]
+    if asked_for is None and len(numbers) > 1:
+        tell(f"{shown(path)}: the sheet describes session {numbers[0]} of {len(numbers)}; --session N writes another")
+    if asked_for is not None and asked_for not in numbers:
+        raise Refusal(path, f"has no session {asked_for}")
+    return asked_for or numbers[0]
+
+
+def read_source(path: str, loaded: Loaded) -> Source:
+    source = Source(loaded)
+    if not source.stretches:
+        raise Refusal(path, "no Q frame names a track")
+    return source
+
+
+def run(arguments: argparse.Namespace) -> int:
+    path = arguments.file
+    if arguments.compare and arguments.output:
+        arguments.error("--compare writes no sheet")
+    if arguments.session and not arguments.toc:
+        arguments.error("--session goes with --toc")
+    if arguments.times == TimeBase.DISC.value and (arguments.toc or arguments.ccd):
+        arguments.error("--times goes with a cue sheet or with --compare")
+    kind = kinds.TOC if arguments.toc else kinds.CCD if arguments.ccd else kinds.CUE
+    out: str = arguments.output or "-"
+    writes = [] if arguments.compare else [(out, kind)]
+    with Outputs([path, arguments.compare], writes, arguments.force) as outputs:
+        loaded = load_raw(path, asked(arguments), "Q channel")
+        source = read_source(path, loaded)
+        found = disc(source, loaded.companions)
+        for remark in remarks(loaded, source, found):
+            tell(f"{shown(path)}: {remark}")
+        if arguments.compare:
+            cue = comparing.read_cue(arguments.compare, read_file(arguments.compare))
+            base = TimeBase(arguments.times) if arguments.times else cue.base
+            return (
+                FOUND
+                if comparing.write_differences(outputs.table(comparing.NAMES, arguments.json), source, found, cue, base)
+                else 0
+            )
+        stem = os.path.splitext(os.path.basename(path))[0]
+        base = TimeBase(arguments.times or TimeBase.FILE)
+        sheet = Sheet(source, found, os.fsencode(f"{stem}.wav"), arguments.latin_1, base)
+        if any(not text.isascii() for text in found.texts.values()):
+            tell(
+                f"{shown(path)}: texts are written in {'Latin-1' if arguments.latin_1 else 'UTF-8; author wants --latin-1'}"
+            )
+        if arguments.toc:
+            session = toc_session(path, found, arguments.session)
+            outputs.write(out, sheet.toc(session))
+        else:
+            outputs.write(out, sheet.ccd() if arguments.ccd else sheet.cue())
+    return 0

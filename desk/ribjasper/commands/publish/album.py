@@ -1,0 +1,207 @@
+"""`album`: several songs as one disc: a list of them, and of it sheet, scripts, stream and image."""
+import argparse
+import os
+import re
+from dataclasses import replace
+from pathlib import Path
+
+from ...common import kinds
+from ...common.failures import FOUND
+from ...common.library import BLOCKS_A_SECOND
+from ...common.output import Outputs, Table, add_force, add_json, stem_of, tell
+from ...common.targets import DASH
+from ...common.times import clock
+from ...common.words import Commands
+from ...songs import audio
+from ...songs.albums import CAPACITY, Album, check_capacity, length_of, made_ready, read_album, sing_all, write_disc
+from ...songs.pairs import CDG, is_pair
+from ...songs.song_files import pictures_of, read_song
+from ...songs.wishes import add_encoding
+
+NEW = """# An album: `ribjasper-desk album {name} -o DISC` makes a disc of it. Names of files are told from this folder on.
+title = "{title}"
+singer = "{singer}"
+# catalogue = "4006381333931"
+style = "night"
+# Seconds of silence between the tracks.
+gap = 2
+"""
+NEW_TRACK = """
+[[track]]
+lyrics = {lyrics}
+sound = {sound}
+title = {title}
+singer = {singer}
+# picture = "title.png"
+# isrc = "GBAAA2600001"
+"""
+NEW_PAIR = """
+[[track]]
+pair = {pair}
+title = {title}
+singer = ""
+# isrc = "GBAAA2600001"
+"""
+COLUMNS = ("track", "kind", "start", "length", "left", "title", "singer", "file")
+# A capacity as a word: minutes and seconds, with frames or without.
+LENGTH = re.compile(r"(\d{1,2}):([0-5]\d)(?::([0-6]\d|7[0-4]))?", re.ASCII)
+
+
+def capacity(word: str) -> int:
+    """The blocks of a disc, as an argument of the command line."""
+    found = LENGTH.fullmatch(word)
+    if not found:
+        raise argparse.ArgumentTypeError(f"{word} is no time MM:SS or MM:SS:FF")
+    minutes, seconds, frames = (int(part or 0) for part in found.groups())
+    return BLOCKS_A_SECOND * (60 * minutes + seconds) + frames
+
+
+def add_parser(commands: Commands) -> None:
+    parser = commands.add_parser(
+        "album",
+        help="make a disc of several songs",
+        description="Makes a disc of the songs of a list: DISC.bin, DISC.toc and DISC.cue, an image for a burner; "
+        "DISC.raw, its stream; DISC-sheet.cue, the sheet of that; and DISC-01.script and so on, the pictures of each "
+        "track of lyrics. A track is lyrics and sound, or a finished pair: a .cdg file with its sound, or a ZIP file of "
+        "both. Each track begins with presets and all colours, so that a player that skips to it shows nothing else.",
+    )
+    parser.add_argument(
+        "files",
+        type=Path,
+        nargs="+",
+        metavar="FILE",
+        help="the list, LIST.toml; with --new the lyrics or pairs of all tracks",
+    )
+    parser.add_argument(
+        "--new",
+        action="store_true",
+        help="begin a list: a track for each of these lyrics, with the sound of the same name",
+    )
+    parser.add_argument(
+        "--check",
+        action="store_true",
+        help="make nothing; print the tracks of the list, their times, and what is left of the disc",
+    )
+    parser.add_argument(
+        "--capacity",
+        type=capacity,
+        metavar="MM:SS",
+        help="how long the disc may be (79:57; a disc of 74 minutes has 74:00)",
+    )
+    add_encoding(parser)
+    parser.add_argument(
+        "-o",
+        "--output",
+        type=Path,
+        metavar="DISC",
+        help="the name of the disc without an ending; with --new the list (standard output)",
+    )
+    add_json(parser)
+    add_force(parser)
+    parser.set_defaults(run=run, parser=parser)
+
+
+def run(arguments: argparse.Namespace) -> int:
+    if arguments.new:
+        return begin(arguments)
+    if len(arguments.files) > 1 or not (arguments.output or arguments.check):
+        arguments.parser.error("one list and -o DISC are needed, or --check, or --new")
+    album = read_album(arguments.files[0])
+    if arguments.encoding:
+        for track in album.tracks:
+            track.wishes = replace(track.wishes, encoding=track.wishes.encoding or arguments.encoding)
+    if arguments.check:
+        return check(album, CAPACITY if arguments.capacity is None else arguments.capacity, arguments.json)
+    name = stem_of(arguments.output)
+    scripts = {number: f"{name}-{number:02}.script" for number, it in enumerate(album.tracks, 1) if not it.is_pair}
+    disc_files = [f"{name}.bin", f"{name}.toc", f"{name}.cue", f"{name}.raw", f"{name}-sheet.cue"]
+    disc_kinds = [kinds.IMAGE, kinds.TOC, kinds.CUE, kinds.STREAM, kinds.CUE]
+    writes = [*zip(disc_files, disc_kinds), *((script, kinds.SCRIPT) for script in scripts.values())]
+    with Outputs(reads_of(album), writes, arguments.force) as outputs:
+        ready = [made_ready(track) for track in album.tracks]
+        check_capacity(album, ready, arguments.capacity)
+        sung = sing_all(album, ready)
+        for number, script in scripts.items():
+            outputs.write(script, sung[number - 1].made.text())
+        write_disc(album, sung, outputs, disc_files)
+    return 0
+
+
+def reads_of(album: Album) -> list[Path | None]:
+    """The files that the album is made from."""
+    found: list[Path | None] = [album.path]
+    for track in album.tracks:
+        between = [Path(word) for word in track.wishes.between if not word.startswith("#")]
+        beside = audio.beside(track.lyrics) if track.is_pair and not track.sound else None
+        pictures = [] if track.is_pair else pictures_of(track.lyrics)
+        found += [
+            track.lyrics,
+            track.sound,
+            beside,
+            track.wishes.title,
+            *between,
+            *pictures,
+            *track.wishes.style.files(),
+        ]
+    return found
+
+
+def check(album: Album, most: int, as_json: bool) -> int:
+    """Prints the tracks and their times; the status says whether they fit."""
+    ready = [made_ready(track) for track in album.tracks]
+    table = Table(COLUMNS, as_json)
+    at = 0
+    for number, one in enumerate(ready, 1):
+        track = one.track
+        title, singer = track.title, track.singer
+        if not track.is_pair:
+            song = read_song(track.lyrics, track.wishes.encoding, track.treatment.later)
+            title, singer = title or song.title, singer or song.performer or album.singer
+        end = at + one.blocks
+        left = clock(most - end) if end <= most else f"-{clock(end - most)}"
+        kind = "pair" if track.is_pair else "lyrics"
+        table.row((number, kind, clock(at), clock(one.blocks), left, title, singer, track.lyrics))
+        at = end + album.gap
+    length = length_of(album, [one.blocks for one in ready])
+    left = f"{clock(most - length)} is left" if length <= most else f"it is {clock(length - most)} too long"
+    tell(f"{len(ready)} tracks, {clock(length)} of {clock(most)}: {left}")
+    return 0 if length <= most else FOUND
+
+
+def text_of(word: str) -> str:
+    """A text as TOML spells it."""
+    marks = {'"': '\\"', "\\": "\\\\"}
+    spelled = (
+        marks.get(letter, letter if ord(letter) >= 32 and ord(letter) != 127 else f"\\u{ord(letter):04X}")
+        for letter in word
+    )
+    return f'"{"".join(spelled)}"'
+
+
+def begin(arguments: argparse.Namespace) -> int:
+    """Writes a list of songs, with what their lyrics tell of them."""
+    out = arguments.output or Path(DASH)
+    folder = out.parent if arguments.output else Path(".")
+    with Outputs(arguments.files, [(out, kinds.ALBUM)], arguments.force) as outputs:
+        songs = [(path, None if is_pair(path) else read_song(path, arguments.encoding)) for path in arguments.files]
+        singers = {song.performer for _, song in songs if song}
+        title, singer = "", singers.pop() if len(singers) == 1 else ""
+        name = arguments.output.name if arguments.output else "LIST.toml"
+        lines = NEW.format(name=name, title=title, singer=text_of(singer)[1:-1])
+        for path, song in songs:
+            if song is None:
+                if path.suffix.lower() == CDG and not audio.beside(path):
+                    tell(f"{path}: no sound of that name stands beside it; `sound = ...` names one")
+                lines += NEW_PAIR.format(pair=text_of(os.path.relpath(path, folder)), title=text_of(path.stem))
+                continue
+            sound = audio.beside(path)
+            if not sound:
+                tell(f"{path}: no sound of that name stands beside it; the list names {path.with_suffix('.wav').name}")
+            lines += NEW_TRACK.format(
+                lyrics=text_of(os.path.relpath(path, folder)),
+                title=text_of(song.title or path.stem),
+                sound=text_of(os.path.relpath(sound or path.with_suffix(".wav"), folder)),
+                singer=text_of(song.performer),
+            )
+        outputs.write(out, lines.encode())
+    return 0

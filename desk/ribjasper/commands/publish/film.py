@@ -1,0 +1,204 @@
+"""`film`: a film of what a stream or a `.cdg` file shows, and a page of its pictures."""
+import argparse
+import contextlib
+import math
+import os
+import shutil
+import subprocess
+import tempfile
+from pathlib import Path
+from typing import Any, IO, Iterator, NamedTuple
+
+from ...common import kinds
+from ...common.failures import Missing, Refusal
+from ...common.library import HEIGHT, WIDTH
+from ...common.output import Outputs, add_force, package, tell
+from ...common.words import Commands, number_in
+from ...dumps.streams import Stream, open_stream
+from ...songs import audio
+
+# A picture that stands so long, in seconds, has a place on a page of stills.
+STANDS = 0.2
+MOST_STILLS = 1_000
+# A sound that is shorter than the pictures by no more seconds is as long as they are.
+SHORT_SOUND = 1.0
+# What x264 leaves out: frames between two others, and a long search for what moved. Pictures of tiles change where they stand.
+PLAIN_SEARCH = "bframes=0:me=dia:subme=0:trellis=0"
+# Frames are small: more threads take longer, and more of the processors.
+READING = ["-threads", "1", "-filter_threads", "1"]
+CODING = ["-threads", "2"]
+# A still in pixels, the line below it, and what is between them.
+STILL_WIDTH, STILL_HEIGHT, LABEL, BETWEEN = WIDTH // 2, HEIGHT // 2, 14, 8
+
+
+def add_parser(commands: Commands) -> None:
+    parser = commands.add_parser(
+        "film",
+        help="make a film of what a stream shows",
+        description="Makes a film of the pictures of a raw stream, an image or a .cdg file, in time with its audio, "
+        "and a page of stills. The pictures are those of the proved player; ffmpeg makes the film.",
+    )
+    parser.add_argument("stream", type=Path, metavar="STREAM", help="a raw stream, an image DISC.bin, or a .cdg file")
+    parser.add_argument("-o", "--output", type=Path, metavar="OUT.mp4", help="the film")
+    parser.add_argument("--audio", type=Path, metavar="WAV", help="the audio of the film")
+    parser.add_argument("--rate", type=number_in(1, 75), default=25, metavar="N", help="frames a second (25)")
+    parser.add_argument("--scale", type=number_in(1, 8), default=3, metavar="N", help="how much larger (3: 900 by 648)")
+    parser.add_argument(
+        "--lossless", action="store_true", help="keep each pixel as it is; fewer programs play such films"
+    )
+    parser.add_argument(
+        "--stills",
+        type=Path,
+        metavar="OUT.png",
+        help="a page with each picture that stands for a fifth of a second, and its time",
+    )
+    parser.add_argument("--every", type=float, metavar="SECONDS", help="a still for each so many seconds")
+    add_force(parser)
+    parser.set_defaults(run=run, parser=parser)
+
+
+def audio_seconds(path: Path | None) -> float:
+    """How long an audio is; 0 where there is none, or where ffmpeg alone could tell and is not there."""
+    if not path:
+        return 0
+    wave = audio.wave_of(path)
+    if wave and wave.channels and wave.bits >= 8 and wave.rate:
+        return wave.size / (wave.channels * (wave.bits // 8) * wave.rate)
+    return audio.frames(path) / audio.RATE if shutil.which("ffmpeg") else 0
+
+
+def film_words(arguments: argparse.Namespace, out: str) -> list[str]:
+    """The call of ffmpeg, which reads frames from its standard input."""
+    size, scale = f"{WIDTH}x{HEIGHT}", arguments.scale
+    coding = (
+        ["-c:v", "libx264rgb", "-qp", "0"]
+        if arguments.lossless
+        else ["-preset", "veryfast", "-x264-params", PLAIN_SEARCH, "-crf", "16", "-pix_fmt", "yuv420p"]
+    )
+    sound = ["-i", os.fspath(arguments.audio), "-map", "0:v", "-map", "1:a"] if arguments.audio else []
+    frames = ["-f", "rawvideo", "-pix_fmt", "rgb24", "-s", size, "-r", str(arguments.rate), "-i", "pipe:0"]
+    larger = ["-vf", f"scale=iw*{scale}:ih*{scale}:flags=neighbor"]
+    return [
+        "ffmpeg",
+        "-v",
+        "error",
+        "-y",
+        *READING,
+        *frames,
+        *sound,
+        *larger,
+        *CODING,
+        *coding,
+        "-movflags",
+        "+faststart",
+        out,
+    ]
+
+
+@contextlib.contextmanager
+def film_of(arguments: argparse.Namespace, part: str) -> Iterator[IO[bytes]]:
+    """Where frames are written to, of which ffmpeg makes a film."""
+    with tempfile.TemporaryFile() as said:
+        try:
+            ffmpeg = subprocess.Popen(film_words(arguments, part), stdin=subprocess.PIPE, stderr=said)
+        except FileNotFoundError:
+            raise Missing("this needs the program ffmpeg (apt-get install ffmpeg)") from None
+        assert ffmpeg.stdin is not None
+        try:
+            yield ffmpeg.stdin
+        except BrokenPipeError:
+            pass
+        finally:
+            with contextlib.suppress(BrokenPipeError):
+                ffmpeg.stdin.close()
+            status = ffmpeg.wait()
+        if status:
+            said.seek(0)
+            why = said.read().decode(errors="replace").strip().splitlines()
+            raise Refusal(arguments.output, f"ffmpeg ended with {status}: {why[-1] if why else 'it says nothing'}")
+
+
+class Still(NamedTuple):
+    """A picture, and the second at which it stands first."""
+
+    second: float
+    picture: bytes
+
+
+class Stills:
+    """The pictures that a page is to show: those that stand for a while, or one for each so many seconds."""
+
+    def __init__(self, rate: int, every: float | None):
+        self.rate, self.every = rate, every
+        self.kept: list[Still] = []
+        self.number, self.since, self.last = 0, 0, b""
+
+    def see(self, picture: bytes) -> None:
+        if self.every:
+            if self.number >= len(self.kept) * self.every * self.rate:
+                self.kept.append(Still(self.number / self.rate, picture))
+        elif picture != self.last:
+            self.close()
+            self.since, self.last = self.number, picture
+        self.number += 1
+
+    def close(self) -> None:
+        """Keeps the last picture where it stood long enough."""
+        if not self.every and self.number - self.since >= STANDS * self.rate:
+            self.kept.append(Still(self.since / self.rate, self.last))
+
+
+def stills_page(stills: list[Still]) -> Any:
+    """The pictures in rows, each with its time below it."""
+    images = package("PIL.Image", "python3-pil")
+    pens = package("PIL.ImageDraw", "python3-pil")
+    columns = min(8, max(1, math.ceil(math.sqrt(len(stills)))))
+    wide, high = STILL_WIDTH + BETWEEN, STILL_HEIGHT + LABEL + BETWEEN
+    rows = -(-len(stills) // columns)
+    page = images.new("RGB", (BETWEEN + wide * columns, BETWEEN + high * rows), "#FFFFFF")
+    pen = pens.Draw(page)
+    for place, still in enumerate(stills):
+        left, top = BETWEEN + wide * (place % columns), BETWEEN + high * (place // columns)
+        image = images.frombytes("RGB", (WIDTH, HEIGHT), still.picture)
+        page.paste(image.resize((STILL_WIDTH, STILL_HEIGHT), images.BOX), (left, top))
+        minutes, seconds = divmod(still.second, 60)
+        pen.text((left, top + STILL_HEIGHT + 1), f"{int(minutes):02}:{seconds:05.2f}", "#202020")
+    return page
+
+
+def show_all(stream: Stream, arguments: argparse.Namespace, count: int, out: IO[bytes] | None, stills: Stills) -> None:
+    for picture in stream.frames(arguments.rate, count):
+        if out:
+            out.write(picture)
+        stills.see(picture)
+    stills.close()
+
+
+def run(arguments: argparse.Namespace) -> int:
+    if not (arguments.output or arguments.stills):
+        arguments.parser.error("one of -o and --stills is needed")
+    if arguments.every is not None and arguments.every <= 0:
+        arguments.parser.error("--every takes a number above 0")
+    reads = [arguments.stream, arguments.audio]
+    writes = [(arguments.output, kinds.FILM), (arguments.stills, kinds.PNG)]
+    with Outputs(reads, writes, arguments.force) as outputs:
+        stream = open_stream(arguments.stream)
+        pictures, sound = stream.seconds(), audio_seconds(arguments.audio)
+        if arguments.audio and 0 < sound < pictures - SHORT_SOUND:
+            tell(f"{arguments.audio}: the sound ends {pictures - sound:.1f} seconds before the pictures")
+        seconds = max(pictures, sound)
+        count = max(1, math.ceil(seconds * arguments.rate))
+        stills = Stills(arguments.rate, arguments.every)
+        with contextlib.ExitStack() as open_film:
+            out = None
+            if arguments.output:
+                out = open_film.enter_context(film_of(arguments, outputs.path(arguments.output, ".mp4")))
+            show_all(stream, arguments, count, out, stills)
+        if arguments.stills:
+            if len(stills.kept) > MOST_STILLS:
+                raise Refusal(
+                    arguments.stills, f"would have {len(stills.kept)} pictures; --every SECONDS asks for fewer"
+                )
+            outputs.write_png(arguments.stills, stills_page(stills.kept))
+    tell(f"{seconds:.1f} seconds, {count} frames, {len(stills.kept)} stills")
+    return 0

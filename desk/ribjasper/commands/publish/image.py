@@ -1,0 +1,177 @@
+"""`image`: a disc image with its subcode, for a burner: the sectors, and what is on them for cdrdao and others."""
+import argparse
+import os
+from pathlib import Path
+from typing import Iterator
+
+from ...common import kinds, latin1
+from ...common.disc_files import SHORTEST_TRACK, cue_of, toc_of
+from ...common.discs import SheetDisc, read_disc
+from ...common.failures import LATE, Refusal
+from ...common.library import BLOCK, PACK, PACKS_A_BLOCK, Player, RAW, convert, texts
+from ...common.output import Outputs, add_force, read_file, stem_of, tell
+from ...common.program import author
+from ...common.times import PAUSE, clock
+from ...common.words import Commands
+from ...dumps.streams import open_stream
+from ...songs import audio
+from ...songs.tracks import FIRST_OF_AUDIO
+
+# Held through the pause, so that all pictures come with the audio, which alone is on an image.
+HOLD_THROUGH_PAUSE = b"show 00:00:20 00:02:02\n"
+# The bits of the channels P and Q in a byte of a block.
+P_AND_Q = bytes(byte & 0xC0 for byte in range(256))
+
+
+def add_parser(commands: Commands) -> None:
+    parser = commands.add_parser(
+        "image",
+        help="make a disc image that can be burned",
+        description="Makes DISC.bin, sectors of 2,448 bytes with audio and subcode, without the lead-in and the first "
+        "pause; DISC.toc for cdrdao; and DISC.cue.",
+    )
+    parser.add_argument("sheet", type=Path, metavar="SHEET", help="the cue sheet of the disc")
+    parser.add_argument("stream", type=Path, metavar="STREAM", help="its raw stream, by `author` or `press`")
+    parser.add_argument("--audio", type=Path, required=True, metavar="WAV", help="44,100 Hz, stereo, 16 bits")
+    parser.add_argument(
+        "--hold-through-pause",
+        type=Path,
+        metavar="SCRIPT",
+        help="author the stream anew from its script, with a black picture held through the pause",
+    )
+    parser.add_argument("--latin-1", action="store_true", help="write the texts in Latin-1, as players read them")
+    parser.add_argument("-o", "--output", type=Path, required=True, metavar="DISC", help="the name without an ending")
+    add_force(parser)
+    parser.set_defaults(run=run)
+
+
+def checked(arguments: argparse.Namespace, disc: SheetDisc) -> bytes:
+    """The program of the stream: its blocks from the first pause on, as the sheet and the audio ask for."""
+    stream = open_stream(arguments.stream)
+    if stream.is_packs():
+        raise Refusal(arguments.stream, "is no raw stream, but a .cdg file: the program's press makes one of it")
+    program = stream.content[BLOCK * stream.lead_in :]
+    if len(program) != BLOCK * disc.blocks:
+        length = audio.length(arguments.audio)
+        raise Refusal(
+            arguments.stream,
+            f"has {len(program) // BLOCK} blocks, and the sheet with this audio "
+            f"{disc.blocks}: author it with --length {clock(length)}",
+        )
+    expected = disc.stream[BLOCK * disc.lead_in :]
+    if program.translate(P_AND_Q) != expected.translate(P_AND_Q):
+        number = next(
+            number
+            for number in range(disc.blocks)
+            if program[BLOCK * number : BLOCK * (number + 1)].translate(P_AND_Q)
+            != disc.block(number).translate(P_AND_Q)
+        )
+        raise Refusal(arguments.stream, f"is not of this sheet: they differ at {clock(number)}")
+    return program
+
+
+def loses_pictures(program: bytes) -> str | None:
+    """Why pictures are not whole on the image, if the packs that begin in the pause and are not whole on it leave more
+    than a black screen. What is to be done is another thing for a .cdg file that was pressed: it sends nothing earlier.
+    """
+    packs, _ = convert(program[: BLOCK * (PAUSE + 2)], RAW, 0)
+    with Player() as player:
+        player.draw(packs[: PACK * PACKS_A_BLOCK * PAUSE])
+        if not any(player.screen()) and not any(player.colours()):
+            return None
+    if not any(packs[: PACK * FIRST_OF_AUDIO]):
+        return (
+            "the first seven packs of its .cdg file begin in the first pause and are not on an image: let them be idle, "
+            "or say once more behind them what they say, as the files of `pair` do"
+        )
+    return (
+        "what is sent in the first pause is not on an image, and the pictures that need it will not be whole; "
+        "--hold-through-pause SCRIPT puts a black picture before them"
+    )
+
+
+def tell_texts(arguments: argparse.Namespace, disc: SheetDisc) -> None:
+    """Tells if the texts of the sheet, which the image gets, are not those of the stream."""
+    stream = open_stream(arguments.stream)
+    if not stream.lead_in:
+        return
+    theirs, ours = (
+        [line for line in texts(content[: BLOCK * lead_in], lead_in).splitlines() if not line.startswith("packs ")]
+        for content, lead_in in ((stream.content, stream.lead_in), (disc.stream, disc.lead_in))
+    )
+    differ = [("stream", line) for line in theirs if line not in ours]
+    differ += [("sheet", line) for line in ours if line not in theirs]
+    if differ:
+        of, line = differ[0]
+        tell(
+            f"{arguments.stream}: its texts are not those of {arguments.sheet}, which {arguments.output}.toc and .cue "
+            f"have: {len(differ)} differ, as `{line}` of the {of}"
+        )
+
+
+def held(arguments: argparse.Namespace, disc: SheetDisc) -> bytes:
+    """The program of a stream whose script begins with a picture that is held through the pause."""
+    script = read_file(arguments.hold_through_pause).removeprefix(b"\xef\xbb\xbf")
+    sheet = read_file(arguments.sheet)
+    length = audio.length(arguments.audio)
+    stream, status, told = author(sheet, HOLD_THROUGH_PAUSE + script, disc.lead_in, length)
+    if status == LATE:
+        raise Late(f"{arguments.hold_through_pause}: with a picture held through the pause: {told}, counted with it")
+    if status:
+        raise Refusal(arguments.hold_through_pause, f"with one line more in front: {told}")
+    return stream[BLOCK * disc.lead_in :]
+
+
+class Late(Exception):
+    """A picture cannot be ready."""
+
+
+def sectors(disc: SheetDisc, program: bytes, path: Path) -> Iterator[bytes]:
+    """The sectors of the image: audio, or silence where the sheet has a gap, and the block."""
+    silent = disc.silence()
+    samples = audio.sectors(path)
+    silence = bytes(audio.SECTOR_AUDIO)
+    for number in range(PAUSE, disc.blocks):
+        sound = silence if number in silent else next(samples)
+        yield sound + program[BLOCK * number : BLOCK * (number + 1)]
+
+
+def warn(arguments: argparse.Namespace, disc: SheetDisc, program: bytes) -> None:
+    if lost := loses_pictures(program):
+        tell(f"{arguments.stream}: {lost}")
+    tell_texts(arguments, disc)
+    for track in disc.tracks:
+        if track.end - track.indices[0] < SHORTEST_TRACK:
+            tell(f"{arguments.sheet}: track {track.number} is shorter than four seconds; burners may refuse it")
+
+
+def run(arguments: argparse.Namespace) -> int:
+    reads = [arguments.sheet, arguments.stream, arguments.audio, arguments.hold_through_pause]
+    names = [f"{stem_of(arguments.output)}{ending}" for ending in (".bin", ".toc", ".cue")]
+    with Outputs(reads, zip(names, (kinds.IMAGE, kinds.TOC, kinds.CUE)), arguments.force) as outputs:
+        return write_image(arguments, outputs, *names)
+
+
+def write_image(arguments: argparse.Namespace, outputs: Outputs, binary: str, toc: str, cue: str) -> int:
+    sheet = read_file(arguments.sheet)
+    if arguments.latin_1:
+        sheet = latin1.as_latin_1(arguments.sheet, sheet)
+    else:
+        latin1.warn(arguments.sheet, sheet)
+    disc = read_disc(arguments.sheet, sheet, audio.length(arguments.audio))
+    program = checked(arguments, disc)
+    if arguments.hold_through_pause:
+        try:
+            program = held(arguments, disc)
+        except Late as late:
+            tell(str(late))
+            return LATE
+    warn(arguments, disc, program)
+    name = os.path.basename(binary)
+    out = outputs.open(binary)
+    for sector in sectors(disc, program, arguments.audio):
+        out.write(sector)
+    outputs.write(toc, toc_of(disc, name).encode())
+    outputs.write(cue, cue_of(disc, name))
+    tell(f"{disc.blocks - PAUSE} sectors, {clock(disc.blocks - PAUSE)}; `cdrdao write --swap {toc}` burns them")
+    return 0

@@ -1,0 +1,191 @@
+"""`look`: one page that plays a song before its film is made: sound, picture, a line of time, and keys that move what
+is sung."""
+import argparse
+import base64
+import html
+import json
+import os
+import re
+import shutil
+import struct
+import zlib
+from pathlib import Path
+from typing import Any, Iterator, NamedTuple
+
+from ...common import kinds
+from ...common.library import BLOCKS_A_SECOND, COLOURS, HEIGHT, PACK, PACKAGE, PACKS_A_BLOCK, Player, WIDTH, checkout
+from ...common.output import Outputs, add_force, tell
+from ...common.words import Commands
+from ...songs import audio
+from ...songs.albums import Sung, sing_one
+from ...songs.document import names_of, plain_tags
+from ...songs.song_files import open_document, read_song
+from ...songs.sound_files import make_mp3, sound_of
+from ...songs.tracks import as_pair
+from ...songs.wishes import add_wishes, reads_of, wishes_of
+
+FOLDER = Path(__file__).parent
+# The picture is looked at each so many blocks, twenty-five times a second.
+EVERY = 3
+# A place of the page that is filled in.
+PART = re.compile(r"\{\{(\w+)\}\}")
+
+
+def add_parser(commands: Commands) -> None:
+    parser = commands.add_parser(
+        "look",
+        help="make a page that plays a song, to hear and see before the film",
+        description="Makes one HTML page that plays a song: its sound, its picture as the proved player shows it, and "
+        "its lines on a line of time, those that are late marked. A click jumps there, keys move a line or a syllable by "
+        "0.05 seconds, the space bar sets times anew, and the lyrics are saved as LRC with rests, line ends and names.",
+    )
+    parser.add_argument("song", type=Path, metavar="SONG", help="the lyrics")
+    parser.add_argument("--audio", type=Path, metavar="SOUND", help="the sound (the one beside SONG that has its name)")
+    add_wishes(parser)
+    parser.add_argument("-o", "--output", type=Path, required=True, metavar="PAGE.html", help="the page")
+    add_force(parser)
+    parser.set_defaults(run=run)
+
+
+def changes_of(packs: bytes) -> Iterator[bytes]:
+    """The changes of the picture, each with its block: whether colours come, the first pixel, width and height of what
+    changes, and the numbers of its colours."""
+    step = PACK * PACKS_A_BLOCK * EVERY
+    before, colours = bytes(WIDTH * HEIGHT), [0] * COLOURS
+    with Player() as player:
+        for number, at in enumerate(range(0, len(packs), step), 1):
+            part = packs[at : at + step]
+            if not any(part):
+                continue
+            if player.draw(part).is_none:
+                continue
+            pixels, shown = player.screen(), player.colours()
+            if pixels == before and shown == colours:
+                continue
+            left, top, right, bottom = box_of(before, pixels)
+            rows = [pixels[WIDTH * y + left : WIDTH * y + right] for y in range(top, bottom)]
+            head = struct.pack(
+                ">IBHHH", EVERY * number, shown != colours, WIDTH * top + left, right - left, bottom - top
+            )
+            yield head + struct.pack(">16H", *shown) * (shown != colours) + b"".join(rows)
+            before, colours = pixels, shown
+
+
+def box_of(before: bytes, after: bytes) -> tuple[int, int, int, int]:
+    """The rectangle outside of which nothing differs: left, top, right and bottom; an empty one where nothing does."""
+    rows = [y for y in range(HEIGHT) if before[WIDTH * y : WIDTH * (y + 1)] != after[WIDTH * y : WIDTH * (y + 1)]]
+    if not rows:
+        return 0, 0, 0, 0
+    differ = 0
+    for y in rows:
+        old, new = (int.from_bytes(one[WIDTH * y : WIDTH * (y + 1)], "big") for one in (before, after))
+        differ |= old ^ new
+    marks = differ.to_bytes(WIDTH, "big")
+    return WIDTH - len(marks.lstrip(b"\0")), rows[0], len(marks.rstrip(b"\0")), rows[-1] + 1
+
+
+def song_of(sung: Sung) -> dict[str, Any]:
+    """What the page knows of the song."""
+    late: dict[int, str] = {}
+    for told in sung.made.warnings():
+        number, _, why = told.partition(": line ")[2].partition(" ")
+        if number.isdecimal():
+            late[int(number)] = why.rpartition(":")[0]
+    track = sung.track
+    document, intro = open_document(track.lyrics, track.wishes.encoding), track.treatment.intro
+    # As it is in its file: letters that no font has, and all ends.
+    song = read_song(track.lyrics, track.wishes.encoding, track.treatment.later)
+    lines = [
+        {
+            "number": line.number,
+            "voice": line.voice,
+            "whole": line.is_whole,
+            "open": line.is_open,
+            "late": late.get(line.number, ""),
+            "syllables": [
+                {"text": one.text, "start": round(one.start, 3), "end": round(one.end, 3)} for one in line.syllables
+            ],
+        }
+        for line in song.lines
+    ]
+    return {
+        "title": song.title,
+        "performer": song.performer,
+        "singers": names_of(song),
+        "tags": plain_tags(song),
+        "others": document.others,
+        "rests": [round(rest + intro, 3) for rest in document.rests],
+        "inserts": [{"what": one.what, "start": one.start, "after": one.after} for one in song.inserts],
+        "name": f"{track.lyrics.stem}.lrc",
+        "seconds": sung.blocks / BLOCKS_A_SECOND,
+        "intro": intro,
+        "lines": lines,
+    }
+
+
+def sound_word(sung: Sung) -> str:
+    """The sound as a part of the page: MP3 where ffmpeg is installed, else as a disc has it."""
+    if shutil.which("ffmpeg"):
+        made = audio.new_file(".mp3")
+        make_mp3(sung.sound, sung.song, os.fspath(made))
+        return f"data:audio/mpeg;base64,{base64.b64encode(made.read_bytes()).decode()}"
+    samples = b"".join(audio.sectors(sung.sound))
+    return f"data:audio/wav;base64,{base64.b64encode(audio.header(len(samples)) + samples).decode()}"
+
+
+class Web(NamedTuple):
+    """The proved library for pages: its module and the script that calls it."""
+
+    module: Path
+    script: Path
+
+
+def web() -> Web | None:
+    """The one in the folder that RIBJASPER_WEB names, or that of the checkout or of the package, if it is built. A module
+    with a 32-bit memory comes first, since every browser runs it."""
+    named = os.environ.get("RIBJASPER_WEB")
+    folders: list[Path | None] = [Path(named)] if named is not None else [checkout("lib", "web"), PACKAGE / "web"]
+    for folder in folders:
+        for module in ("ribjasper32.wasm", "ribjasper.wasm"):
+            if folder and (folder / module).exists() and (folder / "ribjasper.mjs").exists():
+                return Web(folder / module, folder / "ribjasper.mjs")
+    return None
+
+
+def packed(content: bytes) -> str:
+    return base64.b64encode(zlib.compress(content, 9)).decode()
+
+
+def picture_parts(packs: bytes) -> dict[str, str]:
+    """What draws the picture: its changes; and before them the library and the packs, where it is built, since not every
+    browser knows modules with addresses of 64 bits."""
+    parts = {"module": "", "wasm": "", "packs": "", "changes": packed(b"".join(changes_of(packs)))}
+    if found := web():
+        parts |= {
+            "module": packed(found.script.read_bytes()),
+            "wasm": packed(found.module.read_bytes()),
+            "packs": packed(packs),
+        }
+    return parts
+
+
+def page_of(sung: Sung) -> str:
+    parts = picture_parts(as_pair(sung.packs)) | {
+        "title": html.escape(sung.song.title or sung.track.lyrics.stem),
+        "sound": sound_word(sung),
+        # What would end the script that it stands in is spelled otherwise.
+        "song": json.dumps(song_of(sung)).replace("<", "\\u003c"),
+        "script": (FOLDER / "look.js").read_text(encoding="utf-8"),
+    }
+    page = (FOLDER / "look.html").read_text(encoding="utf-8")
+    return PART.sub(lambda found: parts[found[1]], page)
+
+
+def run(arguments: argparse.Namespace) -> int:
+    sound = sound_of(arguments)
+    with Outputs([*reads_of(arguments), sound], [(arguments.output, kinds.PAGE)], arguments.force) as outputs:
+        _, sung = sing_one(arguments.song, sound, wishes_of(arguments, None))
+        page = page_of(sung).encode()
+        outputs.write(arguments.output, page)
+    tell(f"{arguments.output}: {sung.blocks / BLOCKS_A_SECOND:.1f} seconds, {len(page):,} bytes; any browser opens it")
+    return 0

@@ -1,0 +1,115 @@
+"""`picture`: the lines of a script that draw an image, in few colours and few tiles."""
+import argparse
+from pathlib import Path
+
+from ...common import kinds
+from ...common.library import BLOCKS_A_SECOND
+from ...common.output import Outputs, add_force, tell
+from ...common.planning import plan
+from ...common.targets import DASH
+from ...common.words import Commands, number_in
+from ...drawing import colours as colouring
+from ...drawing.colours import Colour
+from ...drawing.images import ONE_TRACK, PLAIN, Reading, fitted, flat_of, image_package, placed_lines, read, whole
+from ...drawing.raster import COLOURS, COLUMNS, HEIGHT, ROWS, Raster, TILE_HEIGHT, TILE_WIDTH, WIDTH, lines_between
+
+
+def colour_word(word: str) -> Colour:
+    """A colour, as an argument of the command line."""
+    colour = colouring.read_colour(word)
+    if colour is None:
+        raise argparse.ArgumentTypeError(f"{word} is no colour like #08F or #0088FF")
+    return colour
+
+
+def tile_place(word: str) -> tuple[int, int]:
+    """A tile of the window, as an argument of the command line."""
+    try:
+        column, row = map(int, word.split(","))
+    except ValueError:
+        raise argparse.ArgumentTypeError(f"{word} is no place COLUMN,ROW") from None
+    if not (0 <= column < COLUMNS and 0 <= row < ROWS):
+        raise argparse.ArgumentTypeError(f"{word} is outside: columns are 0 to {COLUMNS - 1}, rows 0 to {ROWS - 1}")
+    return column, row
+
+
+def add_parser(commands: Commands) -> None:
+    parser = commands.add_parser(
+        "picture",
+        help="write the lines of a script that draw an image",
+        description="Writes the lines of a script that draw an image: as large as the window of 288 by 192 pixels, in "
+        "sixteen colours that are chosen for it, and in few packs. An image of that size and of no more colours is "
+        "drawn pixel for pixel. A line `show READY HOLD` is yours to add.",
+    )
+    parser.add_argument("image", type=Path, metavar="IMAGE")
+    parser.add_argument("--colours", type=number_in(1, COLOURS), metavar="N", help="how many colours at most (16)")
+    parser.add_argument(
+        "--first",
+        type=number_in(0, COLOURS - 1),
+        default=0,
+        metavar="K",
+        help="use the colours from number K on, if others are taken already",
+    )
+    parser.add_argument(
+        "--at",
+        type=tile_place,
+        metavar="COLUMN,ROW",
+        help="draw it from this tile of 6 by 12 pixels on, in its own size if there is room",
+    )
+    parser.add_argument(
+        "--simple",
+        type=float,
+        default=PLAIN,
+        metavar="LOSS",
+        help="how much a tile may change to need fewer packs (2; 0 keeps all, 40 is coarse)",
+    )
+    parser.add_argument("--dither", action="store_true", help="mix colours by dots, which needs many packs")
+    parser.add_argument(
+        "--border",
+        type=colour_word,
+        metavar="COLOUR",
+        help="the colour of the border, like #08F (the one that most of the edge is near)",
+    )
+    parser.add_argument("--crop", action="store_true", help="fill the window, and cut off what is beyond")
+    parser.add_argument(
+        "--frame", type=number_in(1, 1_000_000), metavar="N", help="which frame of an image that has several"
+    )
+    parser.add_argument("-o", "--output", type=Path, metavar="FILE", help="the file (standard output)")
+    add_force(parser)
+    parser.set_defaults(run=run)
+
+
+def lines_of(arguments: argparse.Namespace) -> list[str]:
+    most = min(arguments.colours or COLOURS, COLOURS - arguments.first)
+    how = Reading(arguments.frame, arguments.crop)
+    if not arguments.at and not arguments.first:
+        return lines_between(
+            Raster(), whole(arguments.image, most, arguments.simple, arguments.dither, how, arguments.border)
+        )
+    column, row = arguments.at or (0, 0)
+    image = read(arguments.image, how)
+    room = WIDTH - TILE_WIDTH * column, HEIGHT - TILE_HEIGHT * row
+    if how.crop:
+        image = fitted(image, *room, crop=True)
+    elif image.width > room[0] or image.height > room[1] or not arguments.at:
+        scale = min(room[0] / image.width, room[1] / image.height)
+        image = image.resize(
+            (max(1, round(image.width * scale)), max(1, round(image.height * scale))), image_package().LANCZOS
+        )
+    return placed_lines(flat_of(image, most, arguments.simple, arguments.dither), column, row, arguments.first)
+
+
+def packs_of(lines: list[str]) -> int:
+    """The packs that a first picture needs."""
+    script = "".join(f"{line}\n" for line in [*lines, "show 00:01:00 00:01:00"])
+    return plan(ONE_TRACK, script.encode(), 60 * BLOCKS_A_SECOND).rows[0].need
+
+
+def run(arguments: argparse.Namespace) -> int:
+    out = arguments.output or DASH
+    with Outputs([arguments.image], [(out, kinds.SCRIPT)], arguments.force) as outputs:
+        lines = lines_of(arguments)
+        outputs.write(out, "".join(f"{line}\n" for line in lines).encode())
+    packs = packs_of(lines)
+    tell(f"as a first picture it needs {packs} packs, {packs / 300:.1f} seconds")
+    return 0

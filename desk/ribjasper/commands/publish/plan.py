@@ -1,0 +1,94 @@
+"""`plan`: a row for each picture of a script, and which of them are late."""
+import argparse
+from pathlib import Path
+
+from ...common import kinds, latin1, times
+from ...common.failures import LATE, Refusal, shown
+from ...common.output import Outputs, add_force, read_file, tell, add_json
+from ...common.planning import NoPlan, Plan, least_lead_in, plan, refused_lines
+from ...common.times import clock
+from ...common.words import Commands
+from ...drawing.charts import draw_plan
+from ...songs import audio
+
+NAMES = ("picture", "line", "ready", "hold", "need", "free", "first", "late")
+
+
+def add_length(parser: argparse.ArgumentParser) -> None:
+    """The words that tell how long the audio is."""
+    length = parser.add_mutually_exclusive_group(required=True)
+    length.add_argument("--length", type=times.blocks, metavar="MM:SS:FF", help="how long the audio is")
+    length.add_argument("--audio", type=Path, metavar="WAV", help="the audio, whose length is taken")
+
+
+def length_of(arguments: argparse.Namespace) -> int:
+    told: int = audio.length(arguments.audio) if arguments.audio else arguments.length
+    return told
+
+
+def add_parser(commands: Commands) -> None:
+    parser = commands.add_parser(
+        "plan",
+        help="list which pictures of a script are in time",
+        description="Prints for each picture of a script what it needs and what is free for it: packs, 300 a second. "
+        "Exit 4 if one is late. The words for the program's author are printed too.",
+    )
+    parser.add_argument("sheet", type=Path, metavar="SHEET", help="the cue sheet of the disc")
+    parser.add_argument("script", type=Path, metavar="SCRIPT", help="the picture script")
+    add_length(parser)
+    parser.add_argument("--chart", type=Path, metavar="FILE.png", help="draw a chart: packs needed and free over time")
+    parser.add_argument(
+        "--latin-1",
+        type=Path,
+        metavar="FILE.cue",
+        help="write the sheet with its texts in Latin-1, as players read them",
+    )
+    add_json(parser)
+    add_force(parser)
+    parser.set_defaults(run=run)
+
+
+def planned(sheet: Path, script: Path, length: int) -> Plan:
+    """The plan of two files, or a refusal that names the one that is wrong."""
+    sheet_text, script_text = read_file(sheet), read_file(script)
+    try:
+        return plan(sheet_text, script_text, length)
+    except NoPlan as none:
+        causes = refused_lines(sheet_text, script_text, length, none)
+        raise Refusal(script if none.is_of_script() else sheet, *causes) from None
+
+
+def run(arguments: argparse.Namespace) -> int:
+    reads = [arguments.sheet, arguments.script, arguments.audio]
+    writes = [(arguments.chart, kinds.PNG), (arguments.latin_1, kinds.CUE)]
+    with Outputs(reads, writes, arguments.force) as outputs:
+        length = length_of(arguments)
+        found = planned(arguments.sheet, arguments.script, length)
+        sheet = read_file(arguments.sheet)
+        if arguments.latin_1:
+            outputs.write(arguments.latin_1, latin1.as_latin_1(arguments.sheet, sheet))
+        else:
+            latin1.warn(arguments.sheet, sheet)
+        table = outputs.table(NAMES, arguments.json)
+        for number, row in enumerate(found.rows):
+            first = clock(row.first // 4)
+            table.row(
+                (
+                    number,
+                    row.line,
+                    clock(row.ready),
+                    clock(row.hold),
+                    row.need,
+                    row.free,
+                    first,
+                    "yes" if row.is_late else "no",
+                )
+            )
+        if arguments.chart:
+            outputs.write_png(arguments.chart, draw_plan(found))
+    names = shown(str(arguments.latin_1 or arguments.sheet)), shown(str(arguments.script))
+    tell(
+        f"{len(found.rows)} pictures, {len(found.late())} of them late; the disc is authored by ribjasper author "
+        f"--lead-in {least_lead_in(sheet, length)} --length {clock(length)} -- {' '.join(names)}"
+    )
+    return LATE if found.late() else 0

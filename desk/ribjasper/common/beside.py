@@ -1,0 +1,153 @@
+"""Files that wait beside where they are to stand, until all of them are written, and signals that have to wait too."""
+import atexit
+import contextlib
+import errno
+import io
+import os
+import signal
+import tempfile
+import threading
+from typing import Any, Iterator
+
+from .failures import writing
+
+# What is written waits under such a name beside where it is to stand.
+PREFIX = ".ribjasper-"
+# What a user ends a command with. Windows has SIGBREAK in place of SIGHUP.
+STOPS = tuple(getattr(signal, name) for name in ("SIGINT", "SIGTERM", "SIGHUP", "SIGBREAK") if hasattr(signal, name))
+# Why a file system has no hard links; EINVAL is what Windows says of FAT.
+NO_LINKS = (errno.EPERM, errno.EOPNOTSUPP, errno.ENOSYS, errno.EMLINK, errno.EXDEV, errno.EINVAL)
+# Files that wait beside, and the process that made them: a child of it leaves them alone.
+_waiting: dict[str, int] = {}
+
+
+def sweep() -> None:
+    """Removes what still waits beside; for the end of a command that was stopped at an unlucky moment."""
+    for part, process in list(_waiting.items()):
+        if process == os.getpid():
+            with contextlib.suppress(OSError):
+                os.unlink(part)
+        _waiting.pop(part, None)
+
+
+atexit.register(sweep)
+
+
+@contextlib.contextmanager
+def held_back() -> Iterator[None]:
+    """What is done here is not cut off by a signal, which comes right after."""
+    if not hasattr(signal, "pthread_sigmask"):
+        yield from noted()
+        return
+    before = signal.pthread_sigmask(signal.SIG_BLOCK, ())
+    try:
+        signal.pthread_sigmask(signal.SIG_BLOCK, STOPS)
+        yield
+    finally:
+        signal.pthread_sigmask(signal.SIG_SETMASK, before)
+
+
+def noted() -> Iterator[None]:
+    """The same on a system that cannot hold signals back: they are noted, and raised again at the end."""
+    if threading.current_thread() is not threading.main_thread():
+        yield
+        return
+    came: list[int] = []
+    before = {number: signal.signal(number, lambda number, _: came.append(number)) for number in STOPS}
+    try:
+        yield
+    finally:
+        for number, handler in before.items():
+            signal.signal(number, handler)
+        if came:
+            signal.raise_signal(came[0])
+
+
+def made_beside(folder: str, ending: str = "") -> tuple[int, str]:
+    """A new file that waits in a folder, and its name."""
+    with held_back():
+        number, part = tempfile.mkstemp(prefix=PREFIX, suffix=ending, dir=folder)
+        _waiting[part] = os.getpid()
+    return number, part
+
+
+def new_mode() -> int:
+    """The permissions of a new file."""
+    mask = os.umask(0)
+    os.umask(mask)
+    return 0o666 & ~mask
+
+
+class Part(io.BufferedIOBase):
+    """Where an output is written to; what the system refuses names the output."""
+
+    def __init__(self, name: str, file: Any) -> None:
+        self.name, self._file = name, file
+
+    def writable(self) -> bool:
+        return True
+
+    def seekable(self) -> bool:
+        return True
+
+    def write(self, content: Any) -> int:
+        with writing(self.name):
+            return int(self._file.write(content))
+
+    def seek(self, place: int, whence: int = 0) -> int:
+        with writing(self.name):
+            self._file.seek(place, whence)
+            return int(self._file.tell())
+
+    def tell(self) -> int:
+        return int(self._file.tell())
+
+    def flush(self) -> None:
+        if not self._file.closed:
+            with writing(self.name):
+                self._file.flush()
+
+    def close(self) -> None:
+        if not self._file.closed:
+            with writing(self.name):
+                self._file.close()
+        super().close()
+
+
+def give_name(part: str, path: str) -> None:
+    """Gives a file a name that no other has."""
+    try:
+        os.link(part, path)
+    except OSError as error:
+        if error.errno not in NO_LINKS or os.path.lexists(path):
+            raise
+        os.rename(part, path)
+
+
+def keep_folder(folder: str) -> None:
+    """Brings the names in a folder to the disk, if the file system does so. Windows opens no folder."""
+    if not hasattr(os, "O_DIRECTORY"):
+        return
+    with contextlib.suppress(OSError):
+        number = os.open(folder, os.O_RDONLY | os.O_DIRECTORY)
+        try:
+            os.fsync(number)
+        finally:
+            os.close(number)
+
+
+def link_or_move(path: str, kept: str) -> None:
+    """Gives a file a second name, or where there are none another one."""
+    try:
+        os.link(path, kept)
+    except OSError as error:
+        if error.errno not in NO_LINKS:
+            raise
+        os.rename(path, kept)
+
+
+def forget(part: str) -> None:
+    """Removes a file that waited, if it is there still."""
+    with contextlib.suppress(OSError):
+        os.unlink(part)
+    _waiting.pop(part, None)

@@ -1,0 +1,172 @@
+"""What can go wrong outside, the line that says so, and what the desk then ends with."""
+import contextlib
+import os
+import warnings
+from typing import Iterator, NamedTuple
+
+
+Name = str | bytes | os.PathLike[str] | os.PathLike[bytes]
+# What the desk ends with beside 0. Damage was found, or files differ: that is an answer, and no failure.
+FOUND = 1
+# The words of the call are wrong.
+USAGE = 2
+# A file cannot be used: an input that is not what it should be, or an output that would take the place of another file.
+REFUSED = 3
+# A picture is late.
+LATE = 4
+# A package, a program or the library is not there.
+MISSING = 5
+# An output cannot be written.
+UNWRITTEN = 6
+# The memory is not enough.
+NO_MEMORY = 7
+# Something that the desk should have known of.
+FAULT = 8
+# There is nothing to do.
+NOTHING = 9
+# A signal ended it: this and the signal's number.
+STOPPED = 128
+
+
+def shown(name: str) -> str:
+    """A name on one line: as it is, but backslash, tab and ends of lines written with a backslash."""
+    marks = (("\\", "\\\\"), ("\t", "\\t"), ("\n", "\\n"), ("\r", "\\r"))
+    for mark, spelled in marks:
+        name = name.replace(mark, spelled)
+    return name
+
+
+class Failure(Exception):
+    """Why a command cannot go on, in lines that name a file, and what the desk then ends with."""
+
+    status: int = REFUSED
+
+    def __init__(self, *lines: str) -> None:
+        super().__init__("\n".join(lines))
+        self.lines = lines
+
+
+class Refusal(Failure):
+    """A file that cannot be used, and each reason why."""
+
+    def __init__(self, path: Name, *causes: str) -> None:
+        name = shown(os.fsdecode(path))
+        super().__init__(*(f"{name}: {cause}" for cause in causes))
+        self.cause = "; ".join(causes)
+
+
+class Unwritten(Refusal):
+    """An output that cannot be written, and why."""
+
+    status = UNWRITTEN
+
+
+class NoMemory(Refusal):
+    status = NO_MEMORY
+
+
+class Missing(Failure):
+    """Something that has to be installed or built first."""
+
+    status = MISSING
+
+
+class Nothing(Failure):
+    """Nothing to do."""
+
+    status = NOTHING
+
+
+class Fault(Refusal):
+    """Something that the desk should have known of."""
+
+    status = FAULT
+
+
+class Several(Failure):
+    """Failures that are told together; the first one's status is what the desk ends with."""
+
+    def __init__(self, failures: list[Failure]) -> None:
+        super().__init__(*(line for failure in failures for line in failure.lines))
+        self.status = failures[0].status
+
+
+class Refusals:
+    """Collects what is wrong with a file, so that all of it is told at once."""
+
+    def __init__(self, path: Name) -> None:
+        self.path, self.causes = path, list[str]()
+
+    def add(self, cause: str) -> None:
+        self.causes.append(cause)
+
+    def end(self) -> None:
+        """Refuses the file if anything is wrong with it."""
+        if self.causes:
+            raise Refusal(self.path, *self.causes)
+
+
+class Outside(NamedTuple):
+    """What an exception means: how the line goes on, and what kind of failure it is."""
+
+    cause: str
+    failure: type[Refusal]
+
+
+# By the names of exceptions, so that no package is loaded for the sake of its exceptions. What has no line of its own
+# has that of its nearest base.
+OUTSIDE = {
+    "MemoryError": Outside("there is not enough memory for it", NoMemory),
+    "RecursionError": Outside("is nested too deeply", Refusal),
+    "UnidentifiedImageError": Outside("is no image that can be read", Refusal),
+    "DecompressionBombError": Outside("has too many pixels for an image", Refusal),
+    "DecompressionBombWarning": Outside("has too many pixels for an image", Refusal),
+    "UnicodeDecodeError": Outside("is no text in UTF-8", Refusal),
+    "EOFError": Outside("ends too early", Refusal),
+    "Error": Outside("cannot be read", Refusal),
+    "error": Outside("cannot be read", Refusal),
+    "OSError": Outside("", Refusal),
+}
+
+
+def cause(error: OSError) -> str:
+    """Why the system refused, in its own words."""
+    return (error.strerror or str(error) or type(error).__name__).lower()
+
+
+def failure_of(error: BaseException, path: Name, writing: bool = False) -> Failure:
+    """What an exception means that came while a file was read or written."""
+    if isinstance(error, Failure):
+        return error
+    for base in type(error).__mro__:
+        if base.__name__ in OUTSIDE:
+            outside = OUTSIDE[base.__name__]
+            said = cause(error) if isinstance(error, OSError) and not outside.cause else outside.cause
+            return Unwritten(path, said) if writing and isinstance(error, OSError) else outside.failure(path, said)
+    where = error.__traceback__
+    while where and where.tb_next:
+        where = where.tb_next
+    at = f"{os.path.basename(where.tb_frame.f_code.co_filename)}:{where.tb_lineno}" if where else "?"
+    said = f"a fault of the desk, which should have known what this is: {type(error).__name__}: {error} ({at})"
+    return Fault(path, shown(said))
+
+
+@contextlib.contextmanager
+def reading(path: Name) -> Iterator[None]:
+    """Whatever goes wrong outside while a file is read is a failure that names it."""
+    try:
+        with warnings.catch_warnings():
+            # Pillow only warns of a picture that is half as large as what it refuses.
+            warnings.filterwarnings("error", ".*decompression bomb")
+            yield
+    except Exception as error:
+        raise failure_of(error, path) from None
+
+
+@contextlib.contextmanager
+def writing(path: Name) -> Iterator[None]:
+    """Whatever the system refuses while a file is written is a failure that names it."""
+    try:
+        yield
+    except (OSError, MemoryError) as error:
+        raise failure_of(error, path, writing=True) from None

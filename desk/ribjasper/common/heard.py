@@ -1,0 +1,66 @@
+"""The files that this process opens to read, whoever asks for them: a command reads more files than its arguments name, as
+the files beside a dump. None of them may be overwritten."""
+import contextlib
+import os
+import stat
+import sys
+from typing import Any, Iterator
+
+Identity = tuple[object, ...]
+
+
+class Heard:
+    """The regular files that were opened to read since this was made, by what two names of a file have in common."""
+
+    def __init__(self) -> None:
+        self.files: dict[Identity, str] = {}
+
+
+_listening: list[Heard] = []
+_paused = 0
+
+
+def _opened(event: str, arguments: tuple[Any, ...]) -> None:
+    """Python calls this before it opens a file, in its own code and in packages."""
+    if event != "open" or not _listening or _paused:
+        return
+    # Nothing that goes wrong here may keep a file from being opened.
+    with contextlib.suppress(Exception):
+        path, _, flags = arguments
+        if isinstance(path, int) or flags & os.O_ACCMODE != os.O_RDONLY or flags & os.O_CREAT:
+            return
+        found = os.stat(path)
+        if stat.S_ISREG(found.st_mode):
+            for heard in _listening:
+                heard.files[found.st_dev, found.st_ino] = os.fsdecode(path)
+
+
+_is_installed = False
+
+
+def begin() -> Heard:
+    """Listens from now on, until `end` is called."""
+    global _is_installed
+    if not _is_installed:
+        # A hook stays for the life of the process.
+        sys.addaudithook(_opened)
+        _is_installed = True
+    heard = Heard()
+    _listening.append(heard)
+    return heard
+
+
+def end(heard: Heard) -> None:
+    with contextlib.suppress(ValueError):
+        _listening.remove(heard)
+
+
+@contextlib.contextmanager
+def paused() -> Iterator[None]:
+    """Files that are opened in here are only looked at, as an output that is there already."""
+    global _paused
+    _paused += 1
+    try:
+        yield
+    finally:
+        _paused -= 1

@@ -1,0 +1,98 @@
+"""Kinds of files that commands write, and how one that is there already is known to be of a kind."""
+import os
+import re
+from typing import Callable, NamedTuple
+
+
+# So many of a file's first bytes are looked at.
+LOOKED_AT = 1 << 16
+PNG_MARK = b"\x89PNG\r\n\x1a\n"
+# What the pages of the desk have near their beginning.
+PAGE_MARK = b'<meta name="generator" content="ribjasper-desk">'
+
+
+class Kind(NamedTuple):
+    """What a command writes: a name; and how such a file is known: by its first bytes and its size, by the ending of its
+    name, or by both. What is known by neither is replaced with --force alone. Other programs and people make files of a
+    recorded kind too, so only those that the desk wrote itself are replaced."""
+
+    name: str
+    looks: Callable[[bytes, int], bool] | None = None
+    endings: tuple[str, ...] = ()
+    is_recorded: bool = False
+
+    @property
+    def can_be_known(self) -> bool:
+        return self.looks is not None or bool(self.endings)
+
+    def has(self, path: str) -> bool:
+        """Whether a file is of this kind, or holds nothing."""
+        size = os.path.getsize(path)
+        if not size:
+            return True
+        if self.endings and not path.lower().endswith(self.endings):
+            return False
+        if self.looks is None:
+            return bool(self.endings) or self.is_recorded
+        with open(path, "rb") as file:
+            return self.looks(file.read(LOOKED_AT), size)
+
+
+def begins(*marks: bytes) -> Callable[[bytes, int], bool]:
+    """Files that begin with one of these."""
+    return lambda head, _: head.startswith(marks)
+
+
+def lines_like(pattern: bytes) -> Callable[[bytes, int], bool]:
+    """Texts each of whose lines, as far as they are looked at, begins so, or is empty."""
+    like = re.compile(rb"[ \t]*(?:(?:" + pattern + rb")(?![A-Za-z0-9_])|\r?$)", re.IGNORECASE)
+
+    def looks(head: bytes, size: int) -> bool:
+        lines = head.removeprefix(b"\xef\xbb\xbf").split(b"\n")
+        whole = lines if size <= len(head) else lines[:-1]
+        return b"\0" not in head and bool(whole) and all(like.match(line) for line in whole)
+
+    return looks
+
+
+def _is_film(head: bytes, _: int) -> bool:
+    """The marks of ISO media files, Matroska and WebM, AVI, Ogg, FLV, MPEG streams and GIF."""
+    marks = (b"\x1aE\xdf\xa3", b"OggS", b"FLV\1", b"\0\0\1\xba", b"GIF8", b"G@")
+    return head[4:8] == b"ftyp" or head.startswith(marks) or (head.startswith(b"RIFF") and head[8:12] == b"AVI ")
+
+
+def _is_text_packs(head: bytes, size: int) -> bool:
+    """Packs of 18 bytes whose first byte is that of a kind of text, with four bytes in front or without."""
+    at = size % 18
+    return at in (0, 1, 4, 5) and size >= 18 and 0x80 <= head[at & 4] <= 0x8F
+
+
+PNG = Kind("a PNG picture", begins(PNG_MARK), is_recorded=True)
+CDG = Kind("a .cdg file", endings=(".cdg",), is_recorded=True)
+STREAM = Kind("a stream", is_recorded=True)
+IMAGE = Kind("a disc image", lambda head, size: size % 2448 == 0, (".bin",), is_recorded=True)
+CUE = Kind(
+    "a cue sheet",
+    lines_like(rb"REM|CATALOG|CDTEXTFILE|FILE|TRACK|INDEX|PREGAP|POSTGAP|FLAGS|ISRC|TITLE|PERFORMER|SONGWRITER"),
+    is_recorded=True,
+)
+TOC = Kind("a sheet for cdrdao", begins(b"CD_DA\n"), is_recorded=True)
+SCRIPT = Kind("a picture script", lines_like(rb"#.*|colour|border|fill|rect|row|show"), is_recorded=True)
+TEXT_PACKS = Kind("a file of text packs", _is_text_packs, is_recorded=True)
+FILM = Kind("a film", _is_film, is_recorded=True)
+TABLE = Kind("a table of a report", begins(b"file\tstatus\t"))
+ROWS = Kind("the rows of a report", begins(b'{"file": '))
+PAGE = Kind("a page of the desk", lambda head, _: PAGE_MARK in head[:1000])
+ZIP = Kind("a ZIP file", begins(b"PK\3\4"), is_recorded=True)
+ALBUM = Kind("a list of songs", is_recorded=True)
+SOUND = Kind("a sound of this song", is_recorded=True)
+CCD = Kind("a sheet of CloneCD", begins(b"[CloneCD]"), is_recorded=True)
+TABLE_OF_BLOCKS = Kind("a table of blocks", begins(b"block\ttime\tblocks\n", b"pack\ttime\tpacks\n"))
+# A map of a rescue by ddrescue itself begins otherwise.
+DDRESCUE = Kind("a map of a mended stream", begins(b"# Mapfile of the mended stream", b"# Mapfile of the mended packs"))
+SBI = Kind("a list of changed frames", begins(b"SBI\0"), is_recorded=True)
+LSD = Kind("a list of changed frames", lambda head, size: size % 15 == 0, (".lsd",), is_recorded=True)
+DAT = Kind("a list of checksums", lambda head, _: head.startswith(b"<?xml") and b"<datafile>" in head, is_recorded=True)
+AGAIN = Kind("a list of sectors to read again", is_recorded=True)
+SUBMISSION = Kind("a description of a disc", is_recorded=True)
+LIST_OF_PLACES = Kind("a list of places", begins(b"kind\tfirst\tlast\t"))

@@ -1,0 +1,172 @@
+"""What the library's plan of a disc says: what each picture of a script needs, or why there is no plan."""
+import enum
+import struct
+from typing import NamedTuple
+
+from .library import LONGEST_LEAD_IN, NO_MEMORY, PlanRow, Planned, call
+from .times import clock
+
+# As many pictures as a script may have.
+MOST_PICTURES = 20_000
+PLANNED, LATE, NOT_PLANNED = 0, 4, 3
+# A row of the plan as it lies in memory: six numbers, whether it is late, and three bytes.
+ROW = struct.Struct("=6I?3x")
+
+
+class Reason(enum.IntEnum):
+    """A reason by its number in the header."""
+
+    @property
+    def word(self) -> str:
+        """As the program spells it."""
+        return self.name.lower().replace("_", "-")
+
+
+class Why(Reason):
+    """Why there is no plan."""
+
+    TEXT_TOO_LONG = 1
+    SHEET_REFUSED = 2
+    SCRIPT_REFUSED = 3
+    LENGTH_SHORT = 4
+    DISC_TOO_LONG = 5
+    PAST_END = 6
+    CD_TEXT_TOO_LONG = 7
+    LEAD_IN_SHORT = 8
+
+
+class SheetWhy(Reason):
+    UNKNOWN_COMMAND = 1
+    SECOND_FILE = 2
+    MISPLACED = 3
+    BAD_ARGUMENT = 4
+    REPEATED = 5
+    NO_INDEX = 6
+    NOT_AUDIO = 7
+    NUMBER_ORDER = 8
+    INDEX_ORDER = 9
+    TIME_ORDER = 10
+    NO_FILE = 11
+    NO_TRACK = 12
+
+
+class ScriptWhy(Reason):
+    UNKNOWN_COMMAND = 1
+    BAD_ARGUMENT = 2
+    OUT_OF_RANGE = 3
+    TIME_ORDER = 4
+    TOO_MANY = 5
+
+
+class PlannedPicture(NamedTuple):
+    """A picture: its line in the script; blocks of the program; packs."""
+
+    line: int
+    ready: int
+    hold: int
+    need: int
+    free: int
+    first: int
+    is_late: bool
+
+
+class Plan(NamedTuple):
+    """What each picture needs, and the blocks of the program."""
+
+    rows: list[PlannedPicture]
+    blocks: int
+
+    def late(self) -> list[int]:
+        """The numbers of the pictures that are late."""
+        return [number for number, row in enumerate(self.rows) if row.is_late]
+
+
+class NoPlan(Exception):
+    """Why there is none: the reason, its line, and its number."""
+
+    def __init__(self, why: int, line: int, number: int) -> None:
+        self.why, self.line, self.number = Why(why), line, number
+        super().__init__(self.cause())
+
+    def is_of_script(self) -> bool:
+        return self.why in (Why.SCRIPT_REFUSED, Why.PAST_END)
+
+    def cause(self) -> str:
+        number = self.number
+        match self.why:
+            case Why.TEXT_TOO_LONG:
+                return "a text has more than 67,108,864 bytes"
+            case Why.SHEET_REFUSED:
+                return f"line {self.line}: {SheetWhy(number).word}"
+            case Why.SCRIPT_REFUSED:
+                return f"line {self.line}: {ScriptWhy(number).word}"
+            case Why.LENGTH_SHORT:
+                return f"its index lines need an audio of {clock(number)} at least"
+            case Why.DISC_TOO_LONG:
+                return f"the disc would have {number} blocks, and 449,999 are the most"
+            case Why.PAST_END:
+                return f"its last picture is held beyond the end of the disc, which is at {clock(number)}"
+            case Why.CD_TEXT_TOO_LONG:
+                return f"its texts need {number} packs, and 256 are the most"
+            case Why.LEAD_IN_SHORT:
+                return f"the lead-in needs {number} blocks at least"
+
+
+def plan(sheet: bytes, script: bytes, audio: int, lead_in: int = LONGEST_LEAD_IN) -> Plan:
+    """The plan of a disc with an audio of so many blocks, or NoPlan."""
+    rows, told = (PlanRow * MOST_PICTURES)(), Planned()
+    status = call("ribjasper_plan")(sheet, len(sheet), script, len(script), lead_in, audio, rows, MOST_PICTURES, told)
+    if status == NO_MEMORY:
+        raise MemoryError
+    if status == NOT_PLANNED:
+        raise NoPlan(told.why, told.line, told.number)
+    if status not in (PLANNED, LATE):
+        raise ValueError(f"ribjasper_plan answers {status}")
+    listed = memoryview(rows).cast("B")[: ROW.size * told.pictures]
+    return Plan([PlannedPicture._make(row) for row in ROW.iter_unpack(listed)], told.blocks)
+
+
+# So many refused lines of a text are told.
+MOST_TOLD = 20
+# What later lines of a sheet depend on: if one of these is refused, what follows cannot be judged.
+NEEDED_LATER = (b"FILE", b"TRACK", b"INDEX")
+
+
+def refused_lines(sheet: bytes, script: bytes, audio: int, first: NoPlan) -> list[str]:
+    """Each line of a sheet or of a script that is refused, the first one before the others: a line that was refused is left
+    empty, and the library is asked again."""
+    causes, none = [first.cause()], first
+    while none.why in (Why.SHEET_REFUSED, Why.SCRIPT_REFUSED) and len(causes) < MOST_TOLD:
+        rest = without_line(script if none.is_of_script() else sheet, none.line)
+        if rest is None:
+            break
+        sheet, script = (sheet, rest) if none.is_of_script() else (rest, script)
+        try:
+            plan(sheet, script, audio)
+            break
+        except NoPlan as other:
+            if other.why != first.why:
+                break
+            none = other
+            causes.append(none.cause())
+    return causes
+
+
+def without_line(text: bytes, number: int) -> bytes | None:
+    """A text with an empty line in place of one on which no other depends."""
+    lines = text.split(b"\n")
+    if number > len(lines) or lines[number - 1].lstrip().upper().startswith(NEEDED_LATER):
+        return None
+    lines[number - 1] = b""
+    return b"\n".join(lines)
+
+
+def least_lead_in(sheet: bytes, audio: int) -> int:
+    """How many blocks of lead-in a sheet needs for its table of contents and its texts."""
+    try:
+        plan(sheet, b"", audio, 1)
+    except NoPlan as none:
+        if none.why != Why.LEAD_IN_SHORT:
+            raise
+        return none.number
+    return 1

@@ -1,0 +1,1 @@
+"""Pictures: colours, rasters, letters, images and charts."""

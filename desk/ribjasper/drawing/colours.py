@@ -1,0 +1,119 @@
+"""Colours of twelve bits, four each of red, green and blue, and the few of them that stand for many."""
+import functools
+import math
+import re
+from collections import Counter
+from typing import Iterable, NamedTuple, Sequence
+
+
+SPELLED = re.compile(r"#?([0-9A-Fa-f]{3}|[0-9A-Fa-f]{6})")
+
+
+class Colour(NamedTuple):
+    """Red, green and blue, each from 0 to 15."""
+
+    red: int
+    green: int
+    blue: int
+
+    def word(self) -> str:
+        """As a script names it: `0RGB`."""
+        return f"0{self.red:X}{self.green:X}{self.blue:X}"
+
+    def lightness(self) -> float:
+        """How light it is, from 0 to 1: the relative luminance of sRGB."""
+        return sum(weight * linear(part / 15) for weight, part in zip((0.2126, 0.7152, 0.0722), self))
+
+    def far_from(self, other: "Colour") -> int:
+        """How different two colours look: green counts most, blue least."""
+        red, green, blue = self.red - other.red, self.green - other.green, self.blue - other.blue
+        return 3 * red * red + 6 * green * green + blue * blue
+
+
+def linear(part: float) -> float:
+    """The light that a part of an sRGB colour stands for."""
+    return part / 12.92 if part <= 0.04045 else math.pow((part + 0.055) / 1.055, 2.4)
+
+
+def contrast(first: Colour, second: Colour) -> float:
+    """How well one stands out against the other, from 1 to 21: the contrast ratio of WCAG 2."""
+    dark, light = sorted((first.lightness(), second.lightness()))
+    return (light + 0.05) / (dark + 0.05)
+
+
+def read_colour(word: str) -> Colour | None:
+    """A colour that is spelled `#RGB` or `#RRGGBB`, or nothing."""
+    found = SPELLED.fullmatch(word)
+    if not found:
+        return None
+    if len(found[1]) == 3:
+        return Colour(*(int(digit, 16) for digit in found[1]))
+    return near(*bytes.fromhex(found[1]))
+
+
+@functools.lru_cache(maxsize=1 << 16)
+def near(red: int, green: int, blue: int) -> Colour:
+    """The colour nearest to one of three bytes."""
+    return Colour(*((part + 8) // 17 for part in (red, green, blue)))
+
+
+def blend(first: Colour, second: Colour, part: float) -> Colour:
+    """A colour between two: the first at 0, the second at 1."""
+    return Colour(*(round(one + (two - one) * part) for one, two in zip(first, second)))
+
+
+def nearest(colour: Colour, among: Sequence[Colour]) -> int:
+    """The place of the colour that looks most like this one."""
+    return min(range(len(among)), key=lambda place: colour.far_from(among[place]))
+
+
+def chosen(pixels: Iterable[Colour], most: int) -> list[Colour]:
+    """At most so many colours that stand best for these pixels, those that are frequent first."""
+    weights = Counter(pixels)
+    if len(weights) <= most:
+        return [colour for colour, _ in weights.most_common()]
+    few = spread(weights, most)
+    for _ in range(12):
+        better = [mean(group, weights) for group in groups(weights, few) if group]
+        better = list(dict.fromkeys(better))
+        better += farthest(weights, better, most - len(better))
+        if better == few:
+            break
+        few = better
+    count = Counter(
+        {place: sum(weights[colour] for colour in group) for place, group in enumerate(groups(weights, few))}
+    )
+    return [few[place] for place, _ in count.most_common()]
+
+
+def spread(weights: Counter[Colour], most: int) -> list[Colour]:
+    """The most frequent colour, and then always the one that is worst shown by those before."""
+    first = weights.most_common(1)[0][0]
+    return [first, *farthest(weights, [first], most - 1)]
+
+
+def farthest(weights: Counter[Colour], few: list[Colour], count: int) -> list[Colour]:
+    """So many more colours, each the one that is worst shown by all before it, weighed by its pixels."""
+    error = {colour: min(colour.far_from(one) for one in few) for colour in weights}
+    more: list[Colour] = []
+    for _ in range(count):
+        worst = max(weights, key=lambda colour: error[colour] * math.sqrt(weights[colour]))
+        if not error[worst]:
+            break
+        more.append(worst)
+        for colour in error:
+            error[colour] = min(error[colour], colour.far_from(worst))
+    return more
+
+
+def groups(weights: Counter[Colour], few: Sequence[Colour]) -> list[list[Colour]]:
+    """The colours that each of the few stands for."""
+    parts: list[list[Colour]] = [[] for _ in few]
+    for colour in weights:
+        parts[nearest(colour, few)].append(colour)
+    return parts
+
+
+def mean(group: Sequence[Colour], weights: Counter[Colour]) -> Colour:
+    total = sum(weights[colour] for colour in group)
+    return Colour(*(round(sum(colour[part] * weights[colour] for colour in group) / total) for part in range(3)))

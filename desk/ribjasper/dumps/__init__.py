@@ -1,0 +1,1 @@
+"""Dumps of discs: their forms, surveys, readings and texts."""

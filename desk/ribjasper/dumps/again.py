@@ -1,0 +1,156 @@
+"""What is to be read again of a disc: sectors whose subcode is damaged or missing, and those of which the drive was unsure, as
+lists for rippers and as a map of ddrescue."""
+import re
+from typing import Callable, Iterable, NamedTuple, Sequence
+
+from ..common.times import PAUSE, spelled
+from .drive_errors import DriveErrors
+from .loading import Loaded
+from .q_source import Source
+from .survey import Clock, Run, either, runs
+
+# The words that are complete with a block are spread over it and the two before it.
+SPREAD = 2
+# Runs that are no further apart are read as one.
+NEAR = 2
+# ddrescue reads a drive in sectors of user data.
+DRIVE_SECTOR = 2048
+BAD_Q, LOST, EMPTY, DRIVE, MISSING = "q", "words", "empty", "drive", "missing"
+
+
+class Again(NamedTuple):
+    """Sectors that are to be read again, by their logical block addresses, the first and the last; and why."""
+
+    first: int
+    last: int
+    why: tuple[str, ...]
+
+
+class Wanted(NamedTuple):
+    """All that is to be read again; the sectors of the program, from the first up to the end; and how many damaged blocks have
+    no known address."""
+
+    parts: list[Again]
+    first: int
+    end: int
+    unplaced: int
+
+
+def widened(column: bytes) -> bytes:
+    """A column that is also set in the blocks over which the words of a block are spread."""
+    moved = [column[step:] + bytes(step) for step in range(SPREAD + 1)]
+    return either(*moved)
+
+
+def wanted(loaded: Loaded, errors: DriveErrors | None = None) -> Wanted:
+    """What is to be read again of a dump. Blocks that were not read in front of the program and behind it are not."""
+    survey, source = loaded.survey, Source(loaded)
+    unread = bytes(0 if it else 255 for it in survey.unread_column())
+    reasons = {
+        BAD_Q: survey.bad_frames,
+        LOST: widened(survey.column("bad")),
+        EMPTY: survey.empty,
+        DRIVE: errors.mask if errors else bytes(survey.blocks),
+    }
+    found: list[tuple[int, int, str]] = []
+    unplaced = 0
+    for why, column in reasons.items():
+        for run in runs(masked(column, unread)):
+            for part in pieces(source.clock, run):
+                if part is None or part[0] < PAUSE:
+                    unplaced += 1
+                else:
+                    found.append((part[0] - PAUSE, part[1] - PAUSE, why))
+    for _, before, after in source.clock.jumps():
+        if source.is_in_order(after) and after.time > before + 1:
+            found.append((before + 1 - PAUSE, after.time - 1 - PAUSE, MISSING))
+    times = [it.time for it in source.stretches], [it.last + it.shift + 1 for it in source.stretches]
+    first, end = (min(times[0]) - PAUSE, max(times[1]) - PAUSE) if source.stretches else (0, 0)
+    return Wanted(merged(found), max(0, first), end, unplaced)
+
+
+def masked(column: bytes, mask: bytes) -> bytes:
+    return (int.from_bytes(column, "little") & int.from_bytes(mask, "little")).to_bytes(len(column), "little")
+
+
+def pieces(clock: Clock, run: Run) -> Iterable[tuple[int, int] | None]:
+    """The absolute times of neighbouring blocks, in parts that go on by one."""
+    part: list[int] | None = None
+    for block in range(run.first, run.last + 1):
+        time = clock.time(block)
+        if part is not None and time is not None and time == part[1] + 1:
+            part[1] = time
+            continue
+        if part is not None:
+            yield part[0], part[1]
+        part = None if time is None else [time, time]
+        if time is None:
+            yield None
+    if part is not None:
+        yield part[0], part[1]
+
+
+def merged(parts: Iterable[tuple[int, int, str]]) -> list[Again]:
+    """Parts in order, near ones as one."""
+    found: list[tuple[int, int, set[str]]] = []
+    for first, last, why in sorted(parts):
+        if found and first <= found[-1][1] + NEAR + 1:
+            before = found.pop()
+            found.append((before[0], max(before[1], last), before[2] | {why}))
+        else:
+            found.append((first, last, {why}))
+    return [Again(first, last, tuple(sorted(whys))) for first, last, whys in found]
+
+
+NAMES = ("first-lba", "last-lba", "from", "to", "sectors", "why")
+
+
+def table(of: Wanted) -> str:
+    """Both addresses and times, and why."""
+    rows: list[Sequence[object]] = [NAMES]
+    for it in of.parts:
+        times = spelled(it.first + PAUSE), spelled(it.last + PAUSE)
+        rows.append((it.first, it.last, *times, it.last - it.first + 1, ",".join(it.why)))
+    return "".join("\t".join(map(str, row)) + "\n" for row in rows)
+
+
+def ddrescue(of: Wanted) -> str:
+    """A map that `ddrescue -b 2048` goes on with: what is to be read again is a bad area, all else is finished."""
+    lines = ["# Mapfile. Sectors to read again, of 2048 bytes", "# current_pos  current_status  current_pass"]
+    lines += ["0x00000000     ?               1", "#      pos        size  status"]
+    place = 0
+    for it in of.parts:
+        if it.first > place:
+            lines.append(area(place, it.first, "+"))
+        lines.append(area(it.first, it.last + 1, "-"))
+        place = it.last + 1
+    if of.end > place:
+        lines.append(area(place, of.end, "+"))
+    return "".join(f"{line}\n" for line in lines)
+
+
+def area(first: int, end: int, status: str) -> str:
+    return f"0x{DRIVE_SECTOR * first:08X}  0x{DRIVE_SECTOR * (end - first):08X}  {status}"
+
+
+def lines(of: Wanted, spell: Callable[[int, int], str]) -> str:
+    """A line for each part, of its first sector and the one behind its last."""
+    return "".join(f"{spell(it.first, it.last + 1)}\n" for it in of.parts)
+
+
+def span(first: int, end: int) -> str:
+    """A span of cdparanoia: its first and its last sector."""
+    begin, last = (re.sub(r":(\d\d)$", r".\1", spelled(time)) for time in (first, end - 1))
+    return f"[{begin}]-[{last}]"
+
+
+# How a list is written, by its name.
+FORMATS: dict[str, Callable[[Wanted], str]] = {
+    "table": table,
+    "lba": lambda of: lines(of, lambda first, end: f"{first}-{end - 1}"),
+    "msf": lambda of: lines(of, lambda first, end: f"{spelled(first + PAUSE)}-{spelled(end - 1 + PAUSE)}"),
+    "ddrescue": ddrescue,
+    "redumper": lambda of: lines(of, lambda first, end: f"--lba-start={first} --lba-end={end}"),
+    "readcd": lambda of: lines(of, lambda first, end: f"sectors={first}-{end}"),
+    "cdparanoia": lambda of: lines(of, span),
+}

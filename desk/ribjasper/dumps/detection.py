@@ -1,0 +1,306 @@
+"""Finds the form of a dump, by trying each: how much of what is not empty a form explains."""
+import math
+import re
+from typing import Iterator, NamedTuple, Sequence
+
+from ..common import library
+from ..common.library import BLOCK, PACK, RAW
+from .dump import Dump
+from .forms import Coding, FORMS, Form, Order, PLAIN_FORMS, subcode
+from .survey import Survey
+
+# A form is tried in windows of so many bytes, the same bytes for each form. Windows of a few places are looked at, until
+# enough of them are not empty; where these tell nothing, more of all places.
+WINDOW, FEW, ENOUGH, MANY = 1 << 17, 64, 12, 64
+# How often random bytes are good by chance: a Q frame of any kind, one with fields of its own, one with fields and no check, a
+# word with a codeword near it, and the first symbols of a pack of graphics.
+CHANCE_FRAME, CHANCE_FIELDS, CHANCE_UNCHECKED, CHANCE_WORD, CHANCE_PACK = 2**-16, 1e-9, 1e-5, 1.6e-5, 9 / 4096
+# How unlikely chance has to be.
+UNLIKELY = 1e-8
+# A form that explains so much of what is not empty is taken at once; one that explains less than so much of what the best
+# one does is none; and from so much on it is as much.
+SURE, COMPARABLE, AS_MUCH = 0.9, 0.7, 0.95
+# Where the best form explains so much, no stranger ones are tried.
+LIKELY_BY_Q, LIKELY_BY_WORDS = 0.2, 0.5
+# Q tells before words do, unless it explains less than so much and words are likely.
+LITTLE = 0.05
+# The share of packs of graphics that a file of packs without parity has at least, and of words of what is not idle.
+LEAST_PACKS, LEAST_WORDS = 0.2, 0.05
+# The share of frames with fields of what is not empty, where their checks may be missing.
+LEAST_UNCHECKED = 0.25
+# A header that is longer than a unit ends, up to here, where a frame is good or a block empty.
+MOST_HEADER = 4096
+# What is strange is tried in so many windows; where the length of a file does not tell its header, so many units of them at
+# each byte, or of sectors at each fourth one.
+STRANGE_WINDOWS, TRIED_UNITS, SECTOR_STEP = 3, 20, 4
+GRAPHICS = 9
+# The instructions of graphics that there are.
+INSTRUCTIONS = frozenset((1, 2, 6, 20, 24, 28, 30, 31, 38))
+
+
+class Window(NamedTuple):
+    """Bytes of a file, from one on."""
+
+    start: int
+    content: bytes
+
+
+class Signs(NamedTuple):
+    """What speaks for a form: how many Q frames are not empty, how many of them are good, and how many have fields of their
+    own; how many words carry something, of how many that are not idle, and of how many in all."""
+
+    frames: int = 0
+    good: int = 0
+    fields: int = 0
+    carrying: int = 0
+    busy: int = 0
+    words: int = 0
+
+    def against(self) -> str:
+        frames = f"{self.good} of {self.frames} Q frames are good, " if self.frames else "there is no Q, "
+        return f"{frames}{self.carrying} of {self.words} words carry something"
+
+
+class Explained(NamedTuple):
+    """Whether Q tells, or the words do; the share that is good of what is not empty; and how many frames, or words, are."""
+
+    by_q: bool
+    share: float
+    size: int
+
+
+class Found(NamedTuple):
+    """A form, the bytes of the header in front of it, and what speaks for it."""
+
+    form: Form
+    skip: int
+    signs: Signs
+
+    def explained(self) -> Explained | None:
+        """What this form explains, or none where chance explains as much."""
+        it = self.signs
+        if self.form.coding is Coding.PQ:
+            # A check that is not there is right in any unit: here the fields tell.
+            is_so = it.fields >= LEAST_UNCHECKED * it.frames and is_no_chance(it.fields, it.frames, CHANCE_UNCHECKED)
+            return Explained(True, it.fields / it.frames, it.fields) if is_so else None
+        if is_no_chance(it.good, it.frames, CHANCE_FRAME) or is_no_chance(it.fields, it.frames, CHANCE_FIELDS):
+            return Explained(True, it.good / max(it.frames, it.good), it.good)
+        if self.form.coding is Coding.CDG:
+            is_so = it.carrying >= LEAST_PACKS * it.busy and is_no_chance(it.carrying, it.busy, CHANCE_PACK)
+        else:
+            is_so = it.carrying >= LEAST_WORDS * it.busy and is_no_chance(it.carrying, it.words, CHANCE_WORD)
+        return Explained(False, it.carrying / it.busy, it.carrying) if is_so else None
+
+    def is_sure_among(self, others: Sequence["Found"]) -> bool:
+        """Whether nothing better can come: it explains nearly all, and no less than the others that were tried."""
+        found = self.explained()
+        if found is None or not found.by_q or found.share < SURE:
+            return False
+        return all(found.size >= AS_MUCH * it.size for other in others if (it := other.explained()))
+
+    def is_likely(self) -> bool:
+        """Whether nothing else has to be tried."""
+        found = self.explained()
+        return found is not None and found.share >= (LIKELY_BY_Q if found.by_q else LIKELY_BY_WORDS)
+
+
+def is_no_chance(count: int, of: int, chance: float) -> bool:
+    """Whether so many good ones are more than random bytes have."""
+    expected = of * chance
+    if count <= expected:
+        return False
+    return count * math.log(expected) - math.lgamma(count + 1) < math.log(UNLIKELY)
+
+
+def frames_of(blocks: bytes) -> tuple[int, int, int]:
+    """How many Q frames are not empty, how many are good, and how many of these have fields."""
+    survey = Survey(blocks, RAW, 0, is_trimmed=False)
+    good = survey.good_frames()
+    return survey.blocks - sum(survey.column("empty")), good, good - survey.column("q").count(library.Q_OTHER)
+
+
+def words_of(blocks: bytes, form: int) -> tuple[int, int, int]:
+    """How many words carry something, how many are not idle, and how many there are."""
+    packs, told = library.convert(blocks, form, 0)
+    firsts = packs[::PACK]
+    carrying = len(firsts) - firsts.count(0)
+    return carrying, carrying + told.bad, len(firsts)
+
+
+def packs_of(symbols: bytes) -> tuple[int, int, int]:
+    """How many packs of graphics there are, how many packs are not idle, and how many there are."""
+    idle = bytes(PACK)
+    starts = range(0, len(symbols), PACK)
+    busy = sum(symbols[start : start + PACK] != idle for start in starts)
+    graphics = sum(symbols[at] == GRAPHICS and symbols[at + 1] in INSTRUCTIONS for at in starts)
+    return graphics, busy, len(starts)
+
+
+def units_within(window: Window, form: Form, skip: int) -> bytes:
+    """The whole units of a form that lie in a window."""
+    first = max(0, -(-(window.start - skip) // form.unit))
+    start = skip + first * form.unit - window.start
+    length = max(0, len(window.content) - start)
+    return window.content[start : start + length - length % form.unit]
+
+
+def signs(windows: Sequence[Window], form: Form, skip: int) -> Signs:
+    """What speaks for a form in these windows."""
+    total = Signs()
+    for window in windows:
+        blocks = subcode(units_within(window, form, skip), form)
+        if not blocks:
+            continue
+        frames = words = (0, 0, 0)
+        if not form.is_packs():
+            frames = frames_of(blocks)
+        if form.coding is Coding.CDG:
+            words = packs_of(blocks)
+        elif form.has_graphics():
+            words = words_of(blocks, form.library)
+        total = Signs(*(a + b for a, b in zip(total, (*frames, *words))))
+    return total
+
+
+def best(candidates: Sequence[Found]) -> Found | None:
+    """The form that explains most. Q tells before words do. Of forms that explain much the same share, those which explain
+    most; of these that which has the fewest words, for packs behind silent audio are found without the sectors too."""
+    told = [(explained, found) for found in candidates if (explained := found.explained())]
+    by_q = [it for it in told if it[0].by_q]
+    by_words = [it for it in told if not it[0].by_q]
+    if by_q and (max(it[0].share for it in by_q) >= LITTLE or not any(found.is_likely() for _, found in by_words)):
+        told = by_q
+    else:
+        told = by_words
+    share = max((explained.share for explained, _ in told), default=0)
+    told = [it for it in told if it[0].share >= COMPARABLE * share]
+    size = max((explained.size for explained, _ in told), default=0)
+    told = [it for it in told if it[0].size >= AS_MUCH * size]
+    order = {form: place for place, form in enumerate(FORMS.values())}
+    last = min(
+        told,
+        key=lambda it: (it[1].signs.words + it[1].signs.frames, -round(it[0].share, 2), order[it[1].form], it[1].skip),
+        default=None,
+    )
+    return last[1] if last else None
+
+
+def may_have_header(form: Form) -> bool:
+    """Whether a header in front of a form is searched for. A file of packs has none: without its first packs it looks like
+    a file of packs too."""
+    return form.is_in_sectors() or not form.is_packs()
+
+
+def tried(dump: Dump, windows: Sequence[Window], forms: Sequence[Form], skips: Sequence[int] | None) -> Iterator[Found]:
+    """What speaks for each form, with no header and with one whose length follows from that of the file."""
+    for form in forms:
+        lengths = {0, dump.size % form.unit} if may_have_header(form) else {0}
+        for skip in sorted(lengths) if skips is None else skips:
+            yield Found(form, skip, signs(windows, form, skip))
+
+
+def offsets(windows: Sequence[Window], form: Form) -> Iterator[int]:
+    """At which bytes, up to the length of a unit, units of a form may begin: where frames, or words, are good."""
+    for skip in range(0, form.unit, SECTOR_STEP if form.is_in_sectors() else 1):
+        found = 0
+        for window in windows:
+            units = units_within(window, form, skip)[: TRIED_UNITS * form.unit]
+            blocks = subcode(units, form)
+            found += words_of(blocks, form.library)[0] if form.is_packs() else frames_of(blocks)[2]
+        if found > 2:
+            yield skip
+
+
+def windows_of(dump: Dump, is_thorough: bool) -> list[Window]:
+    """Windows that are not empty, in order: enough of a few places, or many of all places."""
+    places = -(-dump.size // WINDOW)
+    if places <= FEW or is_thorough:
+        starts = [WINDOW * place for place in range(places)]
+    else:
+        starts = [dump.size * place // FEW for place in range(FEW)]
+    full = [start for start in starts if any_of(dump.read(start, WINDOW))]
+    most = MANY if is_thorough else ENOUGH
+    chosen = full if len(full) <= most else [full[len(full) * place // most] for place in range(most)]
+    return [Window(start, dump.read(start, WINDOW)) for start in chosen]
+
+
+def any_of(content: bytes) -> bool:
+    return content.count(0) < len(content)
+
+
+def is_all_zeros(dump: Dump) -> bool:
+    return not any(any_of(dump.read(start, WINDOW)) for start in range(0, dump.size, WINDOW))
+
+
+def past_header(dump: Dump, found: Found) -> Found:
+    """The same form behind the whole of a header that is longer than a unit, where what comes first is unlikely to be damage."""
+    told = found.explained()
+    if not found.skip or found.form.unit != BLOCK or told is None or not told.by_q or told.share < SURE:
+        return found
+    blocks = subcode(dump.read(found.skip, MOST_HEADER // found.form.unit * found.form.unit), found.form)
+    survey = Survey(blocks, RAW, 0, is_trimmed=False)
+    head = re.match(rb"\x01*", bytes(a & (1 - b) for a, b in zip(survey.bad_frames, survey.empty)))
+    count = head.end() if head and head.end() < survey.blocks else 0
+    return found._replace(skip=found.skip + count * found.form.unit)
+
+
+def fits(dump: Dump, form: Form) -> bool:
+    return 0 < dump.size // form.unit and form.blocks(dump.size // form.unit) <= library.MOST_BLOCKS
+
+
+def as_named(dump: Dump, found: Found) -> Found:
+    """Packs with parity are both a cooked dump and a `.cdg` file: the name of the file tells, or a length that is no whole
+    blocks."""
+    if found.form.coding is not Coding.COOKED or found.form.is_in_sectors():
+        return found
+    is_cdg = dump.path.lower().endswith(".cdg") or (dump.size - found.skip) % found.form.unit
+    return found._replace(form=FORMS["cdg"].ordered(found.form.order)) if is_cdg else found
+
+
+def stages(dump: Dump, windows: Sequence[Window], skip: int | None) -> Iterator[Iterator[Found]]:
+    """What is tried, the likeliest first: each form; those with their bits or bytes in another order; a header whose length
+    is not told by that of the file; and other places of the file."""
+    skips = None if skip is None else [skip]
+    plain = [form for form in PLAIN_FORMS if fits(dump, form)]
+    yield tried(dump, windows, plain, skips)
+    others = [form.ordered(order) for order in (Order.REVERSED, Order.SWAPPED) for form in plain]
+    few = windows[:: max(1, len(windows) // STRANGE_WINDOWS)][:STRANGE_WINDOWS]
+    yield tried(dump, few, others, skips)
+    if skip is None:
+        headed = filter(may_have_header, plain)
+        yield (Found(form, at, signs(few, form, at)) for form in headed for at in offsets(few, form))
+    if -(-dump.size // WINDOW) > len(windows):
+        yield tried(dump, windows_of(dump, True), plain, skips)
+
+
+def form_of(dump: Dump, skip: int | None = None) -> tuple[Found | None, list[str]]:
+    """The form of a dump and its header, or none and what speaks against each form. A header that is given is not searched
+    for."""
+    seen: list[Found] = []
+    found = None
+    if not any(fits(dump, form) for form in PLAIN_FORMS):
+        return None, [reason(dump, form, None) for form in PLAIN_FORMS]
+    windows = windows_of(dump, False) or windows_of(dump, True)
+    if not windows:
+        return None, [reason(dump, form, None) for form in PLAIN_FORMS]
+    for stage in stages(dump, windows, skip):
+        for candidate in stage:
+            seen.append(candidate)
+            if candidate.is_sure_among(seen):
+                break
+        found = best(seen)
+        if found is not None and found.is_likely():
+            break
+    if found is not None:
+        return as_named(dump, found if skip is not None else past_header(dump, found)), []
+    against = {it.form: it for it in reversed(seen)}
+    return None, [reason(dump, form, against.get(form)) for form in PLAIN_FORMS]
+
+
+def reason(dump: Dump, form: Form, found: Found | None) -> str:
+    """What speaks against a form."""
+    if found is not None:
+        return f"{form.name}: {found.signs.against()}"
+    return (
+        f"{form.name}: the size is {dump.size // form.unit} units of {form.unit} bytes and {dump.size % form.unit} more"
+    )

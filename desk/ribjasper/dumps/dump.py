@@ -1,0 +1,71 @@
+"""A dump: a file of blocks in one of the forms, and its subcode as the library takes it."""
+import io
+import os
+import stat
+
+from ..common import library
+from ..common.failures import Name, Refusal, cause
+from ..common.library import PACKS_A_BLOCK
+from .forms import Coding, Form, subcode
+
+# So many bytes are read at a time, of which only the subcode is kept.
+READ_AT_ONCE = 1 << 23
+
+
+class Dump:
+    """A file that is read as units behind a header of so many bytes."""
+
+    def __init__(self, path: Name, skip: int = 0):
+        self.path = os.fsdecode(path)
+        try:
+            found = os.stat(self.path)
+        except OSError as error:
+            raise Refusal(self.path, cause(error)) from None
+        if not stat.S_ISREG(found.st_mode):
+            raise Refusal(self.path, "is a directory" if stat.S_ISDIR(found.st_mode) else "is not a regular file")
+        self.size, self.skip = found.st_size, skip
+
+    @property
+    def content(self) -> int:
+        """The bytes behind the header."""
+        return max(0, self.size - self.skip)
+
+    def units(self, form: Form) -> int:
+        """How many whole units the file has in this form."""
+        return self.content // form.unit
+
+    def rest(self, form: Form) -> int:
+        """The bytes behind the last whole unit."""
+        return self.content % form.unit
+
+    def read(self, start: int, length: int) -> bytes:
+        """Bytes of the file, as many as there are."""
+        try:
+            with open(self.path, "rb") as file:
+                file.seek(start)
+                return file.read(length)
+        except OSError as error:
+            raise Refusal(self.path, cause(error)) from None
+
+    def blocks(self, form: Form, first: int = 0, count: int | None = None) -> bytes:
+        """The subcode of units, blocks of 96 bytes: raw ones, or packs where the form has packs."""
+        left = self.units(form) - first if count is None else count
+        if form.blocks(left) > library.MOST_BLOCKS:
+            raise Refusal(self.path, f"has more than {library.MOST_BLOCKS} blocks")
+        found = io.BytesIO()
+        at_once = READ_AT_ONCE // form.unit
+        if form.coding is Coding.CDG:
+            at_once -= at_once % PACKS_A_BLOCK
+        try:
+            with open(self.path, "rb") as file:
+                file.seek(self.skip + first * form.unit)
+                while left > 0:
+                    units = file.read(min(left, at_once) * form.unit)
+                    whole = len(units) // form.unit
+                    found.write(subcode(units[: whole * form.unit], form))
+                    if whole < min(left, at_once):
+                        break
+                    left -= whole
+        except OSError as error:
+            raise Refusal(self.path, cause(error)) from None
+        return found.getvalue()

@@ -1,0 +1,160 @@
+"""What is told of one dump in a report: a row, a thumbnail of its first picture, a map of its damage and a list of its
+places."""
+import io
+from typing import Any, Iterable, NamedTuple
+
+from ..common import library
+from ..common.failures import Failure, shown
+from ..common.library import HEIGHT, PACK, WIDTH
+from ..common.output import package
+from .checksums import Sums, sums_of
+from .damages import Damage, NAMES, RUN, damages_of, draw_map, unread
+from .detection import GRAPHICS
+from .drive_errors import drive_errors
+from .identity import identity, packs_of
+from .loading import Asked, IS_EMPTY, Loaded, Unknown, load_found
+from .q_disc import sessions_in
+from .sessions import notes as session_notes
+
+ReportRow = dict[str, Any]
+COLUMNS = (
+    "file", "status", "form", "lead-in", "blocks", "rest", "graphics", "texts", "q-good", "clean", "one", "two", "bad",
+    "q-bad", "empty", "runs", "jumps", "damage", "size", "sha256", "why", "unread", "notes", "crc32", "md5", "sha1",
+    "picture", "sessions", "drive-errors",
+)  # fmt: skip
+# What a row's status says.
+GOOD, DAMAGED, TORN, EMPTY, FOREIGN, UNREAD = "good", "damaged", "torn", "empty", "foreign", "unread"
+# A picture stands when no pack of graphics comes for a second; else it is taken after ten.
+STANDS, LONGEST = 300, 3000
+# So many packs of graphics are drawn at most until a picture shows.
+MOST_DRAWN = 30_000
+# So many places stand in a row; a list has all.
+MOST_PLACES = 20
+
+
+class Examined(NamedTuple):
+    """A row by the names of its columns; two pictures, PNG files, where there are any; and a list of places, where there is
+    damage."""
+
+    row: ReportRow
+    first_picture: bytes | None = None
+    map: bytes | None = None
+    places: bytes | None = None
+    was_lost: bool = False  # the process that looked at it ended
+
+
+def shows_something(picture: bytes) -> bool:
+    """Whether the window of the screen, without its border, has more than one colour."""
+    rows = (picture[3 * (WIDTH * y + 6) : 3 * (WIDTH * y + WIDTH - 6)] for y in range(12, HEIGHT - 12))
+    window = b"".join(rows)
+    return window != window[:3] * (len(window) // 3)
+
+
+def first_picture(parts: Iterable[bytes]) -> bytes | None:
+    """Red, green and blue of the first picture that shows something and stands for a second, of packs that come in
+    parts."""
+    drawn = waited = since = 0
+    with library.Player() as player:
+        for packs in parts:
+            kinds = packs[::PACK]
+            at = 0
+            while at < len(kinds) and drawn < MOST_DRAWN:
+                found = kinds.find(GRAPHICS, at)
+                waited += (found if found >= 0 else len(kinds)) - at
+                if since and (waited >= STANDS or since >= LONGEST):
+                    picture = player.picture()
+                    if shows_something(picture):
+                        return picture
+                    since = 0
+                if found < 0:
+                    break
+                player.draw(bytes(packs[PACK * found : PACK * (found + 1)]))
+                drawn, waited, since, at = drawn + 1, 0, since + 1 + waited, found + 1
+        picture = player.picture()
+    return picture if shows_something(picture) else None
+
+
+def image_of(picture: bytes) -> Any:
+    """The picture of a player as one of Pillow."""
+    return package("PIL.Image", "python3-pil").frombytes("RGB", (WIDTH, HEIGHT), picture)
+
+
+def png(image: Any) -> bytes:
+    out = io.BytesIO()
+    image.save(out, "PNG", optimize=True)
+    return out.getvalue()
+
+
+def status_of(loaded: Loaded, found: list[Damage]) -> str:
+    if loaded.rest:
+        return TORN
+    return DAMAGED if found else GOOD
+
+
+def row_of(loaded: Loaded, found: list[Damage]) -> ReportRow:
+    """The columns of a dump whose form is known."""
+    survey, told = loaded.survey, identity(loaded)
+    runs = [it for it in found if it.kind == RUN]
+    more = [f"and {len(found) - MOST_PLACES} more"] if len(found) > MOST_PLACES else []
+    sessions = sessions_in(loaded)
+    errors = drive_errors(loaded.path, survey.blocks)
+    return {
+        "status": status_of(loaded, found),
+        "form": loaded.form.name,
+        "lead-in": survey.lead_in,
+        "blocks": survey.blocks,
+        "rest": loaded.rest,
+        "graphics": told.graphics,
+        "texts": [line for line in told.texts.splitlines() if not line.startswith("packs ")],
+        "q-good": round(told.good / told.frames, 6) if told.frames else None,
+        **{name: survey.total(name) for name in ("clean", "one", "two", "bad")},
+        "q-bad": sum(survey.bad_frames),
+        "empty": sum(survey.empty),
+        "runs": len(runs),
+        "jumps": len(found) - len(runs),
+        "damage": [it.place() for it in found[:MOST_PLACES]] + more,
+        "unread": sum(run.last - run.first + 1 for run in survey.unread()),
+        "sessions": [session.said() for session in sessions],
+        "drive-errors": errors.within(survey.first, survey.end) if errors else None,
+        "notes": [*loaded.notes(), *session_notes(loaded, sessions)],
+    }
+
+
+def list_of(places: Iterable[Damage]) -> bytes:
+    """The table of `damage`."""
+    rows = ("\t".join(shown(str(cell)) for cell in row) for row in (NAMES, *places))
+    return "".join(f"{row}\n" for row in rows).encode()
+
+
+def with_sums(row: ReportRow, found: Sums) -> None:
+    row.update({"size": found.size, "sha256": found.sha256, "crc32": found.crc32, "md5": found.md5, "sha1": found.sha1})
+
+
+def examine(path: str, name: str, with_pictures: bool = True, words: Asked = Asked()) -> Examined:
+    """All that a report tells of a file, whatever it is."""
+    row: ReportRow = dict.fromkeys(COLUMNS)
+    row["file"] = name
+    try:
+        with_sums(row, sums_of(path))
+        loaded = load_found(path, words)
+        if isinstance(loaded, Unknown):
+            row["status"], row["why"] = EMPTY if loaded.cause == IS_EMPTY else FOREIGN, loaded.cause
+            return Examined(row)
+        found = damages_of(loaded)
+        row.update(row_of(loaded, found))
+        places = list_of(sorted([*found, *unread(loaded.survey)], key=lambda it: it.first)) if found else None
+        if not with_pictures:
+            return Examined(row, places=places)
+        picture = first_picture(packs_of(loaded)) if row["graphics"] == "yes" else None
+        row["picture"] = "shown" if picture else why_no_picture(row["graphics"])
+        first = png(image_of(picture)) if picture else None
+        return Examined(row, first, png(draw_map(loaded.survey, has_legend=False)), places)
+    except Failure as failure:
+        row["status"], row["why"] = UNREAD, getattr(failure, "cause", str(failure))
+    return Examined(row)
+
+
+def why_no_picture(graphics: str) -> str:
+    """Why there is no first picture."""
+    reasons = {"no": "no graphics", "not read": "graphics not read"}
+    return reasons.get(graphics, "no picture stands: the screen has one colour")

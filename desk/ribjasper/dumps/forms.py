@@ -1,0 +1,168 @@
+"""The forms in which a file holds blocks, and the subcode of its units as the library takes it."""
+import binascii
+import collections
+import ctypes
+import enum
+from typing import NamedTuple
+
+from ..common import library
+from ..common.library import BLOCK, PACK, PACKS_A_BLOCK
+
+AUDIO = 2352
+# P and Q as drives give them: the frame, three bytes of zeros, and P in the highest bit of the last byte.
+PQ = 16
+FRAME, FRAME_WITHOUT_CHECK = 12, 10
+
+
+class Coding(enum.Enum):
+    """What the subcode of a unit is."""
+
+    RAW = "raw"  # 96 bytes, one for each symbol
+    PLANAR = "planar"  # twelve bytes for each channel from P to W
+    PQ = "pq"  # sixteen bytes of P and Q alone
+    COOKED = "cooked"  # four packs
+    CDG = "cdg"  # a pack, whose parity may be missing
+
+
+class Order(enum.Enum):
+    """How the bytes of the subcode stand."""
+
+    PLAIN = ""
+    REVERSED = "reversed"  # the bits of each byte in reverse
+    SWAPPED = "swapped"  # the bytes of each pair exchanged
+
+
+class Form(NamedTuple):
+    """How a file holds blocks."""
+
+    name: str
+    unit: int  # bytes of the file for each of its parts
+    size: int  # of which the last so many are subcode
+    coding: Coding
+    order: Order = Order.PLAIN
+
+    @property
+    def library(self) -> int:
+        """What the library calls the subcode."""
+        return library.PACKS if self.is_packs() else library.RAW
+
+    def is_packs(self) -> bool:
+        return self.coding in (Coding.COOKED, Coding.CDG)
+
+    def has_graphics(self) -> bool:
+        """Whether the form has room for the channels from R to W."""
+        return self.coding is not Coding.PQ
+
+    def blocks(self, units: int) -> int:
+        """How many blocks so many units are: of packs alone four are one."""
+        return -(-units // PACKS_A_BLOCK) if self.coding is Coding.CDG else units
+
+    def is_in_sectors(self) -> bool:
+        return self.unit > self.size
+
+    def ordered(self, order: Order) -> "Form":
+        name = f"{self.name}-{order.value}" if order.value else self.name
+        return self._replace(name=name, order=order)
+
+
+# In the order in which they are tried: of P and Q alone each sixth unit looks like the Q of a planar block.
+PLAIN_FORMS = (
+    Form("raw", BLOCK, BLOCK, Coding.RAW),
+    Form("pq", PQ, PQ, Coding.PQ),
+    Form("planar", BLOCK, BLOCK, Coding.PLANAR),
+    Form("sector", AUDIO + BLOCK, BLOCK, Coding.RAW),
+    Form("sector-pq", AUDIO + PQ, PQ, Coding.PQ),
+    Form("sector-planar", AUDIO + BLOCK, BLOCK, Coding.PLANAR),
+    Form("cooked", BLOCK, BLOCK, Coding.COOKED),
+    Form("cooked-sector", AUDIO + BLOCK, BLOCK, Coding.COOKED),
+    Form("cdg", PACK, PACK, Coding.CDG),
+)
+FORMS = {form.name: form for order in Order for form in (it.ordered(order) for it in PLAIN_FORMS)}
+_REVERSED = bytes(int(f"{byte:08b}"[::-1], 2) for byte in range(256))
+# What is left of a byte without the bit of P.
+_P_ALONE = bytes(byte & 0x7F for byte in range(256))
+# The six bits of a symbol.
+SYMBOLS = bytes(byte & 63 for byte in range(256))
+
+
+def swapped(content: bytes) -> bytes:
+    """The bytes of each pair exchanged; a last one alone stays."""
+    pairs = bytearray(content)
+    even = len(content) - len(content) % 2
+    pairs[0:even:2], pairs[1:even:2] = content[1:even:2], content[0:even:2]
+    return bytes(pairs)
+
+
+def turned(blocks: bytes, call: str) -> bytes:
+    """Whole blocks, each turned by a call of the library that reads one and writes one; what is left is left out."""
+    blocks = blocks[: len(blocks) - len(blocks) % BLOCK]
+    room = ctypes.create_string_buffer(max(1, len(blocks)))
+    source = library.address(blocks)
+    target = ctypes.addressof(room)
+    each = map(
+        library.call(call),
+        range(source, source + len(blocks), BLOCK),
+        range(target, target + len(blocks), BLOCK),
+    )
+    collections.deque(each, maxlen=0)
+    return ctypes.string_at(room, len(blocks))
+
+
+def from_planar(planar: bytes) -> bytes:
+    return turned(planar, "ribjasper_block_from_planar")
+
+
+def to_planar(blocks: bytes) -> bytes:
+    return turned(blocks, "ribjasper_block_to_planar")
+
+
+def with_check(unit: bytes) -> bytes:
+    """The frame of a unit of P and Q alone; where a drive left its check out, with it."""
+    content, rest = unit[:FRAME_WITHOUT_CHECK], unit[FRAME_WITHOUT_CHECK:]
+    if not any(content) or rest.translate(_P_ALONE) != bytes(len(rest)):
+        return unit[:FRAME]
+    return content + (binascii.crc_hqx(content, 0) ^ 0xFFFF).to_bytes(2, "big")
+
+
+def from_pq(content: bytes) -> bytes:
+    """The raw blocks of P and Q alone."""
+    rest = bytes(BLOCK - 2 * FRAME)
+    parts = []
+    for start in range(0, len(content), PQ):
+        p = b"\xff" if content[start + PQ - 1] & 0x80 else b"\0"
+        parts.append(p * FRAME + with_check(content[start : start + PQ]) + rest)
+    return from_planar(b"".join(parts))
+
+
+def to_pq(blocks: bytes) -> bytes:
+    """P and Q alone of raw blocks."""
+    planar = to_planar(blocks)
+    parts = []
+    for start in range(0, len(planar), BLOCK):
+        p = b"\x80" if planar[start] & 0x80 else b"\0"
+        parts.append(planar[start + FRAME : start + 2 * FRAME] + bytes(3) + p)
+    return b"".join(parts)
+
+
+def in_order(content: bytes, order: Order) -> bytes:
+    """The subcode in its plain order, or a plain one in this order: both are the same."""
+    if order is Order.REVERSED:
+        return content.translate(_REVERSED)
+    return swapped(content) if order is Order.SWAPPED else content
+
+
+def subcode(units: bytes, form: Form) -> bytes:
+    """The subcode of the whole units of a part of a file: raw blocks, or blocks of four packs, the last of which is filled
+    up."""
+    units = units[: len(units) - len(units) % form.unit]
+    if form.is_in_sectors():
+        ends = range(form.unit, len(units) + 1, form.unit)
+        units = b"".join([units[end - form.size : end] for end in ends])
+    plain = in_order(units, form.order)
+    if form.coding is Coding.PLANAR:
+        return from_planar(plain)
+    if form.coding is Coding.PQ:
+        return from_pq(plain)
+    if form.coding is Coding.CDG:
+        return plain.translate(SYMBOLS) + bytes(-len(plain) % BLOCK)
+    return plain

@@ -1,0 +1,160 @@
+"""A dump as the commands read it: its form, its lead-in and its survey, found or as the words of the command say."""
+import argparse
+from typing import Iterator, NamedTuple
+
+from ..common import kinds, library
+from ..common.failures import Refusal
+from ..common.library import BLOCK, RAW
+from ..common.words import lead_in, number_in
+from .companions import Companions, beside_dump
+from .detection import form_of, is_all_zeros
+from .dump import Dump
+from .forms import FORMS, Form, Order, PLAIN_FORMS
+from .pieces import lead_in_of
+from .survey import Survey, has_graphics_bits
+
+# No header is longer.
+MOST_SKIPPED = 1 << 32
+IS_EMPTY = "is empty"
+NO_FORM = "no known form fits; give --form, --lead-in or --skip if you know them (details: identify -v)"
+
+
+class Asked(NamedTuple):
+    """What the words of a command say of a dump; none where it is to be found."""
+
+    form: str | None = None
+    lead_in: int | None = None
+    skip: int | None = None
+
+
+class Unknown(NamedTuple):
+    """A file of which no form is known: why, in a few words, and what speaks against each form."""
+
+    cause: str
+    against: list[str]
+
+
+class Loaded(NamedTuple):
+    """A dump that was read: blocks of 96 bytes, and what is found of each."""
+
+    dump: Dump
+    form: Form
+    stream: bytes
+    survey: Survey
+    companions: Companions
+
+    @property
+    def path(self) -> str:
+        return self.dump.path
+
+    @property
+    def rest(self) -> int:
+        """The bytes behind the last whole unit, of a dump that is torn."""
+        return self.dump.rest(self.form)
+
+    def has_graphics_bits(self) -> bool:
+        """Whether a bit of R to W is set in the program."""
+        return self.form.has_graphics() and has_graphics_bits(self.stream)
+
+    def notes(self) -> Iterator[str]:
+        """What is told of a dump beside its form, in a few words each."""
+        if self.rest:
+            yield f"torn: {self.rest} bytes behind the last whole unit"
+        if self.dump.skip:
+            yield f"header: {self.dump.skip} bytes in front"
+        if self.form.order is Order.REVERSED:
+            yield "the bits of each byte stand in reverse"
+        if self.form.order is Order.SWAPPED:
+            yield "the bytes of each pair are exchanged"
+        first, behind = self.survey.first, self.survey.blocks - self.survey.end
+        if first or behind:
+            yield f"unread: {first} blocks in front, {behind} behind"
+        if self.form.library == RAW and not self.survey.has_q:
+            yield "Q: not read"
+        yield from self.companions.notes()
+
+
+def add_options(parser: argparse.ArgumentParser) -> None:
+    """The words with which each command is told what a dump is."""
+    names = ", ".join(form.name for form in PLAIN_FORMS)
+    parser.add_argument(
+        "--form",
+        type=form_name,
+        metavar="F",
+        help=f"the form: {names}, each also with -reversed or -swapped behind it; otherwise it is found",
+    )
+    parser.add_argument("--lead-in", type=lead_in, metavar="N", help="blocks of the lead-in; otherwise Q says how many")
+    parser.add_argument(
+        "--skip",
+        type=number_in(0, MOST_SKIPPED),
+        metavar="BYTES",
+        help="bytes of a header in front; otherwise they are found",
+    )
+
+
+def form_name(word: str) -> str:
+    if word not in FORMS:
+        names = ", ".join(form.name for form in PLAIN_FORMS)
+        raise argparse.ArgumentTypeError(f"unknown form {word!r}; forms: {names}, each also with -reversed or -swapped")
+    return word
+
+
+def asked(arguments: argparse.Namespace) -> Asked:
+    return Asked(arguments.form, arguments.lead_in, arguments.skip)
+
+
+def survey_of(stream: bytes, form: Form, told: int | None = None, companions: Companions | None = None) -> Survey:
+    """The survey of a stream; where no lead-in is told, with that which its Q frames tell, or else the files beside it."""
+    survey = Survey(stream, form.library, told or 0)
+    if told is not None or form.library != RAW:
+        return survey
+    found = lead_in_of(survey)
+    if found is None:
+        found = -min(0, companions.begin or 0) if companions else 0
+    return Survey(stream, form.library, found) if 0 < found <= library.LONGEST_LEAD_IN else survey
+
+
+def unknown(dump: Dump, against: list[str]) -> Unknown:
+    """Why a file has no known form."""
+    if not dump.size:
+        return Unknown(IS_EMPTY, [])
+    if is_all_zeros(dump):
+        return Unknown("all bytes are zeros", [])
+    if kinds.TEXT_PACKS.has(dump.path):
+        return Unknown("is a file of text packs, which texts --back reads", against)
+    return Unknown(NO_FORM, against)
+
+
+def load_found(path: str, words: Asked = Asked()) -> Loaded | Unknown:
+    """A dump with its form, or why it has none."""
+    dump = Dump(path)
+    if not dump.size:
+        return unknown(dump, [])
+    if words.form is not None:
+        form, dump.skip = FORMS[words.form], words.skip or 0
+    else:
+        found, against = form_of(dump, words.skip)
+        if found is None:
+            return unknown(dump, against)
+        form, dump.skip = found.form, found.skip
+    if not dump.units(form):
+        raise Refusal(path, f"has no whole unit of {form.unit} bytes")
+    stream = dump.blocks(form)
+    companions = beside_dump(dump.path, len(stream) // BLOCK)
+    return Loaded(dump, form, stream, survey_of(stream, form, words.lead_in, companions), companions)
+
+
+def load(path: str, words: Asked = Asked()) -> Loaded:
+    """A dump with its form, or a refusal that says why it has none."""
+    found = load_found(path, words)
+    if isinstance(found, Unknown):
+        raise Refusal(path, found.cause)
+    return found
+
+
+def load_raw(path: str, words: Asked, wants: str) -> Loaded:
+    """A dump that has blocks and not packs alone."""
+    loaded = load(path, words)
+    if loaded.form.library != RAW:
+        raise Refusal(path, f"is {loaded.form.name}, which has no {wants}")
+    return loaded

@@ -1,0 +1,199 @@
+"""Readings that were put side by side are mended by one call of the library, which decides and counts; this is what it takes
+and what it returns."""
+import ctypes
+import itertools
+import re
+from dataclasses import dataclass
+from typing import Iterator, NamedTuple, Sequence
+
+from ..common import library
+from ..common.library import BLOCK, PACK, PACKS_A_BLOCK, MendReported
+from .readings import Laid
+from .survey import Run, either, has_graphics_bits, runs
+
+# The slots that a word reaches over.
+SLOTS = 8
+# So many blocks are looked at at a time.
+AT_ONCE = 1_000
+# So many packs that two readings both give tell whether they are of one disc.
+ENOUGH = 2_000
+_PQ = bytes(byte & 0xC0 for byte in range(256))
+_ANY = bytes([0] + [1] * 255)
+_NO_WORD = re.compile(bytes([library.NO_READING]) + b"+")
+
+
+class Counts(NamedTuple):
+    """What the library counted of each reading, in words: those that came of it, those that count for nothing, and those
+    with no symbol wrong that did not come out."""
+
+    of_reading: int
+    left_out: int
+    lost: int
+
+
+class Mended(NamedTuple):
+    """What came of readings: the packs or the blocks, of each word which reading it is of, and what the library counted."""
+
+    content: memoryview
+    sources: bytes
+    agreed: int
+    none: int
+    counts: list[Counts]
+
+    def lost_words(self) -> list[Run]:
+        """The words that have no codeword."""
+        return [Run(found.start(), found.end() - 1) for found in _NO_WORD.finditer(self.sources)]
+
+    def lost_blocks(self) -> list[Run]:
+        """The blocks in which such words stand."""
+        found: list[Run] = []
+        for run in self.lost_words():
+            first, last = run.first // PACKS_A_BLOCK, (run.last + SLOTS - 1) // PACKS_A_BLOCK
+            if found and first <= found[-1].last + 1:
+                found[-1] = Run(found[-1].first, last)
+            else:
+                found.append(Run(first, last))
+        return found
+
+
+def whole_words(blocks: int) -> int:
+    """How many words of so many blocks are whole."""
+    return max(0, PACKS_A_BLOCK * blocks - SLOTS + 1)
+
+
+def in_order(laid: Laid) -> list[int]:
+    """The readings in the order in which the library takes them: those with the fewest words lost first. Where no rule
+    decides, as of words that both ends cut, the first reading does; so the order of the command line changes nothing.
+    """
+
+    def rank(number: int) -> tuple[object, ...]:
+        reading = laid.readings[number]
+        survey, stream = reading.loaded.survey, reading.loaded.stream
+        unread = PACKS_A_BLOCK * sum(survey.empty) + survey.total("bad")
+        corrected = survey.total("one") + survey.total("two")
+        return reading.is_beside, not has_graphics_bits(stream), unread, corrected, stream, reading.parts
+
+    return sorted(range(len(laid.readings)), key=rank)
+
+
+def joined(laid: Laid, order: Sequence[int]) -> bytearray:
+    """The program of all readings, one behind another. Streams of files that no later reading needs are let go."""
+    content = bytearray(laid.size * len(order))
+    for place, number in enumerate(order):
+        reading = laid.readings[number]
+        laid.fill(reading, laid.lead_in, laid.blocks, memoryview(content)[laid.size * place : laid.size * (place + 1)])
+        if all(laid.readings[other].loaded.dump is not reading.loaded.dump for other in order[place + 1 :]):
+            reading.loaded = reading.loaded._replace(stream=b"")
+    return content
+
+
+def mend(laid: Laid, as_stream: bool) -> Mended:
+    """The packs of readings, or their stream without a lead-in."""
+    order = in_order(laid)
+    content = joined(laid, order)
+    words = whole_words(laid.blocks - laid.lead_in)
+    name = "ribjasper_mend_stream_report" if as_stream else "ribjasper_mend_report"
+    room = laid.size if as_stream else PACK * words
+    # Memory that is set to zeros when it is first used.
+    out, sources, report = bytearray(max(1, room)), bytearray(max(1, words)), MendReported()
+    byte = ctypes.c_uint8
+    readings = (byte * len(content)).from_buffer(content)
+    target, names = (byte * len(out)).from_buffer(out), (byte * len(sources)).from_buffer(sources)
+    status = library.call(name)(readings, len(content), len(order), 0, target, room, names, words, report)
+    if status not in (library.DONE, library.DAMAGED):
+        raise ValueError(f"{name} answers {status}")
+    told = report.told
+    places = [order.index(number) for number in range(len(order))]
+    counts = [Counts(told.of_reading[k], told.dropped[k], report.lost[k]) for k in places]
+    return Mended(memoryview(out)[: told.bytes], bytes(sources[:words]), told.agreed, told.none, counts)
+
+
+def has_graphics(laid: Laid) -> bool:
+    """Whether a reading has a bit of R to W where its parts are."""
+    return any(
+        has_graphics_bits(reading.loaded.stream[BLOCK * part.first : BLOCK * part.end])
+        for reading in laid.readings
+        for part in reading.parts
+    )
+
+
+# ---- Whether readings are of one disc.
+
+
+@dataclass
+class Shared:
+    """In how many words two readings give packs that are not idle, and how many of these are the same."""
+
+    all: int = 0
+    same: int = 0
+
+
+def marked(packs: bytes) -> bytes:
+    """A byte for each pack, 1 where it is not all zeros."""
+    return either(*(packs[place::PACK] for place in range(PACK))).translate(_ANY) if packs else b""
+
+
+def both(a: bytes, b: bytes) -> bytes:
+    """A byte that is 1 where two columns of 0 and 1 are."""
+    return (int.from_bytes(a, "little") & int.from_bytes(b, "little")).to_bytes(len(a), "little")
+
+
+def differ(a: bytes, b: bytes) -> bytes:
+    """A byte for each pack, 1 where two differ."""
+    joined = int.from_bytes(a, "little") ^ int.from_bytes(b, "little")
+    return marked(joined.to_bytes(len(a), "little"))
+
+
+def spread(parts: int) -> Iterator[int]:
+    """Numbers of parts, those that lie far from each other first."""
+    bits = max(1, (parts - 1).bit_length())
+    for number in range(1 << bits):
+        place = int(f"{number:0{bits}b}"[::-1], 2)
+        if place < parts:
+            yield place
+
+
+def shared(laid: Laid) -> dict[tuple[int, int], Shared]:
+    """What pairs of readings share, of parts that are spread over the disc, until it is enough."""
+    found = {pair: Shared() for pair in itertools.combinations(range(len(laid.readings)), 2)}
+    blocks = laid.blocks - laid.lead_in
+    for part in spread(-(-blocks // AT_ONCE)):
+        wanted = {number for pair, own in found.items() if own.all < ENOUGH for number in pair}
+        if not wanted:
+            break
+        first = laid.lead_in + part * AT_ONCE
+        add(found, {number: alone(laid, number, first, min(laid.blocks, first + AT_ONCE)) for number in sorted(wanted)})
+    return found
+
+
+def alone(laid: Laid, number: int, first: int, end: int) -> tuple[bytes, bytes]:
+    """The packs that a reading gives by itself in a part of the disc, and which of them are not idle."""
+    stream = bytes(laid.window(laid.readings[number], first, end))
+    if not has_graphics_bits(stream):
+        empty = bytes(whole_words(end - first))
+        return bytes(PACK * len(empty)), empty
+    packs = library.convert(stream, library.RAW, 0)[0]
+    return packs, marked(packs)
+
+
+def add(found: dict[tuple[int, int], Shared], packs: dict[int, tuple[bytes, bytes]]) -> None:
+    """Counts what pairs share in a part."""
+    for (a, b), own in found.items():
+        if a in packs and b in packs and own.all < ENOUGH:
+            common = both(packs[a][1], packs[b][1])
+            own.all += sum(common)
+            own.same += sum(common) - sum(both(common, differ(packs[a][0], packs[b][0])))
+
+
+# ---- Where two dumps differ.
+
+
+def differing_blocks(a: bytes, b: bytes) -> list[Run]:
+    """The blocks in which two streams differ."""
+    joined = (int.from_bytes(a, "little") ^ int.from_bytes(b, "little")).to_bytes(len(a), "little")
+    return runs(either(*(joined[place::BLOCK] for place in range(BLOCK))))
+
+
+def without_graphics(stream: bytes) -> bytes:
+    """Channels P and Q of a stream."""
+    return stream.translate(_PQ)

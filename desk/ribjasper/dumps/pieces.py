@@ -1,0 +1,107 @@
+"""The parts of a dump whose absolute times go on by one, and what they tell of where the dump begins."""
+from typing import NamedTuple, Sequence
+
+from ..common import library
+from .survey import Stretch, Survey
+
+# Fewer blocks than these with a time of their own are taken for frames that are wrong, where a longer piece is there.
+FEWEST = 3
+# A piece decides the lead-in where it has a second of frames, or one in so many of all.
+DECIDES, SHARE = 75, 100
+# So many of the heaviest pieces are put in order.
+MOST_PIECES = 300
+TABLE = (library.Q_TRACK, library.Q_FIRST, library.Q_LAST, library.Q_LEAD_OUT)
+
+
+class Piece(NamedTuple):
+    """Neighbouring blocks of a dump, from the first up to the end, what is added to their numbers for their times, and
+    how many of them have a time of their own."""
+
+    first: int
+    end: int
+    shift: int
+    known: int
+
+    @property
+    def time(self) -> int:
+        return self.first + self.shift
+
+
+def joined(pieces: Sequence[Piece]) -> list[Piece]:
+    """Pieces in turn, those with the same shift as one."""
+    found: list[Piece] = []
+    for piece in pieces:
+        if found and found[-1].shift == piece.shift:
+            before = found.pop()
+            piece = Piece(before.first, piece.end, piece.shift, before.known + piece.known)
+        found.append(piece)
+    return found
+
+
+def in_order(pieces: Sequence[Piece]) -> list[Piece]:
+    """Of pieces in the order of the file those whose times go on too, from each to the next, and that have the most frames
+    together: what was read somewhere else, as stale subcode is, drops out."""
+    heaviest = sorted(sorted(pieces, key=lambda it: it.known, reverse=True)[:MOST_PIECES])
+    chains: list[tuple[int, int]] = []  # the frames of the best chain up to a piece, and the piece before it
+    for place, piece in enumerate(heaviest):
+        before = max(
+            (
+                (chains[other][0], other)
+                for other in range(place)
+                if heaviest[other].time < piece.time
+                and heaviest[other].end + heaviest[other].shift < piece.end + piece.shift
+            ),
+            default=(0, -1),
+        )
+        chains.append((before[0] + piece.known, before[1]))
+    if not chains:
+        return []
+    found, place = [], max(range(len(chains)), key=lambda it: chains[it][0])
+    while place >= 0:
+        found.append(heaviest[place])
+        place = chains[place][1]
+    return found[::-1]
+
+
+def pieces_of(stretches: Sequence[Stretch]) -> list[Piece]:
+    """The pieces of a dump that go on from each to the next, but for frames that are wrong."""
+    found = joined([Piece(it.first, it.last + 1, it.shift, it.last - it.first + 1) for it in stretches])
+    found = joined([it for it in found if it.known >= FEWEST]) or found
+    return joined(in_order(found))
+
+
+def layers_of(stretches: Sequence[Stretch]) -> list[list[Piece]]:
+    """The pieces of a dump in layers, in each of which no two claim one place of the disc. The pieces that go on from each
+    to the next keep their places, in the first layer. Another piece, as stale subcode, is in the first layer where its
+    place is free; those with the most frames come first."""
+    found = joined([Piece(it.first, it.last + 1, it.shift, it.last - it.first + 1) for it in stretches])
+    found = joined([it for it in found if it.known >= FEWEST]) or found
+    run = in_order(found)
+    layers = [list(run)]
+    kept = set(run)
+    for piece in sorted((it for it in found if it not in kept), key=lambda it: it.known, reverse=True):
+        free = (layer for layer in layers if not any(meet(piece, other) for other in layer))
+        layer = next(free, None)
+        if layer is None:
+            layers.append([piece])
+        else:
+            layer.append(piece)
+    return [sorted(layer) for layer in layers]
+
+
+def meet(one: Piece, other: Piece) -> bool:
+    """Whether two pieces claim a place of the disc together."""
+    return one.time < other.end + other.shift and other.time < one.end + one.shift
+
+
+def lead_in_of(survey: Survey) -> int | None:
+    """The blocks before that whose absolute time is zero, or none where no frame tells. Most frames tell it: the first piece
+    of a second or more, in the order of the times. Where there is a table of contents and no program all is lead-in."""
+    found = pieces_of(survey.stretches())
+    if not found:
+        kinds = survey.column("q")
+        return survey.blocks if any(kinds.count(kind) for kind in TABLE) else None
+    frames = sum(it.known for it in found)
+    solid = [it for it in found if it.known >= min(DECIDES, -(-frames // SHARE))]
+    # Where all pieces are small the one that tells the most does.
+    return max(0, -(solid or [max(found, key=lambda it: it.known)])[0].shift)

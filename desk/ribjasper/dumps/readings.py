@@ -1,0 +1,120 @@
+"""Readings of one disc, put side by side by the times that their Q frames tell."""
+from dataclasses import dataclass, field
+from typing import Sequence
+
+from ..common.failures import Refusal
+from ..common.library import BLOCK
+from .loading import Asked, Loaded, load_raw
+from .pieces import Piece, layers_of
+from .survey import Clock, Run
+
+_NOTHING = bytes(BLOCK)
+
+
+@dataclass
+class Reading:
+    """A reading and its parts by their times. Blocks of the file that count as unread are left out."""
+
+    loaded: Loaded
+    parts: list[Piece]
+    unread: list[Run] = field(default_factory=list)
+    is_beside: bool = False  # its parts claim places that the same file has already
+
+    @property
+    def path(self) -> str:
+        return self.loaded.path
+
+
+@dataclass
+class Laid:
+    """Readings side by side: the absolute time of the first block, where they tell one, how many blocks there are, and
+    how many of these are lead-in."""
+
+    readings: list[Reading]
+    time: int
+    blocks: int
+    lead_in: int
+
+    @property
+    def size(self) -> int:
+        """The bytes of the program of each reading."""
+        return BLOCK * (self.blocks - self.lead_in)
+
+    def window(self, reading: Reading, first: int, end: int) -> bytearray:
+        """The blocks of a reading; zeros where it has none; where it has one twice the first that was read."""
+        stream = bytearray(BLOCK * (end - first))
+        self.fill(reading, first, end, memoryview(stream))
+        return stream
+
+    def fill(self, reading: Reading, first: int, end: int, stream: memoryview) -> None:
+        """Writes the blocks of a reading over zeros."""
+        filled = 0
+        for part in sorted(reading.parts, key=lambda it: it.time):
+            move = part.shift - self.time - first
+            begin, stop = max(part.first, -move), min(part.end, end - first - move)
+            for free in readable(reading, begin, stop):
+                twice = min(free.last + 1, max(free.first, filled - move))
+                for block in range(free.first, twice):
+                    place = slice(BLOCK * (block + move), BLOCK * (block + move + 1))
+                    if stream[place] == _NOTHING:
+                        stream[place] = reading.loaded.stream[BLOCK * block : BLOCK * (block + 1)]
+                content = memoryview(reading.loaded.stream)[BLOCK * twice : BLOCK * (free.last + 1)]
+                stream[BLOCK * (twice + move) : BLOCK * (free.last + 1 + move)] = content
+                filled = max(filled, free.last + 1 + move)
+
+
+def readable(reading: Reading, begin: int, stop: int) -> list[Run]:
+    """The blocks of the file from one up to another, without those that count as unread."""
+    found: list[Run] = []
+    for run in reading.unread:
+        if run.last < begin or run.first >= stop:
+            continue
+        if run.first > begin:
+            found.append(Run(begin, run.first - 1))
+        begin = run.last + 1
+    if begin < stop:
+        found.append(Run(begin, stop - 1))
+    return found
+
+
+def read(path: str, words: Asked) -> Reading:
+    """A reading as raw blocks, not yet put anywhere."""
+    return Reading(load_raw(path, words, "blocks that could be mended: its packs are gathered already"), [])
+
+
+def placed(reading: Reading) -> list[Reading]:
+    """A reading with its parts where their Q frames say. Parts that claim a place twice are readings of their own."""
+    survey = reading.loaded.survey
+    layers = layers_of(Clock(survey).stretches)
+    if not layers[0]:
+        return [reading]
+    # What stands between two parts of different shift is left out, for nothing tells to which it belongs; what stands
+    # before the first and behind the last goes with it. The lead-in, which has no time, stays out.
+    first = min(part.first for layer in layers for part in layer)
+    end = max(part.end for layer in layers for part in layer)
+    found = []
+    for number, layer in enumerate(layers):
+        parts = [
+            part._replace(
+                first=max(survey.first, -part.shift) if part.first == first else part.first,
+                end=survey.end if part.end == end else part.end,
+            )
+            for part in layer
+        ]
+        found.append(Reading(reading.loaded, parts, reading.unread, number > 0))
+    return found
+
+
+def side_by_side(readings: Sequence[Reading]) -> Laid:
+    """Readings by their times; where one tells none, as they are if they are equally long."""
+    found = [own for reading in readings for own in placed(reading)]
+    without = [reading for reading in found if not reading.parts]
+    if without:
+        if len({reading.loaded.survey.blocks for reading in readings}) > 1:
+            raise Refusal(without[0].path, "its Q frames have no time, and it is not as long as the others")
+        blocks = readings[0].loaded.survey.blocks
+        whole = [Reading(it.loaded, [Piece(0, blocks, 0, 0)], it.unread) for it in readings]
+        return Laid(whole, 0, blocks, max(reading.loaded.survey.lead_in for reading in readings))
+    start = min(part.time for reading in found for part in reading.parts)
+    end = max(part.end + part.shift for reading in found for part in reading.parts)
+    return Laid(found, start, end - start, 0)

@@ -1,0 +1,81 @@
+"""Maps of ddrescue: which bytes of a file were read."""
+import re
+from typing import Iterator, NamedTuple, Sequence
+
+from ..common.failures import Refusal
+from ..common.output import read_file
+from .survey import Run
+
+NUMBER = r"(0[xX][0-9a-fA-F]+|[0-9]+)"
+AREA = re.compile(rf"{NUMBER}\s+{NUMBER}\s+([?*/+-])\s*")
+STATUS = re.compile(rf"{NUMBER}\s+([?*/FG+-])(?:\s+[0-9]+)?\s*")
+# What ddrescue says of bytes that it has read.
+READ = "+"
+
+
+class Area(NamedTuple):
+    """Bytes of a file, from the first up to the end, and whether they were read."""
+
+    first: int
+    end: int
+    is_read: bool
+
+
+def areas(path: str) -> list[Area]:
+    """The areas of a map, or a refusal of what is no map of ddrescue."""
+    lines = [line.split("#")[0] for line in read_file(path).decode("utf-8", "replace").splitlines()]
+    told = [line.strip() for line in lines if line.strip()]
+    if not told or not STATUS.fullmatch(told[0]):
+        raise Refusal(path, "is no map of ddrescue")
+    found: list[Area] = []
+    for line in told[1:]:
+        area = AREA.fullmatch(line)
+        if area is None:
+            raise Refusal(path, f"is no map of ddrescue: {line}")
+        first, size = int(area[1], 0), int(area[2], 0)
+        if found and first != found[-1].end:
+            raise Refusal(
+                path, f"is no map of ddrescue: an area begins at {area[1]}, which is not where the one before ends"
+            )
+        found.append(Area(first, first + size, area[3] == READ))
+    if not found:
+        raise Refusal(path, "is a map of nothing")
+    return found
+
+
+def unread_units(found: Sequence[Area], skip: int, unit: int, units: int) -> list[Run]:
+    """The units of a file behind a header that were not read whole."""
+    result: list[Run] = []
+    for first, end in unread_bytes(found, skip + unit * units):
+        begin, stop = max(0, first - skip) // unit, min(units, -(-max(0, end - skip) // unit))
+        if begin >= stop:
+            continue
+        if result and begin <= result[-1].last + 1:
+            result[-1] = Run(result[-1].first, max(result[-1].last, stop - 1))
+        else:
+            result.append(Run(begin, stop - 1))
+    return result
+
+
+def unread_bytes(found: Sequence[Area], size: int) -> Iterator[tuple[int, int]]:
+    """The bytes of a file that were not read, those behind the map among them."""
+    for area in found:
+        if not area.is_read and area.first < size:
+            yield area.first, min(area.end, size)
+    if found[-1].end < size:
+        yield found[-1].end, size
+
+
+def domain(size: int, lost: Sequence[tuple[int, int]], told: str) -> bytes:
+    """A map of a file with which ddrescue reads again what was lost, and nothing else (its option -m): `+` is what is to be
+    read again, from the first byte up to the end, and `-` all other."""
+    lines = [f"# Mapfile of the mended {told}. Made by ribjasper-desk", "# current_pos  current_status  current_pass"]
+    lines += ["0x00000000     +               1", "#      pos        size  status"]
+    at = 0
+    for first, end in [*lost, (size, size)]:
+        first, end = min(first, size), min(end, size)
+        for status, start, stop in (("-", at, first), ("+", first, end)):
+            if stop > start:
+                lines.append(f"0x{start:08X}  0x{stop - start:08X}  {status}")
+        at = max(at, end)
+    return "".join(f"{line}\n" for line in lines).encode()

@@ -1,0 +1,218 @@
+"""What the library's survey says of a stream, column by column, with no loop over its blocks in Python. Blocks before the
+first and behind the last one that was read are not surveyed: they are unread, and nothing is wrong with them."""
+import bisect
+import ctypes
+import functools
+import re
+from typing import Iterator, NamedTuple
+
+from ..common import library
+from ..common.library import BLOCK, RAW, SurveyRow, Surveyed
+
+ROW = ctypes.sizeof(SurveyRow)
+# Where the columns of one byte stand in a row.
+COLUMNS = {name: getattr(SurveyRow, name).offset for name, *_ in SurveyRow._fields_}
+GOOD_Q = range(library.Q_OTHER + 1)
+_ANY = bytes([0] + [1] * 255)
+_NO_TIME = library.NO_TIME.to_bytes(4, "little")
+_UNREAD = _NO_TIME + bytes(COLUMNS["q"] - 4) + bytes([library.Q_NONE]) + bytes(ROW - COLUMNS["q"] - 1)
+# The bytes in which no bit of channel Q is set, and none of the channels R to W.
+_WITHOUT_Q = bytes(byte for byte in range(256) if not byte & 0x40)
+_WITHOUT_RW = bytes(byte for byte in range(256) if not byte & 0x3F)
+_SET = re.compile(rb"[^\x00]")
+# So many bytes are looked at at a time.
+AT_ONCE = 1 << 16
+_BAD_Q = bytes(1 if value in (library.Q_BAD_FIELD, library.Q_BAD_CHECK) else 0 for value in range(256))
+
+
+class Stretch(NamedTuple):
+    """Blocks whose absolute times go on by one: the first and the last, and the time of the first."""
+
+    first: int
+    last: int
+    time: int
+
+    @property
+    def shift(self) -> int:
+        """What is added to a block's number for its time."""
+        return self.time - self.first
+
+
+class Run(NamedTuple):
+    """Neighbouring blocks, the first and the last."""
+
+    first: int
+    last: int
+
+
+def either(*columns: bytes) -> bytes:
+    """A byte that is not zero where one of the columns is not."""
+    joined = 0
+    for column in columns:
+        joined |= int.from_bytes(column, "little")
+    return joined.to_bytes(len(columns[0]), "little")
+
+
+def runs(column: bytes) -> list[Run]:
+    """Where a column is not zero."""
+    return [Run(found.start(), found.end() - 1) for found in re.finditer(rb"[^\x00]+", column)]
+
+
+def has_q(stream: bytes) -> bool:
+    """Whether a bit of channel Q is set anywhere."""
+    return has_other(stream, _WITHOUT_Q)
+
+
+def has_graphics_bits(stream: bytes) -> bool:
+    """Whether a bit of the channels R to W is set anywhere."""
+    return has_other(stream, _WITHOUT_RW)
+
+
+def has_other(stream: bytes, those: bytes) -> bool:
+    """Whether a stream has other bytes than those."""
+    return any(stream[start : start + AT_ONCE].translate(None, those) for start in range(0, len(stream), AT_ONCE))
+
+
+def read_part(stream: bytes) -> tuple[int, int]:
+    """The first block that is not all zeros, and the one behind the last."""
+    parts = range(0, len(stream), AT_ONCE)
+    begin = next(
+        (start for start in parts if stream.count(0, start, start + AT_ONCE) < len(stream[start : start + AT_ONCE])), 0
+    )
+    first = _SET.search(stream, begin)
+    if first is None:
+        return 0, 0
+    end = len(stream) - len(stream) % BLOCK
+    while end and not any(stream[end - BLOCK : end]):
+        end -= BLOCK
+    return first.start() // BLOCK, end // BLOCK
+
+
+class Survey:
+    """The rows of a stream, one for each block."""
+
+    def __init__(self, stream: bytes, form: int, lead_in: int, is_trimmed: bool = True):
+        self.form, self.lead_in = form, lead_in
+        self.blocks = len(stream) // BLOCK
+        self.has_q = form == RAW and has_q(stream)
+        self.first, self.end = read_part(stream) if is_trimmed and self.has_q else (0, self.blocks)
+        self.rows = _UNREAD * self.first + self._surveyed(stream) + _UNREAD * (self.blocks - self.end)
+        self.columns: dict[str, bytes] = {}
+
+    def _surveyed(self, stream: bytes) -> bytes:
+        """The rows of the blocks that were read."""
+        count = self.end - self.first
+        room = ctypes.create_string_buffer(max(1, ROW * count))
+        start = library.address(stream) + BLOCK * self.first
+        lead_in = max(0, self.lead_in - self.first)
+        status = library.call("ribjasper_survey")(start, BLOCK * count, self.form, lead_in, room, count, Surveyed())
+        if status != library.DONE:
+            raise ValueError(f"ribjasper_survey answers {status}")
+        return ctypes.string_at(room, ROW * count)
+
+    @property
+    def read(self) -> int:
+        """How many blocks there are from the first that was read to the last."""
+        return self.end - self.first
+
+    def unread_column(self) -> bytes:
+        """A byte for each block, 1 where it is unread."""
+        return b"\1" * self.first + bytes(self.read) + b"\1" * (self.blocks - self.end)
+
+    def unread(self) -> list[Run]:
+        """The blocks before the first that was read and behind the last."""
+        edges = Run(0, self.first - 1), Run(self.end, self.blocks - 1)
+        return [run for run in edges if run.last >= run.first]
+
+    def column(self, name: str) -> bytes:
+        if name not in self.columns:
+            self.columns[name] = self.rows[COLUMNS[name] :: ROW]
+        return self.columns[name]
+
+    def total(self, name: str) -> int:
+        return sum(self.column(name))
+
+    def good_frames(self) -> int:
+        kinds = self.column("q")
+        return sum(kinds.count(kind) for kind in GOOD_Q)
+
+    @functools.cached_property
+    def bad_frames(self) -> bytes:
+        """A byte for each block, 1 where its Q frame is bad; none is where Q was not read at all."""
+        return self.column("q").translate(_BAD_Q) if self.has_q else bytes(self.blocks)
+
+    @functools.cached_property
+    def empty(self) -> bytes:
+        """A byte for each block, 1 where all of it is zero; idle packs without Q are no sign of damage."""
+        return self.column("empty") if self.has_q else bytes(self.blocks)
+
+    def corrected(self, run: Run) -> int:
+        return self.within(run, "one") + self.within(run, "two")
+
+    def within(self, run: Run, name: str) -> int:
+        return sum(self.column(name)[run.first : run.last + 1])
+
+    def stretches(self) -> list[Stretch]:
+        """The blocks whose times are known, in stretches that go on by one."""
+        return list(self._stretches)
+
+    @functools.cached_property
+    def _stretches(self) -> list[Stretch]:
+        return [
+            Stretch(found.start(), found.end() - 1, self.absolute(found.start()))
+            for found in re.finditer(rb"\x01\x00*", self._steps())
+        ]
+
+    def absolute(self, block: int) -> int:
+        """The absolute time that the Q frame of a block tells, or NO_TIME."""
+        return int.from_bytes(self.rows[ROW * block : ROW * block + 4], "little")
+
+    def _steps(self) -> bytes:
+        """A byte for each block: 0 where its time goes on by one from that of the block before, 1 where
+        another time is known, and above 1 where none is."""
+        if not self.blocks:
+            return b""
+        # Times have three bytes, and the highest of four is free for what is carried.
+        lanes = bytearray(4 * self.blocks)
+        for place in range(3):
+            lanes[place::4] = self.rows[place::ROW]
+        times = int.from_bytes(lanes, "little")
+        ones = int.from_bytes(b"\1\0\0\0" * self.blocks, "little")
+        differs = ((times >> 32) ^ (times + ones)).to_bytes(4 * self.blocks + 1, "little")
+        breaks = either(*(differs[place : 4 * self.blocks : 4] for place in range(4))).translate(_ANY)
+        unknown = self.rows[3::ROW].translate(bytes(2 if value else 0 for value in range(256)))
+        return either(b"\1" + breaks[:-1], unknown)
+
+
+class Clock:
+    """Absolute times and tracks of blocks, also of those whose own frame does not tell them."""
+
+    def __init__(self, survey: Survey):
+        self.survey = survey
+        self.stretches = survey.stretches()
+        self.starts = [stretch.first for stretch in self.stretches]
+
+    def stretch(self, block: int) -> Stretch | None:
+        """The stretch that a block is in or comes after, else the first one."""
+        place = bisect.bisect_right(self.starts, block) - 1
+        return self.stretches[max(place, 0)] if self.stretches else None
+
+    def time(self, block: int) -> int | None:
+        """The absolute time of a block, by the nearest known one before it, or else after it."""
+        stretch = self.stretch(block)
+        if stretch is None or block + stretch.shift < 0:
+            return None
+        return block + stretch.shift
+
+    def track(self, block: int) -> int | None:
+        stretch = self.stretch(block)
+        if stretch is None:
+            return None
+        known = min(max(block, stretch.first), stretch.last)
+        return self.survey.column("track")[known]
+
+    def jumps(self) -> Iterator[tuple[int, int, Stretch]]:
+        """Where the time does not go on: the last known block before and its time, and what comes after."""
+        for before, after in zip(self.stretches, self.stretches[1:]):
+            if before.shift != after.shift:
+                yield before.last, before.last + before.shift, after

@@ -1,0 +1,157 @@
+"""Files that are looked at in several processes, here or on the workers of a scheduler."""
+import collections
+import concurrent.futures
+import contextlib
+import ctypes
+import logging
+import multiprocessing
+import os
+import signal
+import site
+import sys
+from concurrent.futures import Future, ProcessPoolExecutor
+from concurrent.futures.process import BrokenProcessPool
+from typing import Any, Generator, Iterator, NamedTuple, Sequence
+
+from ..common import library
+from ..common.beside import STOPS
+from ..common.failures import Refusal, shown
+from ..common.output import package, tell
+from .examine import COLUMNS, Examined, UNREAD, examine
+from .loading import Asked
+
+# Linux's call by which a process is told when the one that started it has ended.
+PR_SET_PDEATHSIG = 1
+COULD_NOT = "could not be looked at: the process that did ended each time"
+
+
+class Task(NamedTuple):
+    """A file to be looked at: where it is, and its name in the report."""
+
+    path: str
+    name: str
+
+
+class How(NamedTuple):
+    """How files are looked at: with pictures, and what the words of the command say of all of them."""
+
+    with_pictures: bool
+    words: Asked = Asked()
+
+
+def look(task: Task, how: How) -> Examined:
+    return examine(task.path, task.name, how.with_pictures, how.words)
+
+
+def unread(name: str, why: str) -> Examined:
+    """The row of what could not be looked at."""
+    return Examined(dict.fromkeys(COLUMNS) | {"file": name, "status": UNREAD, "why": why}, was_lost=True)
+
+
+def end_with_parent() -> None:
+    """A worker ends with the run that started it, and leaves Ctrl-C to it."""
+    for number in STOPS:
+        signal.signal(number, signal.SIG_IGN if number == signal.SIGINT else signal.SIG_DFL)
+    if sys.platform == "linux":
+        ctypes.CDLL(None).prctl(PR_SET_PDEATHSIG, signal.SIGTERM)
+
+
+def processors() -> int:
+    """How many processors this process may use."""
+    return len(os.sched_getaffinity(0)) if hasattr(os, "sched_getaffinity") else os.cpu_count() or 1
+
+
+def pool_of(count: int) -> ProcessPoolExecutor:
+    # Windows has no fork, and on macOS libraries of the system do not survive it.
+    how = "fork" if sys.platform == "linux" else "spawn"
+    return ProcessPoolExecutor(count, mp_context=multiprocessing.get_context(how), initializer=end_with_parent)
+
+
+def here(tasks: Sequence[Task], how: How, count: int) -> Iterator[Examined]:
+    """Looks at files in so many processes on this machine. Where a process ends, the files that were being looked at are
+    tried again one by one, and one that ends its process again is a row that says so."""
+    waiting = collections.deque(tasks)
+    while waiting:
+        suspects = yield from in_pool(waiting, how, count)
+        if suspects:
+            names = ", ".join(shown(task.path) for task in suspects)
+            tell(f"a worker process ended unexpectedly; the files that were open are tried again one by one: {names}")
+        for task in suspects:
+            yield alone(task, how)
+
+
+def in_pool(waiting: collections.deque[Task], how: How, count: int) -> Generator[Examined, None, list[Task]]:
+    """Looks at the files that wait, as many at a time as there are processes, until a process ends: then the files that
+    were being looked at are returned."""
+    running: dict[Future[Examined], Task] = {}
+    pool = pool_of(count)
+    try:
+        while waiting or running:
+            while waiting and len(running) < count:
+                running[pool.submit(look, waiting[0], how)] = waiting[0]
+                waiting.popleft()
+            done, _ = concurrent.futures.wait(running, return_when=concurrent.futures.FIRST_COMPLETED)
+            for future in done:
+                found = future.result()
+                del running[future]
+                yield found
+    except BrokenProcessPool:
+        return list(running.values())
+    finally:
+        pool.shutdown(wait=True, cancel_futures=True)
+    return []
+
+
+def alone(task: Task, how: How) -> Examined:
+    """Looks at a file in a process of its own."""
+    with pool_of(1) as pool:
+        try:
+            return pool.submit(look, task, how).result()
+        except BrokenProcessPool:
+            tell(f"{shown(task.path)}: {COULD_NOT}")
+            return unread(task.name, COULD_NOT)
+
+
+def finder(distributed: Any, folder: str) -> Any:
+    """What a worker does first, also one that comes later: it learns where the desk is."""
+
+    class Finder(distributed.WorkerPlugin):  # type: ignore[misc]
+        def setup(self, worker: Any) -> None:
+            site.addsitedir(folder)
+
+    return Finder()
+
+
+def by_cluster(tasks: Sequence[Task], how: How, address: str) -> Iterator[Examined]:
+    """Looks at files on the workers of a scheduler, which see the same files and the same checkout."""
+    distributed = package("distributed", "python3-distributed")
+    # What its own tasks leave behind when they are cut off at the end is nothing that a user can act on.
+    sys.unraisablehook = lambda _: None
+    # What goes wrong is told in a line, and not in its own words.
+    logging.disable(logging.CRITICAL)
+    try:
+        client = distributed.Client(address, timeout=10)
+    except (OSError, ValueError) as error:
+        raise Refusal(address, f"no scheduler answers: {error}") from None
+    gone = f"the scheduler went away, or all of its workers; the next run goes on ({len(tasks)} files were to be looked at)"
+    try:
+        register = getattr(client, "register_plugin", None) or client.register_worker_plugin
+        register(finder(distributed, str(library.TOP / "desk")))
+        waiting = {
+            client.submit(look, Task(os.path.abspath(task.path), task.name), how, pure=False): task for task in tasks
+        }
+        for done in distributed.as_completed(waiting):
+            if done.status == "finished":
+                yield done.result()
+            elif done.status == "error":
+                tell(f"{shown(waiting[done].path)}: {COULD_NOT}: {done.exception()}")
+                yield unread(waiting[done].name, f"{COULD_NOT}: {done.exception()}")
+            else:
+                raise Refusal(address, gone)
+            done.release()
+    except (OSError, RuntimeError, distributed.comm.CommClosedError, concurrent.futures.CancelledError) as error:
+        raise Refusal(address, gone) from error
+    finally:
+        # One that answers no more cannot be closed in order.
+        with contextlib.suppress(Exception):
+            client.close(timeout=2)

@@ -1,0 +1,1 @@
+"""Songs: lyrics formats, pages, timelines, scripts and sound."""

@@ -1,0 +1,300 @@
+"""The sound of a disc: 44,100 Hz, stereo, 16 bits, of WAV files as they are and of others by ffmpeg."""
+import array
+import atexit
+import functools
+import json
+import math
+import os
+import re
+import shutil
+import struct
+import subprocess
+import sys
+import tempfile
+from pathlib import Path
+from typing import Any, BinaryIO, Iterator, NamedTuple
+
+from ..common.failures import Refusal, reading, shown
+from ..common.output import tell
+
+RATE, CHANNELS, SAMPLE_BYTES = 44_100, 2, 2
+# The audio of a block.
+FRAMES_A_BLOCK = RATE // 75
+SECTOR_AUDIO = FRAMES_A_BLOCK * CHANNELS * SAMPLE_BYTES
+# The forms of a WAV file: plain samples, and one whose form stands in a longer header.
+PLAIN, EXTENSIBLE = 1, 0xFFFE
+# The length of a stream whose end was not known when its header was written.
+UNKNOWN = (0, 0xFFFF_FFFF)
+# Sounds that may stand beside lyrics, by the endings of their names.
+ENDINGS = (".wav", ".flac", ".mp3", ".ogg", ".opus", ".m4a", ".aiff", ".aif")
+DISC_FORM = ["-vn", "-ar", str(RATE), "-ac", str(CHANNELS), "-c:a", "pcm_s16le"]
+
+
+# Loudness as ffmpeg's filter knows it: the range of targets in LUFS, and the highest peak in dB.
+QUIETEST, LOUDEST, HIGHEST_PEAK = -70.0, -5.0, -1.5
+JSON = re.compile(rb"\{[^{}]*\}")
+# What a sound is multiplied with is counted in parts of this.
+WHOLE = 1 << 15
+
+
+class Treatment(NamedTuple):
+    """What is done with a sound before it is used: from and to which second it is taken, its loudness in LUFS, seconds over
+    which it comes and goes, and seconds of silence in front."""
+
+    begin: float = 0.0
+    end: float | None = None
+    loudness: float | None = None
+    fade_in: float = 0.0
+    fade_out: float = 0.0
+    intro: float = 0.0
+
+    @property
+    def later(self) -> float:
+        """By how much everything in the sound is later than in its file."""
+        return self.intro - self.begin
+
+
+class Wave(NamedTuple):
+    """What the header of a WAV file tells, and where its samples are."""
+
+    form: int
+    channels: int
+    rate: int
+    bits: int
+    start: int
+    size: int
+
+    @property
+    def is_of_disc(self) -> bool:
+        return self[:4] == (PLAIN, CHANNELS, RATE, 8 * SAMPLE_BYTES)
+
+    def told(self) -> str:
+        return f"has {self.rate} Hz, {self.channels} channel{'s' * (self.channels != 1)}, {self.bits} bits"
+
+
+def read_wave(file: BinaryIO, path: Path) -> Wave | None:
+    """The header of a WAV file; nothing where it is another file. One that ends before its samples do is refused."""
+    if file.read(4) != b"RIFF" or file.read(8)[4:] != b"WAVE":
+        return None
+    end = os.fstat(file.fileno()).st_size
+    form = channels = rate = bits = 0
+    while len(head := file.read(8)) == 8:
+        size = int.from_bytes(head[4:], "little")
+        if head[:4] == b"fmt ":
+            content = file.read(size).ljust(16, b"\0")
+            form, channels, rate, _, _, bits = struct.unpack("<HHIIHH", content[:16])
+            if form == EXTENSIBLE and len(content) >= 26:
+                form = int.from_bytes(content[24:26], "little")
+            file.seek(size & 1, os.SEEK_CUR)
+        elif head[:4] == b"data":
+            return Wave(
+                form,
+                channels,
+                rate,
+                bits,
+                file.tell(),
+                whole_size(file.tell(), size, end, channels * bits // 8 * rate, path),
+            )
+        else:
+            file.seek(size + (size & 1), os.SEEK_CUR)
+    raise Refusal(path, "is a WAV file that ends before its samples begin")
+
+
+def whole_size(start: int, size: int, end: int, a_second: int, path: Path) -> int:
+    """How many bytes the samples have, or a refusal where some of them are not there."""
+    there = end - start
+    if size in UNKNOWN:
+        return there
+    if size > there:
+        missing = f"{there / a_second:.2f} of {size / a_second:.2f} seconds" if a_second else f"{there} of {size} bytes"
+        raise Refusal(path, f"is cut off: {missing} are there; {remedy(path)} makes a whole file of what is left")
+    return size
+
+
+def remedy(path: Path) -> str:
+    """The line that makes a file of the form of a disc."""
+    return f"`ffmpeg -i {shown(os.fspath(path))} {' '.join(DISC_FORM)} OUT.wav`"
+
+
+def wave_of(path: Path) -> Wave | None:
+    with reading(path), open(path, "rb") as file:
+        return read_wave(file, path)
+
+
+@functools.lru_cache(maxsize=None)
+def of_disc(path: Path) -> tuple[Path, Wave]:
+    """A WAV file whose samples a disc can hold as they are: this one, or one that ffmpeg makes of it for as long as the
+    desk runs."""
+    wave = wave_of(path)
+    if wave and wave.is_of_disc:
+        return path, wave
+    told = wave.told() if wave else "is no WAV file"
+    if not shutil.which("ffmpeg"):
+        raise Refusal(
+            path,
+            f"{told}, and ffmpeg is not installed; a disc takes 44,100 Hz, 2 channels, 16 bits, and "
+            f"{remedy(path)} makes such a file",
+        )
+    out = Path(folder()) / f"{len(os.listdir(folder()))}.wav"
+    words = ["ffmpeg", "-v", "error", "-nostdin", "-xerror", "-i", os.fspath(path), *DISC_FORM, os.fspath(out)]
+    done = subprocess.run(words, stdin=subprocess.DEVNULL, capture_output=True)
+    if done.returncode:
+        why = done.stderr.decode(errors="replace").strip().splitlines()
+        raise Refusal(path, f"{told}, and ffmpeg cannot convert it: {why[-1] if why else 'it says nothing'}")
+    tell(f"{path}: {told} and is converted by ffmpeg")
+    wave = wave_of(out)
+    if not wave or not wave.is_of_disc:
+        raise Refusal(path, "ffmpeg made no such file of it as a disc takes")
+    return out, wave
+
+
+@functools.lru_cache(maxsize=None)
+def folder() -> str:
+    """Where converted sounds are while the desk runs."""
+    name = tempfile.mkdtemp(prefix="ribjasper-sound-")
+    atexit.register(shutil.rmtree, name, ignore_errors=True)
+    return name
+
+
+def frames(path: Path) -> int:
+    """How many samples of both channels there are."""
+    return of_disc(path)[1].size // (CHANNELS * SAMPLE_BYTES)
+
+
+def length(path: Path) -> int:
+    """How many blocks the sound takes; the last one may be filled up with silence."""
+    return -(-frames(path) // FRAMES_A_BLOCK)
+
+
+def sectors(path: Path) -> Iterator[bytes]:
+    """The sound of each block, 2,352 bytes, lowest byte first."""
+    name, wave = of_disc(path)
+    with reading(path), open(name, "rb") as file:
+        file.seek(wave.start)
+        for at in range(0, wave.size, SECTOR_AUDIO):
+            yield file.read(min(SECTOR_AUDIO, wave.size - at)).ljust(SECTOR_AUDIO, b"\0")
+
+
+def header(samples: int) -> bytes:
+    """The header of a WAV file with so many bytes of samples of a disc."""
+    frame = CHANNELS * SAMPLE_BYTES
+    form = struct.pack("<4sIHHIIHH", b"fmt ", 16, PLAIN, CHANNELS, RATE, RATE * frame, frame, 8 * SAMPLE_BYTES)
+    return struct.pack("<4sI4s", b"RIFF", 36 + samples, b"WAVE") + form + struct.pack("<4sI", b"data", samples)
+
+
+@functools.lru_cache(maxsize=None)
+def treated(path: Path, treatment: Treatment) -> Path:
+    """The sound with a treatment: this file if there is nothing to be done, or a WAV file that is there while the desk
+    runs."""
+    if treatment == Treatment():
+        return path
+    name, wave = of_disc(path)
+    first, last = span_of(path, wave, treatment)
+    with reading(path), open(name, "rb") as file:
+        file.seek(wave.start + CHANNELS * SAMPLE_BYTES * first)
+        samples = file.read(CHANNELS * SAMPLE_BYTES * (last - first))
+    if treatment.loudness is not None:
+        samples = at_loudness(path, samples, treatment.loudness)
+    samples = faded(samples, treatment.fade_in, treatment.fade_out)
+    silence = bytes(CHANNELS * SAMPLE_BYTES * round(RATE * treatment.intro))
+    out = new_file(".wav")
+    out.write_bytes(header(len(silence) + len(samples)) + silence + samples)
+    return out
+
+
+def span_of(path: Path, wave: Wave, treatment: Treatment) -> tuple[int, int]:
+    """From and to which frame a sound is taken."""
+    count = wave.size // (CHANNELS * SAMPLE_BYTES)
+    last = count if treatment.end is None else round(RATE * treatment.end)
+    first = round(RATE * treatment.begin)
+    if not first < last <= count:
+        asked = f"{treatment.begin:g} to {last / RATE:g}"
+        raise Refusal(path, f"has {count / RATE:.2f} seconds, and those from {asked} were asked for")
+    return first, last
+
+
+def new_file(ending: str) -> Path:
+    """A file that is there while the desk runs."""
+    return Path(folder()) / f"{len(os.listdir(folder()))}{ending}"
+
+
+def faded(samples: bytes, fade_in: float, fade_out: float) -> bytes:
+    """Samples that come from silence and go into it, evenly."""
+    values = array.array("h", samples)
+    count = len(values) // CHANNELS
+    steps = [min(count, round(RATE * seconds)) for seconds in (fade_in, fade_out)]
+    if sys.byteorder == "big":
+        values.byteswap()
+    for step, is_last in zip(steps, (False, True)):
+        for at in range(step):
+            part, place = WHOLE * at // step, CHANNELS * (count - 1 - at if is_last else at)
+            for channel in range(CHANNELS):
+                values[place + channel] = values[place + channel] * part // WHOLE
+    if sys.byteorder == "big":
+        values.byteswap()
+    return values.tobytes()
+
+
+def at_loudness(path: Path, samples: bytes, loudness: float) -> bytes:
+    """The samples at another loudness, by ffmpeg: one pass measures them, and one changes them as evenly as it can."""
+    source, out = new_file(".wav"), Path(f"{new_file('')}-loud.wav")
+    source.write_bytes(header(len(samples)) + samples)
+    target = f"loudnorm=I={loudness:g}:TP={HIGHEST_PEAK}:LRA=20"
+    told = run_ffmpeg(path, ["-i", os.fspath(source), "-af", f"{target}:print_format=json", "-f", "null", "-"], "info")
+    found = [one for one in JSON.findall(told) if b"input_i" in one]
+    measured: dict[str, Any] = json.loads(found[-1]) if found else {}
+    values = [
+        str(measured.get(key, "")) for key in ("input_i", "input_tp", "input_lra", "input_thresh", "target_offset")
+    ]
+    if not all(is_number(value) for value in values):
+        raise Refusal(path, "ffmpeg cannot measure its loudness; is it silent?")
+    names = ("measured_I", "measured_TP", "measured_LRA", "measured_thresh", "offset")
+    given = ":".join(f"{name}={value}" for name, value in zip(names, values))
+    run_ffmpeg(path, ["-i", os.fspath(source), "-af", f"{target}:{given}:linear=true", *DISC_FORM, os.fspath(out)])
+    wave = wave_of(out)
+    if not wave or not wave.is_of_disc:
+        raise Refusal(path, "ffmpeg made no such file of it as a disc takes")
+    louder = out.read_bytes()[wave.start : wave.start + wave.size]
+    return louder[: len(samples)].ljust(len(samples), b"\0")
+
+
+def is_number(word: str) -> bool:
+    try:
+        return math.isfinite(float(word))
+    except ValueError:
+        return False
+
+
+def run_ffmpeg(path: Path, words: list[str], level: str = "error") -> bytes:
+    """What ffmpeg prints while it works on a sound."""
+    if not shutil.which("ffmpeg"):
+        raise Refusal(path, "its loudness needs ffmpeg, which is not installed")
+    done = subprocess.run(
+        ["ffmpeg", "-v", level, "-nostats", "-nostdin", *words], stdin=subprocess.DEVNULL, capture_output=True
+    )
+    if done.returncode:
+        why = done.stderr.decode(errors="replace").strip().splitlines()
+        raise Refusal(path, f"ffmpeg ended with {done.returncode}: {why[-1] if why else 'it says nothing'}")
+    return done.stderr
+
+
+def length_with(path: Path, intro: float) -> int:
+    """How many blocks a sound takes with silence in front."""
+    return -(-(frames(path) + round(RATE * intro)) // FRAMES_A_BLOCK)
+
+
+def beside(lyrics: Path) -> Path | None:
+    """The sound that stands beside lyrics and has their name, in small letters or in capitals."""
+    exact = next((path for path in (lyrics.with_suffix(ending) for ending in ENDINGS) if path.exists()), None)
+    if exact or not lyrics.name:
+        return exact
+    wanted = {f"{lyrics.stem}{ending}".lower(): place for place, ending in enumerate(ENDINGS)}
+    try:
+        names = [path for path in lyrics.parent.iterdir() if path.name.lower() in wanted]
+    except OSError:
+        return None
+    # The name itself may differ in the size of its letters too, if that leaves no doubt.
+    best = min((wanted[path.name.lower()] for path in names), default=0)
+    found = [path for path in names if wanted[path.name.lower()] == best]
+    same = [path for path in found if path.stem == lyrics.stem]
+    return found[0] if len(found) == 1 else same[0] if same else None

@@ -1,0 +1,303 @@
+"""Pages of a few rows, and the steps that draw, light and clear them on the screen."""
+import functools
+from dataclasses import dataclass, field
+from typing import Iterable
+
+from ..drawing.bidi import is_leftward
+from ..drawing.lettering import Font
+from ..drawing.raster import Raster, Span, TILE_HEIGHT, TILE_WIDTH, WIDTH, joined
+from ..drawing.styles import INKS, Inks, Style
+from .setting import Letters, Setter, text_of, wrapped
+from .songs import Line, Syllable
+
+# How long nothing is sung, in seconds, before a page that is not full is left; before the next line is counted in; and
+# before a page tells how long it is.
+REST, COUNTED_REST, TOLD_REST = 3.0, 6.0, 12.0
+# What is left of a page goes so long after its last word; a page after a long rest comes so long before its first.
+GOES, COMES = 2.0, 6.0
+# The dots that count a line in go out a second after each other.
+DOTS = 3
+DOT = (
+    "......",
+    "......",
+    "......",
+    ".####.",
+    "######",
+    "######",
+    "######",
+    "######",
+    ".####.",
+    "......",
+    "......",
+    "......",
+)
+# Where no ink is.
+NO_INK = bytes([255, *bytes(255)])
+# The columns that are drawn in one step.
+STEP = TILE_WIDTH
+# A row of pixels with its number.
+Row = tuple[int, bytes]
+
+
+def over(ground: bytes, inks: bytes) -> bytes:
+    """Inks over a row of the ground, which is seen where they are 0."""
+    seen = int.from_bytes(ground, "big") & int.from_bytes(inks.translate(NO_INK), "big")
+    return (seen | int.from_bytes(inks, "big")).to_bytes(len(inks), "big")
+
+
+@dataclass(eq=False)
+class Placed:
+    """Letters in one of the places of a page, or none where it is to be empty; when they are sung, in seconds; and what
+    stood there before them. What is not sung only stands. It is not drawn before `begin`, nor before the row that it
+    follows in the order of singing."""
+
+    slot: int
+    top: int
+    letters: Letters | None
+    start: float
+    end: float
+    area: range
+    empty: Raster
+    before: "Placed | None" = None
+    is_sung: bool = True
+    begin: float = 0.0
+    dots: list[int] = field(default_factory=list)
+    draws: "list[Draw]" = field(default_factory=list)
+    inks: Inks = INKS[1]
+    follows: "Placed | None" = None
+
+    @property
+    def lit_end(self) -> float:
+        """When all of it is lit; a line whose end is a guess may stay longer. An empty place has the time of what stood
+        there."""
+        if not self.letters:
+            return self.before.lit_end if self.before else self.end
+        return self.letters.syllables[-1].end
+
+    def text(self) -> str:
+        return "".join(syllable.text for syllable in self.letters.syllables).strip() if self.letters else ""
+
+    @functools.cached_property
+    def rows(self) -> list[bytes]:
+        """The rows of its area as they stand when it is drawn."""
+        rows = [bytearray(row) for row in self.empty.rows[self.area.start : self.area.stop]]
+        if self.letters:
+            for row, inks in zip(rows[self.top - self.area.start :], self.letters.rows):
+                row[:] = over(row, inks)
+        for dot in self.dots:
+            for row, marks in zip(rows[self.top - TILE_HEIGHT - self.area.start :], DOT):
+                row[dot : dot + TILE_WIDTH] = bytes(
+                    self.inks.full(0) if mark == "#" else old for mark, old in zip(marks, row[dot : dot + TILE_WIDTH])
+                )
+        return [bytes(row) for row in rows]
+
+    @functools.cached_property
+    def lit(self) -> list[bytes]:
+        """The same rows when all is sung; the dots are gone."""
+        rows = list(self.empty.rows[self.area.start : self.area.stop])
+        first = self.top - self.area.start
+        for number, inks in enumerate(self.letters.rows if self.letters else [], first):
+            rows[number] = bytearray(over(rows[number], inks.translate(self.inks.lit)))
+        return [bytes(row) for row in rows]
+
+
+class Step:
+    """A change of the screen, and the packs that it needs."""
+
+    need = 0
+
+    def apply(self, raster: Raster) -> None:
+        raise NotImplementedError
+
+
+@dataclass(eq=False)
+class Show(Step):
+    """Something else stands as a whole."""
+
+    picture: Raster
+
+    def apply(self, raster: Raster) -> None:
+        raster.rows = [bytearray(row) for row in self.picture.rows]
+        raster.colours, raster.border = list(self.picture.colours), self.picture.border
+
+
+@dataclass(eq=False)
+class Part(Step):
+    """Some columns of a place change."""
+
+    placed: Placed
+    left: int
+    right: int
+
+    def rows(self) -> Iterable[Row]:
+        """The rows that may change, with what they have in these columns."""
+        raise NotImplementedError
+
+    def differing(self, raster: Raster) -> list[Row]:
+        """Those of its rows that are not what stands."""
+        return [(number, row) for number, row in self.rows() if raster.rows[number] != row]
+
+    def apply(self, raster: Raster) -> None:
+        self.draw(raster, self.rows())
+
+    def draw(self, raster: Raster, rows: Iterable[Row]) -> None:
+        """Brings its columns of some of its rows."""
+        for number, row in rows:
+            raster.rows[number][self.left : self.right] = row[self.left : self.right]
+
+    def lines(self, raster: Raster, rows: list[Row]) -> list[str]:
+        """The lines of a script that change what stands into this, which then stands; only these rows can differ."""
+        spans, left, right = [], self.left, self.right
+        for number, row in rows:
+            pixels, stands = row[left:right], raster.rows[number]
+            if stands[left:right] != pixels:
+                stands[left:right] = pixels
+                spans.append(Span(left, number, pixels))
+        return list(joined(spans))
+
+
+class Draw(Part):
+    """They come, or go, over the empty page."""
+
+    def rows(self) -> Iterable[Row]:
+        return zip(self.placed.area, self.placed.rows)
+
+
+class Light(Part):
+    """They take the colour of what is sung."""
+
+    def rows(self) -> Iterable[Row]:
+        placed = self.placed
+        return zip(range(placed.top, placed.area.stop), placed.lit[placed.top - placed.area.start :])
+
+
+class DotOut(Part):
+    """One of the dots that count a line in goes out."""
+
+    def rows(self) -> Iterable[Row]:
+        empty = self.placed.empty.rows
+        return ((number, bytes(empty[number])) for number in range(self.placed.top - TILE_HEIGHT, self.placed.top))
+
+
+@dataclass
+class Group:
+    """The rows of a page, before they have their places; where they are counted in; and the second before which
+    nothing of them is drawn."""
+
+    rows: list[tuple[Line, list[list[Syllable]]]] = field(default_factory=list)
+    is_sung: bool = True
+    is_counted: bool = False
+    begin: float = 0.0
+    end: float = 0.0
+
+
+def groups_of(lines: list[Line], font: Font, style: Style, rests: bool = True, end: float = 0.0) -> list[Group]:
+    """The rows of a verse, at most so many a page; the rows of a line stand on one page if they can, and after a rest a new
+    page begins. Nothing is sung from a time on, until the verse begins."""
+    pages: list[Group] = []
+    most = style.rows
+    for number, line in enumerate(lines):
+        rest = line.start - end
+        rows = [(line, row) for row in wrapped(line, font)]
+        if not number or rest >= REST or len(pages[-1].rows) + len(rows) > most >= len(rows):
+            pages.append(Group())
+            if rests and rest > COUNTED_REST:
+                pages[-1].is_counted = True
+            if rests and rest >= TOLD_REST and number:
+                pages.insert(-1, rest_page(style.rest, end, line.start, font))
+                pages[-1].begin = line.start - COMES
+        for row in rows:
+            if len(pages[-1].rows) == most:
+                pages.append(Group())
+            pages[-1].rows.append(row)
+        end = max(end, line.stays)
+    return pages
+
+
+def rest_page(text: str, end: float, start: float, font: Font) -> Group:
+    """A page that tells how long nothing is sung."""
+    seconds = round(start - end)
+    return still_page([f"{text} {seconds // 60}:{seconds % 60:02}"], end + GOES, start - COMES, font)
+
+
+def still_page(texts: list[str], begin: float, end: float, font: Font) -> Group:
+    """A page of lines that are not sung."""
+    lines = [Line(0, [Syllable(text, begin, end)]) for text in texts]
+    rows = [(line, row) for line in lines for row in wrapped(line, font)]
+    return Group(rows, is_sung=False, begin=begin, end=end)
+
+
+class Screen:
+    """The places of a page while pages follow each other."""
+
+    def __init__(self, style: Style, empty: Raster, inks: Inks):
+        self.style, self.empty, self.inks = style, empty, inks
+        self.standing: list[Placed | None] = [None] * style.rows
+
+    def place(self, slot: int, letters: Letters | None, start: float, end: float, inset: int = 0) -> Placed:
+        """Puts letters into a place, or makes it empty."""
+        top = self.style.top(slot)
+        area = range(top if slot else 0, top + TILE_HEIGHT * self.style.slot_rows)
+        placed = Placed(slot, top + inset, letters, start, end, area, self.empty, self.standing[slot], inks=self.inks)
+        steps = [Draw(placed, left, left + STEP) for left in range(0, WIDTH, STEP)]
+        read = placed if letters else placed.before
+        placed.draws = steps[::-1] if read and is_leftward(read.text()) else steps
+        self.standing[slot] = placed
+        return placed
+
+    def clear(self, slot: int) -> list[Placed]:
+        """Makes a place empty where letters stand, as soon as they are sung."""
+        standing = self.standing[slot]
+        if not standing or not standing.letters:
+            return []
+        return [self.place(slot, None, standing.end, standing.end)]
+
+
+@dataclass
+class Page:
+    """What is to be drawn of a page, in its order, and what it is made of."""
+
+    placed: list[Placed]
+    group: Group
+
+
+def laid_out(groups: list[Group], setter: Setter, style: Style, empty: Raster, is_last: bool = True) -> list[Page]:
+    """Each row at its place, with those places that become empty; and last an empty page, if the song ends here, but not
+    with a page that is not sung."""
+    inset = TILE_HEIGHT * max(0, (style.slot_rows - setter.tile_rows + 1) // 2)
+    inset = min(inset, TILE_HEIGHT * max(0, style.slot_rows - setter.tile_rows))
+    screen, pages = Screen(style, empty, setter.inks), list[Page]()
+    last_rows = {id(line): row for group in groups for line, row in group.rows}
+    before: Placed | None = None
+    for group in groups:
+        first = (style.rows - len(group.rows)) // 2
+        used = range(first, first + len(group.rows))
+        page = [placed for slot in range(style.rows) if slot not in used for placed in screen.clear(slot)]
+        for slot, (line, row) in zip(used, group.rows):
+            letters = setter.set(line, row)
+            start, end = letters.syllables[0].start, letters.syllables[-1].end
+            if row is last_rows[id(line)]:
+                end = max(end, line.stays)
+            page += screen.clear(slot)
+            placed = screen.place(slot, letters, start, end, inset)
+            placed.is_sung, placed.begin, placed.follows = group.is_sung, group.begin, before
+            before = placed
+            page.append(placed)
+        if group.is_counted and group.rows:
+            count_in(next(placed for placed in page if placed.letters))
+        pages.append(Page(page, group))
+    ends = is_last and groups and groups[-1].is_sung
+    last = [placed for slot in range(style.rows) for placed in screen.clear(slot)] if ends else []
+    return [*pages, Page(last, Group())]
+
+
+def count_in(placed: Placed) -> None:
+    """Puts dots above a line, where there is room."""
+    if placed.top >= TILE_HEIGHT:
+        middle = WIDTH // 2 // TILE_WIDTH
+        placed.dots = [TILE_WIDTH * (middle + 2 * place - DOTS + 1) for place in range(DOTS)]
+
+
+def texts_of(groups: list[Group]) -> list[tuple[str, int]]:
+    """The texts of all rows with their voices."""
+    return [(text_of(row), line.voice) for group in groups for line, row in group.rows]

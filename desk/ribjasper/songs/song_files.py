@@ -1,0 +1,167 @@
+"""Reads the lyrics of a song, of whatever kind the file is."""
+import contextlib
+import re
+from pathlib import Path
+from typing import Callable
+
+from ..common.failures import Refusal
+from ..common.output import read_file
+from .ass import read_ass
+from .document import Document, apply, beside, document_of, pictures_in
+from .encodings import UTF_8, Guess, decodes, encoding_of, shown_name
+from .kar import read_kar
+from .lrc import read_lrc
+from .songs import Song
+from .srt import TIMES, read_srt
+from .ultrastar import read_ultrastar
+from .vtt import read_vtt
+
+EVENTS = re.compile(r"^\[Events\]", re.MULTILINE | re.IGNORECASE)
+NOTES = re.compile(r"^[:*]\s*-?\d+\s+\d+\s+-?\d+", re.MULTILINE)
+STRETCH = re.compile("^" + TIMES.pattern, re.MULTILINE)
+PICTURE = re.compile(r"\[(?:image|picture):([^\]\n\0]+)\]", re.IGNORECASE)
+WEB_VTT = re.compile(r"\ufeff?WEBVTT(\s|$)")
+# The seconds that the longest disc has.
+LONGEST_SONG = 99 * 60
+
+
+def encoding_for(content: bytes, song: Song, asked: str | None) -> str:
+    """The encoding of a text, which is reported if it is not UTF-8; a guess is called one."""
+    if asked:
+        if not decodes(content, asked):
+            raise Refusal(song.path, f"is not encoded as {asked}: {why_not(content, asked)}")
+        return asked
+    guess: Guess | None = encoding_of(content)
+    if guess is None:
+        where = why_not(content, "utf-8")
+        raise Refusal(song.path, f"is not UTF-8 ({where}), and its encoding cannot be guessed; --encoding names it")
+    if not decodes(content, guess.name):
+        raise Refusal(song.path, f"is not encoded as {shown_name(guess.name)}: {why_not(content, guess.name)}")
+    if guess.is_guess:
+        song.told.append(
+            f"{song.path}: is read as {shown_name(guess.name)}, a guess; --encoding names another encoding"
+        )
+    elif guess.name not in UTF_8:
+        song.told.append(f"{song.path}: is read as {shown_name(guess.name)}")
+    return guess.name
+
+
+def why_not(content: bytes, name: str) -> str:
+    """Where a text is not of an encoding."""
+    try:
+        content.decode(name)
+    except UnicodeDecodeError as wrong:
+        return f"line {content[: wrong.start].count(10) + 1}, byte {wrong.start}"
+    except UnicodeError as wrong:
+        return str(wrong)
+    return "?"
+
+
+def read_song(path: Path, encoding: str | None = None, later: float = 0.0) -> Song:
+    """The song of a file: karaoke MIDI, ASS, UltraStar, SubRip, WebVTT or LRC, by its content; all of it some seconds later
+    than the file says. All faults are reported at once."""
+    content, more = read_file(path), companion_of(path)
+    song, _ = song_of(path, content, read_file(more) if more else None, encoding)
+    song.shift(later)
+    clip(song)
+    if not song.lines:
+        raise Refusal(path, "no line has a time like [00:12.50], and there are no events, notes or stretches of time")
+    return song
+
+
+def open_document(path: Path, encoding: str | None = None) -> Document:
+    """The lyrics of a file as a document that can be edited and saved as LRC."""
+    content, more = read_file(path), companion_of(path)
+    toml = read_file(more) if more else None
+    song, is_lrc = song_of(path, content, toml, encoding)
+    return document_of(song, content, toml) if is_lrc else Document(song)
+
+
+def companion_of(path: Path) -> Path | None:
+    """The file beside LRC that holds what LRC cannot express, if it is there."""
+    found = beside(path)
+    return found if path.suffix.lower() == ".lrc" and found.is_file() else None
+
+
+def song_of(path: Path, content: bytes, toml: bytes | None, encoding: str | None) -> tuple[Song, bool]:
+    """The song that a file holds, and whether it is LRC."""
+    song, is_lrc = Song([], path=path), False
+    if content.startswith(b"MThd"):
+        read_kar(content, song, lambda texts: decoded_texts(texts, song, encoding))
+    else:
+        song.encoding = encoding_for(content, song, encoding)
+        text = content.decode(song.encoding)
+        kinds = ((WEB_VTT, read_vtt), (EVENTS, read_ass), (NOTES, read_ultrastar), (STRETCH, read_srt))
+        reader: Callable[[str, Song], None] = next((one for mark, one in kinds if starts(mark, text)), read_lrc)
+        reader(text, song)
+        is_lrc = reader is read_lrc
+        if is_lrc and toml is not None:
+            apply(song, text, toml, beside(path))
+    put_in_order(song)
+    if song.faults:
+        raise Refusal(path, *song.faults)
+    return song, is_lrc
+
+
+def pictures_of(path: Path) -> list[Path]:
+    """The files that lyrics bring with them: the one beside LRC, and the pictures that lyrics of any kind may name. A file
+    that is no regular one is not looked at."""
+    if not path.is_file():
+        return []
+    more = companion_of(path)
+    found = [more] if more else []
+    with contextlib.suppress(Refusal, OSError):
+        names = PICTURE.findall(read_file(path).decode("utf-8", "surrogateescape"))
+        found += [path.parent / name.strip() for name in names if not name.strip().startswith("#")]
+    if more:
+        with contextlib.suppress(Refusal, OSError):
+            found += [path.parent / what for what in pictures_in(read_file(more))]
+    return found
+
+
+def starts(mark: re.Pattern[str], text: str) -> bool:
+    """Whether a text is of a kind: WebVTT by its first line, others by any line."""
+    return bool(mark.match(text) if mark is WEB_VTT else mark.search(text))
+
+
+def decoded_texts(texts: list[bytes], song: Song, encoding: str | None) -> list[str]:
+    """The texts of a MIDI file, which all have one encoding."""
+    song.encoding = encoding_for(b"\n".join(texts), song, encoding)
+    return [text.decode(song.encoding, "replace") for text in texts]
+
+
+def put_in_order(song: Song) -> None:
+    """Lines in the order of their times; those whose words go back, or that no disc is long enough for, are faults."""
+    song.lines.sort(key=lambda line: line.start)
+    for line in song.lines:
+        starts = [syllable.start for syllable in line.syllables]
+        if starts != sorted(starts):
+            song.fault(line.number, f"the times of its words go back: {line.text}")
+        elif line.end < line.start:
+            song.fault(line.number, f"it ends before it begins: {line.text}")
+        elif line.end > LONGEST_SONG:
+            song.fault(line.number, f"is at {line.written}, and a disc ends after {LONGEST_SONG // 60} minutes")
+        for syllable in line.syllables:
+            syllable.end = max(syllable.start, syllable.end)
+
+
+def clip(song: Song) -> None:
+    """What would be sung before the audio begins is sung from its beginning on, or left out where it would be over."""
+    kept = []
+    for line in song.lines:
+        if line.end <= 0:
+            song.tell(
+                line.number,
+                f"at {line.written} would be sung before the audio begins, and is left out: {line.text}",
+            )
+            continue
+        if line.start < 0:
+            song.tell(
+                line.number,
+                f"at {line.written} would begin {-line.start:.2f} seconds before the audio, and "
+                f"begins with it: {line.text}",
+            )
+            for syllable in line.syllables:
+                syllable.start, syllable.end = max(0.0, syllable.start), max(0.0, syllable.end)
+        kept.append(line)
+    song.lines = kept

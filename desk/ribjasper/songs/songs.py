@@ -1,0 +1,167 @@
+"""Lyrics with their times: lines, syllables and voices, whatever kind of file holds them."""
+import re
+import unicodedata
+from dataclasses import dataclass, field
+from pathlib import Path
+
+# How long the last word of a line is sung at most, where nothing tells it. A line whose words have no times is swept
+# over in at most so many letters a second, and is taken as sung until the next one if that comes within ten seconds.
+LONGEST_WORD = 3.0
+SLOWEST_LETTERS, SHORTEST_SWEEP = 12.0, 1.0
+LONGEST_LINE = 10.0
+# The voices: up to four singers, and all of them together.
+FIRST, SECOND, THIRD, FOURTH, BOTH = range(5)
+SINGERS = 4
+# What files call a voice that is not one singer's.
+TOGETHER = {"both", "all", "duet", "together", "d", "tutti", "chorus", "choir", "alle", "beide"}
+
+
+@dataclass
+class Syllable:
+    """What is sung at one time, in seconds of the audio; blanks around it belong to the text."""
+
+    text: str
+    start: float
+    end: float
+    voice: int = FIRST
+
+
+@dataclass
+class Line:
+    """A line of lyrics: its syllables, one after the other; its number in the file; whether it has one time for all of
+    its words; its time as the file spells it; and if no file says when it ends, the time until which it is taken as
+    sung: the line then stays on the screen, although all of it is lit."""
+
+    number: int
+    syllables: list[Syllable]
+    is_whole: bool = False
+    written: str = ""
+    until: float | None = None
+
+    @property
+    def start(self) -> float:
+        return self.syllables[0].start
+
+    @property
+    def end(self) -> float:
+        """When all of it is lit."""
+        return self.syllables[-1].end
+
+    @property
+    def stays(self) -> float:
+        """Until when it is taken as sung."""
+        return max(self.end, self.until or 0.0)
+
+    @property
+    def is_open(self) -> bool:
+        """Whether its end is a guess."""
+        return self.until is not None
+
+    @property
+    def text(self) -> str:
+        return "".join(syllable.text for syllable in self.syllables).strip()
+
+    @property
+    def voice(self) -> int:
+        return self.syllables[0].voice
+
+
+@dataclass
+class Insert:
+    """A picture or a colour between verses: the number of its line, what the file says, and a time if it has one;
+    otherwise it comes after the line of lyrics in front of it."""
+
+    number: int
+    what: str
+    start: float | None = None
+    after: float = 0.0
+
+
+@dataclass
+class Song:
+    """Lines in the order of their times; title, performer, singers and all other tags of the file; pictures between
+    verses; notes for the user; and faults that keep the song from being used."""
+
+    lines: list[Line]
+    title: str = ""
+    performer: str = ""
+    singers: list[str] = field(default_factory=list)
+    told: list[str] = field(default_factory=list)
+    faults: list[str] = field(default_factory=list)
+    path: Path = Path("the lyrics")
+    tags: dict[str, str] = field(default_factory=dict)
+    inserts: list[Insert] = field(default_factory=list)
+    encoding: str = "utf-8"
+
+    @property
+    def voices(self) -> int:
+        """How many voices have colours of their own; both of a duet have the colours of two."""
+        used = {syllable.voice for line in self.lines for syllable in line.syllables}
+        most = max(used - {BOTH}, default=FIRST)
+        return 1 + max(most, SECOND if BOTH in used else FIRST)
+
+    @property
+    def has_both(self) -> bool:
+        """Whether all sing some of it together."""
+        return any(syllable.voice == BOTH for line in self.lines for syllable in line.syllables)
+
+    def tell(self, number: int, what: str) -> None:
+        """A note on a line that is not as one would expect, and is used all the same."""
+        self.told.append(f"{self.path}: line {number} {what}")
+
+    def fault(self, number: int, what: str) -> None:
+        """Something that keeps the song from being used."""
+        self.faults.append(f"line {number}: {what}")
+
+    def voice_of(self, name: str, number: int) -> int:
+        """The voice of a singer, in the order in which they come; one with two names is that of both."""
+        name = name.strip()
+        if not name:
+            return FIRST
+        if name.lower() in TOGETHER:
+            return BOTH
+        if name not in self.singers:
+            if sum(bool(re.search(rf"(?<!\w){re.escape(one)}(?!\w)", name)) for one in self.singers) > 1:
+                return BOTH
+            self.singers.append(name)
+            if len(self.singers) == SINGERS + 1:
+                self.tell(
+                    number, f"has a fifth singer, {name}: there are colours for four, and {name} has the fourth's"
+                )
+        return min(self.singers.index(name), SINGERS - 1)
+
+    def shift(self, seconds: float) -> None:
+        """Moves all times; what then would begin before the audio does is left to `clip`."""
+        if not seconds:
+            return
+        for line in self.lines:
+            line.until = None if line.until is None else line.until + seconds
+            for syllable in line.syllables:
+                syllable.start, syllable.end = syllable.start + seconds, syllable.end + seconds
+        for insert in self.inserts:
+            insert.after += seconds
+            insert.start = None if insert.start is None else insert.start + seconds
+
+
+def letters_in(text: str) -> int:
+    """How many letters a text is long for a singer: a sign of a script without an alphabet counts as three."""
+    return sum(3 if unicodedata.east_asian_width(letter) in "WF" else not letter.isspace() for letter in text)
+
+
+def open_line(line: Line, following: float | None) -> Line:
+    """A line with one time whose end no file tells, and which is swept over as fast as its letters may be sung."""
+    start = line.start
+    longest = max(SHORTEST_SWEEP, letters_in(line.text) / SLOWEST_LETTERS)
+    end = start + longest if following is None else min(start + longest, following)
+    line.syllables[-1].end = max(start, end)
+    line.until = following if following is not None and following - start < LONGEST_LINE else line.end
+    return line
+
+
+def seconds(minutes: str, whole: str, part: str | None) -> float:
+    return 60 * int(minutes) + int(whole) + (float(f"0.{part}") if part else 0.0)
+
+
+def spelled(time: float) -> str:
+    """A time as lyrics spell it."""
+    return f"{int(time) // 60:02}:{time % 60:05.2f}"

@@ -1,0 +1,270 @@
+"""Steps on one line of time: what is sung is lit at its time, and what comes next is drawn in the gaps."""
+from dataclasses import dataclass, field, replace
+from typing import Iterator, Sequence
+
+from ..common.library import BLOCKS_A_SECOND
+from ..common.times import nearest_block
+from ..drawing.raster import TILE_WIDTH
+from .pages import DotOut, Draw, Light, Placed, Step
+from .setting import Letters, Part
+
+PACKS_A_BLOCK = 4
+# By how many blocks a word may be lit before its time at most, so that others are lit at theirs.
+EARLY = 8
+# What is late by no more blocks is not seen.
+SEEN = 3
+FOREVER, A_MINUTE = 10**9, 60 * 75
+
+
+def blocks_for(steps: Sequence[Step]) -> int:
+    return -(-sum(step.need for step in steps) // PACKS_A_BLOCK)
+
+
+@dataclass(eq=False)
+class Picture:
+    """Steps that are sent together: from one block on, and whole at another."""
+
+    steps: list[Step]
+    start: int
+    ready: int
+
+
+@dataclass(eq=False)
+class Due:
+    """What is lit together, and the block at which it is to stand."""
+
+    steps: list[Light | DotOut]
+    block: int
+
+    @property
+    def placed(self) -> Placed:
+        return self.steps[0].placed
+
+
+@dataclass(eq=False)
+class Task:
+    """A place of a page that is to be filled, not before a block; wholly drawn by another, if it can be."""
+
+    placed: Placed
+    steps: list[Draw]
+    release: int
+    block: int
+
+
+@dataclass
+class Timeline:
+    """Pictures one after the other."""
+
+    now: int
+    pictures: list[Picture] = field(default_factory=list)
+
+    def put(self, steps: Sequence[Step], start: int) -> int:
+        """Sends steps from a block on, or as soon as the line is free; returns when they stand."""
+        steps = [step for step in steps if step.need]
+        if not steps:
+            return self.now
+        start = max(start, self.now)
+        self.now = start + blocks_for(steps)
+        self.pictures.append(Picture(steps, start, self.now))
+        return self.now
+
+
+def latest_starts(dues: list[Due]) -> list[int]:
+    """When each has to be sent at the latest, so that it and all after it stand at their blocks."""
+    starts, limit = [], FOREVER
+    for due in reversed(dues):
+        limit = min(due.block, limit) - blocks_for(due.steps)
+        starts.append(limit)
+    return starts[::-1]
+
+
+def grouped(dues: Sequence[Due]) -> list[Due]:
+    """What would be lit much too early is lit together with what follows on its line."""
+    kept: list[tuple[Due, int]] = []
+    for due in reversed(dues):
+        while kept and due.block - kept[-1][1] > EARLY and kept[-1][0].placed is due.placed:
+            due = Due(due.steps + kept.pop()[0].steps, due.block)
+        limit = kept[-1][1] if kept else FOREVER
+        kept.append((due, min(due.block, limit) - blocks_for(due.steps)))
+    return [due for due, _ in reversed(kept)]
+
+
+@dataclass
+class Told:
+    """By how many blocks lines are drawn and words are lit after their times, the lines that are not sung out when others
+    have to come in their place, and those that are not wholly lit before the audio ends."""
+
+    drawn_late: dict[Placed, int] = field(default_factory=dict)
+    lit_late: dict[Placed, int] = field(default_factory=dict)
+    lost: list[Placed] = field(default_factory=list)
+    cut: dict[Placed, None] = field(default_factory=dict)
+
+    def add(self, other: "Told") -> None:
+        self.drawn_late |= other.drawn_late
+        self.lit_late |= other.lit_late
+        self.lost += other.lost
+        self.cut |= other.cut
+
+    def rows(self) -> set[Placed]:
+        """The rows of which something is told."""
+        return {*self.drawn_late, *self.lit_late, *self.lost, *self.cut}
+
+    def total(self) -> int:
+        """How bad it is: blocks, and a minute for each line that is lost."""
+        return sum(self.drawn_late.values()) + sum(self.lit_late.values()) + A_MINUTE * len([*self.lost, *self.cut])
+
+
+class Arranger:
+    """Puts tasks and dues on a line of time. A place is cleared wholly before other letters are drawn in it."""
+
+    def __init__(self, line: Timeline, tasks: list[Task], dues: list[Due]):
+        self.line, self.dues = line, dues
+        self.tasks = {task.placed: task for task in tasks}
+        # What is still to be lit, and so is not to be drawn over.
+        self.is_open = {due.placed for due in dues}
+        self.told = Told()
+
+    def run(self) -> Told:
+        """Words are lit in their order, each after its letters are drawn."""
+        last = {due.placed: due for due in self.dues}
+        for due, start in zip(self.dues, latest_starts(self.dues)):
+            if due.placed in self.is_open:
+                self.fill(start)
+                self.light(due, start)
+                if last[due.placed] is due:
+                    self.is_open.discard(due.placed)
+        self.fill(FOREVER)
+        return self.told
+
+    def fill(self, until: int) -> None:
+        """Draws what may be drawn before a block, that which is due first before others, column by column."""
+        while waiting := [
+            task for task in self.tasks.values() if task.steps and task.release < until and self.may_come(task)
+        ]:
+            begin = max(self.line.now, min(task.release for task in waiting))
+            task = min((task for task in waiting if task.release <= begin), key=lambda task: task.block)
+            self.take_over(task)
+            count = fitting(task.steps, until - begin)
+            if not count:
+                return
+            self.draw(task, count, begin)
+
+    def may_come(self, task: Task) -> bool:
+        """Whether the row in front of it is drawn, and what stood in its place is sung, and is cleared where letters are to
+        come."""
+        before, follows = task.placed.before, task.placed.follows
+        if task.placed.letters and follows in self.tasks and self.tasks[follows].steps:
+            return False
+        if not before:
+            return True
+        return not self.tasks[before].steps if task.placed.letters else before not in self.is_open
+
+    def take_over(self, task: Task) -> None:
+        """Where a place is cleared, what was still to be drawn there before is not drawn any more; and what was
+        still to be cleared before that is cleared with it."""
+        letters = task.placed.before
+        if task.placed.letters or not letters:
+            return
+        self.tasks[letters].steps.clear()
+        earlier = self.tasks.get(letters.before) if letters.before else None
+        if not earlier or not earlier.steps:
+            return
+        self.take_over(earlier)
+        needs = {step.left: step.need for step in earlier.steps}
+        for step in task.steps:
+            step.need = max(step.need, needs.get(step.left, 0))
+        earlier.steps.clear()
+
+    def draw(self, task: Task, count: int, start: int) -> None:
+        now = self.line.put(list(task.steps[:count]), start)
+        del task.steps[:count]
+        if not task.steps and task.placed.letters and task.placed.is_sung:
+            note(self.told.drawn_late, task.placed, now - task.block)
+
+    def light(self, due: Due, start: int) -> None:
+        task, placed = self.tasks[due.placed], due.placed
+        right = max(step.right for step in due.steps)
+        if any(step.left < right for step in task.steps):
+            self.clear_for(placed)
+            self.draw(task, len(task.steps), self.line.now)
+        note(self.told.lit_late, placed, self.line.put(list(due.steps), start) - due.block)
+
+    def clear_for(self, placed: Placed) -> None:
+        """Clears a place at once, whether what stands there is sung or not."""
+        clearing = self.tasks.get(placed.before) if placed.before else None
+        if not clearing or not clearing.steps:
+            return
+        letters = clearing.placed.before
+        if letters in self.is_open:
+            self.is_open.discard(letters)
+            self.told.lost.append(letters)
+        self.take_over(clearing)
+        self.draw(clearing, len(clearing.steps), self.line.now)
+
+
+def note(late: dict[Placed, int], placed: Placed, blocks: int) -> None:
+    """Keeps how late a line is at most, where that can be seen."""
+    if blocks > SEEN:
+        late[placed] = max(blocks, late.get(placed, 0))
+
+
+def fitting(steps: list[Draw], blocks: int) -> int:
+    """How many of the first steps fit into so many blocks."""
+    room = PACKS_A_BLOCK * blocks
+    for count, step in enumerate(steps):
+        room -= step.need
+        if room < 0:
+            return count
+    return len(steps)
+
+
+def dues_of(placed: Placed, sweep: bool) -> list[Due]:
+    """When the parts of a line are lit: each syllable at its time, or column by column while it is sung; and when the dots
+    go out that count it in."""
+    dues = [
+        Due([DotOut(placed, left, left + TILE_WIDTH)], nearest_block(placed.start) - BLOCKS_A_SECOND * after)
+        for after, left in zip(range(len(placed.dots) - 1, -1, -1), placed.dots)
+    ]
+    letters = placed.letters
+    if not letters:
+        return dues
+    for part in swept(letters) if letters.line.is_whole else letters.parts:
+        for block, light in lights_of(placed, part, sweep or letters.line.is_whole):
+            if dues and dues[-1].block >= block:
+                dues[-1].steps.append(light)
+            else:
+                dues.append(Due([light], block))
+    return dues
+
+
+def swept(letters: Letters) -> list[Part]:
+    """The stretches of one direction in a row whose words have no times: each is swept over as long as it is wide."""
+    stretches: list[Part] = []
+    for part in letters.parts:
+        last = stretches[-1] if stretches else None
+        if last and last.is_leftward == part.is_leftward:
+            last.left, last.right = min(last.left, part.left), max(last.right, part.right)
+        else:
+            stretches.append(Part(replace(part.syllable), part.left, part.right, part.is_leftward))
+    if not stretches:
+        return []
+    start, end = letters.syllables[0].start, letters.syllables[-1].end
+    wide, done = sum(part.right - part.left for part in stretches), 0
+    for part in stretches:
+        part.syllable.start = start + (end - start) * done / max(1, wide)
+        done += part.right - part.left
+        part.syllable.end = start + (end - start) * done / max(1, wide)
+    return stretches
+
+
+def lights_of(placed: Placed, part: Part, sweep: bool) -> Iterator[tuple[int, Light]]:
+    """The steps that light a syllable, with their blocks: at once, or tile by tile in the direction of reading."""
+    left, right, syllable = part.left, part.right, part.syllable
+    if not sweep:
+        yield nearest_block(syllable.start), Light(placed, left, right)
+        return
+    edges = [left, *range(left - left % TILE_WIDTH + TILE_WIDTH, right, TILE_WIDTH), right]
+    columns = list(zip(edges, edges[1:]))
+    for number, (begin, end) in enumerate(columns[::-1] if part.is_leftward else columns):
+        done = number / len(columns)
+        yield nearest_block(syllable.start + (syllable.end - syllable.start) * done), Light(placed, begin, end)

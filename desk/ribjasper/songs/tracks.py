@@ -1,0 +1,58 @@
+"""The packs of a track: those of its script, authored for itself, so that they begin with presets and all colours and
+bring its pictures from every screen."""
+from pathlib import Path
+
+from ..common.failures import Failure, LATE, Refusal
+from ..common.library import PACK, PACKS_A_BLOCK, RAW, convert
+from ..common.program import author
+from ..common.times import PAUSE
+from ..drawing.images import ONE_TRACK
+from .song_script import BEGIN, THROUGH_PAUSE
+
+# A pack is spread over eight slots: one that ends with the first slot of the audio is number 593 of the program.
+LATE_PACKS = 7
+FIRST_OF_AUDIO = PACKS_A_BLOCK * PAUSE - LATE_PACKS
+# Presets of the memory and the border, and the two packs of colours, with which a first picture begins.
+PRESETS = 4
+# Where they stand in a track: the first pack of all whose slots are the track's is number 7, the first of a block 8.
+PRESETS_AT = 8
+# The first pack that a script may use behind the picture that is held through the pause.
+FREE_FROM = PACKS_A_BLOCK * BEGIN - LATE_PACKS
+
+
+class LateScript(Failure):
+    """A script with a picture that cannot be ready."""
+
+    status = LATE
+
+
+def packs_of(path: Path, script: bytes, blocks: int) -> bytes:
+    """The packs of a track of so many blocks, four a block: eight idle ones, so that nothing of it is sent before the
+    track; the presets and colours of the first picture; and all others at the times of the script."""
+    packs = authored(path, script, blocks)
+    if packs is None:
+        packs = authored(path, THROUGH_PAUSE.encode() + b"\n" + script.removeprefix(b"\xef\xbb\xbf"), blocks)
+    assert packs is not None
+    first, of_track = packs[: PACK * PRESETS], bytearray(packs[PACK * FIRST_OF_AUDIO :])
+    at = PACK * PRESETS_AT
+    of_track[at : at + len(first)] = first
+    return bytes(of_track)
+
+
+def authored(path: Path, script: bytes, blocks: int) -> bytes | None:
+    """All packs of a disc with this track alone; nothing where its first picture is more than presets and colours, or
+    does not stand until the track begins."""
+    stream, status, told = author(ONE_TRACK, script, 0, blocks)
+    if status == LATE:
+        raise LateScript(f"{path}: {told}")
+    if status:
+        raise Refusal(path, told)
+    packs, _ = convert(stream, RAW, 0)
+    return None if any(packs[PACK * PRESETS : PACK * FREE_FROM]) else packs
+
+
+def as_pair(packs: bytes) -> bytes:
+    """The packs of a track as a file of its own, which begins with its presets and colours; they come once more where a
+    disc that is made of it still has them."""
+    presets = packs[PACK * PRESETS_AT : PACK * (PRESETS_AT + PRESETS)]
+    return presets + packs[len(presets) :]
