@@ -12,6 +12,10 @@
 #include <stdlib.h>
 #include <string.h>
 #include <time.h>
+#ifdef _WIN32
+#include <fcntl.h>
+#include <io.h>
+#endif
 
 #define MEASURED 1000000L
 #define LOOKS 2000
@@ -156,6 +160,9 @@ int main(int argc, char **argv)
 {
     ribjasper_player player = RIBJASPER_CLOSED;
     int status;
+#ifdef _WIN32
+    _setmode(0, _O_BINARY); /* standard input is bytes there too */
+#endif
     if (ribjasper_player_open(&player) != RIBJASPER_DONE) {
         fprintf(stderr, "player: there is no memory\n");
         return 1;

@@ -1,25 +1,27 @@
-/* The proved player of CD subcode graphics, for programs in C and C++. Licensed under MIT or Apache-2.0, as you like it:
+/* The proved player of CD subcode graphics, for programs in C and C++. Licensed under MIT or Apache-2.0, at your option:
    (c) 2026 The Ribjasper authors.
 
-   Link with -lribjasper (pkg-config --cflags --libs ribjasper has the rest).
+   Link with -lribjasper (pkg-config --cflags --libs ribjasper prints all flags).
 
-   Players. No state is global: players stand side by side. A player may be moved byte for byte while no call has it, if
-   what is left behind is used no more; to have two that show the same, copy it by ribjasper_player_copy.
+   Players. The library has no global state: players are independent. A player may be moved byte for byte while no call
+   uses it, if the old place is no longer used. To get two players that show the same, use ribjasper_player_copy.
 
-   Threads. Any thread may call, one call at a time for each player. A call that takes a const player leaves it as it is,
-   whatever it answers, but it has to be the only call of that player too: while it looks, it takes the player out of what
-   you hold, and two threads that only look at one player at the same time spoil it. Give each thread a copy, or take
-   turns. No call is for a signal handler. A process that is forked has players of its own, as it has all memory; if the
-   process had more than one thread, its child makes no call that asks for memory or frees it.
+   Threads. Any thread may call. A call that takes a const player only reads it, so any number of threads may make such
+   calls on one player at the same time. A call that takes a player without const must be the only call on that player at
+   that time; ribjasper_player_copy changes only its second player. Calls without a player share nothing. Do not call from
+   a signal handler. A forked process has its own copies of all players; if the parent had more than one thread, the child
+   must not make calls that allocate or free memory.
 
-   Pointers. So many bytes or structs must stand where a pointer points as its type says, or as its line says. Beside a
-   length or a count of 0 a pointer may be null; no other may, for the library does not know a null pointer and reads it.
-   What two arguments point to may not overlap, unless a line says so; what is only read (const) must not change during
-   the call. Numbers may be any: one out of its range is refused.
+   Pointers. A pointer must point to as many bytes or structs as its type or its comment says. With a count or length of 0
+   the pointer may be null; no other pointer may be null, and the library does not check it. Two arguments must not
+   overlap, except where a comment allows it. Data behind a pointer to const must not change during the call. Numbers may
+   have any value: a call refuses a number that is out of its range.
 
-   Memory is asked of malloc when a player is opened that is closed, 65,080 bytes in one request, and within a call whose
-   lines say so, which frees it before it returns. A call takes at most 16,384 bytes of the stack, one
-   that mends 81,920. */
+   Failure. A call that fails writes nothing, except where its comment says so, and leaves its player unchanged.
+
+   Memory. ribjasper_player_open allocates 65,080 bytes with malloc, in one request, if the player is closed. A call
+   whose comment says that it allocates memory frees it before it returns. No other call allocates. A call uses at most
+   16,384 bytes of stack; a call that mends, at most 81,920. */
 #ifndef RIBJASPER_H
 #define RIBJASPER_H
 
@@ -31,8 +33,7 @@
 extern "C" {
 #endif
 
-/* The compiler warns if the answer of a call that may fail for want of memory, or for what it was given, is passed
-   over. */
+/* The compiler warns if a program ignores the answer of a call with this mark. */
 #if defined __cplusplus && __cplusplus >= 201703L
 #define RIBJASPER_NODISCARD [[nodiscard]]
 #elif defined __STDC_VERSION__ && __STDC_VERSION__ >= 202311L
@@ -44,85 +45,101 @@ extern "C" {
 #endif
 
 #define RIBJASPER_VERSION_MAJOR 1
-#define RIBJASPER_VERSION_MINOR 9
+#define RIBJASPER_VERSION_MINOR 10
 #define RIBJASPER_VERSION_PATCH 0
 
 /* The version of this header as one number. */
 #define RIBJASPER_VERSION (65536 * RIBJASPER_VERSION_MAJOR + 256 * RIBJASPER_VERSION_MINOR + RIBJASPER_VERSION_PATCH)
 
-/* The version of the library that is linked, as the same number. */
+/* Returns the version of the linked library, as the same kind of number. */
 uint32_t ribjasper_version(void);
 
-/* What calls answer. A number means the same in all calls, but for those of ribjasper_q_decode, and the older names
-   below have the same numbers. If it was not done, nothing that a pointer points to is written, but for what a line
-   says is written then: `byte` of ribjasper_player_load, `bit` of ribjasper_q_decode, `bytes` of ribjasper_sheet_text,
-   and `told` of ribjasper_plan, ribjasper_texts and ribjasper_sheet. */
+/* The answers of calls. A number has the same meaning in every call that returns an answer. These calls return something
+   else: ribjasper_player_take a count, ribjasper_correct, ribjasper_pack_touches, ribjasper_tile_weight and
+   ribjasper_text_pack_matches a number that their comments explain, and ribjasper_q_decode its own codes. Older names
+   further below have the same numbers. */
 typedef enum ribjasper_answer {
-    RIBJASPER_ANSWER_REFUSED = -1,       /* a player is closed, a number is out of its range, or (open) there is no memory */
-    RIBJASPER_ANSWER_DONE = 0,           /* it was done */
-    RIBJASPER_ANSWER_DAMAGED = 1,        /* it was done, but packs are damaged */
-    RIBJASPER_ANSWER_USAGE = 2,          /* a number is out of its range: of the calls on whole streams and texts */
-    RIBJASPER_ANSWER_BAD_INPUT = 3,      /* the stream, the file or the text that was given is refused */
-    RIBJASPER_ANSWER_LATE = 4,           /* it was done, but pictures are late */
-    RIBJASPER_ANSWER_NO_ROOM = 6,        /* there is too little room for what would be written */
-    RIBJASPER_ANSWER_NO_MEMORY = 7,      /* malloc refused */
+    RIBJASPER_ANSWER_REFUSED = -1,       /* a player is closed, a number is out of range, or (open) out of memory */
+    RIBJASPER_ANSWER_DONE = 0,           /* done */
+    RIBJASPER_ANSWER_DAMAGED = 1,        /* done, but packs are damaged */
+    RIBJASPER_ANSWER_USAGE = 2,          /* a number is out of range, in calls on whole streams and texts */
+    RIBJASPER_ANSWER_BAD_INPUT = 3,      /* the stream, the file or the text is refused */
+    RIBJASPER_ANSWER_LATE = 4,           /* done, but pictures are late */
+    RIBJASPER_ANSWER_NO_ROOM = 6,        /* the output does not fit */
+    RIBJASPER_ANSWER_NO_MEMORY = 7,      /* out of memory: malloc failed */
     RIBJASPER_ANSWER_TEXT_MISSING = 8,   /* a CD-TEXT pack is missing */
     RIBJASPER_ANSWER_TEXT_NO_SIZE = 9,   /* a CD-TEXT pack with the sizes is missing */
-    RIBJASPER_ANSWER_TEXT_MALFORMED = 10 /* a byte of a CD-TEXT pack cannot be */
+    RIBJASPER_ANSWER_TEXT_MALFORMED = 10 /* a byte of a CD-TEXT pack is invalid */
 } ribjasper_answer;
 
 #define RIBJASPER_DONE 0
 #define RIBJASPER_REFUSED (-1)
 
-#define RIBJASPER_ANSWER_TEXT 64 /* bytes of an answer in words, with a zero behind it */
+#define RIBJASPER_ANSWER_TEXT 64 /* bytes of an answer in words, with a zero at the end */
 
-/* Writes what an answer of a call means, in English, to print it: at most 63 characters, and zeros behind them. */
+/* Writes what an answer means, in English: at most 63 characters, padded with zeros. Pass only answers, not the counts
+   that some calls return.
+     answer: what a call returned
+     text: the output, 64 bytes */
 void ribjasper_answer_text(int32_t answer, char text[RIBJASPER_ANSWER_TEXT]);
 
 #define RIBJASPER_BLOCK 96     /* bytes of a raw block: a byte for each symbol, bit 7 channel P to bit 0 channel W */
-#define RIBJASPER_WIDTH 300    /* pixels of the screen across */
-#define RIBJASPER_HEIGHT 216   /* and down, the border among them */
-#define RIBJASPER_PIXELS 64800 /* all of them, row by row from the top, each row from the left */
+#define RIBJASPER_WIDTH 300    /* pixels of a row of the screen */
+#define RIBJASPER_HEIGHT 216   /* rows of the screen, with the border */
+#define RIBJASPER_PIXELS 64800 /* pixels of the screen, row by row from the top, each row from the left */
 #define RIBJASPER_COLOURS 16   /* colours of the table */
 #define RIBJASPER_PICTURE 194400 /* bytes of a picture: red, green and blue of each pixel, 17 times their four bits */
-#define RIBJASPER_WINDOW_LEFT 6     /* the window, which shows the memory: its first pixel from the left, */
-#define RIBJASPER_WINDOW_TOP 12     /* its first row from the top, */
-#define RIBJASPER_WINDOW_WIDTH 288  /* and its pixels across */
-#define RIBJASPER_WINDOW_HEIGHT 192 /* and down; around it lies the border */
-#define RIBJASPER_TILE_WIDTH 6      /* pixels of a tile across */
-#define RIBJASPER_TILE_HEIGHT 12    /* and down */
-#define RIBJASPER_TILE_COLUMNS 50   /* tiles of the memory across */
-#define RIBJASPER_TILE_ROWS 18      /* and down */
+#define RIBJASPER_WINDOW_LEFT 6     /* the window inside the border: its first column, */
+#define RIBJASPER_WINDOW_TOP 12     /* its first row, */
+#define RIBJASPER_WINDOW_WIDTH 288  /* its width in pixels */
+#define RIBJASPER_WINDOW_HEIGHT 192 /* and its height in rows */
+#define RIBJASPER_TILE_WIDTH 6      /* pixels of a row of a tile */
+#define RIBJASPER_TILE_HEIGHT 12    /* rows of a tile */
+#define RIBJASPER_TILE_COLUMNS 50   /* tiles of a row of the memory */
+#define RIBJASPER_TILE_ROWS 18      /* rows of tiles of the memory */
 
 #define RIBJASPER_PACK 24               /* bytes of a pack */
 #define RIBJASPER_SECTOR 2448           /* bytes of a sector: audio and a raw block */
 #define RIBJASPER_PACKS_A_BLOCK 4       /* packs that come with a block */
-#define RIBJASPER_BLOCKS_A_SECOND 75    /* blocks of a second */
-#define RIBJASPER_PACKS_A_SECOND 300    /* and packs */
-#define RIBJASPER_PACKS_BEHIND 7        /* packs of the last blocks that are not whole yet: the picture is so far behind */
-#define RIBJASPER_MOST_LEAD_IN 450000   /* blocks of a lead-in */
-#define RIBJASPER_MOST_AUDIO 449999     /* blocks of the audio of a plan */
-#define RIBJASPER_MOST_BLOCKS 1000000   /* blocks of a whole stream */
-#define RIBJASPER_MOST_TEXT 67108864    /* bytes of a sheet or a script */
-#define RIBJASPER_MOST_SHEET_ROWS 9900  /* index lines of a sheet */
-#define RIBJASPER_MOST_TEXTS 1048576    /* bytes of the texts of a lead-in */
+#define RIBJASPER_BLOCKS_A_SECOND 75    /* blocks a second */
+#define RIBJASPER_PACKS_A_SECOND 300    /* packs a second */
+#define RIBJASPER_PACKS_BEHIND 7        /* packs by which the picture of a raw stream is behind its blocks */
+#define RIBJASPER_MOST_LEAD_IN 450000   /* most blocks of a lead-in */
+#define RIBJASPER_MOST_AUDIO 449999     /* most blocks of the audio of a plan */
+#define RIBJASPER_MOST_BLOCKS 1000000   /* most blocks of a whole stream */
+#define RIBJASPER_MOST_TEXT 67108864    /* most bytes of a sheet or a script */
+#define RIBJASPER_MOST_SHEET_ROWS 9900  /* most index lines of a sheet */
+#define RIBJASPER_MOST_TEXTS 1048576    /* most bytes of the texts of a lead-in */
 
-/* How many blocks and packs are whole after so many milliseconds, from the first block on. */
+/* Returns how many blocks are complete after a time.
+     milliseconds: the time since the first block began */
 uint32_t ribjasper_blocks_after(uint32_t milliseconds);
+
+/* Returns how many packs are complete after a time.
+     milliseconds: the time since the first pack began */
 uint32_t ribjasper_packs_after(uint32_t milliseconds);
 
-/* The fewest milliseconds after which so many blocks or packs are whole. */
+/* Returns the least time in milliseconds after which so many blocks are complete.
+     blocks: the number of blocks */
 uint64_t ribjasper_time_of_blocks(uint32_t blocks);
+
+/* Returns the least time in milliseconds after which so many packs are complete.
+     packs: the number of packs */
 uint64_t ribjasper_time_of_packs(uint32_t packs);
 
-/* The forms of a stream: raw blocks; packs of 24 bytes that are gathered already, four a block of 96; or, of a whole
-   stream alone, sectors of 2,448 bytes, each 2,352 bytes of audio and a raw block. */
+/* The forms of a stream. RIBJASPER_RAW: raw blocks of 96 bytes. RIBJASPER_PACKS: packs of 24 bytes that are already
+   deinterleaved, four in each block of 96 bytes; a player corrects them by their parity. RIBJASPER_SECTORS: sectors of
+   2,448 bytes, each 2,352 bytes of audio and a raw block; only calls on whole streams take sectors.
+
+   A .cdg file may lack parity. Its packs then have no codeword near: as RIBJASPER_PACKS they draw nothing, and every
+   word counts as bad. Draw the packs of a .cdg file with ribjasper_player_draw_all, which ignores parity. To detect such a
+   file, count the packs with graphics (first symbol 9) for which ribjasper_correct returns -1: they are nearly all. */
 #define RIBJASPER_RAW 0
 #define RIBJASPER_PACKS 1
 #define RIBJASPER_SECTORS 2
 
-/* A player. Begin with RIBJASPER_CLOSED, or with memory of zeros, as that of a static variable, which is a closed player
-   too; never use two copies of an open one, nor change it but by these calls. */
+/* A player. A new player is RIBJASPER_CLOSED or memory of zeros, such as a static variable. Never use two byte copies of an
+   open player, and change a player only by these calls. */
 typedef struct ribjasper_player {
     struct {
         void *at;
@@ -130,55 +147,73 @@ typedef struct ribjasper_player {
     bool is_open;
 } ribjasper_player;
 
-/* A closed player, to begin with and as a value: `ribjasper_player player = RIBJASPER_CLOSED;`, and of one that is
-   closed `player = RIBJASPER_CLOSED;`. A static player needs nothing to begin with, for it is zeros; if the compiler
-   holds strictly to C, which takes no value there (gcc with -pedantic), it may begin with RIBJASPER_CLOSED_STATIC.
-   RIBJASPER_CLOSED_PLAYER is the older name of the value. */
+/* A closed player as an initializer and as a value: `ribjasper_player player = RIBJASPER_CLOSED;`. A static player needs no
+   initializer, since it is zeros. Where a compiler accepts only constants for it (gcc -pedantic), a static player can be
+   initialized with RIBJASPER_CLOSED_STATIC. In C89 and C++98 the value needs gcc or clang; with other compilers it is an
+   initializer only. RIBJASPER_CLOSED_PLAYER is the older name of the value. */
 #define RIBJASPER_CLOSED_STATIC { { NULL }, false }
-#ifndef __cplusplus
-#define RIBJASPER_CLOSED ((ribjasper_player) RIBJASPER_CLOSED_STATIC)
-#else
+#if defined __cplusplus && __cplusplus >= 201103L
 #define RIBJASPER_CLOSED (ribjasper_player RIBJASPER_CLOSED_STATIC)
+#elif !defined __cplusplus && defined __STDC_VERSION__ && __STDC_VERSION__ >= 199901L
+#define RIBJASPER_CLOSED ((ribjasper_player) RIBJASPER_CLOSED_STATIC)
+#elif defined __GNUC__
+#define RIBJASPER_CLOSED (__extension__(ribjasper_player) RIBJASPER_CLOSED_STATIC)
+#else
+#define RIBJASPER_CLOSED RIBJASPER_CLOSED_STATIC
 #endif
 #define RIBJASPER_CLOSED_PLAYER RIBJASPER_CLOSED
 
-/* Opens a player of a raw stream with no lead-in; refused if memory is short, and for nothing else. One that is open
-   already keeps its memory and begins anew, and is never refused. */
+/* Opens a player of a raw stream without lead-in. A player that is already open keeps its memory and begins anew; it is
+   never refused. Allocates memory that ribjasper_player_close frees.
+     player: the player
+   Returns RIBJASPER_DONE, or RIBJASPER_REFUSED if the player was closed and memory is exhausted; then it stays closed. */
 RIBJASPER_NODISCARD int32_t ribjasper_player_open(ribjasper_player *player);
 
-/* Closes a player and frees what it holds; a closed one stays closed. Each open player must be closed once at last. */
+/* Closes a player and frees its memory. A closed player stays closed. Close each open player once.
+     player: the player */
 void ribjasper_player_close(ribjasper_player *player);
 
-/* Makes an open player forget all blocks and packs. Blocks that come from now on have this form (RIBJASPER_RAW or
-   RIBJASPER_PACKS), and the first `lead_in` of them, at most 450,000, are passed over. */
-int32_t ribjasper_player_begin(ribjasper_player *player, uint32_t form, uint32_t lead_in);
+/* Makes an open player forget all blocks and packs and begin a new stream.
+     player: the player
+     form: RIBJASPER_RAW or RIBJASPER_PACKS (see there for .cdg files without parity)
+     lead_in: how many blocks at the start are ignored, at most 450,000
+   Returns RIBJASPER_DONE, or RIBJASPER_REFUSED if the player is closed or a number is out of range. */
+RIBJASPER_NODISCARD int32_t ribjasper_player_begin(ribjasper_player *player, uint32_t form, uint32_t lead_in);
 
-/* Feeds an open player the next block of the stream, 96 bytes, and draws the packs that came with it, each read as the
-   codeword near it; one with no codeword near draws nothing. The symbols of a pack lie in three blocks, so the last seven
-   packs of the blocks that were fed (RIBJASPER_PACKS_BEHIND) are not drawn yet: the picture is 23 milliseconds behind. Of
-   RIBJASPER_PACKS none is held back. A player draws for as long as it is fed. */
+/* Feeds an open player the next block of its stream and draws the packs that are complete with it. Each pack is read as the
+   codeword near it; a pack with no codeword near draws nothing. The symbols of a pack of a raw stream lie in three
+   blocks, so the last seven packs (RIBJASPER_PACKS_BEHIND) are not drawn yet: the picture is 23 milliseconds behind. In
+   the form RIBJASPER_PACKS every pack is drawn at once. A player plays for as long as it is fed.
+     player: the player
+     block: 96 bytes
+   Returns RIBJASPER_DONE, or RIBJASPER_REFUSED if the player is closed. */
 int32_t ribjasper_player_feed(ribjasper_player *player, const uint8_t block[RIBJASPER_BLOCK]);
 
-/* A pack as it was read: its 24 symbols (6 bits each), and how many of them were wrong and were corrected, 0 to 2; or
-   -1 if no codeword is near, and the symbols are as they were read: such a pack draws nothing. */
+/* A pack as it was read. If a codeword is near, `symbols` are its 24 symbols (6 bits each) and `wrong` says how many were
+   corrected, 0 to 2. Otherwise `wrong` is -1 and `symbols` are as they were read; such a pack draws nothing. */
 typedef struct ribjasper_pack {
     uint8_t symbols[24];
     int32_t wrong;
 } ribjasper_pack;
 
-/* Feeds an open player the next block, as the call above, and writes the packs that came with it, the last of them
-   complete by this block: returns how many they are, 0 to 4, or RIBJASPER_REFUSED. Those of the four behind them are
-   left as they were. */
+/* Feeds an open player the next block, as ribjasper_player_feed, and writes the packs that are complete with it.
+     player: the player
+     block: 96 bytes
+     packs: room for four packs; those beyond the returned number are left unchanged
+   Returns the number of packs, 0 to 4, or RIBJASPER_REFUSED if the player is closed. */
 int32_t ribjasper_player_take(ribjasper_player *player, const uint8_t block[RIBJASPER_BLOCK], ribjasper_pack packs[4]);
 
-/* Draws a pack of 24 bytes, as players read a .cdg file: the low six bits of the bytes are its symbols, and the parity
-   has no part in it. Blocks and packs may come in any order: what stands is what all of them draw, in turn, since begin.
-   The stream of blocks goes on as if the pack were not there. */
+/* Draws a pack as players read a .cdg file: the low six bits of the bytes are its symbols, and parity is ignored. Blocks
+   and packs may come in any order: the screen shows what all of them drew, in turn, since ribjasper_player_begin. The
+   stream of blocks continues as if the pack were not there.
+     player: the player
+     pack: 24 bytes
+   Returns RIBJASPER_DONE, or RIBJASPER_REFUSED if the player is closed. */
 int32_t ribjasper_player_draw(ribjasper_player *player, const uint8_t pack[24]);
 
-/* What of the screen may have changed: the pixels from `left` to `right` - 1 of the rows `top` to `bottom` - 1, none if
-   `left` is 300; and whether colours of the table or levels may have changed (1 or 0), by which any pixel may look
-   otherwise, though its number is the same. Nothing else changed. */
+/* What of the screen may have changed: the pixels from column `left` to `right` - 1 of rows `top` to `bottom` - 1 (none if
+   `left` is 300), and whether colours of the table or levels may have changed (1 or 0). With other colours or levels
+   any pixel may look different, although its number is the same. Nothing else changed. */
 typedef struct ribjasper_change {
     uint32_t left;
     uint32_t top;
@@ -188,19 +223,28 @@ typedef struct ribjasper_change {
     uint8_t levels;
 } ribjasper_change;
 
-/* Feeds an open player `count` blocks, one after another at `blocks`, and writes what of the screen may have changed: the
-   least rectangle that holds the tiles that were drawn, the window if the memory was cleared or moved, and the border
-   if it was set. */
+/* Feeds an open player many blocks, as ribjasper_player_feed does one, and writes what of the screen may have changed: the
+   smallest rectangle around the tiles that were drawn, the window if the memory was cleared or scrolled, and the whole
+   screen if the border was set. It is faster than a call for each block.
+     player: the player
+     blocks: the blocks, 96 bytes each, one after another
+     count: their number
+     change: what may have changed
+   Returns RIBJASPER_DONE, or RIBJASPER_REFUSED if the player is closed. */
 int32_t ribjasper_player_feed_all(ribjasper_player *player, const uint8_t *blocks, size_t count,
                                   ribjasper_change *change);
 
-/* Draws `count` packs of 24 bytes, one after another at `packs`, and writes what may have changed, as the call above. */
+/* Draws many packs, as ribjasper_player_draw does one, and writes what of the screen may have changed.
+     player: the player
+     packs: the packs, 24 bytes each, one after another
+     count: their number
+     change: what may have changed
+   Returns RIBJASPER_DONE, or RIBJASPER_REFUSED if the player is closed. */
 int32_t ribjasper_player_draw_all(ribjasper_player *player, const uint8_t *packs, size_t count, ribjasper_change *change);
 
-/* What a player counts since it began, or since the checkpoint that it was brought to: the packs that came (`words`),
-   its form and lead-in, the blocks that came, and how many of the packs have no codeword near. Packs that are drawn
-   are not counted. Blocks and bad packs stay at 4,294,967,295. ribjasper_player_feed_counted counts more. Two threads
-   that only look at one player at the same time spoil it: give each a copy. */
+/* What a player counts since it began, or since the checkpoint that it was restored from: the packs that came (`words`),
+   its form and lead-in, the blocks that came, and how many of the packs have no codeword near (`bad`). Drawn packs are
+   not counted. `blocks` and `bad` saturate at 4,294,967,295. */
 typedef struct ribjasper_counts {
     uint64_t words;
     uint32_t form;
@@ -208,33 +252,47 @@ typedef struct ribjasper_counts {
     uint32_t blocks;
     uint32_t bad;
 } ribjasper_counts;
+
+/* Writes the counts of a player. ribjasper_player_feed_counted counts more.
+     player: the player
+     counts: the output
+   Returns RIBJASPER_DONE, or RIBJASPER_REFUSED if the player is closed. */
 int32_t ribjasper_player_counts(const ribjasper_player *player, ribjasper_counts *counts);
 
-/* Looking. The calls below that take a const player leave it as it is, but each has to be the only call of that player:
-   two that look at one player at the same time, in two threads, spoil it. Look at a copy, or take turns: a copy is made
-   by ribjasper_player_copy, in about 2 us, and shows what the player showed then, whatever comes afterwards. */
-
-/* Writes the number of the colour, 0 to 15, of the pixel `x` from the left (0 to 299), `y` from the top (0 to 215).
-   Two threads that only look at one player at the same time spoil it: give each a copy. */
+/* Writes the number of the colour of a pixel, 0 to 15.
+     player: the player
+     x: the column, 0 to 299 from the left
+     y: the row, 0 to 215 from the top
+     pixel: the output
+   Returns RIBJASPER_DONE, or RIBJASPER_REFUSED if the player is closed or the place is not on the screen. */
 int32_t ribjasper_player_pixel(const ribjasper_player *player, uint32_t x, uint32_t y, uint8_t *pixel);
 
-/* Writes the numbers of the colours, 0 to 15, of all pixels of the screen; pixel (x, y) is number 300 y + x. Two
-   threads that only look at one player at the same time spoil it: give each a copy. */
+/* Writes the numbers of the colours of all pixels of the screen, 0 to 15. Pixel (x, y) is number 300 y + x.
+     player: the player
+     pixels: the output, 64,800 bytes
+   Returns RIBJASPER_DONE, or RIBJASPER_REFUSED if the player is closed. */
 int32_t ribjasper_player_screen(const ribjasper_player *player, uint8_t pixels[RIBJASPER_PIXELS]);
 
-/* Writes the numbers of the colours of the `width` pixels from `x` and the `height` rows from `y` of the screen into
-   the `room` bytes at `pixels`: row j begins `stride` times j bytes from the front, and what is between the rows is
-   left as it was. Refused if x + width is above 300, y + height above 216, `stride` below `width`, or if the last row
-   ends past the room. Two threads that only look at one player at the same time spoil it: give each a copy. */
+/* Writes the numbers of the colours of a rectangle of the screen, row by row.
+     player: the player
+     x, y: the first column and the first row
+     width, height: the size in pixels
+     pixels, room: the output and its size in bytes
+     stride: bytes from the start of a row to the next, at least `width`; bytes between rows are left unchanged
+   Returns RIBJASPER_DONE, or RIBJASPER_REFUSED if the player is closed, x + width is above 300, y + height above 216,
+   `stride` below `width`, or if the last row ends beyond `room`. */
+RIBJASPER_NODISCARD
 int32_t ribjasper_player_rect(const ribjasper_player *player, uint32_t x, uint32_t y, uint32_t width, uint32_t height,
                               uint8_t *pixels, size_t room, uint32_t stride);
 
-/* Writes red, green and blue of all pixels of the screen; those of pixel (x, y) begin at byte 3 (300 y + x). Two
-   threads that only look at one player at the same time spoil it: give each a copy. */
+/* Writes red, green and blue of all pixels of the screen. Those of pixel (x, y) begin at byte 3 (300 y + x).
+     player: the player
+     bytes: the output, 194,400 bytes
+   Returns RIBJASPER_DONE, or RIBJASPER_REFUSED if the player is closed. */
 int32_t ribjasper_player_picture(const ribjasper_player *player, uint8_t bytes[RIBJASPER_PICTURE]);
 
-/* How a pixel is written by the call below, by bytes from the first. Opacity is 255 - (4 L + L / 16) of the level L of
-   the pixel's colour: level 0 is opaque (255), level 63 clear (0). */
+/* The formats of pixels, with the bytes of a pixel in order. The opacity of a pixel whose colour has level L is
+   255 - (4 L + L / 16): level 0 is opaque (255), level 63 transparent (0). */
 #define RIBJASPER_INDEXED 0     /* 1 byte: the number of its colour */
 #define RIBJASPER_RGB 1         /* 3 bytes: red, green, blue, each 17 times four bits */
 #define RIBJASPER_RGBA 2        /* 4 bytes: red, green, blue, 255 */
@@ -243,104 +301,173 @@ int32_t ribjasper_player_picture(const ribjasper_player *player, uint8_t bytes[R
 #define RIBJASPER_BGRA_LEVELS 5 /* 4 bytes: blue, green, red, opacity */
 #define RIBJASPER_RGB565 6      /* 2 bytes, the low one first: the highest 5 bits of red, 6 of green, 5 of blue */
 
-/* Writes the `width` pixels from `x` and the `height` rows from `y` of the screen, in one of these formats, into the
-   `room` bytes at `out`: row j begins `stride` times j bytes from the front, and what is between the rows is left as
-   it was. Refused if there is no such format, x + width is above 300, y + height above 216, `stride` below the bytes
-   of a row, or if the last row ends past the room. Two threads that only look at one player at the same time spoil
-   it: give each a copy. */
+/* Writes a rectangle of the screen in one of these formats, row by row.
+     player: the player
+     format: a format of pixels
+     x, y: the first column and the first row
+     width, height: the size in pixels
+     out, room: the output and its size in bytes
+     stride: bytes from the start of a row to the next, at least the bytes of a row; bytes between rows are left unchanged
+   Returns RIBJASPER_DONE, or RIBJASPER_REFUSED if the player is closed, the format is unknown, or the part does not fit:
+   x + width is above 300, y + height above 216, `stride` below the bytes of a row, or the last row ends beyond `room`. */
+RIBJASPER_NODISCARD
 int32_t ribjasper_player_pixels(const ribjasper_player *player, uint32_t format, uint32_t x, uint32_t y, uint32_t width,
                                 uint32_t height, uint8_t *out, size_t room, uint32_t stride);
 
-/* Writes colour `k` of the table, 0 to 15, as 0xRGB: four bits each of red, green and blue. Two threads that only
-   look at one player at the same time spoil it: give each a copy. */
-int32_t ribjasper_player_colour(const ribjasper_player *player, uint8_t k, uint16_t *colour);
+/* Writes a colour of the table as 0xRGB: four bits each of red, green and blue.
+     player: the player
+     k: the number of the colour, 0 to 15
+     colour: the output
+   Returns RIBJASPER_DONE, or RIBJASPER_REFUSED if the player is closed or `k` is above 15. */
+RIBJASPER_NODISCARD int32_t ribjasper_player_colour(const ribjasper_player *player, uint8_t k, uint16_t *colour);
 
-/* Writes all colours of the table in this form. Two threads that only look at one player at the same time spoil it:
-   give each a copy. */
+/* Writes all colours of the table, each as 0xRGB.
+     player: the player
+     colours: the output
+   Returns RIBJASPER_DONE, or RIBJASPER_REFUSED if the player is closed. */
 int32_t ribjasper_player_colours(const ribjasper_player *player, uint16_t colours[RIBJASPER_COLOURS]);
 
-/* Writes the levels of the colours, 0 to 63. Two threads that only look at one player at the same time spoil it: give
-   each a copy. */
+/* Writes the levels of the colours, 0 to 63.
+     player: the player
+     levels: the output
+   Returns RIBJASPER_DONE, or RIBJASPER_REFUSED if the player is closed. */
 int32_t ribjasper_player_levels(const ribjasper_player *player, uint8_t levels[RIBJASPER_COLOURS]);
 
-/* Writes the number of the border's colour, 0 to 15. Two threads that only look at one player at the same time spoil
-   it: give each a copy. */
+/* Writes the number of the colour of the border, 0 to 15.
+     player: the player
+     border: the output
+   Returns RIBJASPER_DONE, or RIBJASPER_REFUSED if the player is closed. */
 int32_t ribjasper_player_border(const ribjasper_player *player, uint8_t *border);
 
-/* Writes how many pixels further right (0 to 5) and further down (0 to 11) in the memory the screen begins. Two
-   threads that only look at one player at the same time spoil it: give each a copy. */
+/* Writes by how many pixels the screen begins further right and further down in the memory.
+     player: the player
+     across, down: the outputs, 0 to 5 and 0 to 11
+   Returns RIBJASPER_DONE, or RIBJASPER_REFUSED if the player is closed. */
 int32_t ribjasper_player_offsets(const ribjasper_player *player, uint8_t *across, uint8_t *down);
 
-/* Going back and copying. The file of a checkpoint is that of the program's commands `save` and `resume`. */
+/* Checkpoints. The file of a checkpoint is that of the program's commands `save` and `resume`. */
 #define RIBJASPER_CHECKPOINT 65045 /* bytes of the file */
-#define RIBJASPER_NO_CHECKPOINT 3  /* what ribjasper_player_load answers if the bytes are no such file */
+#define RIBJASPER_NO_CHECKPOINT 3  /* what ribjasper_player_load returns if the bytes are no such file */
 
-/* Writes where an open player is: how many blocks came, how many words of them were bad, the last seven slots, and
-   what stands. It has to be the only call of the player, though it is const. Refused if the form is RIBJASPER_PACKS, or
-   more than 1,000,000 blocks came since it began, and then it asks for no memory; packs that were drawn are not counted.
-   Otherwise it asks malloc for 65,056 bytes, and answers RIBJASPER_NO_MEMORY if it is refused them; it frees them before
-   it returns. If it is not done nothing is written. */
+/* Writes the checkpoint of a player of a raw stream: how many blocks came, how many of its words were bad, the last seven
+   slots, and what the screen shows. Drawn packs are not counted. Allocates 65,056 bytes.
+     player: the player
+     file: the output, 65,045 bytes
+   Returns RIBJASPER_DONE; RIBJASPER_REFUSED if the player is closed, its form is RIBJASPER_PACKS, or more than 1,000,000
+   blocks came since it began; or RIBJASPER_NO_MEMORY. */
 RIBJASPER_NODISCARD int32_t ribjasper_player_save(const ribjasper_player *player, uint8_t file[RIBJASPER_CHECKPOINT]);
 
-/* Brings an open player to where a file was saved, in a stream of the form RIBJASPER_RAW: blocks that come from now on
-   go on from there, and show what they would show after the player that was saved. If the bytes are no checkpoint's
-   it answers RIBJASPER_NO_CHECKPOINT, and writes the first byte of the first field that is out of its range. It asks for
-   memory as the call above, but of a checkpoint's bytes alone. If it is not done the player stays as it is. */
+/* Restores an open player from a checkpoint, in a raw stream. Blocks that come from now on show what they would show after
+   the player that was saved. Allocates 65,056 bytes if the file is a checkpoint.
+     player: the player
+     file: the checkpoint, 65,045 bytes
+     byte: where the file is refused, the first byte of the first field that is out of range
+   Returns RIBJASPER_DONE; RIBJASPER_REFUSED if the player is closed; RIBJASPER_NO_CHECKPOINT if the file is no checkpoint
+   (only then `byte` is written); or RIBJASPER_NO_MEMORY. */
 RIBJASPER_NODISCARD
 int32_t ribjasper_player_load(ribjasper_player *player, const uint8_t file[RIBJASPER_CHECKPOINT], uint32_t *byte);
 
-/* Makes an open player show and gather from now on what another open player does, in any form and after any number of
-   blocks. The other stays as it is. It asks for no memory. Refused if both are one player, which stays as it is. */
-int32_t ribjasper_player_copy(const ribjasper_player *from, ribjasper_player *to);
+/* Makes an open player show and continue what another open player does, of any form and after any number of blocks.
+     from: the player that is copied
+     to: the player that changes
+   Returns RIBJASPER_DONE, or RIBJASPER_REFUSED if one of them is closed or both are the same player. */
+RIBJASPER_NODISCARD int32_t ribjasper_player_copy(const ribjasper_player *from, ribjasper_player *to);
 
-/* What the instruction of a pack of 24 bytes touches, whatever stands: 50 times the row and the column of a tile of the
-   memory, 0 to 899, or one of the numbers below. No pixel of the memory outside of a tile that is named changes, nor
-   anything else that is not named; if nothing is named, all stays as it is. A tile is a place of the memory, rows of
-   twelve pixels and columns of six: the screen shows it moved left and up by the offsets, and the outermost tiles of the
-   screen lie under the border. */
+/* A player at a place of a stream, in the memory of the caller. Begin with zeros: a mark of zeros is not set. Change marks
+   only by the calls below, and use a list of marks for one stream, with one form and lead-in; set it to zeros for another
+   stream. A mark may be copied byte for byte. */
+typedef struct ribjasper_mark {
+    uint64_t place;       /* how many blocks or packs the player was given; 0 if the mark is not set */
+    uint64_t state[8135]; /* the player */
+} ribjasper_mark;
+
+/* Seeks in a stream of blocks: brings an open player to where it would be if it had begun and been fed the first `to`
+   blocks. It starts from the last mark before that place, or from the start, and sets the marks on the way. Mark k, from
+   0, is for place (k + 1) * every. So a seek feeds less than `every` blocks after the first pass.
+     player: the player
+     form, lead_in: as of ribjasper_player_begin
+     blocks, count: the stream from its start, with the lead-in: blocks of 96 bytes, and their number
+     to: the number of blocks, at most `count`
+     marks, marks_count: the marks, which may be none
+     every: the blocks from one mark to the next, at least 1
+   Returns RIBJASPER_DONE, or RIBJASPER_REFUSED if the player is closed or a number is out of range. */
+RIBJASPER_NODISCARD
+int32_t ribjasper_player_seek(ribjasper_player *player, uint32_t form, uint32_t lead_in, const uint8_t *blocks,
+                              size_t count, uint64_t to, ribjasper_mark *marks, size_t marks_count, uint32_t every);
+
+/* Seeks in a list of packs, such as a .cdg file: brings an open player to where it would be if it had begun and drawn the
+   first `to` packs. Marks are as of ribjasper_player_seek.
+     player: the player; it continues as a player of a raw stream without lead-in
+     packs, count: the packs from the first, 24 bytes each, and their number
+     to: the number of packs, at most `count`
+     marks, marks_count: the marks, which may be none
+     every: the packs from one mark to the next, at least 1
+   Returns RIBJASPER_DONE, or RIBJASPER_REFUSED if the player is closed or a number is out of range. */
+RIBJASPER_NODISCARD
+int32_t ribjasper_player_seek_packs(ribjasper_player *player, const uint8_t *packs, size_t count, uint64_t to,
+                                    ribjasper_mark *marks, size_t marks_count, uint32_t every);
+
+/* What the instruction of a pack can change, if it is no tile. A tile is a place of the memory, rows of twelve pixels and
+   columns of six. The screen shows it moved left and up by the offsets, and the outermost tiles of the screen lie under
+   the border. */
 #define RIBJASPER_TOUCHES_NOTHING 900
 #define RIBJASPER_TOUCHES_ALL 901     /* the whole memory, and the offsets */
 #define RIBJASPER_TOUCHES_BORDER 902
 #define RIBJASPER_TOUCHES_COLOURS 903 /* colours of the table */
 #define RIBJASPER_TOUCHES_LEVELS 904
+
+/* Says what the instruction of a pack can change, whatever the screen shows. Nothing else changes.
+     pack: 24 bytes
+   Returns no answer but a number: 50 times the row and the column of a tile of the memory, 0 to 899, or one of the numbers
+   above. */
 int32_t ribjasper_pack_touches(const uint8_t pack[24]);
 
-/* Writes what may change on the screen if a pack of 24 bytes is drawn while the offsets are `across` and `down`, as
-   ribjasper_player_offsets gives them. A tile at row r and column c is shown from x = max(6, 6 c - across) to
-   min(293, 6 c + 5 - across), and from y = max(12, 12 r - down) to min(203, 12 r + 11 - down). Refused if `across` is
-   above 5 or `down` above 11. */
+/* Writes what may change on the screen if a pack is drawn. The pixels of a tile at row r and column c are
+     x = max(6, 6 c - across) to min(293, 6 c + 5 - across);
+     y = max(12, 12 r - down) to min(203, 12 r + 11 - down).
+     pack: 24 bytes
+     across, down: the offsets of the screen, as ribjasper_player_offsets writes them
+     change: the output
+   Returns RIBJASPER_DONE, or RIBJASPER_REFUSED if `across` is above 5 or `down` above 11. */
+RIBJASPER_NODISCARD
 int32_t ribjasper_pack_change(const uint8_t pack[24], uint8_t across, uint8_t down, ribjasper_change *change);
 
-/* The fewest packs that draw a tile of these numbers of colours, row by row, whatever it showed before (and none is
-   needed if it is of one colour and shows that already): 1 to 4. -1 if a number is above 15. Which colours stand in the
-   tile decides, and not where. */
+/* Returns the fewest packs that draw a tile whatever it showed before, 1 to 4, or -1 if a number is above 15. (A tile of one
+   colour that already shows it needs none.) Only the colours of the tile matter, not their places. It is no answer of
+   the list above.
+     pixels: the numbers of the colours of the tile, row by row */
 int32_t ribjasper_tile_weight(const uint8_t pixels[72]);
 
-/* A word of 24 symbols, the low six bits of the bytes: writes the codeword near it and returns how many symbols are
-   wrong (0 to 2), or returns -1 and writes nothing if none is near. */
+/* Corrects a word: writes the codeword near it. The low six bits of the bytes are its symbols.
+     word: 24 bytes
+     out: the codeword, 24 bytes
+   Returns no answer but the number of wrong symbols, 0 to 2, or -1 if no codeword is near; then nothing is written. */
 int32_t ribjasper_correct(const uint8_t word[24], uint8_t out[24]);
 
-/* Whether (1 or 0) the last two of the eighteen bytes of a CD-TEXT pack are the check of the others. */
+/* Returns 1 if the last two bytes of a CD-TEXT pack are the check of the others, or 0. It is no answer of the list above.
+     pack: 18 bytes */
 int32_t ribjasper_text_pack_matches(const uint8_t pack[18]);
 
-/* Writes the 24 symbols, each below 64, that carry a CD-TEXT pack in a lead-in: four such make the symbols of a block. */
+/* Writes the 24 symbols, each below 64, that carry a CD-TEXT pack in a lead-in. Four such packs make the symbols of a block.
+     pack: 18 bytes
+     symbols: the output, 24 bytes */
 void ribjasper_text_pack_symbols(const uint8_t pack[18], uint8_t symbols[24]);
 
 /* The kinds of a frame of the Q channel. */
-#define RIBJASPER_Q_PROGRAM 0   /* where the player is: track, index, time, absolute */
+#define RIBJASPER_Q_PROGRAM 0   /* the position: track, index, time, absolute */
 #define RIBJASPER_Q_TRACK 1     /* the table of contents: a track and where its music begins (absolute) */
 #define RIBJASPER_Q_FIRST 2     /* the first track, and the disc's type (disc: 0 CD-DA or CD-ROM, 16 CD-i, 32 XA) */
 #define RIBJASPER_Q_LAST 3      /* the last track */
 #define RIBJASPER_Q_LEAD_OUT 4  /* where the lead-out begins (absolute) */
 #define RIBJASPER_Q_CATALOGUE 5 /* the catalogue number, thirteen digits in text, and frame */
 #define RIBJASPER_Q_ISRC 6      /* the recording code of the track, twelve characters in text, and frame */
-#define RIBJASPER_Q_OTHER 7     /* bits with no fields of their own: mode, and bytes 1 to 9 in text */
+#define RIBJASPER_Q_OTHER 7     /* bits without fields: mode, and bytes 1 to 9 in text */
 
-/* A frame of the Q channel. Fields that its kind does not name are zero if they are written, and passed over if
-   they are read. Times are blocks, 75 a second, below 450,000. */
+/* A frame of the Q channel. Fields that its kind does not name are written as zeros and ignored when they are read. Times
+   are blocks, 75 a second, below 450,000. */
 typedef struct ribjasper_q_frame {
     uint32_t kind;     /* one of the above */
-    uint32_t time;     /* kind 0: the distance from where the music of the track begins; 1 to 4: of the lead-in */
+    uint32_t time;     /* kind 0: the distance from the start of the music of the track; 1 to 4: time of the lead-in */
     uint32_t absolute; /* a time from the start of the program area */
     uint8_t control;   /* 0 to 15: 8 four channels, 4 data, 2 copying permitted, 1 pre-emphasis */
     uint8_t mode;      /* 0 to 15 */
@@ -348,97 +475,133 @@ typedef struct ribjasper_q_frame {
     uint8_t index;     /* 0 to 99; 0 is the pause before a track */
     uint8_t disc;      /* any byte */
     uint8_t frame;     /* 0 to 74, that of the absolute time */
-    uint8_t text[13];  /* ASCII, or bytes as they stand */
+    uint8_t text[13];  /* ASCII, or bytes as they are */
 } ribjasper_q_frame;
 
 #define RIBJASPER_BAD_CHECK 1
 #define RIBJASPER_BAD_FIELD 2
 
-/* Reads the twelve bytes of a frame: writes it and returns RIBJASPER_DONE; or returns RIBJASPER_BAD_CHECK if the last
-   sixteen bits are not the check of the others; or otherwise writes the first bit (0 to 95) of the first field that is
-   out of its range, and returns RIBJASPER_BAD_FIELD. */
+/* Reads the twelve bytes of a frame of the Q channel.
+     bytes: the frame, 12 bytes
+     frame: the output
+     bit: where a field is refused, its first bit, 0 to 95
+   Returns RIBJASPER_DONE; RIBJASPER_BAD_CHECK if the last sixteen bits are not the check of the others; or
+   RIBJASPER_BAD_FIELD if a field is out of range: then only `bit` is written, for the first such field. */
 RIBJASPER_NODISCARD int32_t ribjasper_q_decode(const uint8_t bytes[12], ribjasper_q_frame *frame, uint8_t *bit);
 
-/* Writes the twelve bytes of a frame, or returns RIBJASPER_REFUSED if a field has a value that it cannot have. */
+/* Writes the twelve bytes of a frame of the Q channel.
+     frame: the frame
+     bytes: the output, 12 bytes
+   Returns RIBJASPER_DONE, or RIBJASPER_REFUSED if a field is out of range. */
 RIBJASPER_NODISCARD int32_t ribjasper_q_encode(const ribjasper_q_frame *frame, uint8_t bytes[12]);
 
-/* Writes the planar form of a raw block: twelve bytes for each channel from P to W, the first bit the highest. Channel Q
-   is bytes 12 to 23, as ribjasper_q_decode takes them. */
+/* Writes the planar form of a raw block: twelve bytes for each channel from P to W, the first bit the highest. Channel Q is
+   bytes 12 to 23, as ribjasper_q_decode reads them.
+     block: 96 bytes
+     planar: the output, 96 bytes */
 void ribjasper_block_to_planar(const uint8_t block[RIBJASPER_BLOCK], uint8_t planar[RIBJASPER_BLOCK]);
 
-/* Writes the raw block with a planar form. */
+/* Writes the raw block of a planar form.
+     planar: 96 bytes
+     block: the output, 96 bytes */
 void ribjasper_block_from_planar(const uint8_t planar[RIBJASPER_BLOCK], uint8_t block[RIBJASPER_BLOCK]);
 
-/* What came with blocks that a player was fed, counted. Begin with zeros. Each count stays at its last value. */
+/* Writes the planar forms of many raw blocks, as many as both lists hold. The rest of the output is left unchanged.
+     blocks, count: raw blocks of 96 bytes, and their number
+     planar, room: the output, and how many blocks it has room for */
+void ribjasper_blocks_to_planar(const uint8_t *blocks, size_t count, uint8_t *planar, size_t room);
+
+/* Writes the raw blocks of many planar forms, as many as both lists hold. The rest of the output is left unchanged.
+     planar, count: planar blocks of 96 bytes, and their number
+     blocks, room: the output, and how many blocks it has room for */
+void ribjasper_blocks_from_planar(const uint8_t *planar, size_t count, uint8_t *blocks, size_t room);
+
+/* Counts of the blocks that a player was fed. Begin with zeros. Each count saturates. */
 typedef struct ribjasper_tally {
-    uint64_t blocks;         /* how many blocks they are */
-    uint64_t clean;          /* packs that came with no wrong symbol */
-    uint64_t one;            /* with one, which was corrected */
-    uint64_t two;            /* with two, which were corrected */
+    uint64_t blocks;         /* blocks */
+    uint64_t clean;          /* packs without a wrong symbol */
+    uint64_t one;            /* packs with one wrong symbol, which was corrected */
+    uint64_t two;            /* packs with two wrong symbols, which were corrected */
     uint64_t bad;            /* packs with no codeword near */
-    uint64_t frames;         /* frames of the Q channel that were read, one a block at most; of RIBJASPER_PACKS none is */
+    uint64_t frames;         /* frames of the Q channel that were read, at most one a block; none of RIBJASPER_PACKS */
     uint64_t bad_frames;     /* frames that were refused */
-    uint64_t frame_block;    /* the number of the block with the last frame that was read, from 1, or 0 */
+    uint64_t frame_block;    /* the number of the block of the last frame that was read, from 1, or 0 */
     ribjasper_q_frame frame; /* this frame, or zeros */
 } ribjasper_tally;
 
-/* Feeds an open player the next block, as ribjasper_player_feed does, and adds what comes with it to `tally`. If the
-   tally began when the player did, its packs and frames are counted as the program's command `check` counts them, of all
-   blocks so far. It is yours: a player that is saved, loaded or copied takes nothing of it along, so keep a copy of it
-   beside the checkpoint and go on with that, or with zeros to count from there. It asks for no memory. */
+/* Feeds an open player the next block, as ribjasper_player_feed, and adds what comes with it to a tally. If the tally began
+   with the player, its packs and frames are those that the program's command `check` counts, of all blocks so far. A
+   player that is saved, restored or copied does not include the tally: keep a copy of it beside the checkpoint.
+     player: the player
+     block: 96 bytes
+     tally: the counts, which are read and written
+   Returns RIBJASPER_DONE, or RIBJASPER_REFUSED if the player is closed. */
 int32_t ribjasper_player_feed_counted(ribjasper_player *player, const uint8_t block[RIBJASPER_BLOCK],
                                       ribjasper_tally *tally);
 
-/* What is reported of a stream that was converted: the bytes written, the blocks of the program, and the packs with no
-   codeword near, which are written as 24 zeros. */
+/* The result of converting a stream: the bytes written, the blocks of the program, and the packs with no codeword near.
+   Such packs are written as 24 zeros. */
 typedef struct ribjasper_converted {
     uint64_t bytes;
     uint32_t blocks;
     uint32_t bad;
 } ribjasper_converted;
 
-/* What the calls on whole streams answer: the exit numbers of the program. */
+/* The answers of calls on whole streams: the exit statuses of the program. */
 #define RIBJASPER_CONVERTED 0 /* done */
 #define RIBJASPER_DAMAGED 1   /* done, but packs are bad */
 #define RIBJASPER_USAGE 2     /* the form is above 2 or `lead_in` above 450,000 */
 #define RIBJASPER_TORN 3      /* the stream is not whole units, or more than 1,000,000 of them */
-#define RIBJASPER_NO_ROOM 6   /* the buffer is smaller than the packs */
-#define RIBJASPER_NO_MEMORY 7 /* malloc refused: of the calls that ask for memory */
+#define RIBJASPER_NO_ROOM 6   /* the output is smaller than the packs */
+#define RIBJASPER_NO_MEMORY 7 /* out of memory, of calls that allocate */
 
-/* Writes the packs of the `length` bytes at `stream`, whose first `lead_in` blocks are passed over, to the front of the
-   `room` bytes at `packs`: 24 bytes each, 4 B - 7 of B blocks of the program (none of one or none), or 4 B if they
-   are RIBJASPER_PACKS. The first of the answers above that fits is given: the numbers are judged before the stream's
-   length, and this before the room, so 0 and 1 are answered of whole units alone. If it answers neither 0 nor 1
-   nothing is written. It asks for no memory. */
+/* Writes the packs of a stream, with their damage corrected: 24 bytes for each pack, 4 B - 7 packs of B program blocks (none
+   of fewer than two), or 4 B packs if the form is RIBJASPER_PACKS (see there for .cdg files without parity).
+     stream, length: the stream, and its length in bytes
+     form: RIBJASPER_RAW, RIBJASPER_PACKS or RIBJASPER_SECTORS
+     lead_in: how many blocks at the start are ignored, at most 450,000
+     packs, room: the output, and its size in bytes
+     told: the result
+   Returns RIBJASPER_CONVERTED or RIBJASPER_DAMAGED; otherwise the first that applies of RIBJASPER_USAGE, RIBJASPER_TORN and
+   RIBJASPER_NO_ROOM. */
 RIBJASPER_NODISCARD
 int32_t ribjasper_convert(const uint8_t *stream, size_t length, uint32_t form, uint32_t lead_in, uint8_t *packs,
                           size_t room, ribjasper_converted *told);
 
 /* Readings of one disc, mended: word by word the best of them. A word has 24 symbols, and those of word n stand in the
-   blocks n / 4 to (n + 7) / 4 of the program. A block is empty if its 96 symbols are 0 and its Q channel is no frame.
+   blocks n / 4 to (n + 7) / 4 of the program. A block is unread if its 96 bytes are 0. A caller that knows a block was
+   not read writes zeros over it.
 
    A reading of a word gives the codeword that differs from it in two symbols at most, unless all blocks under the word
-   are empty: then it was not read. So many symbols stand against the codeword; three, if it is the idle pack (24 zeros)
-   and one of the blocks under the word is empty. A reading misses graphics at a word if it gives the idle pack and
-   another reading gives, with no wrong symbol, a codeword that is not idle; an idle pack of a reading that misses
-   graphics at this word or at one of seven words to each side counts for nothing.
+   are unread: then it was not read. So many symbols stand against the codeword; three, if it is the idle pack (24 zeros)
+   and one of the blocks under the word is unread. A reading is quiet at a word if it gives the idle pack or was not read.
+
+   Two kinds of codewords count for nothing. First, idle packs of a reading that lacks graphics. A reading misses graphics
+   at a word if it gives the idle pack and another reading shows that the word is not idle. That other reading gives a
+   codeword with no wrong symbol, or a graphics pack (mode and item 9, a known instruction) with one or two. A reading
+   lacks graphics at each word from which it is quiet up to a word at which it misses graphics, forwards or backwards.
+   Second, doubtful codewords where some reading is quiet. A codeword is doubtful if a symbol stands against it and its
+   mode and item are none that discs carry (8, 9, 10, 24).
 
    Of the codewords that count the one is taken against which the fewest symbols stand; of several with as few the one
-   that most readings give; if that is undecided there is none. If nothing counts it is the codeword on which two of the
-   readings agree that were read there and give none (twice the symbols that both have equally wrong and those in which
-   they differ are at most four), if no other two agree on another.
+   that most readings give; if that is undecided there is none. If nothing counts, it is the codeword on which two readings
+   agree that were read there and give none, if no other two agree on another. Two readings agree if twice the symbols
+   that both have equally wrong and those in which they differ are at most four.
 
-   So a reading without a wrong symbol comes out whole beside any others which, if a word of theirs has no wrong symbol,
-   give the same codeword or the idle pack, as noise, scratches and readings without channels R to W do. Readings of
-   which each is damaged in at most two symbols of each word give back every pack. If whatever the others give counts
-   for nothing, what comes out is what ribjasper_convert writes of the one that is left, but for words on which two
-   agree. The order of the readings changes nothing but which of those that give the same is named. If a reading gives a
-   codeword with one or two wrong symbols, another one may have it less wrong, and then that one is taken. */
+   So a reading without a wrong symbol comes out whole beside any others under two conditions. If a word of theirs has no
+   wrong symbol, it is the same codeword or the idle pack. Where the reading gives the idle pack, none of them gives a
+   graphics pack, also with one or two wrong symbols. Random symbols imitate one once in 28 million words. Whether the Q
+   frames of the reading are good does not matter.
 
-/* What is reported of two readings that were mended: the bytes written, the blocks of the program, and how many words
-   have the codeword that both readings give, that of the first alone, that of the second alone, or the one on which
-   both agree if none counts; and how many have none, for which 24 zeros are written. The five add up to the words,
-   which are bytes / 24. If the readings change places, so do of_first and of_second, and the others stay. */
+   Readings that are each damaged in at most two symbols of each word give back every pack. If whatever the others give
+   counts for nothing, what comes out is what ribjasper_convert writes of the one that is left, but for words on which two
+   agree and for doubtful codewords. The order of the readings changes nothing but which of those that give the same is
+   named. If a reading gives a codeword with one or two wrong symbols, another one may have it less wrong, and then that
+   one is taken. */
+
+/* The result of mending two readings. Each word is counted in one of five numbers: both readings give its codeword, only the
+   first does, only the second does, both agree on it because none counts, or it has none and is written as 24 zeros. The
+   five add up to the words, which are bytes / 24. If the readings change places, so do of_first and of_second. */
 typedef struct ribjasper_mended {
     uint64_t bytes;
     uint32_t blocks;
@@ -455,6 +618,7 @@ typedef struct ribjasper_mended {
    first: RIBJASPER_USAGE if `lead_in` is above 450,000; RIBJASPER_TORN if the lengths differ, or are no whole blocks or
    more than 1,000,000; RIBJASPER_NO_ROOM. Then nothing is written. It asks malloc for nothing. The readings may be the
    same bytes. */
+RIBJASPER_NODISCARD
 int32_t ribjasper_mend(const uint8_t *first, size_t first_length, const uint8_t *second, size_t second_length,
                        uint32_t lead_in, uint8_t *packs, size_t room, ribjasper_mended *told);
 
@@ -472,35 +636,57 @@ typedef struct ribjasper_mended_readings {
     uint32_t reserved; /* 0 */
     uint32_t of_reading[RIBJASPER_READINGS]; /* words whose codeword is that of the reading, and of none before it that
                                                 gives it with as few wrong symbols */
-    uint32_t dropped[RIBJASPER_READINGS];    /* words at which the idle pack of the reading counts for nothing */
+    uint32_t dropped[RIBJASPER_READINGS];    /* words at which what the reading gives counts for nothing */
 } ribjasper_mended_readings;
 
-/* Mends `count` readings, 1 to 254, of one stream of raw blocks. The `length` bytes at `readings` are all of them, one
-   behind another and each as long. Writes the packs as the call above, and, unless `words` is 0, a byte for each word to
-   the front of the `words` bytes at `sources`: the number of the reading whose codeword it is, RIBJASPER_AGREED or
-   RIBJASPER_NO_READING. If `words` is 0 nothing is read or written at `sources`, and it may be null.
-   Answers RIBJASPER_CONVERTED, or RIBJASPER_DAMAGED if words have no codeword; or otherwise, whichever holds
-   first: RIBJASPER_USAGE if `lead_in` is above 450,000 or `count` is 0 or above 254; RIBJASPER_TORN if the readings are not
-   whole blocks of equal length, or more than 1,000,000 each; RIBJASPER_NO_ROOM if there is room for fewer packs, or
-   `words` is neither 0 nor as many as the words. Then nothing is written. It asks malloc for nothing. */
+/* Mends readings of one stream of raw blocks, word by word, into packs. The readings lie one behind another, each as long.
+     readings, length: all readings and their bytes together (ribjasper_mend takes the bytes of each)
+     count: how many readings, 1 to 254
+     lead_in: lead-in blocks of each reading, at most 450,000
+     packs, room: the output and its bytes: 24 for each word
+     sources, words: the output and its bytes: for each word the number of the reading whose codeword it is,
+       RIBJASPER_AGREED or RIBJASPER_NO_READING; null and 0 leave it out
+     told: the output
+   Returns RIBJASPER_CONVERTED, or RIBJASPER_DAMAGED if words have no codeword.
+   Otherwise it returns the first of these that holds, and writes nothing. RIBJASPER_USAGE: `lead_in` or `count` is out of
+   range. RIBJASPER_TORN: the readings are not whole blocks of equal length, or more than 1,000,000 each. RIBJASPER_NO_ROOM:
+   there is room for fewer packs, or `words` is neither 0 nor the number of words. It allocates nothing. */
+RIBJASPER_NODISCARD
 int32_t ribjasper_mend_readings(const uint8_t *readings, size_t length, uint32_t count, uint32_t lead_in,
                                 uint8_t *packs, size_t room, uint8_t *sources, size_t words,
                                 ribjasper_mended_readings *told);
 
-/* Mends `count` readings, as the call above, into a stream of blocks, as long as each of them, at the front of the
-   `room` bytes at `blocks`, which may not overlap the readings; their lead-in is part of it. A symbol of a word that is
-   mended is that of its codeword. Each other symbol, those of the lead-in among them, is that of the first reading that
-   was read at its block, which is the first whose block is not empty (0, if all are). Channels P and Q of a block are
-   those of the first reading whose Q channel is a frame there; if there is none, of the first that was read there, or
-   of the first. So ribjasper_convert of the stream gives the codeword of each word that is mended, with no symbol
-   wrong, and of each other word what is found for the symbols that were first read. Of one reading it is that reading
-   with its words corrected. For each word the byte that names its source is written to the front of the `words` bytes
-   at `sources`, and in told->bytes the bytes of the stream. `sources` may be null if `words` is 0. Answers as the call
-   above; RIBJASPER_NO_ROOM if `room` is less than a reading or `words` less than its words. Then nothing is written. It
-   asks malloc for nothing, and writes nowhere else. */
+/* Mends readings as the call above, into a stream of blocks as long as each reading, its lead-in included. A symbol of a
+   mended word is that of its codeword. Every other symbol is that of the first reading whose block is not unread, or 0 if
+   all are. P and Q of a block are those of the first reading with a Q frame there; without one, of the first that was read
+   there. So ribjasper_convert of the stream gives the codeword of each mended word, and of each other word what is found
+   for the symbols that were first read. One reading alone comes out with its words corrected.
+     blocks, room: the output and its bytes, as many as a reading has; it must not overlap the readings
+     sources, words: as above
+     told: the output; told->bytes are the bytes of the stream
+   Returns what the call above returns; RIBJASPER_NO_ROOM if `room` is less than a reading. It allocates nothing. */
+RIBJASPER_NODISCARD
 int32_t ribjasper_mend_stream(const uint8_t *readings, size_t length, uint32_t count, uint32_t lead_in,
                               uint8_t *blocks, size_t room, uint8_t *sources, size_t words,
                               ribjasper_mended_readings *told);
+
+/* A report of mended readings: the result of the calls above, and the number of lost words of each reading. A word is
+   lost if the reading gives a codeword with no wrong symbol that counts, and another codeword or none came out. */
+typedef struct ribjasper_mend_reported {
+    ribjasper_mended_readings told;
+    uint32_t lost[RIBJASPER_READINGS];
+} ribjasper_mend_reported;
+
+/* The same as ribjasper_mend_readings, with this report. */
+RIBJASPER_NODISCARD
+int32_t ribjasper_mend_report(const uint8_t *readings, size_t length, uint32_t count, uint32_t lead_in, uint8_t *packs,
+                              size_t room, uint8_t *sources, size_t words, ribjasper_mend_reported *report);
+
+/* The same as ribjasper_mend_stream, with this report. */
+RIBJASPER_NODISCARD
+int32_t ribjasper_mend_stream_report(const uint8_t *readings, size_t length, uint32_t count, uint32_t lead_in,
+                                     uint8_t *blocks, size_t room, uint8_t *sources, size_t words,
+                                     ribjasper_mend_reported *report);
 
 /* A picture of a script in a plan. Times are blocks of the program, 75 a second, from the absolute time 00:00:00; packs
    are numbered from 0. */

@@ -18,8 +18,8 @@ from typing import Iterator, NamedTuple
 # The package of the checkout, whether or not it is installed.
 site.addsitedir(str(Path(__file__).resolve().parents[2] / "desk"))
 
-from ribjasper.song_files import read_song  # noqa: E402
-from ribjasper.songs import Song  # noqa: E402
+from ribjasper.songs.song_files import read_song# noqa: E402
+from ribjasper.songs.songs import Song# noqa: E402
 
 HERE = Path(__file__).resolve().parent
 

@@ -4,6 +4,13 @@
 
 #include <stdio.h>
 
+/* Inside braces strict C89 takes constants alone. */
+#if !defined __cplusplus && (!defined __STDC_VERSION__ || __STDC_VERSION__ < 199901L)
+#define IN_BRACES RIBJASPER_CLOSED_STATIC
+#else
+#define IN_BRACES RIBJASPER_CLOSED
+#endif
+
 typedef struct holder {
     int number;
     ribjasper_player player;
@@ -31,8 +38,8 @@ static ribjasper_player closed(void)
 
 int main(void)
 {
-    ribjasper_player player = RIBJASPER_CLOSED, list[2] = { RIBJASPER_CLOSED, RIBJASPER_CLOSED }, copy = closed();
-    holder holds = { 2, RIBJASPER_CLOSED };
+    ribjasper_player player = RIBJASPER_CLOSED, list[2] = { IN_BRACES, IN_BRACES }, copy = closed();
+    holder holds = { 2, IN_BRACES };
     int all;
     if (ribjasper_player_open(&player) != RIBJASPER_DONE || is_closed(&player))
         return 1;

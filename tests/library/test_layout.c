@@ -3,9 +3,11 @@
 #include "ribjasper.h"
 
 #include <stddef.h>
+#ifndef LAYOUT_ONLY
 #include <stdio.h>
+#endif
 
-#if defined __cplusplus
+#if defined __cplusplus && __cplusplus >= 201103L
 #define HOLDS(name, what) static_assert(what, #what)
 #elif defined __STDC_VERSION__ && __STDC_VERSION__ >= 201112L
 #define HOLDS(name, what) _Static_assert(what, #what)
@@ -114,6 +116,8 @@ HOLDS(listed, sizeof(ribjasper_listed) == 16);
 LIES(ribjasper_listed, seq, 8);
 LIES(ribjasper_listed, byte, 12);
 
+/* With LAYOUT_ONLY this much is compiled for a system whose C library is not at hand. */
+#ifndef LAYOUT_ONLY
 /* How many of the calls that only look answer this of a player. */
 static int answers(const ribjasper_player *player, ribjasper_player *other, int32_t answer)
 {
@@ -154,3 +158,4 @@ int main(void)
     printf("%d.%d.%d\n", RIBJASPER_VERSION_MAJOR, RIBJASPER_VERSION_MINOR, RIBJASPER_VERSION_PATCH);
     return 0;
 }
+#endif

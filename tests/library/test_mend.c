@@ -12,6 +12,9 @@ enum { BLOCKS = 4, BYTES = 96 * BLOCKS, WORDS = 4 * BLOCKS - 7, ROOM = 24 * WORD
 static int failed;
 
 static const uint8_t preset[24] = { 9, 1, 0x3c, 0x34, 0, 0, 0, 0, 0, 0, 0, 0, 0, 0, 0, 0, 0, 0, 0, 0, 13, 7, 42, 32 };
+/* Codewords of extended graphics, and of a mode and item that no disc carries. */
+static const uint8_t extended[24] = { 10, 1, 53, 62, 0, 0, 0, 0, 0, 0, 0, 0, 0, 0, 0, 0, 0, 0, 0, 0, 60, 14, 32, 18 };
+static const uint8_t unused[24] = { 5, 1, 24, 28, 0, 0, 0, 0, 0, 0, 0, 0, 0, 0, 0, 0, 0, 0, 0, 0, 12, 35, 2, 45 };
 
 static void check(int holds, const char *what, int line)
 {
@@ -142,23 +145,30 @@ static void empty_blocks(void)
     CHECK(mend(other, other, packs, &told) == RIBJASPER_DAMAGED && is_told(&told, 0, 0, 0, 0, 9));
     CHECK(are_packs(packs, zeros));
     /* The first two blocks were not read: of word 1 so few symbols stand in the third that zeros are near. That reading
-       misses graphics there, and none of its idle packs counts within seven words, which are all. */
+       misses graphics there, and is quiet at all words, so none of its idle packs counts. */
     make_stream(other);
     memset(other, 0, 2 * 96);
     CHECK(mend(one, other, packs, &told) == RIBJASPER_CONVERTED && is_told(&told, 0, 9, 0, 0, 0));
     CHECK(are_packs(packs, preset));
     CHECK(mend(other, one, packs, &told) == RIBJASPER_CONVERTED && is_told(&told, 0, 0, 9, 0, 0));
     CHECK(are_packs(packs, preset));
-    /* The preset has two wrong symbols in the other reading, so that it is no graphics without a wrong symbol. The idle pack
-       under which blocks are empty is still taken last. */
+    /* So it is if the graphics pack has two wrong symbols. */
     memcpy(word, preset, 24);
     word[0] ^= 5;
     word[1] ^= 9;
     put_word(one, 1, word);
+    CHECK(mend(one, other, packs, &told) == RIBJASPER_CONVERTED && is_told(&told, 0, 9, 0, 0, 0));
+    CHECK(are_packs(packs, preset));
+    /* Two symbols of a pack of extended graphics are wrong: it is no sign that the other lacks graphics. The idle pack under
+       which blocks are unread is still taken last. */
+    memcpy(word, extended, 24);
+    word[4] ^= 5;
+    word[5] ^= 9;
+    put_word(one, 1, word);
     CHECK(mend(one, other, packs, &told) == RIBJASPER_CONVERTED && is_told(&told, 7, 2, 0, 0, 0));
-    CHECK(are_packs(packs, preset));
+    CHECK(are_packs(packs, extended));
     CHECK(mend(other, one, packs, &told) == RIBJASPER_CONVERTED && is_told(&told, 7, 0, 2, 0, 0));
-    CHECK(are_packs(packs, preset));
+    CHECK(are_packs(packs, extended));
     make_stream(one);
     /* Idle symbols with good frames in all blocks: a reading without channels R to W. */
     memset(other, 0, BYTES);
@@ -170,6 +180,73 @@ static void empty_blocks(void)
     CHECK(are_packs(packs, preset));
     CHECK(mend(other, other, packs, &told) == RIBJASPER_CONVERTED && is_told(&told, 9, 0, 0, 0, 0));
     CHECK(are_packs(packs, zeros));
+    /* The same with frames whose check is wrong: what has a bit of any channel was read. */
+    for (size_t block = 0; block < BLOCKS; block++)
+        memset(other + 96 * block + 80, 0, 15);
+    CHECK(mend(other, other, packs, &told) == RIBJASPER_CONVERTED && is_told(&told, 9, 0, 0, 0, 0));
+}
+
+/* A codeword with a wrong symbol, whose mode and item no disc carries, counts for nothing where another reading is quiet. */
+static void doubtful_codewords(void)
+{
+    static const uint8_t zeros[24] = { 0 };
+    uint8_t one[BYTES], other[BYTES], word[24], packs[ROOM + 5];
+    ribjasper_mended told;
+    make_stream(one);
+    make_stream(other);
+    memcpy(word, unused, 24);
+    word[4] ^= 5;
+    put_word(one, 1, word);
+    put_word(other, 1, zeros);
+    CHECK(mend(one, other, packs, &told) == RIBJASPER_CONVERTED && is_told(&told, 8, 0, 1, 0, 0));
+    CHECK(are_packs(packs, zeros));
+    CHECK(mend(other, one, packs, &told) == RIBJASPER_CONVERTED && is_told(&told, 8, 1, 0, 0, 0));
+    CHECK(are_packs(packs, zeros));
+    /* Beside itself it counts. */
+    CHECK(mend(one, one, packs, &told) == RIBJASPER_CONVERTED && is_told(&told, 9, 0, 0, 0, 0));
+    CHECK(are_packs(packs, unused));
+    /* Beside a reading that was not read there it does not, and no other is there. */
+    memset(other, 0, BYTES);
+    CHECK(mend(one, other, packs, &told) == RIBJASPER_DAMAGED && is_told(&told, 0, 8, 0, 0, 1));
+    CHECK(are_packs(packs, zeros));
+    /* With no wrong symbol it shows that the idle reading lacks graphics. */
+    make_stream(other);
+    put_word(other, 1, zeros);
+    put_word(one, 1, unused);
+    CHECK(mend(one, other, packs, &told) == RIBJASPER_CONVERTED && is_told(&told, 0, 9, 0, 0, 0));
+    CHECK(are_packs(packs, unused));
+}
+
+/* Readings of which two give different codewords with no wrong symbol for word 1. */
+static void reports(void)
+{
+    static uint8_t all[3 * BYTES], blocks[BYTES];
+    uint8_t packs[ROOM + 5], sources[WORDS];
+    ribjasper_mend_reported report;
+    make_stream(all);
+    make_stream(all + BYTES);
+    put_word(all + BYTES, 1, extended);
+    memset(&report, 7, sizeof report);
+    CHECK(ribjasper_mend_report(all, 2 * BYTES, 2, 0, packs, ROOM, sources, WORDS, &report) == RIBJASPER_DAMAGED);
+    CHECK(report.told.none == 1 && report.told.of_reading[0] == 8 && sources[1] == RIBJASPER_NO_READING);
+    CHECK(report.lost[0] == 1 && report.lost[1] == 1);
+    for (size_t r = 2; r < RIBJASPER_READINGS; r++)
+        CHECK(report.lost[r] == 0 && report.told.of_reading[r] == 0 && report.told.dropped[r] == 0);
+    memset(&report, 7, sizeof report);
+    CHECK(ribjasper_mend_stream_report(all, 2 * BYTES, 2, 0, blocks, BYTES, sources, WORDS, &report) == RIBJASPER_DAMAGED);
+    CHECK(report.told.bytes == BYTES && report.told.none == 1 && report.lost[0] == 1 && report.lost[1] == 1);
+    /* A third decides; and one without graphics loses nothing, since what it gives does not count. */
+    make_stream(all + 2 * BYTES);
+    CHECK(ribjasper_mend_report(all, 3 * BYTES, 3, 0, packs, ROOM, sources, WORDS, &report) == RIBJASPER_CONVERTED);
+    CHECK(report.lost[0] == 0 && report.lost[1] == 1 && report.lost[2] == 0 && memcmp(packs + 24, preset, 24) == 0);
+    for (size_t k = 0; k < BYTES; k++)
+        all[BYTES + k] &= 0xc0;
+    CHECK(ribjasper_mend_report(all, 3 * BYTES, 3, 0, packs, ROOM, NULL, 0, &report) == RIBJASPER_CONVERTED);
+    CHECK(report.lost[0] == 0 && report.lost[1] == 0 && report.lost[2] == 0 && report.told.dropped[1] == WORDS);
+    memset(&report, 7, sizeof report);
+    CHECK(ribjasper_mend_report(all, 3 * BYTES, 0, 0, packs, ROOM, NULL, 0, &report) == RIBJASPER_USAGE);
+    CHECK(ribjasper_mend_stream_report(all, 3 * BYTES, 3, 0, blocks, BYTES - 1, sources, WORDS, &report) == RIBJASPER_NO_ROOM);
+    CHECK(all_are((const uint8_t *)&report, sizeof report, 7));
 }
 
 static void refusals(void)
@@ -494,8 +571,11 @@ int main(void)
 {
     CHECK(sizeof(ribjasper_mended) == 32);
     CHECK(sizeof(ribjasper_mended_readings) == 2056);
+    CHECK(sizeof(ribjasper_mend_reported) == 3072);
     readings();
     empty_blocks();
+    doubtful_codewords();
+    reports();
     refusals();
     many_readings();
     refusals_of_many();

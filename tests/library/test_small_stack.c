@@ -57,6 +57,24 @@ static void feed_all(void)
     answer = ribjasper_player_feed_all(&other, stream, BLOCKS, &change);
 }
 
+static void seek(void)
+{
+    static ribjasper_mark marks[4];
+    int32_t sought = ribjasper_player_seek_packs(&other, worn, 4 * BLOCKS, 4 * BLOCKS, marks, 4, BLOCKS);
+    memset(marks, 0, sizeof marks);
+    answer = ribjasper_player_seek(&other, RIBJASPER_RAW, 3, worn, BLOCKS, BLOCKS - 1, marks, 4, 40);
+    answer = sought != RIBJASPER_DONE ? sought : answer;
+    if (answer == RIBJASPER_DONE)
+        answer = ribjasper_player_seek(&other, RIBJASPER_RAW, 3, worn, BLOCKS, 90, marks, 4, 40);
+}
+
+static void many_planar_blocks(void)
+{
+    ribjasper_blocks_to_planar(worn, BLOCKS, packs, BLOCKS);
+    ribjasper_blocks_from_planar(worn, BLOCKS, packs, BLOCKS);
+    answer = RIBJASPER_DONE;
+}
+
 static void feed_counted(void)
 {
     int k;
@@ -248,6 +266,8 @@ int main(int count, char **words)
         { "feed", feed, RIBJASPER_DONE },
         { "take", take, 4 },
         { "feed all", feed_all, RIBJASPER_DONE },
+        { "seek", seek, RIBJASPER_DONE },
+        { "many planar blocks", many_planar_blocks, RIBJASPER_DONE },
         { "feed and count", feed_counted, RIBJASPER_DONE },
         { "counts", tell_counts, RIBJASPER_DONE },
         { "draw", draw, RIBJASPER_TOUCHES_COLOURS },

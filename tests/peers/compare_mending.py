@@ -105,13 +105,13 @@ def is_frame(block: bytes) -> bool:
     return binascii.crc_hqx(frame[:10], 0) ^ 0xFFFF == int.from_bytes(frame[10:], "big")
 
 
-def is_empty(block: bytes) -> bool:
-    return not any(byte & 63 for byte in block) and not is_frame(block)
+def is_unread(block: bytes) -> bool:
+    return not any(block)
 
 
 def given(reading: bytes, errors: Errors) -> list[Optional[Given]]:
     """What a reading gives for each word; None where it was not read."""
-    empty = [is_empty(reading[at : at + 96]) for at in range(0, len(reading), 96)]
+    empty = [is_unread(reading[at : at + 96]) for at in range(0, len(reading), 96)]
     found: list[Optional[Given]] = []
     for n in range(len(reading) // 24 - 7):
         under = empty[n // 4 : (n + 7) // 4 + 1]
@@ -172,20 +172,42 @@ def search(word: bytearray, apart: list[int], left: int, errors: Errors) -> Opti
     return None
 
 
+KNOWN = (1, 2, 6, 20, 24, 28, 30, 31, 38)
+USED = (8, 9, 10, 24)
+
+
 def is_graphics(found: Optional[Given]) -> bool:
-    """Whether it is a codeword that is not idle, and no symbol is wrong."""
-    return found is not None and found.codeword not in (None, IDLE) and found.doubts == 0
+    """Whether it is a codeword that is not idle, and either no symbol is wrong or it is a graphics pack."""
+    if found is None or found.codeword is None or found.codeword == IDLE:
+        return False
+    return found.doubts == 0 or (found.codeword[0] == 9 and found.codeword[1] in KNOWN)
+
+
+def is_quiet(found: Optional[Given]) -> bool:
+    return found is None or found.codeword == IDLE
+
+
+def is_doubtful(found: Optional[Given]) -> bool:
+    """Whether it is a codeword of a mode and item that no disc carries, and symbols are wrong."""
+    if found is None or found.codeword is None or found.codeword == IDLE:
+        return False
+    return found.doubts > 0 and found.codeword[0] not in USED
 
 
 def dropped(all_given: Sequence[Sequence[Optional[Given]]]) -> list[list[bool]]:
-    """For each reading, at which words its idle pack counts for nothing."""
+    """For each reading, at which words what it gives counts for nothing."""
     count = len(all_given[0])
     graphics = [any(is_graphics(own[n]) for own in all_given) for n in range(count)]
+    quiet = [any(is_quiet(own[n]) for own in all_given) for n in range(count)]
     marks = []
     for own in all_given:
-        idle = [g is not None and g.codeword == IDLE for g in own]
-        misses = [a and b for a, b in zip(idle, graphics)]
-        marks.append([idle[n] and any(misses[max(0, n - 7) : n + 8]) for n in range(count)])
+        lacks = [False] * count
+        for is_silent, group in itertools.groupby(range(count), lambda n: is_quiet(own[n])):
+            words = list(group)
+            if is_silent and any(own[n] is not None and graphics[n] for n in words):
+                for n in words:
+                    lacks[n] = own[n] is not None
+        marks.append([lacks[n] or (is_doubtful(own[n]) and quiet[n]) for n in range(count)])
     return marks
 
 
@@ -227,7 +249,7 @@ def mend(readings: Sequence[bytes], errors: Errors) -> tuple[list[bytes], list[i
 
 def joined_block(blocks: Sequence[bytes]) -> bytes:
     """Channels P and Q of the first block whose frame is good, or else of the first that was read; R to W of this."""
-    read = next((block for block in blocks if not is_empty(block)), blocks[0])
+    read = next((block for block in blocks if not is_unread(block)), blocks[0])
     framed = next((block for block in blocks if is_frame(block)), read)
     return bytes(one & 0xC0 | other & 0x3F for one, other in zip(framed, read))
 
@@ -348,7 +370,15 @@ class Library:
         blocks, sources, told = ctypes.create_string_buffer(length), ctypes.create_string_buffer(max(1, words)), Told()
         size = ctypes.c_size_t
         status = self.calls.ribjasper_mend_stream(
-            joined, size(len(joined)), len(readings), lead_in, blocks, size(length), sources, size(words), ctypes.byref(told)
+            joined,
+            size(len(joined)),
+            len(readings),
+            lead_in,
+            blocks,
+            size(length),
+            sources,
+            size(words),
+            ctypes.byref(told),
         )
         return blocks.raw, list(sources.raw[:words]), told, status
 

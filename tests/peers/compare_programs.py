@@ -559,7 +559,7 @@ class Runner:
     """Runs calls in a folder of their own."""
 
     def __init__(self, folder: Path) -> None:
-        self.folder = folder
+        self.folder, self.gives_text = folder, False
 
     def lay(self, inputs: Inputs) -> None:
         (self.folder / "first").write_bytes(inputs.first)
@@ -569,7 +569,8 @@ class Runner:
         with open("/dev/full", "wb") as full:
             where: IO[bytes] | int = full if call.full else subprocess.PIPE
             try:
-                words: list[str | bytes] = [os.fspath(program), *call.words]
+                given = [word for word in call.words if isinstance(word, str) or not self.gives_text]
+                words: list[str | bytes] = [os.fspath(program), *given]
                 ran = subprocess.run(words, timeout=SECONDS_ALLOWED, input=call.inputs.first,
                                      stdout=where, stderr=subprocess.PIPE, cwd=self.folder)
             except subprocess.TimeoutExpired as stopped:
@@ -680,9 +681,11 @@ def main() -> int:
     parser.add_argument("new", type=Path, help="the program that is compared with it")
     parser.add_argument("--calls", type=int, default=2000, help="how many calls are compared (default 2000)")
     parser.add_argument("--seed", type=int, default=1, help="the number that all calls are made from (default 1)")
+    parser.add_argument("--windows", action="store_true", help="give NEW no word that wine cannot pass on: bytes that are no text")
     words = parser.parse_args()
     with tempfile.TemporaryDirectory(prefix="compare-") as folder:
         comparison = Comparison(words.old.resolve(), words.new.resolve(), words.seed, Path(folder))
+        comparison.runner.gives_text = words.windows
         comparison.run(words.calls)
     print(comparison.tally.table())
     compared = sum(comparison.tally.statuses.values())

@@ -1,6 +1,7 @@
 #!/bin/sh
-# What lib/web does beside the program: the module in Node (tests/peers/test_web.mjs), the page in Chromium (tests/peers/test_page.mjs).
-# Skipped where one of them, or what `make` and `make web` build, is missing. With the argument `measure` the module is also
+# What lib/web does beside the program: both modules in Node (tests/peers/test_web.mjs), sixty screens in WebKit's engine
+# (test_webkit.mjs), the npm package (test_npm.mjs), parts of the page in Node (test_zip.mjs, test_detect.mjs, test_one_page.py),
+# and the page in Chromium (test_page.mjs). Skipped if one of the tools, or what `make` and `make web` build, is missing. With the argument `measure` the modules are also
 # measured, beside a plain player in JavaScript.
 set -e
 cd "$(dirname "$0")/../.."
@@ -11,15 +12,73 @@ command -v node >/dev/null || { echo "compare_web: skipped, there is no node"; e
 work=$(mktemp -d)
 trap 'rm -rf "$work"' EXIT
 
-# 64-bit memories stand behind a flag before Node 24, and are refused by older ones.
-flag=
-node --experimental-wasm-memory64 -e 0 2>/dev/null && flag=--experimental-wasm-memory64
-if ! node $flag -e 'new WebAssembly.Module(require("fs").readFileSync("lib/web/ribjasper.wasm"))' 2>/dev/null; then
-    echo "compare_web: skipped, this node has no 64-bit memories"
-    exit 0
+# runs FLAG MODULE: Node can compile the module.
+runs() { node $1 -e 'new WebAssembly.Module(require("fs").readFileSync(process.argv[1]))' "$2" 2>/dev/null; }
+
+# 64-bit memories need a flag before Node 24, and older ones refuse them. Every Node has 32-bit memories.
+for name in ribjasper ribjasper32; do
+    module=lib/web/$name.wasm
+    [ -f "$module" ] || { echo "compare_web: $name is skipped, there is no $module (make web, with binaryen)"; continue; }
+    flag=
+    runs "" "$module" || flag=--experimental-wasm-memory64
+    if [ "$name" = ribjasper32 ] && [ -n "$flag" ]; then
+        echo "compare_web: Node refuses $module" >&2
+        exit 1
+    fi
+    runs "$flag" "$module" || { echo "compare_web: $name is skipped, this node has no 64-bit memories"; continue; }
+    echo "compare_web: $name"
+    mkdir "$work/$name"
+    node $flag tests/peers/test_web.mjs "$top/bin/ribjasper" "$module" "$work/$name" "$@"
+    node $flag tests/peers/test_web_calls.mjs "$module"
+    mkdir "$work/dumps"
+    node $flag tests/peers/test_detect.mjs "$module" "$work/dumps"
+    rm -rf "$work/dumps"
+done
+mkdir "$work/zips"
+node tests/peers/test_zip.mjs "$work/zips"
+tests/peers/test_one_page.py
+
+# A stream, the same scratched, and thirty screens of each.
+lead_in=300
+cp examples/hello.cue examples/hello.script "$work"
+streams="$work/streams"
+mkdir "$streams" "$work/page"
+(cd "$work" && "$top/bin/ribjasper" author --lead-in $lead_in --length 00:22:00 -- hello.cue hello.script >"$streams/whole")
+bin/ribjasper scratch --lead-in $lead_in --seed 3 <"$streams/whole" >"$streams/scratched"
+printf 'whole\nscratched\n' >"$streams/names"
+time_of() { printf '%02d:%02d:%02d' $(($1 / 4500)) $(($1 / 75 % 60)) $(($1 % 75)); }
+pictures() {
+    blocks=$(($(wc -c <"$streams/$1") / 96 - lead_in))
+    echo $lead_in >"$streams/$1.moments"
+    for k in $(seq 1 30); do
+        at=$((k * blocks / 30 - k % 7))
+        echo $at >>"$streams/$1.moments"
+        bin/ribjasper screen --lead-in $lead_in --at "$(time_of $at)" <"$streams/$1" | tail -c 194400 >>"$streams/$1.screens"
+    done
+}
+if [ ! -f lib/web/ribjasper32.wasm ]; then
+    echo "compare_web: WebKit's engine and the npm package are skipped, there is no lib/web/ribjasper32.wasm"
+else
+    if command -v jsc >/dev/null; then
+        pictures whole
+        pictures scratched
+        jsc -m tests/peers/test_webkit.mjs -- "$top/lib/web/ribjasper32.wasm" "$streams"
+    else
+        echo "compare_web: WebKit's engine is skipped, there is no jsc"
+    fi
+    if command -v npm >/dev/null; then
+        mkdir "$work/npm"
+        package=$(tools/build/make_npm.sh "$work/npm")
+        (cd "$work/npm" && echo '{"private":true}' >package.json &&
+            npm install --silent --offline --no-audit --no-fund --cache "$work/cache" "$package")
+        tail -c +$((96 * lead_in + 1)) "$streams/whole" >"$work/npm/stream"
+        blocks=$(($(wc -c <"$work/npm/stream") / 96))
+        bin/ribjasper screen --lead-in 0 --at "$(time_of $blocks)" <"$work/npm/stream" >"$work/picture"
+        node tests/peers/test_npm.mjs "$work/npm" "$work/picture" "$(command -v esbuild)" "$(command -v chromium)"
+    else
+        echo "compare_web: the npm package is skipped, there is no npm"
+    fi
 fi
-mkdir "$work/module" "$work/page"
-node $flag tests/peers/test_web.mjs "$top/bin/ribjasper" lib/web/ribjasper.wasm "$work/module" "$@"
 
 chromium=$(command -v chromium || command -v chromium-browser || command -v google-chrome || true)
 [ -n "$chromium" ] || { echo "compare_web: the page is skipped, there is no chromium"; exit 0; }

@@ -1,21 +1,27 @@
-// The page of examples/web in Chromium, without a window: files are opened, played and sought in, and what the page then
-// shows has to be the screen of the program.
+// The page of examples/web in Chromium, without a window: files are opened, played and sought, and the page has to show the
+// screens of the program. Each control, the keyboard, touch and what is read aloud are tried too.
 //
 //     node --experimental-websocket tests/peers/test_page.mjs CHROMIUM PROGRAM PAGE FOLDER
 //
 // CHROMIUM and PROGRAM are programs, PAGE is lib/web/index.html, FOLDER an empty folder, in which screenshots are left.
 import assert from "node:assert/strict";
-import { spawn, spawnSync } from "node:child_process";
-import { mkdirSync, readFileSync, writeFileSync } from "node:fs";
-import { dirname, join, resolve } from "node:path";
-import { fileURLToPath, pathToFileURL } from "node:url";
+import { spawnSync } from "node:child_process";
+import { existsSync, mkdirSync, readFileSync, statSync, writeFileSync } from "node:fs";
+import { dirname, join } from "node:path";
+import { fileURLToPath } from "node:url";
 import { deflateRawSync } from "node:zlib";
+
+import { Browser, wait } from "./browser.mjs";
+import { zipOf } from "./zips.mjs";
 
 const TOP = join(dirname(fileURLToPath(import.meta.url)), "..", "..");
 const [CHROMIUM, PROGRAM, PAGE, FOLDER] = process.argv.slice(2);
 const SECTOR = 2448;
+const AUDIO = 2352;
 const BLOCK = 96;
-
+const PACK = 24;
+const LEAST_CONTRAST = 4.5;
+const LEAST_GRAPHICS_CONTRAST = 3;
 
 /** What the program writes. It may say that there is damage, and nothing else. */
 function run(input, ...words) {
@@ -24,107 +30,12 @@ function run(input, ...words) {
     return stdout;
 }
 
-const wait = (milliseconds) => new Promise((done) => { setTimeout(done, milliseconds); });
-
-/** A browser that is driven by its own protocol. */
-class Browser {
-    #socket;
-    #waiting = new Map();
-    #number = 0;
-
-    static async start() {
-        const room = join(FOLDER, "profile");
-        mkdirSync(room);
-        const child = spawn(CHROMIUM, ["--headless", "--no-sandbox", "--disable-gpu", "--mute-audio", "--hide-scrollbars",
-            "--autoplay-policy=no-user-gesture-required", "--remote-debugging-port=0", `--user-data-dir=${room}`,
-            "--window-size=1000,900", "about:blank"], { stdio: ["ignore", "ignore", "pipe"] });
-        const address = await new Promise((done, failed) => {
-            let told = "";
-            child.stderr.on("data", (piece) => {
-                told += piece;
-                const found = /DevTools listening on ws:\/\/([^/]+)\//.exec(told);
-                if (found) {
-                    done(found[1]);
-                }
-            });
-            child.on("exit", () => failed(new Error(told)));
-            setTimeout(() => failed(new Error(`Chromium does not answer: ${told}`)), 60000).unref();
-        });
-        const tabs = await (await fetch(`http://${address}/json/list`)).json();
-        const browser = new Browser();
-        browser.child = child;
-        await browser.#connect(tabs.find((it) => it.type === "page").webSocketDebuggerUrl);
-        return browser;
-    }
-
-    async #connect(address) {
-        this.#socket = new WebSocket(address);
-        await new Promise((done) => { this.#socket.addEventListener("open", done); });
-        this.#socket.addEventListener("message", (event) => {
-            const message = JSON.parse(event.data);
-            const waiting = this.#waiting.get(message.id);
-            this.#waiting.delete(message.id);
-            if (message.error) {
-                waiting?.failed(new Error(message.error.message));
-            } else {
-                waiting?.done(message.result);
-            }
-        });
-    }
-
-    send(method, params = {}) {
-        this.#number += 1;
-        const id = this.#number;
-        this.#socket.send(JSON.stringify({ id, method, params }));
-        return new Promise((done, failed) => { this.#waiting.set(id, { done, failed }); });
-    }
-
-    async value(expression) {
-        const { result, exceptionDetails } = await this.send("Runtime.evaluate",
-            { expression, awaitPromise: true, returnByValue: true });
-        assert.equal(exceptionDetails, undefined, JSON.stringify(exceptionDetails));
-        return result.value;
-    }
-
-    async until(expression) {
-        for (let tries = 0; tries < 600; tries += 1) {
-            if (await this.value(expression)) {
-                return;
-            }
-            await wait(100);
-        }
-        throw new Error(`it does not come: ${expression}; the page says: ${await this.value("document.body.innerText")}`);
-    }
-
-    async visit(page) {
-        await this.send("Page.navigate", { url: pathToFileURL(resolve(page)).href });
-        await this.until("globalThis.page !== undefined");
-    }
-
-    async open(...files) {
-        await this.value("document.getElementById('told').textContent = ''");
-        const { root } = await this.send("DOM.getDocument");
-        const { nodeId } = await this.send("DOM.querySelector", { nodeId: root.nodeId, selector: "#file" });
-        await this.send("DOM.setFileInputFiles", { nodeId, files: files.map((it) => resolve(it)) });
-        await this.until("document.getElementById('told').textContent !== ''");
-        return this.value("document.getElementById('told').textContent");
-    }
-
-    async photograph(name) {
-        const { data } = await this.send("Page.captureScreenshot", { format: "png" });
-        writeFileSync(join(FOLDER, `${name}.png`), Buffer.from(data, "base64"));
-    }
-
-    stop() {
-        this.#socket.close();
-        this.child.kill();
-    }
-}
+const byId = (id) => `document.getElementById("${id}")`;
 
 /** The numbers of red, green and blue that the canvas shows. */
 async function canvas(browser) {
     const encoded = await browser.value(`(() => {
-        const { data } = document.getElementById("screen").getContext("2d").getImageData(0, 0, 300, 216);
+        const { data } = ${byId("screen")}.getContext("2d").getImageData(0, 0, 300, 216);
         let text = "";
         for (let at = 0; at < data.length; at += 4) {
             text += String.fromCharCode(data[at], data[at + 1], data[at + 2]);
@@ -134,48 +45,17 @@ async function canvas(browser) {
     return Buffer.from(encoded, "base64");
 }
 
-async function expect(browser, stream, seconds, what) {
-    await browser.value(`page.jump(${seconds})`);
-    const at = Math.floor(seconds * 75);
+function moment(seconds) {
+    const at = Math.floor(seconds * 75 + 1e-6);
     const two = (n) => String(n).padStart(2, "0");
-    const moment = `${two(Math.floor(at / 4500))}:${two(Math.floor(at / 75) % 60)}:${two(at % 75)}`;
-    const wanted = run(stream, "screen", "--lead-in", "0", "--at", moment).subarray(15);
-    assert.equal(Buffer.compare(await canvas(browser), wanted), 0, `${what} at ${seconds} seconds`);
+    return `${two(Math.floor(at / 4500))}:${two(Math.floor(at / 75) % 60)}:${two(at % 75)}`;
 }
 
-/** A zip of some files: of each second one is packed. */
-function zip(entries) {
-    const [bodies, list] = [[], []];
-    let at = 0;
-    entries.forEach(([name, bytes], k) => {
-        const packed = k % 2 === 0 ? deflateRawSync(bytes) : bytes;
-        const head = (size, mark) => {
-            const header = Buffer.alloc(size);
-            header.writeUInt32LE(mark);
-            return header;
-        };
-        const local = head(30, 0x04034b50);
-        local.writeUInt16LE(k % 2 === 0 ? 8 : 0, 8);
-        local.writeUInt32LE(packed.length, 18);
-        local.writeUInt32LE(bytes.length, 22);
-        local.writeUInt16LE(name.length, 26);
-        const entry = head(46, 0x02014b50);
-        entry.writeUInt16LE(k % 2 === 0 ? 8 : 0, 10);
-        entry.writeUInt32LE(packed.length, 20);
-        entry.writeUInt32LE(bytes.length, 24);
-        entry.writeUInt16LE(name.length, 28);
-        entry.writeUInt32LE(at, 42);
-        bodies.push(local, Buffer.from(name), packed);
-        list.push(entry, Buffer.from(name));
-        at += 30 + name.length + packed.length;
-    });
-    const end = Buffer.alloc(22);
-    end.writeUInt32LE(0x06054b50);
-    end.writeUInt16LE(entries.length, 8);
-    end.writeUInt16LE(entries.length, 10);
-    end.writeUInt32LE(Buffer.concat(list).length, 12);
-    end.writeUInt32LE(at, 16);
-    return Buffer.concat([...bodies, ...list, end]);
+const screenOf = (stream, seconds, leadIn = 0) => run(stream, "screen", "--lead-in", `${leadIn}`, "--at", moment(seconds)).subarray(15);
+
+async function expect(browser, stream, seconds, what, leadIn = 0) {
+    await browser.value(`page.jump(${seconds})`);
+    assert.equal(Buffer.compare(await canvas(browser), screenOf(stream, seconds, leadIn)), 0, `${what} at ${seconds} seconds`);
 }
 
 /** A tone, as a .wav file of 8,000 samples a second. */
@@ -194,75 +74,708 @@ function tone(seconds) {
     return Buffer.concat([header.subarray(0, 44), samples]);
 }
 
+/** An image of the units of a stream, behind audio. */
+function imageOf(subcode) {
+    const sectors = Buffer.alloc((subcode.length / BLOCK) * SECTOR, 0x5a);
+    for (let b = 0; b < subcode.length / BLOCK; b += 1) {
+        subcode.copy(sectors, SECTOR * (b + 1) - BLOCK, BLOCK * b, BLOCK * (b + 1));
+    }
+    return sectors;
+}
+
+function put(all) {
+    for (const [name, bytes] of Object.entries(all)) {
+        writeFileSync(join(FOLDER, name), bytes);
+    }
+}
+
 function files() {
     for (const name of ["hello.cue", "hello.script"]) {
         writeFileSync(join(FOLDER, name), readFileSync(join(TOP, "examples", name)));
     }
-    const whole = run("", "author", "--lead-in", "0", "--length", "00:22:00", "--", "hello.cue", "hello.script");
+    const disc = (leadIn) => run("", "author", "--lead-in", `${leadIn}`, "--length", "00:22:00", "--", "hello.cue", "hello.script");
+    const whole = disc(0);
     const scratched = Buffer.from(run(whole, "scratch", "--lead-in", "0", "--seed", "3"));
     // A scratch too long for any correction.
     scratched.fill(0x2a, BLOCK * 900, BLOCK * 960);
-    const sectors = Buffer.alloc((whole.length / BLOCK) * SECTOR, 0x5a);
-    for (let b = 0; b < whole.length / BLOCK; b += 1) {
-        whole.copy(sectors, SECTOR * (b + 1) - BLOCK, BLOCK * b, BLOCK * (b + 1));
-    }
     const packs = run(whole, "convert", "--lead-in", "0");
-    const all = {
+    put({
         "song.raw": scratched,
         "song.sub": run(whole, "planar"),
-        "song.img": sectors,
+        "song.img": imageOf(whole),
         "song.cdg": packs,
-        "song.zip": zip([["song.cdg", packs], ["song.wav", tone(22)]]),
         "broken.raw": whole.subarray(0, whole.length - 5),
-    };
-    for (const [name, bytes] of Object.entries(all)) {
-        writeFileSync(join(FOLDER, name), bytes);
-    }
-    return { whole, scratched };
+        "first.cdg": packs.subarray(0, PACK * 900),
+        "second.cdg": packs.subarray(PACK * 1200, PACK * 6000),
+    });
+    return { whole, scratched, packs, disc };
 }
 
-async function tryPage(browser) {
-    const { whole, scratched } = files();
-    const version = (await browser.send("Browser.getVersion")).product;
-    await browser.visit(PAGE);
-    await browser.photograph("empty");
-    const place = (name) => join(FOLDER, name);
+// ---- what is shown
 
-    const told = await browser.open(place("song.raw"));
-    const numbers = new Map(run(scratched, "check", "--lead-in", "0").toString().trim().split("\n")
-        .map((line) => line.split(" ")));
+async function tryStreams(browser, { whole, scratched, packs }) {
+    const told = await browser.open("song.raw");
+    const numbers = new Map(run(scratched, "check", "--lead-in", "0").toString().trim().split("\n").map((line) => line.split(" ")));
     for (const word of ["clean", "one", "two", "bad"]) {
         assert.ok(told.includes(`${numbers.get(word)} `), `${word} ${numbers.get(word)}: ${told}`);
     }
-    for (const seconds of [3, 7, 7.14, 14.5, 21.9, 6, 0.5, 18]) {
+    for (const seconds of [3, 7, 7.14, 14.5, 21.9, 6, 0.5, 18, 7.14]) {
         await expect(browser, scratched, seconds, "a scratched stream");
     }
-    await expect(browser, scratched, 7.14, "a scratched stream");
-    await browser.photograph("stream");
     for (const [name, form] of [["song.sub", "planar"], ["song.img", "2,448"]]) {
-        assert.ok((await browser.open(place(name))).includes(form), name);
+        assert.ok((await browser.open(name)).includes(form), name);
         for (const seconds of [7.14, 20, 2]) {
             await expect(browser, whole, seconds, name);
         }
     }
+    put({ "planar.img": imageOf(run(whole, "planar")) });
+    assert.match(await browser.open("planar.img"), /2,448 bytes, their subcode planar/);
+    await expect(browser, whole, 7.14, "an image with planar subcode");
     // Of a stream a pack is shown seven packs after its own: block 751 shows the first 2,997.
-    await browser.open(place("song.cdg"));
+    await browser.open("song.cdg");
     await browser.value("page.jump(2997.5 / 300)");
-    const drawn = run(whole, "screen", "--lead-in", "0", "--at", "00:10:01").subarray(15);
-    assert.equal(Buffer.compare(await canvas(browser), drawn), 0, "a .cdg file");
-    await browser.photograph("packs");
-
-    assert.ok((await browser.open(place("song.zip"))).startsWith("song.cdg"));
-    await browser.value("page.jump(3)");
-    await browser.value("document.getElementById('play').click()");
-    await browser.until("page.now > 4.5");
-    await browser.photograph("zip");
-    await browser.value("document.getElementById('play').click()");
-    assert.ok((await browser.open(place("broken.raw"))).includes("no whole packs, blocks or sectors"));
-    console.log(`test_page: ${version}: streams, images, files and zips are played and sought in as the program shows them`);
+    assert.equal(Buffer.compare(await canvas(browser), screenOf(whole, 751 / 75)), 0, "a .cdg file");
+    // A torn stream is played, and the page says so.
+    assert.match(await browser.open("broken.raw"), /torn: 91 bytes/);
+    await expect(browser, whole, 7.14, "a torn stream");
+    put({ "torn.cdg": packs.subarray(0, packs.length - 1), "noise.bin": Buffer.from(Array.from({ length: 9600 }, (_, k) => (k * k * 31) % 251)),
+        "zeros.raw": Buffer.alloc(9600), "empty.cdg": Buffer.alloc(0) });
+    assert.match(await browser.open("torn.cdg"), /torn: 23 bytes/);
+    assert.match(await browser.open("noise.bin"), /noise\.bin cannot be played: no known form/);
+    assert.match(await browser.open("zeros.raw"), /all its bytes are zeros/);
+    assert.match(await browser.open("empty.cdg"), /no graphics/);
+    return "streams, images and packs are shown as the program shows them";
 }
 
-const browser = await Browser.start();
+async function tryLeadIns(browser, { disc }) {
+    for (const leadIn of [30, 300]) {
+        const stream = disc(leadIn);
+        put({ "hello.raw": stream, "hello.sub": run(stream, "planar"), "hello.img": imageOf(stream) });
+        for (const name of ["hello.raw", "hello.sub", "hello.img"]) {
+            const told = await browser.open(name);
+            assert.match(told, new RegExp(`lead-in: ${leadIn} blocks, by Q`), name);
+            assert.match(told, /, 0 bad; Q frames/, name);
+            for (const seconds of [0, 7.14, 20]) {
+                await expect(browser, stream, seconds, `${name} behind ${leadIn} blocks`, leadIn);
+            }
+        }
+    }
+    // The lead-in can be set, and the page then reads the stream as the program does.
+    await browser.open("hello.raw");
+    assert.equal(await browser.value(`${byId("lead-in")}.value`), "300");
+    const set = async (leadIn) => {
+        await browser.value(`${byId("told")}.textContent = ""; ${byId("lead-in")}.value = "${leadIn}";
+            ${byId("lead-in")}.dispatchEvent(new Event("change"))`);
+        await browser.until(`${byId("told")}.textContent !== ""`);
+        return browser.value(`${byId("told")}.textContent`);
+    };
+    const stream = readFileSync(join(FOLDER, "hello.raw"));
+    const bad = /^bad (\d+)$/m.exec(run(stream, "check", "--lead-in", "0").toString())[1];
+    assert.ok(Number(bad) > 0);
+    assert.match(await set(0), new RegExp(`, ${bad} bad; .*lead-in: 0 blocks, as you set it`));
+    await expect(browser, stream, 5, "a stream whose lead-in is played", 0);
+    assert.match(await set(-1), /whole number/);
+    assert.match(await set(1.5), /whole number/);
+    assert.match(await set(300), /, 0 bad; /);
+    await expect(browser, stream, 5, "a stream whose lead-in is set again", 300);
+    return "lead-ins are found by Q, and can be set";
+}
+
+async function tryStreamsWithoutQ(browser, { whole }) {
+    const silent = whole.map((byte) => byte & 0x3f);
+    put({ "silent.sub": run(silent, "planar"), "silent.raw": silent });
+    for (const [name, form] of [["silent.sub", "planar"], ["silent.raw", "raw subcode"]]) {
+        const told = await browser.open(name);
+        assert.ok(told.includes(form), told);
+        assert.match(told, /lead-in: unknown/);
+        await expect(browser, whole, 7.14, name);
+    }
+    return "a stream without Q is told by its words, planar or raw";
+}
+
+// ---- sound and time
+
+async function trySound(browser, { packs }) {
+    put({ "short.cdg": packs.subarray(0, PACK * 900), "short.wav": tone(20), "long.cdg": packs.subarray(0, PACK * 6000), "long.wav": tone(2) });
+    const state = (expression) => browser.value(expression);
+    // Sound of twenty seconds over graphics of three: the last picture stands until the sound ends.
+    await browser.open("short.cdg", "short.wav");
+    await browser.until("page.seconds === 20");
+    assert.equal(await state(`${byId("time")}.textContent`), "00:00 / 00:20");
+    await browser.value("page.jump(2.8)");
+    await browser.click("play");
+    await browser.until("page.now > 3.6");
+    assert.deepEqual(await state(`[page.isPlaying, ${byId("play")}.textContent]`), [true, "Pause"]);
+    const last = await canvas(browser);
+    await browser.value("page.jump(19)");
+    await browser.until("!page.isPlaying");
+    assert.equal(await state(`${byId("play")}.textContent`), "Play");
+    assert.ok(Math.abs(await state("page.now") - 20) < 0.2);
+    assert.equal(Buffer.compare(await canvas(browser), last), 0, "the last picture stands");
+    // At the end, playing starts anew.
+    await browser.click("play");
+    await browser.until("page.isPlaying && page.now > 0.1 && page.now < 15");
+    await browser.click("play");
+    // Sound of two seconds over graphics of twenty: the graphics go on by the clock.
+    await browser.open("long.cdg", "long.wav");
+    await browser.until("page.seconds === 20 && document.querySelector('audio').duration === 2");
+    await browser.value("page.jump(1.2)");
+    await browser.click("play");
+    await browser.until("page.now > 2.5");
+    const both = "[page.now, performance.now() / 1000]";
+    const before = await state(both);
+    await wait(1000);
+    const passed = (await state(both)).map((it, k) => it - before[k]);
+    assert.ok(Math.abs(passed[0] - passed[1]) < 0.1, `${passed[0]} seconds pass in ${passed[1]}`);
+    await browser.value("page.jump(19)");
+    await browser.until("!page.isPlaying");
+    assert.deepEqual(await state(`[${byId("play")}.textContent, page.now]`), ["Play", 20]);
+    // Back into the sound, and behind its end.
+    await browser.value("page.jump(1)");
+    await browser.click("play");
+    await browser.until("page.now > 1.2");
+    await browser.value("page.jump(0.5)");
+    assert.equal(await browser.value("document.querySelector('audio').paused"), false);
+    await browser.value("page.jump(8)");
+    await browser.until("page.now > 8.1 && document.querySelector('audio').paused");
+    await browser.click("play");
+    // A sound that cannot be played is said to be so, and the graphics play without it.
+    put({ "long.wav": Buffer.alloc(5000, 7) });
+    await browser.open("long.cdg", "long.wav");
+    await browser.until(`${byId("told")}.textContent.includes("cannot play the sound")`);
+    await browser.click("play");
+    await browser.until("page.now > 0.2");
+    await browser.click("play");
+    return "sound may be longer than the graphics, shorter, or broken";
+}
+
+async function tryControls(browser) {
+    put({ "song.wav": tone(22) });
+    await browser.open("song.cdg", "song.wav");
+    await browser.until("document.querySelector('audio').duration === 22");
+    const choose = (id, value, event) => browser.value(`${byId(id)}.value = "${value}"; ${byId(id)}.dispatchEvent(new Event("${event}"))`);
+    await choose("volume", 35, "input");
+    assert.equal(await browser.value("document.querySelector('audio').volume"), 0.35);
+    assert.equal(await browser.value(`${byId("volume")}.getAttribute("aria-valuetext")`), "35 percent");
+    await choose("speed", "2", "change");
+    assert.equal(await browser.value("document.querySelector('audio').playbackRate"), 2);
+    await browser.click("play");
+    await browser.until("page.now > 0.3");
+    const rate = async () => {
+        const [before, from] = await browser.value("[page.now, performance.now()]");
+        await wait(1500);
+        const [after, to] = await browser.value("[page.now, performance.now()]");
+        return (1000 * (after - before)) / (to - from);
+    };
+    // On a busy machine sound stops now and then.
+    const found = await rate();
+    assert.ok(found > 1.4 && found < 2.4, `at speed 2 the sound plays at ${found}`);
+    // The next file keeps speed and volume, without a sound too.
+    await browser.open("song.cdg");
+    await browser.until("page.isPlaying && page.now > 0.1");
+    assert.ok(Math.abs(await rate() - 2) < 0.2);
+    await choose("speed", "1", "change");
+    await choose("volume", 100, "input");
+    await browser.click("play");
+    // Full screen, by a click.
+    await browser.click("full");
+    await browser.until("document.fullscreenElement?.id === 'player'");
+    assert.equal(await browser.value(`${byId("full")}.textContent`), "Leave full screen");
+    await browser.photograph("full");
+    // While it plays, the controls hide, and any movement brings them back.
+    const isSeen = (id) => browser.value(`${byId(id)}.checkVisibility()`);
+    await browser.click("play");
+    await browser.until(`!${byId("play")}.checkVisibility()`);
+    assert.deepEqual([await isSeen("screen"), await isSeen("line")], [true, false]);
+    await browser.photograph("idle");
+    await browser.send("Input.dispatchMouseEvent", { type: "mouseMoved", x: 300, y: 300 });
+    await browser.until(`${byId("play")}.checkVisibility()`);
+    await browser.until(`!${byId("play")}.checkVisibility()`);
+    await browser.press("Tab");
+    assert.ok(await browser.value(`${byId("play")}.checkVisibility() && ${byId("player")}.contains(document.activeElement)`), "so does a key");
+    await browser.click("play");
+    await browser.click("full");
+    await browser.until("document.fullscreenElement === null");
+    assert.equal(await browser.value(`${byId("full")}.textContent`), "Full screen");
+    return "volume, speed and full screen work";
+}
+
+async function tryTransparency(browser, { whole }) {
+    await browser.open("song.raw");
+    await browser.value("page.jump(7.14)");
+    const opacity = () => browser.value(`(() => {
+        const { data } = ${byId("screen")}.getContext("2d").getImageData(0, 0, 300, 216);
+        return Array.from(data).filter((_, k) => k % 4 === 3);
+    })()`);
+    assert.ok((await opacity()).every((it) => it === 255));
+    await browser.value(`${byId("background")}.value = "border"; ${byId("background")}.dispatchEvent(new Event("change"))`);
+    // The border is the frame of 6 columns and 12 rows; pixels of its colour are clear, and no others.
+    const scratched = readFileSync(join(FOLDER, "song.raw"));
+    const picture = screenOf(scratched, 7.14);
+    const colour = (k) => picture.readUIntBE(3 * k, 3);
+    const found = await opacity();
+    assert.ok(found.filter((it) => it === 255).length > 1000);
+    found.forEach((it, k) => {
+        assert.ok(it === 255 || it === 0);
+        assert.ok(it === 0 ? colour(k) === colour(0) : true, `pixel ${k}`);
+    });
+    assert.equal(found[0], 0);
+    await browser.photograph("clear");
+    await browser.value(`${byId("background")}.value = "levels"; ${byId("background")}.dispatchEvent(new Event("change"))`);
+    // A pack that sets levels: colour k becomes 4 k.
+    const levels = Buffer.alloc(PACK);
+    levels.set([9, 28]);
+    levels.set(Array.from({ length: 16 }, (_, k) => 4 * k), 4);
+    put({ "levels.cdg": Buffer.concat([readFileSync(join(FOLDER, "song.cdg")).subarray(0, PACK * 2100), levels]) });
+    await browser.open("levels.cdg");
+    await browser.value("page.jump(8)");
+    const seen = new Set(await opacity());
+    const allowed = new Set(Array.from({ length: 16 }, (_, k) => 255 - (16 * k + Math.floor((4 * k) / 16))));
+    assert.ok(seen.size > 1 && [...seen].every((it) => allowed.has(it)), [...seen].join(" "));
+    await browser.value(`${byId("background")}.value = "opaque"; ${byId("background")}.dispatchEvent(new Event("change"))`);
+    assert.ok((await opacity()).every((it) => it === 255));
+    await expect(browser, whole, 0, "an empty screen");
+    return "backgrounds are clear by the border's colour or by the levels of the disc";
+}
+
+// ---- keys, touch and what is read aloud
+
+async function tryKeys(browser) {
+    await browser.open("song.cdg");
+    await browser.send("Page.setInterceptFileChooserDialog", { enabled: true });
+    await browser.value("document.activeElement.blur(); scrollTo(0, 0)");
+    // Each control is reached by the key Tab, and Enter on the button opens the dialog for files.
+    const reached = [];
+    for (let k = 0; k < 40 && !(reached.length > 15 && reached.at(-1) === "open"); k += 1) {
+        await browser.press("Tab");
+        reached.push(await browser.value("document.activeElement.id"));
+    }
+    assert.deepEqual(["line", "play", "speed", "background", "full", "open"].filter((it) => !reached.includes(it)), []);
+    assert.equal(reached.at(-1), "open");
+    await browser.press("Enter", "Enter", "\r");
+    const { mode } = await browser.event("Page.fileChooserOpened");
+    assert.equal(mode, "selectMultiple");
+    await browser.send("Page.setInterceptFileChooserDialog", { enabled: false });
+    await browser.open("song.cdg");
+    await browser.value(`${byId("line")}.focus()`);
+    const shows = async (key, seconds, text) => {
+        await browser.press(key);
+        assert.equal(Math.floor(await browser.value("page.now") + 1e-6), seconds, key);
+        assert.equal(await browser.value(`${byId("line")}.getAttribute("aria-valuetext")`), `${text} of 23 seconds`);
+        assert.equal(await browser.value(`${byId("line")}.getAttribute("aria-valuenow")`), String(seconds));
+    };
+    await shows("ArrowRight", 5, "5 seconds");
+    await shows("ArrowRight", 10, "10 seconds");
+    await shows("ArrowLeft", 5, "5 seconds");
+    await shows("PageUp", 23, "23 seconds");
+    await shows("End", 23, "23 seconds");
+    await shows("Home", 0, "0 seconds");
+    await browser.value("document.activeElement.blur()");
+    await browser.press(" ", "Space", " ");
+    await browser.until("page.isPlaying");
+    await browser.press(" ", "Space", " ");
+    await browser.until("!page.isPlaying");
+    // A key that a control needs is left to it.
+    await browser.value(`${byId("speed")}.focus(); page.jump(0)`);
+    await browser.press("ArrowRight");
+    assert.equal(await browser.value("page.now"), 0);
+    await browser.value(`${byId("speed")}.value = "1"; ${byId("speed")}.dispatchEvent(new Event("change")); document.activeElement.blur()`);
+    return "the keyboard opens files, moves the position, and plays";
+}
+
+async function tryPointers(browser) {
+    await browser.open("song.cdg");
+    const length = await browser.value("page.seconds");
+    await browser.click("line", 0.5);
+    assert.ok(Math.abs(await browser.value("page.now") - length / 2) < 0.2);
+    await browser.send("Emulation.setTouchEmulationEnabled", { enabled: true });
+    const touch = async (type, share) => {
+        const { x, y } = await browser.place("line", share);
+        await browser.send("Input.dispatchTouchEvent", { type, touchPoints: type === "touchEnd" ? [] : [{ x, y }] });
+    };
+    await touch("touchStart", 0.1);
+    for (let step = 1; step <= 8; step += 1) {
+        await touch("touchMove", 0.1 + step / 10);
+        await wait(30);
+    }
+    await browser.until(`Math.abs(page.now - ${0.9 * length}) < 0.3`);
+    await touch("touchMove", 0.25);
+    await wait(30);
+    await touch("touchEnd", 0.25);
+    await browser.until(`Math.abs(page.now - ${0.25 * length}) < 0.3`);
+    await browser.send("Emulation.setTouchEmulationEnabled", { enabled: false });
+    return "mouse and touch drag the position";
+}
+
+/** Names and roles as a screen reader gets them. */
+async function tryNames(browser) {
+    await browser.open("song.raw");
+    await browser.value("page.jump(7)");
+    const { nodes } = await browser.send("Accessibility.getFullAXTree");
+    const found = nodes.filter((it) => !it.ignored).map((it) => ({
+        role: it.role?.value, name: it.name?.value ?? "", value: it.value?.value,
+    }));
+    const named = (role, name) => found.find((it) => it.role === role && it.name === name);
+    assert.equal(named("slider", "Position")?.value, 7);
+    assert.equal(await browser.value(`${byId("line")}.getAttribute("aria-valuetext")`), "7 seconds of 24 seconds");
+    assert.ok(named("slider", "Volume") && named("combobox", "Speed") && named("combobox", "Background"));
+    assert.ok(named("spinbutton", "Lead-in blocks"));
+    assert.ok(found.some((it) => ["image", "img"].includes(it.role) && it.name === "CD+G screen of song.raw"));
+    for (const name of ["Play", "Open files", "Save as .cdg", "Full screen"]) {
+        assert.ok(named("button", name), name);
+    }
+    assert.ok(found.some((it) => it.role === "status"));
+    const nameless = found.filter((it) => ["button", "slider", "combobox", "spinbutton", "image", "img", "link"].includes(it.role) && it.name === "");
+    assert.deepEqual(nameless, []);
+    return "each control, the position and the screen have a role, a name and a value";
+}
+
+// In the page: each visible text with its colour and the colour behind it, and the edges of controls.
+const COLOURS_OF_PAGE = `(() => {
+    const number = (text) => {
+        const parts = text.match(/[\\d.]+/g).map(Number);
+        return { rgb: parts.slice(0, 3), alpha: parts[3] ?? 1 };
+    };
+    const behind = (element) => {
+        for (let it = element; it !== null; it = it.parentElement) {
+            const { rgb, alpha } = number(getComputedStyle(it).backgroundColor);
+            if (alpha === 1) {
+                return rgb;
+            }
+        }
+        return [255, 255, 255];
+    };
+    const isSeen = (it) => it.checkVisibility() && it.getBoundingClientRect().width > 0;
+    const texts = [...document.querySelectorAll("body *")].filter((it) => isSeen(it) && !it.matches(":disabled, :disabled *, option") &&
+        ([...it.childNodes].some((one) => one.nodeType === 3 && one.data.trim() !== "") || it.matches("input, select")));
+    return [
+        ...texts.map((it) => ({ what: it.id || it.tagName + " " + it.textContent.trim().slice(0, 30), least: ${LEAST_CONTRAST},
+            one: number(getComputedStyle(it).color).rgb, other: it.closest("#hint") ? [0, 0, 0] : behind(it) })),
+        ...[...document.querySelectorAll("button, select, input[type=number], #line, #stage")].filter((it) => isSeen(it) && !it.closest("#list"))
+            .map((it) => ({ what: "the edge of " + it.id, least: ${LEAST_GRAPHICS_CONTRAST}, one: number(getComputedStyle(it).borderTopColor).rgb,
+                other: behind(it.parentElement) })),
+        ...["drawn", "corrected", "bad", "now"].map((name) => {
+            const swatch = document.createElement("p");
+            document.body.append(swatch);
+            swatch.style.color = "var(--" + name + ")";
+            swatch.style.backgroundColor = "var(--line)";
+            const { color, backgroundColor } = getComputedStyle(swatch);
+            swatch.remove();
+            return { what: "the colour of " + name, least: ${LEAST_GRAPHICS_CONTRAST}, one: number(color).rgb, other: number(backgroundColor).rgb };
+        }),
+        ...["focus"].map((name) => {
+            const swatch = document.createElement("p");
+            document.body.append(swatch);
+            swatch.style.color = "var(--" + name + ")";
+            const { color } = getComputedStyle(swatch);
+            swatch.remove();
+            return { what: "the mark of the focus", least: ${LEAST_GRAPHICS_CONTRAST}, one: number(color).rgb, other: behind(document.body) };
+        }),
+    ];
+})()`;
+
+/** The contrast of two colours, by the definition of WCAG 2. */
+function contrast(one, other) {
+    const light = (rgb) => {
+        const [red, green, blue] = rgb.map((it) => it / 255).map((it) => (it <= 0.04045 ? it / 12.92 : ((it + 0.055) / 1.055) ** 2.4));
+        return 0.2126 * red + 0.7152 * green + 0.0722 * blue;
+    };
+    const [high, low] = [light(one), light(other)].sort((a, b) => b - a);
+    return (high + 0.05) / (low + 0.05);
+}
+
+async function tryLooks(browser) {
+    const least = { text: 21, edges: 21 };
+    for (const [width, height] of [[1280, 1000], [400, 860], [320, 700]]) {
+        for (const scheme of ["dark", "light"]) {
+            await browser.look(width, height, scheme);
+            await browser.visit(PAGE);
+            await browser.photograph(`empty-${width}-${scheme}`);
+            await check(browser, least, width, scheme);
+            await browser.open("song.raw", "second.cdg", "first.cdg");
+            await browser.value("page.jump(7.14)");
+            await wait(100);
+            await browser.photograph(`page-${width}-${scheme}`);
+            await check(browser, least, width, scheme);
+            await browser.open("noise.bin");
+            await check(browser, least, width, scheme);
+        }
+    }
+    await browser.look(1000, 880, "dark");
+    await browser.visit(PAGE);
+    await browser.open("song.raw");
+    await browser.value("page.jump(7.14)");
+    await wait(100);
+    await browser.photograph("page");
+    await browser.look(1280, 1000, "dark");
+    await browser.visit(PAGE);
+    return `contrast is at least ${least.text.toFixed(1)} for texts and ${least.edges.toFixed(1)} for edges, light and dark, at 320 to 1280 pixels`;
+}
+
+async function check(browser, least, width, scheme) {
+    for (const { what, one, other, least: wanted } of await browser.value(COLOURS_OF_PAGE)) {
+        const found = contrast(one, other);
+        assert.ok(found >= wanted, `${what}, ${scheme}: ${found.toFixed(2)} of ${one} on ${other}`);
+        const kind = wanted === LEAST_CONTRAST ? "text" : "edges";
+        least[kind] = Math.min(least[kind], found);
+    }
+    const [wide, seen] = await browser.value("[document.documentElement.scrollWidth, innerWidth]");
+    assert.ok(wide <= seen, `at ${width} pixels the page is ${wide} wide`);
+    // A finger needs 24 pixels.
+    const small = await browser.value(`[...document.querySelectorAll("button, select, input:not([type=file]), #line")]
+        .filter((it) => it.checkVisibility()).map((it) => [it.id, it.getBoundingClientRect()])
+        .filter(([, box]) => box.width < 24 || box.height < 24).map(([id]) => id)`);
+    assert.deepEqual(small, []);
+}
+
+// ---- files that come together
+
+async function tryZips(browser, { packs }) {
+    const [one, other] = [packs.subarray(0, PACK * 600), packs.subarray(0, PACK * 1200)];
+    const wav = (seconds) => tone(seconds);
+    const open = async (name, entries, options) => {
+        put({ [name]: zipOf(entries, options) });
+        return browser.open(name);
+    };
+    const song = { name: "song.cdg", bytes: packs };
+    assert.match(await open("plain.zip", [song, { name: "song.wav", bytes: wav(22), stored: true }]), /^song\.cdg: .*sound: song\.wav/);
+    await browser.until("page.seconds > 22");
+    await browser.value("page.jump(3)");
+    await browser.click("play");
+    await browser.until("page.now > 4.5");
+    await browser.click("play");
+    for (const [name, options] of [["wide", { wide: true }], ["front", { front: Buffer.from("MZ and more") }], ["both", { wide: true, front: Buffer.alloc(99) }]]) {
+        assert.match(await open(`${name}.zip`, [song], options), /^song\.cdg: a \.cdg file/, name);
+    }
+    // A pair is one by its name, whatever stands between.
+    const pairs = [{ name: "B.wav", bytes: wav(7) }, { name: "A.cdg", bytes: one }, { name: "A.wav", bytes: wav(5) }, { name: "B.cdg", bytes: other }];
+    assert.match(await open("pairs.zip", pairs), /^A\.cdg: .*sound: A\.wav/);
+    await browser.until("page.seconds === 5");
+    await browser.value("document.querySelectorAll('#list button')[1].click()");
+    await browser.until("page.seconds === 7");
+    assert.match(await browser.value(`${byId("told")}.textContent`), /^B\.cdg: .*sound: B\.wav/);
+    assert.equal(await browser.value("document.querySelector('#list [aria-current]').textContent"), "pairs.zip/B.cdg with B.wav");
+    // What macOS adds is no song.
+    const mac = [{ name: "__MACOSX/._x.cdg", bytes: Buffer.alloc(300, 5) }, { name: "x.cdg", bytes: one }];
+    assert.match(await open("mac.zip", mac), /^x\.cdg: /);
+    assert.equal(await browser.value(`${byId("files")}.hidden`), true);
+    // One file that cannot be read does not keep the others out.
+    const mixed = [{ name: "a.cdg", bytes: one, method: 14 }, { name: "b.cdg", bytes: one, flags: 1 }, { name: "c.cdg", bytes: other }];
+    assert.match(await open("mixed.zip", mixed), /^c\.cdg: /);
+    assert.deepEqual(await browser.value("[...document.querySelectorAll('#list li')].map((it) => it.textContent)"),
+        ["mixed.zip/a.cdg: is compressed by LZMA, which this page does not read", "mixed.zip/b.cdg: is encrypted", "mixed.zip/c.cdg"]);
+    for (const [why, entry] of [[/checksum \(CRC\) is wrong/, { crc: 1 }], [/is encrypted/, { flags: 1 }], [/compressed by method 50/, { method: 50 }],
+        [/damaged: it cannot be unpacked/, { packed: Buffer.alloc(500, 0xff) }], [/longer than the directory/, { size: 5 }]]) {
+        assert.match(await open("wrong.zip", [{ ...song, ...entry }]), why);
+    }
+    put({ "cut.zip": zipOf([song]).subarray(0, 400) });
+    assert.match(await browser.open("cut.zip"), /no directory/);
+    // A sound that is broken leaves the graphics.
+    assert.match(await open("sound.zip", [song, { name: "song.mp3", bytes: wav(1), crc: 3 }]), /^song\.cdg: .*no sound: song\.mp3 is damaged/);
+    return "zips are read, pairs are made by names, and what is wrong is named";
+}
+
+async function tryBombs(browser) {
+    const packed = deflateRawSync(Buffer.alloc(2 ** 28));
+    const heap = async () => (await browser.send("Runtime.getHeapUsage"));
+    const before = await heap();
+    const from = Date.now();
+    put({ "bomb.zip": zipOf([{ name: "x.cdg", bytes: Buffer.alloc(0), packed, size: 2 ** 30 }]),
+        "lying.zip": zipOf([{ name: "x.cdg", bytes: Buffer.alloc(0), packed, size: 24_000 }]) });
+    assert.match(await browser.open("bomb.zip"), /x\.cdg would unpack to 1024 MB, more than 512/);
+    assert.match(await browser.open("lying.zip"), /x\.cdg is longer than the directory of the zip says/);
+    const grown = (await heap()).backingStorageSize - before.backingStorageSize;
+    assert.ok(!(grown > 2 ** 26), `${grown} bytes more`);
+    assert.ok(Date.now() - from < 120_000);
+    return "bombs are refused";
+}
+
+async function tryOpus(browser) {
+    if (spawnSync("ffmpeg", ["-version"]).status !== 0) {
+        return "opus is skipped, there is no ffmpeg";
+    }
+    for (const [ending, codec] of [["opus", "libopus"], ["mp3", "libmp3lame"], ["flac", "flac"]]) {
+        const made = spawnSync("ffmpeg", ["-v", "error", "-y", "-f", "lavfi", "-i", "sine=frequency=440:duration=30", "-c:a", codec,
+            join(FOLDER, `song.${ending}`)]);
+        assert.equal(made.status, 0, String(made.stderr));
+        const bytes = readFileSync(join(FOLDER, `song.${ending}`));
+        put({ "sounds.zip": zipOf([{ name: `song.${ending}`, bytes }, { name: "song.cdg", bytes: readFileSync(join(FOLDER, "song.cdg")) }]) });
+        assert.match(await browser.open("sounds.zip"), new RegExp(`sound: song\\.${ending}`));
+        await browser.until("Math.abs(page.seconds - 30) < 0.2");
+        await browser.click("play");
+        await browser.until("page.now > 0.3");
+        await browser.click("play");
+    }
+    return "zips with opus, mp3 and flac are played";
+}
+
+/** Images whose sound stands in sectors: CloneCD's three files, a .bin with its sheet, and sectors of 2,448 bytes. */
+async function tryImages(browser, { disc, whole }) {
+    const stream = disc(75);
+    const blocks = stream.length / BLOCK;
+    // A tone in each second one, so that the sound can be told from silence.
+    const audio = Buffer.alloc(AUDIO * blocks);
+    for (let at = 0; at < audio.length; at += 4) {
+        audio.writeInt16LE(Math.round(8000 * Math.sin(at / 100)), at);
+    }
+    put({ "disc.sub": run(stream, "planar"), "disc.img": audio, "disc.ccd": "[CloneCD]\r\nVersion=3\r\n[Entry 0]\r\nPoint=0x01\r\nControl=0x00\r\n" });
+    for (const order of [["disc.ccd", "disc.img", "disc.sub"], ["disc.sub", "disc.ccd", "disc.img"]]) {
+        const told = await browser.open(...order);
+        assert.match(told, /^disc\.sub: subcode in the planar form.*lead-in: 75 blocks, by Q; sound: that of disc\.img/);
+        await browser.until(`Math.abs(document.querySelector("audio").duration - ${blocks / 75}) < 0.01`);
+        await expect(browser, stream, 7.14, "CloneCD's files", 75);
+        // The sound begins with the lead-in, a second before the picture's time.
+        assert.ok(Math.abs(await browser.value("document.querySelector('audio').currentTime - page.now") - 1) < 0.05);
+    }
+    put({ "data.sub": run(stream, "planar"), "data.img": audio, "data.ccd": "[Entry 0]\r\nPoint=0x01\r\nControl=0x04\r\n" });
+    assert.match(await browser.open("data.sub", "data.img", "data.ccd"), /data\.img has data tracks, and its sound is not played/);
+    put({ "image.bin": imageOf(whole), "image.cue": 'FILE "image.bin" BINARY\n  TRACK 01 CDG\n    INDEX 01 00:00:00\n' });
+    assert.match(await browser.open("image.cue", "image.bin"), /^image\.bin: an image with sectors of 2,448 bytes.*sound: that of image\.bin/);
+    await browser.until(`Math.abs(document.querySelector("audio").duration - ${whole.length / BLOCK / 75}) < 0.01`);
+    await expect(browser, whole, 7.14, "a .bin with its sheet");
+    put({ "plain.bin": audio, "plain.cue": 'FILE "plain.bin" BINARY\n  TRACK 01 AUDIO\n    INDEX 01 00:00:00\n' });
+    assert.match(await browser.open("plain.cue", "plain.bin"), /plain\.bin cannot be played/);
+    return "images play with their own sound";
+}
+
+// ---- opening again and again
+
+async function tryOpening(browser, { packs }) {
+    // A file that is opened during playback plays from its beginning.
+    await browser.open("song.raw");
+    await browser.value("page.jump(3)");
+    await browser.click("play");
+    await browser.until("page.now > 3.2");
+    await browser.open("second.cdg");
+    assert.ok(await browser.value("page.isPlaying && page.now < 14"));
+    await browser.until("page.now > 0.5");
+    assert.equal(await browser.value(`${byId("play")}.textContent`), "Pause");
+    await browser.click("play");
+    await browser.value("page.jump(1)");
+    const shown = await canvas(browser);
+    const drawn = screenOfPacks(packs.subarray(PACK * 1200, PACK * 1500));
+    assert.equal(Buffer.compare(shown, drawn), 0, "a file that was opened during playback");
+    // The same file can be chosen twice.
+    for (let k = 0; k < 2; k += 1) {
+        assert.match(await browser.open("second.cdg"), /^second\.cdg/);
+        assert.equal(await browser.value(`${byId("file")}.value`), "");
+    }
+    // Of two files that are opened at once the later one stays.
+    await browser.value(`(() => {
+        const file = (name, size) => ({ path: name, file: new File([new Uint8Array(size)], name) });
+        page.open([file("one.cdg", 24000000)]);
+        page.open([file("two.cdg", 2400)]);
+    })()`);
+    await browser.until(`${byId("told")}.textContent.startsWith("two.cdg")`);
+    await wait(500);
+    assert.ok(await browser.value(`${byId("told")}.textContent.startsWith("two.cdg")`));
+    // Files that are dropped together are listed, those of folders too.
+    await browser.value(`(() => {
+        const transfer = new DataTransfer();
+        for (const name of ["x.cdg", "y.cdg", "z.txt"]) {
+            transfer.items.add(new File([new Uint8Array(2400)], name));
+        }
+        dispatchEvent(new DragEvent("drop", { dataTransfer: transfer, cancelable: true }));
+    })()`);
+    await browser.until(`${byId("told")}.textContent.startsWith("x.cdg")`);
+    assert.deepEqual(await browser.value("[...document.querySelectorAll('#list button')].map((it) => it.textContent)"), ["x.cdg", "y.cdg"]);
+    return "files are opened during playback, twice, at once and together";
+}
+
+/** The screen of packs, by way of a stream of packs, four a block. */
+function screenOfPacks(packs) {
+    return run(packs, "screen", "--lead-in", "0", "--form", "cooked", "--at", moment(packs.length / BLOCK / 75)).subarray(15);
+}
+
+/** Dumps of 40 MB: memory stays, and the page goes on while it saves one. */
+async function tryBigDumps(browser, { whole }) {
+    const big = Buffer.concat(Array.from({ length: Math.ceil(41_000_000 / whole.length) }, () => whole));
+    put({ "big.raw": big });
+    const sizes = [];
+    const begun = Date.now();
+    await watch(browser);
+    await browser.open("big.raw");
+    const opening = await browser.value("stopWatching()");
+    assert.ok(opening < Math.max(400, (Date.now() - begun) / 2), `while it opens a file the page stands still for ${opening} ms`);
+    for (let k = 0; k < 5; k += 1) {
+        assert.match(await browser.open("big.raw"), /^big\.raw: raw subcode/);
+        await browser.value("page.jump(5000)");
+        sizes.push(await browser.value("page.ribjasper.memoryBytes"));
+    }
+    // Rooms are split and joined anew at first.
+    assert.ok(sizes.at(-1) === sizes.at(-2) && sizes.at(-1) - sizes[0] < 1_000_000, `the memory of the module: ${sizes}`);
+    mkdirSync(join(FOLDER, "saved"));
+    await browser.send("Browser.setDownloadBehavior", { behavior: "allow", downloadPath: join(FOLDER, "saved"), eventsEnabled: true });
+    await watch(browser);
+    await browser.value(`${byId("save")}.click()`);
+    const from = Date.now();
+    await browser.until(`${byId("told")}.textContent.includes("is saved")`, 120);
+    const seconds = (Date.now() - from) / 1000;
+    const shares = await browser.value("shares.size");
+    const gap = await browser.value("stopWatching()");
+    assert.ok(shares > 5, `${shares} shares of the progress are shown`);
+    assert.ok(gap < Math.max(400, 1000 * seconds / 2), `while it saves a file the page stands still for ${gap} ms`);
+    const place = join(FOLDER, "saved", "big.cdg");
+    const wanted = run(big, "convert", "--lead-in", "0");
+    for (let tries = 0; tries < 200 && !(existsSync(place) && statSync(place).size === wanted.length); tries += 1) {
+        await wait(50);
+    }
+    assert.equal(Buffer.compare(readFileSync(place), wanted), 0, "what is saved");
+    // Saving can be cancelled.
+    await browser.value(`${byId("save")}.click()`);
+    assert.equal(await browser.value(`${byId("save")}.textContent`), "Cancel saving");
+    await browser.value(`${byId("save")}.click()`);
+    await browser.until(`${byId("told")}.textContent.includes("big.cdg is not saved")`);
+    assert.equal(await browser.value(`${byId("save")}.textContent`), "Save as .cdg");
+    await browser.open("first.cdg");
+    return `dumps of ${Math.round(big.length / 1e6)} MB leave ${(sizes.at(-1) / 1e6).toFixed(1)} MB of memory; one is saved in ${seconds.toFixed(1)} s; ` +
+        `the page stands still for at most ${Math.round(opening)} ms while it opens one and ${Math.round(gap)} ms while it saves it`;
+}
+
+/** From here on the longest time between two pictures of the page is kept, and which shares its progress shows. */
+function watch(browser) {
+    return browser.value(`(() => {
+        globalThis.shares = new Set();
+        let [last, longest, goesOn] = [performance.now(), 0, true];
+        const look = () => {
+            const now = performance.now();
+            longest = Math.max(longest, now - last);
+            last = now;
+            shares.add(${byId("share")}.value);
+            if (goesOn) {
+                requestAnimationFrame(look);
+            }
+        };
+        globalThis.stopWatching = () => {
+            goesOn = false;
+            return longest;
+        };
+        requestAnimationFrame(look);
+    })()`);
+}
+
+/** The page asks nobody for anything but itself and what it made. */
+function expectNoRequests(browser) {
+    const asked = browser.events.filter((it) => it.method === "Network.requestWillBeSent").map((it) => it.params.request.url);
+    assert.deepEqual(asked.filter((it) => !/^(file|blob|data):/.test(it)), []);
+    const failed = browser.events.filter((it) => it.method === "Runtime.exceptionThrown").map((it) => it.params.exceptionDetails);
+    assert.deepEqual(failed, []);
+    return "nothing is fetched, and no error is thrown";
+}
+
+async function tryPage(browser) {
+    const made = files();
+    const version = (await browser.send("Browser.getVersion")).product;
+    await browser.visit(PAGE);
+    const tests = [tryStreams, tryLeadIns, tryStreamsWithoutQ, trySound, tryControls, tryTransparency, tryKeys, tryPointers, tryNames,
+        tryLooks, tryZips, tryBombs, tryOpus, tryImages, tryOpening, tryBigDumps, expectNoRequests];
+    const only = process.env.ONLY?.split(",");
+    for (const test of tests.filter((it) => only === undefined || only.includes(it.name))) {
+        console.log(`test_page: ${version}: ${await test(browser, made)}`);
+    }
+}
+
+const browser = await Browser.start(CHROMIUM, FOLDER);
 try {
     await tryPage(browser);
 } finally {

@@ -11,7 +11,8 @@ import { dirname, join } from "node:path";
 import { performance } from "node:perf_hooks";
 import { fileURLToPath } from "node:url";
 
-import { BLOCK_BYTES, FILE_BYTES, PACK_BYTES, SECTOR_BYTES, load } from "../../web/ribjasper.mjs";
+import * as library from "../../web/ribjasper.mjs";
+import { BLOCK_BYTES, FILE_BYTES, PACK_BYTES, Player, SECTOR_BYTES, Seeker, Survey, load } from "../../web/ribjasper.mjs";
 import { PlainPlayer } from "./plain_player.mjs";
 
 const TOP = join(dirname(fileURLToPath(import.meta.url)), "..", "..");
@@ -128,10 +129,252 @@ function compareForms(ribjasper, stream) {
     same(one.screen(), other.screen(), "sectors and blocks");
     same(ribjasper.convert(sectors, { form: "sectors", leadIn: LEAD_IN }).packs,
         ribjasper.convert(stream, { leadIn: LEAD_IN }).packs, "the packs of sectors and of blocks");
-    same(ribjasper.fromPlanar(run(stream, "planar")), stream, "the planar form");
-    one.close();
-    other.close();
+    const planar = run(stream, "planar");
+    same(ribjasper.fromPlanar(planar), stream, "the planar form");
+    const third = ribjasper.player({ leadIn: LEAD_IN });
+    assert.equal(third.feedAll(planar, "planar"), stream.length / BLOCK_BYTES);
+    same(third.save(), other.save(), "planar blocks and raw ones");
+    same(ribjasper.convert(planar, { form: "planar", leadIn: LEAD_IN }).packs,
+        ribjasper.convert(stream, { leadIn: LEAD_IN }).packs, "the packs of planar blocks and of raw ones");
+    assert.deepEqual(ribjasper.survey(planar, { form: "planar", leadIn: LEAD_IN }).sums(),
+        ribjasper.survey(stream, { leadIn: LEAD_IN }).sums());
+    // An ArrayBuffer, a Buffer and an array of clamped bytes are bytes too.
+    const buffer = Uint8Array.from(stream).buffer;
+    for (const bytes of [buffer, new Uint8ClampedArray(buffer), Buffer.from(buffer)]) {
+        third.begin({ leadIn: LEAD_IN });
+        assert.equal(third.feedAll(bytes), stream.length / BLOCK_BYTES);
+        same(third.save(), other.save(), "bytes of another kind");
+    }
+    [one, other, third].forEach((it) => it.close());
     console.log("test_web: sectors, blocks and the planar form give the same");
+}
+
+/** In parts `convert` and `survey` give what they give at once, whatever the form and the lead-in. */
+function compareParts(ribjasper, stream) {
+    const long = Buffer.concat([stream, stream, stream.subarray(0, BLOCK_BYTES * 77)]);
+    const sectors = Buffer.alloc((long.length / BLOCK_BYTES) * SECTOR_BYTES);
+    for (let b = 0; b < long.length / BLOCK_BYTES; b += 1) {
+        long.copy(sectors, SECTOR_BYTES * (b + 1) - BLOCK_BYTES, BLOCK_BYTES * b, BLOCK_BYTES * (b + 1));
+    }
+    for (const [bytes, form] of [[long, "raw"], [long, "packs"], [sectors, "sectors"], [long, "planar"]]) {
+        for (const leadIn of [0, 1, 300, 383, 384, 385, 3072, 3073, long.length / BLOCK_BYTES, 400_000]) {
+            const options = { form, leadIn };
+            const whole = ribjasper.convert(bytes, options);
+            const parts = [...ribjasper.converting(bytes, options)];
+            same(Buffer.concat(parts.map((it) => it.packs)), whole.packs, `packs of ${form} in parts`);
+            assert.deepEqual([parts.at(-1).done, parts.at(-1).of, parts.at(-1).bad], [bytes.length / (form === "sectors" ? SECTOR_BYTES
+                : BLOCK_BYTES), parts.at(-1).done, whole.bad]);
+            const work = ribjasper.surveying(bytes, options);
+            let step = work.next();
+            while (!step.done) {
+                step = work.next();
+            }
+            const [survey, atOnce] = [step.value, ribjasper.survey(bytes, options)];
+            assert.equal(survey.length, atOnce.length);
+            for (let b = 0; b < survey.length; b += 1) {
+                assert.deepEqual([survey.words(b), survey.frame(b), survey.isEmpty(b)], [atOnce.words(b), atOnce.frame(b), atOnce.isEmpty(b)],
+                    `row ${b} of ${form} behind ${leadIn}`);
+            }
+        }
+    }
+    console.log("test_web: convert and survey give the same in parts, in four forms behind ten lead-ins");
+}
+
+/** A seeker shows at each place what a player shows that was fed from the beginning, however many marks it keeps. */
+function compareSeeking(ribjasper, stream, packs) {
+    const planar = run(stream, "planar");
+    let seed = 11;
+    for (const [bytes, form, unit] of [[stream, "raw", BLOCK_BYTES], [planar, "planar", BLOCK_BYTES], [packs, "cdg", PACK_BYTES],
+        [packs.subarray(0, packs.length - (packs.length % BLOCK_BYTES)), "packs", BLOCK_BYTES]]) {
+        const leadIn = form === "cdg" ? 0 : LEAD_IN;
+        for (const marks of [0, 1, 3, 128]) {
+            const seeker = ribjasper.seeker(bytes, { form, leadIn, marks });
+            const player = ribjasper.player({ form: form === "packs" ? "packs" : "raw", leadIn });
+            assert.equal(seeker.length, Math.floor(bytes.length / unit));
+            for (let round = 0; round < 25; round += 1) {
+                seed = (Math.imul(seed, 1664525) + 1013904223) >>> 0;
+                const to = round === 0 ? seeker.length : seed % (seeker.length + 1);
+                seeker.seek(to);
+                player.begin({ form: form === "packs" ? "packs" : "raw", leadIn });
+                const before = bytes.subarray(0, unit * to);
+                if (form === "cdg") {
+                    player.drawAll(before);
+                } else {
+                    player.feedAll(before, form);
+                }
+                assert.equal(seeker.position, to);
+                same(seeker.player.screen(), player.screen(), `the screen at ${to} of ${form}`);
+                assert.deepEqual([seeker.player.shown(), seeker.player.counts()], [player.shown(), player.counts()]);
+            }
+            seeker.close();
+            player.close();
+        }
+    }
+    console.log("test_web: 400 places that are sought show what feeding from the beginning shows");
+}
+
+/** The changed rectangle is the least one, opacity is that of the levels, and a picture stays as it was given. */
+function comparePictures(ribjasper, packs) {
+    const player = ribjasper.player();
+    const image = { data: new Uint8ClampedArray(4 * 300 * 216), width: 300, height: 216 };
+    const opaque = player.picture();
+    assert.deepEqual(player.update(image), { x: 0, y: 0, width: 300, height: 216 });
+    assert.equal(player.update(image), null);
+    let changes = 0;
+    for (let at = 0; at < packs.length; at += 7 * PACK_BYTES) {
+        const before = new Uint32Array(Uint8Array.from(image.data).buffer);
+        player.drawAll(packs.subarray(at, at + 7 * PACK_BYTES));
+        const rect = player.update(image);
+        same(image.data, player.picture(), "an updated image");
+        // What changed, by another way: the columns and rows of all bytes that differ.
+        const after = new Uint32Array(Uint8Array.from(image.data).buffer);
+        const differs = Array.from({ length: 300 * 216 }, (_, k) => k).filter((k) => before[k] !== after[k]);
+        const [across, down] = [differs.map((k) => k % 300), differs.map((k) => Math.floor(k / 300))];
+        const low = (list) => list.reduce((a, b) => Math.min(a, b), 1000);
+        const high = (list) => list.reduce((a, b) => Math.max(a, b), -1);
+        assert.deepEqual(rect, differs.length === 0 ? null
+            : { x: low(across), y: low(down), width: high(across) - low(across) + 1, height: high(down) - low(down) + 1 });
+        changes += differs.length === 0 ? 0 : 1;
+    }
+    assert.ok(changes > 20);
+    // Levels 0 to 63 in turn: opacity is 255 - (4 L + L / 16).
+    const levels = Uint8Array.from({ length: PACK_BYTES }, (_, k) => (k < 2 ? [9, 28][k] : k >= 4 && k < 20 ? [0, 1, 15, 16, 31, 32, 33,
+        47, 48, 62, 63, 5, 7, 9, 11, 13][k - 4] : 0));
+    player.draw(levels);
+    const [shown, screen] = [player.shown(), player.screen()];
+    const clear = [shown.border, 3];
+    for (const options of [{ levels: true }, { clear }, { levels: true, clear }, {}]) {
+        const picture = player.picture(undefined, options);
+        screen.forEach((colour, k) => {
+            const level = shown.levels[colour];
+            const wanted = options.clear?.includes(colour) ? 0 : options.levels ? 255 - (4 * level + Math.floor(level / 16)) : 255;
+            assert.equal(picture[4 * k + 3], wanted);
+        });
+        same(withoutOpacity(picture), withoutOpacity(opaquePicture(player)), "the colours of a clear picture");
+    }
+    // The memory grows while the picture is held.
+    const kept = player.picture();
+    const before = Uint8Array.from(kept);
+    const more = Array.from({ length: 40 }, () => ribjasper.player());
+    ribjasper.survey(new Uint8Array(BLOCK_BYTES * 50_000));
+    same(kept, before, "a picture that is held while memory grows");
+    assert.equal(kept.length, 4 * 300 * 216);
+    assert.equal(opaque, kept, "each player has one array for its picture");
+    [player, ...more].forEach((it) => it.close());
+    console.log(`test_web: ${changes} changed rectangles, opacity and held pictures are right`);
+}
+
+const opaquePicture = (player) => Uint8Array.from(player.picture());
+
+function withoutOpacity(picture) {
+    return picture.filter((_, k) => k % 4 !== 3);
+}
+
+/** What is closed or done is used again: memory does not grow with what comes and goes. */
+async function compareMemory(module) {
+    const ribjasper = await load(module);
+    const dump = new Uint8Array(BLOCK_BYTES * 100_000);
+    const sizes = [];
+    for (let round = 0; round < 8; round += 1) {
+        ribjasper.survey(dump);
+        const players = Array.from({ length: 20 }, () => ribjasper.player());
+        ribjasper.convert(dump.subarray(0, BLOCK_BYTES * 5000));
+        ribjasper.mendReadings([dump, dump]);
+        // Each second one first, so that rooms are split and joined.
+        players.filter((_, k) => k % 2 === round % 2).forEach((it) => it.close());
+        ribjasper.survey(dump.subarray(0, BLOCK_BYTES * 1000 * (round + 1)));
+        players.forEach((it) => it.close());
+        sizes.push(ribjasper.memoryBytes);
+    }
+    assert.equal(new Set(sizes.slice(1)).size, 1, `memory grows: ${sizes}`);
+    console.log(`test_web: memory stays at ${sizes[1]} bytes, whatever comes and goes`);
+}
+
+/** What is no argument is refused by an error that names it, and nothing changes. */
+async function refuseArguments(ribjasper, module) {
+    const player = ribjasper.player();
+    const other = (await load(module)).player();
+    const survey = ribjasper.survey(new Uint8Array(BLOCK_BYTES));
+    const block = new Uint8Array(BLOCK_BYTES);
+    const pack = new Uint8Array(PACK_BYTES);
+    const before = player.save();
+    const detached = new ArrayBuffer(BLOCK_BYTES);
+    structuredClone(detached, { transfer: [detached] });
+    const noBytes = [undefined, null, 7, "abc", [1, 2], {}, new Uint16Array(48), new DataView(new ArrayBuffer(96)), new Float64Array(12)];
+    const takeBytes = {
+        stream: [(it) => player.feedAll(it), (it) => ribjasper.survey(it), (it) => ribjasper.convert(it), (it) => ribjasper.seeker(it),
+            (it) => [...ribjasper.converting(it)], (it) => [...ribjasper.surveying(it)]],
+        packs: [(it) => player.drawAll(it)],
+        planar: [(it) => ribjasper.fromPlanar(it)],
+        block: [(it) => player.feed(it), (it) => player.take(it), (it) => ribjasper.textPacks(it)],
+        pack: [(it) => player.draw(it), (it) => player.changes(it), (it) => ribjasper.touches(it)],
+        file: [(it) => player.load(it)],
+        bytes: [(it) => new Survey(it)],
+        "readings\\[0\\]": [(it) => ribjasper.mendReadings([it])],
+    };
+    let tries = 0;
+    const refuses = (work, kind, name, what) => {
+        tries += 1;
+        assert.throws(work, (error) => error instanceof kind && new RegExp(`^${name}: `).test(error.message), `${name}: ${what}`);
+    };
+    for (const [name, calls] of Object.entries(takeBytes)) {
+        for (const call of calls) {
+            noBytes.forEach((it) => refuses(() => call(it), TypeError, name, String(it)));
+        }
+    }
+    if (detached.detached === true) {
+        refuses(() => player.feedAll(detached), TypeError, "stream", "a detached buffer");
+    }
+    for (const size of [0, 95, 97]) {
+        takeBytes.block.forEach((call) => refuses(() => call(new Uint8Array(size)), RangeError, "block", size));
+    }
+    for (const size of [0, 23, 25]) {
+        takeBytes.pack.forEach((call) => refuses(() => call(new Uint8Array(size)), RangeError, "pack", size));
+    }
+    refuses(() => player.load(new Uint8Array(FILE_BYTES)), RangeError, "file", "zeros");
+    refuses(() => ribjasper.convert(block.subarray(1)), RangeError, "stream", "a torn stream");
+    const takeOptions = [(it) => ribjasper.player(it), (it) => player.begin(it), (it) => ribjasper.survey(block, it),
+        (it) => ribjasper.convert(block, it), (it) => ribjasper.seeker(block, it)];
+    for (const call of takeOptions) {
+        [-1, 0.5, NaN, Infinity, 2 ** 32, 450_001].forEach((leadIn) => refuses(() => call({ leadIn }), RangeError, "leadIn", leadIn));
+        ["3", null, 3n, {}].forEach((leadIn) => refuses(() => call({ leadIn }), TypeError, "leadIn", String(leadIn)));
+        ["Raw", "", "plannar", "constructor", "__proto__"].forEach((form) => refuses(() => call({ form }), RangeError, "form", form));
+        [0, null, {}].forEach((form) => refuses(() => call({ form }), TypeError, "form", String(form)));
+        [null, 3, "raw"].forEach((it) => refuses(() => call(it), TypeError, "options", String(it)));
+    }
+    ["sectors", "planar", "cdg"].forEach((form) => refuses(() => ribjasper.player({ form }), RangeError, "form", form));
+    refuses(() => player.feedAll(block, "cdg"), RangeError, "form", "cdg");
+    refuses(() => ribjasper.seeker(pack, { form: "cdg", leadIn: 1 }), RangeError, "leadIn", "of a .cdg file");
+    refuses(() => ribjasper.seeker(pack, { form: "cdg", marks: -1 }), RangeError, "marks", -1);
+    refuses(() => ribjasper.mendReadings(block), TypeError, "readings", "bytes");
+    refuses(() => ribjasper.mendReadings([block], { leadIn: 2 ** 32 }), RangeError, "leadIn", 2 ** 32);
+    [null, {}, block, { data: [] }].forEach((it) => {
+        refuses(() => player.picture(it), TypeError, "image", String(it));
+        refuses(() => player.update(it), TypeError, "image", String(it));
+    });
+    refuses(() => player.update(undefined), TypeError, "image", "none");
+    refuses(() => player.picture({ data: new Uint8Array(4) }), RangeError, "image", "four bytes");
+    refuses(() => player.picture({ data: new Uint8ClampedArray(4 * 300 * 216), width: 216, height: 300 }), RangeError, "image", "216 by 300");
+    refuses(() => player.picture(undefined, { levels: 1 }), TypeError, "levels", 1);
+    refuses(() => player.picture(undefined, { clear: 1 }), TypeError, "clear", 1);
+    refuses(() => player.picture(undefined, { clear: [16] }), RangeError, "clear\\[0\\]", 16);
+    [null, {}, survey].forEach((it) => refuses(() => player.copyFrom(it), TypeError, "other", String(it)));
+    refuses(() => player.copyFrom(other), RangeError, "other", "of another module");
+    for (const call of [(it) => survey.words(it), (it) => survey.frame(it), (it) => survey.isEmpty(it)]) {
+        [-1, 1, 0.5, NaN].forEach((it) => refuses(() => call(it), RangeError, "block", it));
+        refuses(() => call("0"), TypeError, "block", "0");
+    }
+    refuses(() => new Survey(new Uint8Array(11)), RangeError, "bytes", 11);
+    [-1, 2, 0.5].forEach((it) => refuses(() => ribjasper.seeker(block).seek(it), RangeError, "position", it));
+    assert.throws(() => new Player({}, {}), TypeError);
+    assert.throws(() => new Seeker({}, block, {}), TypeError);
+    for (const it of [null, 3, "ribjasper.wasm", {}]) {
+        await assert.rejects(load(it), /^TypeError: source: /);
+    }
+    await assert.rejects(load(new Response("", { status: 404 })), /status 404/);
+    same(player.save(), before, "a player that refused");
+    assert.equal(player.feedAll(new Uint8Array(95)), 0);
+    console.log(`test_web: ${tries} wrong arguments are refused by an error that names them`);
 }
 
 /** What `convert` writes of a clean reading comes out beside a scratched one and one that has no R to W. */
@@ -222,6 +465,24 @@ function compareCheckpoints(ribjasper, stream) {
     console.log("test_web: checkpoints are those of the program, and what is no checkpoint is refused");
 }
 
+/** The types name each value, class and method of the library, and no other. */
+function compareTypes() {
+    const types = readFileSync(join(TOP, "web", "ribjasper.d.mts"), "utf8");
+    const named = [...types.matchAll(/^export (?:const|function|class) (\w+)/gm)].map((it) => it[1]);
+    assert.deepEqual(named.sort(), Object.keys(library).sort());
+    for (const [name, value] of Object.entries(library)) {
+        if (typeof value === "number") {
+            assert.match(types, new RegExp(`const ${name}: (${value}|0x${value.toString(16)});`));
+        }
+        if (typeof value === "function" && value.prototype !== undefined && /^class/.test(String(value))) {
+            const body = new RegExp(`^export class ${name} \\{$(.*?)^\\}`, "ms").exec(types)[1];
+            const told = new Set([...body.matchAll(/^    (?:private )?(?:readonly )?(\w+)[(:<]/gm)].map((it) => it[1]));
+            assert.deepEqual([...told].sort(), Object.getOwnPropertyNames(value.prototype).sort(), name);
+        }
+    }
+    console.log("test_web: the types name what there is");
+}
+
 /** A player writes its own numbers alone: what lies behind each is as it was. */
 async function watchMemory(module) {
     const { exports } = await WebAssembly.instantiate(module, {});
@@ -282,11 +543,22 @@ function measure(ribjasper, tour) {
         const blocks = bytes.length / BLOCK_BYTES;
         const views = Array.from({ length: blocks }, (_, b) => bytes.subarray(BLOCK_BYTES * b, BLOCK_BYTES * (b + 1)));
         const [all, each, plain] = least(rounds,
-            () => ribjasper.player().feedAll(bytes),
-            () => { const player = ribjasper.player(); views.forEach((block) => player.feed(block)); },
+            () => { const player = ribjasper.player(); player.feedAll(bytes); player.close(); },
+            () => { const player = ribjasper.player(); views.forEach((block) => player.feed(block)); player.close(); },
             () => { const player = new PlainPlayer(); views.forEach((block) => player.feed(block)); });
         rows.push([`a block of ${name}, all in one call`, (1e6 * all) / blocks, (1e6 * plain) / blocks]);
         rows.push([`a block of ${name}, a call for each`, (1e6 * each) / blocks, (1e6 * plain) / blocks]);
+    }
+    // Packs: those of the tour, and idle ones, of which a file mostly consists.
+    const packs = ribjasper.convert(stream).packs;
+    for (const [name, bytes] of [["the tour", packs], ["idle packs", new Uint8Array(packs.length)]]) {
+        const views = Array.from({ length: bytes.length / PACK_BYTES }, (_, k) => bytes.subarray(PACK_BYTES * k, PACK_BYTES * (k + 1)));
+        const [all, each, plain] = least(3,
+            () => { const player = ribjasper.player(); player.drawAll(bytes); player.close(); },
+            () => { const player = ribjasper.player(); views.forEach((pack) => player.draw(pack)); player.close(); },
+            () => { const player = new PlainPlayer(); views.forEach((pack) => player.draw(pack)); });
+        rows.push([`a pack of ${name}, all in one call`, (1e6 * all) / views.length, (1e6 * plain) / views.length]);
+        rows.push([`a pack of ${name}, a call for each`, (1e6 * each) / views.length, (1e6 * plain) / views.length]);
     }
     const plain = new PlainPlayer();
     for (let b = 0; b < body.length / BLOCK_BYTES; b += 1) {
@@ -300,17 +572,25 @@ function measure(ribjasper, tour) {
     const looks = 300;
     const repeat = (work) => () => { for (let k = 0; k < looks; k += 1) { work(); } };
     const image = { data: new Uint8ClampedArray(room.length) };
-    const [picture, copied, other] = least(9, repeat(() => ours.picture()), repeat(() => ours.picture(image)),
-        repeat(() => plain.picture(room)));
+    const [picture, copied, updated, clear, other] = least(9, repeat(() => ours.picture()), repeat(() => ours.picture(image)),
+        repeat(() => ours.update(image)), repeat(() => ours.picture(image, { levels: true })), repeat(() => plain.picture(room)));
     rows.push(["a picture", (1e6 * picture) / looks, (1e6 * other) / looks]);
     rows.push(["a picture in an ImageData", (1e6 * copied) / looks, (1e6 * other) / looks]);
-    const [survey] = least(3, () => ribjasper.survey(stream));
+    rows.push(["an unchanged picture, compared with an ImageData", (1e6 * updated) / looks, (1e6 * other) / looks]);
+    rows.push(["a picture with opacity by levels", (1e6 * clear) / looks, (1e6 * other) / looks]);
+    const [survey, convert] = least(3, () => ribjasper.survey(stream), () => ribjasper.convert(stream));
+    const seeker = ribjasper.seeker(stream);
+    seeker.seek(hour);
+    const places = Array.from({ length: 300 }, (_, k) => (k * 7919 * 31) % hour);
+    const [seek] = least(3, () => places.forEach((it) => seeker.seek(it)));
     for (const [what, one, two] of rows) {
         console.log(`test_web: ${what}: ${Math.round(one)} ns, the plain player ${Math.round(two)} ns, ${(two / one).toFixed(2)}`);
     }
-    console.log(`test_web: a survey of an hour: ${Math.round(survey)} ms`);
+    console.log(`test_web: an hour is surveyed in ${Math.round(survey)} ms, converted in ${Math.round(convert)} ms, and a place in it is ` +
+        `sought in ${(seek / places.length).toFixed(2)} ms`);
 }
 
+compareTypes();
 const bytes = readFileSync(MODULE);
 const module = await WebAssembly.compile(bytes);
 assert.deepEqual(WebAssembly.Module.imports(module), [], "the module takes nothing from its host");
@@ -320,6 +600,11 @@ compareScreens(ribjasper, whole, "a clean stream", 30);
 compareScreens(ribjasper, scratched, "a scratched stream", 30);
 comparePacks(ribjasper, scratched);
 compareForms(ribjasper, scratched);
+compareParts(ribjasper, scratched);
+compareSeeking(ribjasper, scratched, run(whole, "convert", "--lead-in", `${LEAD_IN}`));
+comparePictures(ribjasper, run(whole, "convert", "--lead-in", `${LEAD_IN}`));
+await compareMemory(module);
+await refuseArguments(ribjasper, module);
 compareMending(ribjasper, whole, scratched);
 compareTexts(ribjasper);
 compareCheckpoints(ribjasper, scratched);

@@ -1,6 +1,6 @@
 #!/usr/bin/env python3
 """Tries sentences of docs/FORMATS.md that a second program, written from it alone, had to guess before they stood there:
-try_formats.py PROGRAM. What is wanted is worked out here from these sentences, without a line of the program."""
+try_formats.py PROGRAM [--windows]. What is wanted is worked out here from these sentences, without a line of the program."""
 from __future__ import annotations
 
 import site
@@ -14,7 +14,7 @@ from pathlib import Path
 site.addsitedir(str(Path(__file__).resolve().parents[1] / "peers"))
 from subcode import check, words_of  # noqa: E402
 
-PROGRAM = ""
+PROGRAM, WINDOWS = "", False
 FILE, TRACK, INDEX = 'FILE "a.wav" WAVE', "TRACK 01 AUDIO", "INDEX 01 00:00:00"
 FRAME = bytes([0x01, 1, 1, 0, 0, 0, 0, 0, 2, 0])
 
@@ -99,7 +99,8 @@ class FormatsTest(unittest.TestCase):
         for words in ("convert --lead-in 00", "q --lead-in 0 --form cooked", "text --lead-in 0 --form cooked"):
             self.assertEqual(self.said(words, "missing"), "usage", words)
         self.assertEqual(self.said("convert --lead-in 0", "a", "b", "c"), "usage")
-        self.assertEqual(self.said("gen --seed 1 --pictures 1", b"\xff"), "usage")
+        if not WINDOWS:  # wine passes on no bytes that are no text
+            self.assertEqual(self.said("gen --seed 1 --pictures 1", b"\xff"), "usage")
         self.assertEqual(self.run_words("convert --lead-in 0 --", given=bytes(192)), (0, bytes(24), ""))
 
     def test_numbers_of_blocks_and_packs(self) -> None:
@@ -184,6 +185,8 @@ class FormatsTest(unittest.TestCase):
 
 if __name__ == "__main__":
     if len(sys.argv) < 2:
-        sys.exit("try_formats.py PROGRAM")
+        sys.exit("try_formats.py PROGRAM [--windows]")
     PROGRAM = str(Path(sys.argv.pop(1)).resolve())
+    WINDOWS = "--windows" in sys.argv
+    sys.argv = [word for word in sys.argv if word != "--windows"]
     unittest.main()

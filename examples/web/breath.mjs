@@ -1,0 +1,24 @@
+// Long work in slices, between which the browser draws and listens.
+
+// The milliseconds of a slice.
+const SLICE_OF_TIME = 12;
+
+/** Lets the browser draw and listen, where enough time has passed. */
+export class Breath {
+    #since = performance.now();
+
+    async take() {
+        if (performance.now() - this.#since < SLICE_OF_TIME) {
+            return;
+        }
+        await new Promise((done) => {
+            const channel = new MessageChannel();
+            channel.port1.onmessage = () => {
+                channel.port1.close();
+                done();
+            };
+            channel.port2.postMessage(0);
+        });
+        this.#since = performance.now();
+    }
+}

@@ -1,0 +1,105 @@
+/* Eight threads look at one player at the same time, by every call that takes a const player, and each must see what one
+   thread sees. tests/library/test_threads.sh runs it also under tools that notice a write by one thread to what another
+   reads. */
+#include "ribjasper.h"
+
+#include <pthread.h>
+#include <stdio.h>
+#include <stdlib.h>
+#include <string.h>
+
+#define THREADS 8
+#define PIECE 40000
+
+/* All that the calls write of a player. */
+typedef struct look {
+    uint8_t pixels[RIBJASPER_PIXELS], picture[RIBJASPER_PICTURE], piece[PIECE], shown[PIECE];
+    uint8_t file[RIBJASPER_CHECKPOINT], levels[RIBJASPER_COLOURS], border, across, down, pixel;
+    uint16_t colours[RIBJASPER_COLOURS], colour;
+    ribjasper_counts counts;
+} look;
+
+static ribjasper_player player = RIBJASPER_CLOSED_STATIC;
+static look expected;
+static int rounds = 100;
+
+/* Looks by every call; returns how many calls failed. */
+static int see(look *it, ribjasper_player *other)
+{
+    int failed = 0;
+    failed += ribjasper_player_screen(&player, it->pixels) != RIBJASPER_DONE;
+    failed += ribjasper_player_picture(&player, it->picture) != RIBJASPER_DONE;
+    failed += ribjasper_player_rect(&player, 3, 5, 200, 100, it->piece, PIECE, 250) != RIBJASPER_DONE;
+    failed += ribjasper_player_pixels(&player, RIBJASPER_RGBA, 7, 9, 60, 40, it->shown, PIECE, 256) != RIBJASPER_DONE;
+    failed += ribjasper_player_save(&player, it->file) != RIBJASPER_DONE;
+    failed += ribjasper_player_levels(&player, it->levels) != RIBJASPER_DONE;
+    failed += ribjasper_player_border(&player, &it->border) != RIBJASPER_DONE;
+    failed += ribjasper_player_offsets(&player, &it->across, &it->down) != RIBJASPER_DONE;
+    failed += ribjasper_player_pixel(&player, 150, 100, &it->pixel) != RIBJASPER_DONE;
+    failed += ribjasper_player_colours(&player, it->colours) != RIBJASPER_DONE;
+    failed += ribjasper_player_colour(&player, 5, &it->colour) != RIBJASPER_DONE;
+    failed += ribjasper_player_counts(&player, &it->counts) != RIBJASPER_DONE;
+    failed += ribjasper_player_copy(&player, other) != RIBJASPER_DONE;
+    return failed;
+}
+
+static void *looks(void *wrong)
+{
+    look *it = calloc(1, sizeof *it);
+    ribjasper_player other = RIBJASPER_CLOSED;
+    uint8_t *pixels = malloc(RIBJASPER_PIXELS);
+    int n;
+    if (it == NULL || pixels == NULL || ribjasper_player_open(&other) != RIBJASPER_DONE) {
+        *(int *)wrong = 1;
+        return NULL;
+    }
+    for (n = 0; n < rounds; n++) {
+        *(int *)wrong += see(it, &other) != 0;
+        *(int *)wrong += memcmp(it, &expected, sizeof expected) != 0;
+        *(int *)wrong += ribjasper_player_screen(&other, pixels) != RIBJASPER_DONE;
+        *(int *)wrong += memcmp(pixels, expected.pixels, RIBJASPER_PIXELS) != 0;
+    }
+    ribjasper_player_close(&other);
+    free(pixels);
+    free(it);
+    return NULL;
+}
+
+int main(int count, char **words)
+{
+    pthread_t threads[THREADS];
+    int wrong[THREADS] = { 0 }, k, all = 0;
+    uint8_t block[RIBJASPER_BLOCK], pack[RIBJASPER_PACK];
+    ribjasper_player other = RIBJASPER_CLOSED;
+    uint32_t seed = 11;
+    if (count > 1)
+        rounds = atoi(words[1]);
+    if (ribjasper_player_open(&player) != RIBJASPER_DONE || ribjasper_player_open(&other) != RIBJASPER_DONE)
+        return 1;
+    for (k = 0; k < 600; k++) {
+        int i;
+        for (i = 0; i < RIBJASPER_BLOCK; i++) {
+            seed = seed * 1664525u + 1013904223u;
+            block[i] = (uint8_t)(seed >> 24);
+        }
+        memcpy(pack, block, sizeof pack);
+        pack[0] = 9;
+        pack[1] = k < 4 ? (uint8_t)(28 + k + (k > 0)) : 6;
+        pack[6] %= 18;
+        pack[7] %= 50;
+        if (ribjasper_player_feed(&player, block) != RIBJASPER_DONE || ribjasper_player_draw(&player, pack) != RIBJASPER_DONE)
+            return 1;
+    }
+    if (see(&expected, &other) != 0)
+        return 1;
+    for (k = 0; k < THREADS; k++)
+        if (pthread_create(&threads[k], NULL, looks, &wrong[k]) != 0)
+            return 1;
+    for (k = 0; k < THREADS; k++)
+        all += pthread_join(threads[k], NULL) != 0 || wrong[k] != 0;
+    ribjasper_player_close(&other);
+    ribjasper_player_close(&player);
+    if (all != 0)
+        printf("test_threads: %d of %d threads saw something else\n", all, THREADS);
+    return all != 0;
+}

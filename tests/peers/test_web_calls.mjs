@@ -1,0 +1,208 @@
+// The calls of the web module on many blocks and packs, and its seeking, by their plain exports: each gives what single calls
+// give, and what is refused changes nothing. Run by tests/peers/compare_web.sh, or:
+//     node tests/peers/test_web_calls.mjs lib/web/ribjasper.wasm
+import { readFile } from "node:fs/promises";
+
+const PLAYER = 65080;
+const MARK = 65088;
+const [BLOCK, PACK] = [96, 24];
+const [BLOCKS, PACKS, MARKS] = [400, 600, 9];
+
+const { instance } = await WebAssembly.instantiate(await readFile(process.argv[2]), {});
+const { memory, ...calls } = instance.exports;
+let failed = 0;
+
+function check(holds, what) {
+    if (!holds) {
+        console.error(`test_web_calls: ${what}`);
+        failed = 1;
+    }
+}
+
+const call = (name, ...values) => calls[`ribjasper_web_${name}`](...values);
+let end = memory.buffer.byteLength;
+
+function grow(pages) {
+    try {
+        memory.grow(BigInt(pages));
+    } catch {
+        // Before 2024 the number was no BigInt.
+        memory.grow(pages);
+    }
+}
+
+/** An address with so many bytes behind it, which eight divides. */
+function room(bytes) {
+    const at = end;
+    end += 8 * Math.ceil(bytes / 8);
+    const more = Math.ceil((end - memory.buffer.byteLength) / 65536);
+    if (more > 0) {
+        grow(more);
+    }
+    return at;
+}
+
+const bytes = (at, length) => new Uint8Array(memory.buffer, at, length);
+const big = (...numbers) => numbers.map(BigInt);
+const same = (one, other, length) => Buffer.compare(bytes(one, length), bytes(other, length)) === 0;
+
+let seed = 9;
+function next(below) {
+    seed = (Math.imul(seed, 1664525) + 1013904223) >>> 0;
+    return Math.floor((seed / 2 ** 32) * below);
+}
+
+const [one, other, change, stream, packs, work, marks, shown] = [
+    PLAYER, PLAYER, 20, BLOCK * BLOCKS, PACK * PACKS, BLOCK * BLOCKS, MARK * MARKS, 4 * 300 * 216,
+].map(room);
+for (let n = 0; n < BLOCKS; n++) {
+    const quiet = next(2) === 0;
+    for (let i = 0; i < BLOCK; i++) {
+        bytes(stream + BLOCK * n, BLOCK)[i] = quiet ? 64 * next(4) : next(256);
+    }
+}
+for (let n = 0; n < PACKS; n++) {
+    const pack = bytes(packs + PACK * n, PACK);
+    for (let i = 0; i < PACK; i++) {
+        pack[i] = next(256);
+    }
+    pack[0] = next(6) === 0 ? next(256) : 9;
+    pack[1] = next(15) === 0 ? 20 + next(12) : 6;
+    pack[6] %= 18;
+    pack[7] %= 50;
+}
+
+/** What the player shows, as a picture. */
+function picture(player) {
+    call("picture", ...big(player, shown));
+    return bytes(shown, 4 * 300 * 216).slice();
+}
+
+function begin(player, form = 0, leadIn = 0) {
+    check(call("begin", BigInt(player), form, leadIn) === 0, `begin ${form} ${leadIn}`);
+}
+
+/** The rectangle that a call wrote: left, top, right, bottom, colours, levels. */
+function rectangle() {
+    const numbers = new DataView(memory.buffer, change, 20);
+    return [0, 4, 8, 12].map((at) => numbers.getUint32(at, true)).concat([numbers.getUint8(16), numbers.getUint8(17)]);
+}
+
+/** Whether two pictures differ in the rectangle at most. */
+function isKept(before, after, [left, top, right, bottom, colours]) {
+    if (colours) {
+        return true;
+    }
+    for (let n = 0; n < 300 * 216; n++) {
+        const [x, y] = [n % 300, Math.floor(n / 300)];
+        if (x >= left && x < right && y >= top && y < bottom) {
+            continue;
+        }
+        for (let k = 0; k < 4; k++) {
+            if (before[4 * n + k] !== after[4 * n + k]) {
+                return false;
+            }
+        }
+    }
+    return true;
+}
+
+/** Many packs and many blocks in one call. */
+function compareMany() {
+    for (const form of [0, 1]) {
+        begin(one, form, 2);
+        begin(other, form, 2);
+        for (let from = 0; from < BLOCKS; ) {
+            const count = Math.min(BLOCKS - from, next(40));
+            const before = picture(one);
+            call("feed_changes", ...big(one, stream + BLOCK * from, count, change));
+            for (let n = from; n < from + count; n++) {
+                call("feed", ...big(other, stream + BLOCK * n));
+            }
+            from += count;
+            check(same(one, other, PLAYER), `feed_changes to block ${from} of form ${form}`);
+            check(isKept(before, picture(one), rectangle()), `what changes to block ${from}`);
+            if (count === 0) {
+                check(rectangle().join() === "300,216,0,0,0,0", "no block changes nothing");
+            }
+        }
+    }
+    begin(one);
+    begin(other);
+    for (let from = 0; from < PACKS; ) {
+        const count = Math.min(PACKS - from, next(50));
+        const before = picture(one);
+        call("draw_all", ...big(one, packs + PACK * from, count, change));
+        for (let n = from; n < from + count; n++) {
+            call("draw", ...big(other, packs + PACK * n));
+        }
+        from += count;
+        check(same(one, other, PLAYER), `draw_all to pack ${from}`);
+        check(isKept(before, picture(one), rectangle()), `what changes to pack ${from}`);
+    }
+}
+
+/** Planar blocks, as many as both lists hold. */
+function comparePlanar() {
+    bytes(work, BLOCK * BLOCKS).fill(0xee);
+    call("blocks_from_planar", ...big(stream, 3, work, BLOCKS));
+    check(bytes(work + 3 * BLOCK, BLOCK).every((byte) => byte === 0xee), "three planar blocks write three");
+    call("blocks_from_planar", ...big(stream, BLOCKS, work, BLOCKS));
+    const [single] = [room(BLOCK)];
+    for (let n = 0; n < BLOCKS; n++) {
+        call("from_planar", ...big(stream + BLOCK * n, single));
+        check(same(single, work + BLOCK * n, BLOCK), `planar block ${n}`);
+    }
+}
+
+/** Seeking, from whatever marks there are. */
+function compareSeeks() {
+    for (const [form, leadIn, every, count] of [[0, 0, 50, MARKS], [0, 7, 1, MARKS], [1, 0, 399, 1], [0, 450000, 30, MARKS], [0, 3, 60, 0]]) {
+        bytes(marks, MARK * MARKS).fill(0);
+        for (let round = 0; round < 12; round++) {
+            const to = next(BLOCKS + 1);
+            const answer = call("seek", BigInt(one), form, leadIn, ...big(stream, BLOCKS, to, marks, count), every);
+            check(answer === 0, `seek answers ${answer}`);
+            begin(other, form, leadIn);
+            for (let n = 0; n < to; n++) {
+                call("feed", ...big(other, stream + BLOCK * n));
+            }
+            check(Buffer.compare(picture(one), picture(other)) === 0, `seek to ${to} by ${every}`);
+            call("feed", ...big(one, stream));
+            call("feed", ...big(other, stream));
+            check(Buffer.compare(picture(one), picture(other)) === 0, `what follows ${to}`);
+        }
+    }
+    for (const [every, count] of [[64, MARKS], [1, MARKS], [600, 1], [77, 0]]) {
+        bytes(marks, MARK * MARKS).fill(0);
+        for (let round = 0; round < 12; round++) {
+            const to = next(PACKS + 1);
+            check(call("seek_packs", ...big(one, packs, PACKS, to, marks, count), every) === 0, "seek_packs answers 0");
+            begin(other);
+            call("draw_all", ...big(other, packs, to, change));
+            check(Buffer.compare(picture(one), picture(other)) === 0, `seek to pack ${to} by ${every}`);
+        }
+    }
+}
+
+/** What is refused changes neither the player nor the marks. */
+function compareRefusals() {
+    const [kept, keptMarks] = [bytes(one, PLAYER).slice(), bytes(marks, MARK * MARKS).slice()];
+    for (const [form, leadIn, to, every] of [[2, 0, 0, 1], [4294967295, 0, 0, 1], [0, 450001, 0, 1], [0, 0, BLOCKS + 1, 1], [0, 0, 0, 0]]) {
+        check(call("seek", BigInt(one), form, leadIn, ...big(stream, BLOCKS, to, marks, MARKS), every) === -1, "seek refuses");
+    }
+    check(call("seek", BigInt(one), 0, 0, ...big(stream, BLOCKS, 2n ** 64n - 1n, marks, MARKS), 1) === -1, "seek refuses 2 ** 64 - 1");
+    check(call("seek_packs", ...big(one, packs, PACKS, PACKS + 1, marks, MARKS), 1) === -1, "seek_packs refuses");
+    check(call("seek_packs", ...big(one, packs, PACKS, 0, marks, MARKS), 0) === -1, "seek_packs refuses 0");
+    check(Buffer.compare(kept, bytes(one, PLAYER)) === 0 && Buffer.compare(keptMarks, bytes(marks, MARK * MARKS)) === 0,
+        "what is refused changes nothing");
+}
+
+compareMany();
+comparePlanar();
+compareSeeks();
+compareRefusals();
+if (failed === 0) {
+    console.log("test_web_calls: calls on many blocks and packs, and seeking, give what single calls give");
+}
+process.exit(failed);
