@@ -1,6 +1,6 @@
 # Builds the program, shows it at work, and checks the repository.
 
-.PHONY: all library web example demo check bench guide definitions install uninstall deb dist clean
+.PHONY: all library program web example demo check bench guide definitions install uninstall deb dist clean
 
 PREFIX ?= /usr/local
 # Where libraries go; some systems have a folder for each processor.
@@ -11,10 +11,14 @@ all:
 	tools/build/build.sh
 
 # The library for programs in C: proves it, builds it, and leaves it in lib/ (include/ribjasper.h), to be linked at
-# run time or for good. `make library TARGET=aarch64-unknown-linux-gnu` is for another processor, and CPU=x86-64-v3 for
-# newer ones alone.
+# run time or statically. `make library TARGET=x86_64-pc-windows-gnu` leaves one for another system in lib/TARGET
+# (tools/build/build_target.sh lists the targets), and CPU=x86-64-v3 is for newer processors only.
 library:
 	TARGET=$(TARGET) CPU=$(CPU) tools/build/build_library.sh
+
+# The program for another system, in bin/TARGET: `make program TARGET=x86_64-pc-windows-gnu`.
+program:
+	tools/build/build_target.sh program $(TARGET)
 
 # The player for web pages: proves it, compiles it to WebAssembly, and leaves it in lib/web/ with a page (index.html) that
 # needs no server, compared with the program where node and Chromium are there. It builds the program where it is not there.
@@ -52,9 +56,10 @@ bench:
 guide:
 	tools/check/run_guide.sh
 
-# All definitions that the clauses rest on, the two long acts too that docs/DEFINITIONS.md only counts.
+# All definitions that the clauses rest on, also those that docs/DEFINITIONS.md leaves out, and the list of wrong bodies.
 definitions:
 	tools/write/list_definitions.py --whole
+	tools/write/list_wrong_bodies.py >docs/WRONG_BODIES.md
 
 # The program, its manual page, the completions of two shells, and where they can be used the library and the desk,
 # below PREFIX.

@@ -1,24 +1,38 @@
 #!/usr/bin/env python3
-"""Builds a static library or a program over what the gate proved:
-build_over_gate.py CRATE (--cpu CPU | --target TARGET | --program FILE) [--jobs N]
+"""Builds a static library, a program or an LLVM module over crates that are proved already:
+build_over_gate.py CRATE [--cpu CPU] [--target TARGET] [--program FILE [--opt-level N]] [--module FILE] [--kept] [--jobs N]
 
 `rt ci` leaves the libraries that it proved from nothing in crates/*/out/rlib, without the stamp by which `rt lib` knows its
-own, so `rt lib` would prove all of them again. This calls the kit's compiler over them with the kit's own words: CRATE
-itself is proved once more, what it stands on is not. A program is built by the kit's own compiler, which reckons its stack. It
-ends with 3 if the gate did not leave all of them."""
+own, so `rt lib` would prove all of them again. This tool calls the kit's compiler over them with the kit's own words: CRATE
+itself is proved once more, the crates below it are not. With --program the kit's own compiler builds a program and
+computes its stack. With --module the LLVM module is kept that the kit gives its clang: other tools translate it for other
+systems. With --kept the libraries that `make` proved serve as well. The status is 3 if a library is missing."""
 from __future__ import annotations
 
 import argparse
+import contextlib
 import importlib.machinery
 import importlib.util
 import os
 import shutil
 import sys
+import tempfile
+from collections.abc import Iterator
 from pathlib import Path
 from types import ModuleType
 
 TOP = Path(__file__).resolve().parents[2]
 NOT_THERE = 3
+
+# A clang that keeps a copy of the module that it is given. The kit's compiler calls it as `clang .. -x ir FILE ..`.
+KEEPING_CLANG = """#!/bin/sh
+before=
+for word in "$@"; do
+    [ "$before" != ir ] || cp "$word" '{module}'
+    before=$word
+done
+exec '{clang}' "$@"
+"""
 
 
 def kit() -> ModuleType:
@@ -37,35 +51,58 @@ def kit() -> ModuleType:
 
 
 def left_by_the_gate(rlib: str) -> bool:
-    """Whether a library stands there that the gate built: it alone writes no stamp."""
+    """Whether a library stands there that the gate built: only the gate writes no stamp."""
     return os.path.isfile(f"{rlib}/format") and not os.path.exists(f"{os.path.dirname(rlib)}/stamp")
 
 
+@contextlib.contextmanager
+def toolchain_of(kits: Path, module: Path | None) -> Iterator[Path]:
+    """The kit's toolchain, or one beside it whose clang keeps the module."""
+    if module is None:
+        yield kits
+        return
+    with tempfile.TemporaryDirectory(prefix="toolchain-") as room:
+        made = Path(room)
+        (made / "bin").mkdir()
+        (made / "lib").symlink_to(kits / "lib")
+        for tool in (kits / "bin").iterdir():
+            if tool.name != "clang":
+                (made / "bin" / tool.name).symlink_to(tool)
+        clang = made / "bin" / "clang"
+        clang.write_text(KEEPING_CLANG.format(module=module, clang=kits / "bin" / "clang"))
+        clang.chmod(0o755)
+        yield made
+
+
 def main() -> int:
-    parser = argparse.ArgumentParser(description="Builds a static library or a program over what the gate proved.")
+    parser = argparse.ArgumentParser(description="Builds a static library, a program or an LLVM module over proved crates.")
     parser.add_argument("crate", help="the crate, as crates.txt names it")
-    where = parser.add_mutually_exclusive_group(required=True)
-    where.add_argument("--cpu", help="the oldest processor that it has to run on")
-    where.add_argument("--target", help="what it is built for, if not this kind of machine")
-    where.add_argument("--program", metavar="FILE", help="where a program is left that the kit's own compiler builds")
+    parser.add_argument("--cpu", help="the oldest processor that the code has to run on")
+    parser.add_argument("--target", help="what it is built for, if not this kind of machine")
+    parser.add_argument("--program", metavar="FILE", help="where the kit's own compiler leaves a program's object file")
+    parser.add_argument("--opt-level", help="how much a program is optimized, 0 to 3")
+    parser.add_argument("--module", metavar="FILE", help="where the LLVM module is left")
+    parser.add_argument("--kept", action="store_true", help="also take libraries that `make` proved")
     parser.add_argument("--jobs", default="2", help="how many processes prove it (default: 2)")
     arguments = parser.parse_args()
+    module = Path(arguments.module).resolve() if arguments.module else None
+    made = os.path.abspath(arguments.program) if arguments.program else None
     folder = TOP / "crates" / arguments.crate
     os.chdir(folder)
     rtlib = kit()
     crate = rtlib.Crate(str(folder), str(TOP), {}, name=None)
-    if not all(left_by_the_gate(it.rlib) for it in crate.below()):
-        print("build_over_gate: the gate did not leave each library that this one stands on", file=sys.stderr)
+    if not all(left_by_the_gate(it.rlib) or (arguments.kept and it.is_built()) for it in crate.below()):
+        print("build_over_gate: not each library below this crate is proved", file=sys.stderr)
         return NOT_THERE
-    if arguments.program:
-        place, backend, made = [], "rattle", arguments.program
-    else:
-        place = ["--cpu", arguments.cpu] if arguments.cpu else ["--target", arguments.target]
-        backend, made = "llvm", f"out/lib{arguments.crate}.a"
+    place = ["--cpu", arguments.cpu] if arguments.cpu else []
+    place += ["--target", arguments.target] if arguments.target else []
+    place += ["--opt-level", arguments.opt_level] if arguments.opt_level else []
+    made = made or f"out/{arguments.crate}.o" if crate.is_program else f"out/lib{arguments.crate}.a"
     words = crate.words(["--jobs", arguments.jobs, *place], keeps=False)
-    words += ["--toolchain", f"{rtlib.KIT}/toolchain", "--backend", backend, "-o", made]
+    words += ["--backend", "rattle" if arguments.program else "llvm", "-o", made]
     os.makedirs("out", exist_ok=True)
-    status: int = crate.call(rtlib.RATTLE, "build", *words)
+    with toolchain_of(Path(rtlib.KIT) / "toolchain", module) as toolchain:
+        status: int = crate.call(rtlib.RATTLE, "build", *words, "--toolchain", str(toolchain))
     return status
 
 

@@ -1,7 +1,8 @@
 #!/bin/sh
 # Proves the calls for web pages, compiles them to WebAssembly and leaves in lib/web: ribjasper.wasm, ribjasper.mjs with
-# its types, and index.html, the page of examples/web with both inside, which needs no server. With OVER_GATE=1 it stands on
-# what `rt ci` has just proved, if that is all there.
+# its types, and index.html, the page of examples/web with both inside, which needs no server. If wasm-opt is there (Debian:
+# binaryen), ribjasper32.wasm is the same module with a 32-bit memory, which every browser has, and the page has that one
+# inside. With OVER_GATE=1 it stands on what `rt ci` has just proved, if that is all there.
 set -e
 cd "$(dirname "$0")/../.."
 target=wasm64-unknown-unknown
@@ -19,8 +20,18 @@ mkdir -p lib/web
 version=$(cat VERSION)
 sed "s/^export const VERSION = .*/export const VERSION = \"$version\";/" web/ribjasper.mjs >lib/web/.ribjasper.mjs
 cp web/ribjasper.d.mts lib/web/.ribjasper.d.mts
-tools/build/one_page.py examples/web/index.html lib/web/.ribjasper.mjs lib/web/.ribjasper.wasm >lib/web/.index.html
-for file in ribjasper.wasm ribjasper.mjs ribjasper.d.mts index.html; do
-    mv "lib/web/.$file" "lib/web/$file"
+inside=ribjasper.wasm
+rm -f lib/web/ribjasper32.wasm
+if command -v wasm-opt >/dev/null; then
+    inside=ribjasper32.wasm
+    # Addresses of the module's calls stay 64 bits wide; no call gives or takes one above 4 GiB.
+    wasm-opt --enable-memory64 --enable-bulk-memory --enable-simd --memory64-lowering lib/web/.ribjasper.wasm \
+        -o "lib/web/.$inside"
+else
+    echo "build_web: skipped the module with a 32-bit memory, there is no wasm-opt (Debian: binaryen)"
+fi
+tools/build/one_page.py examples/web/index.html lib/web/.ribjasper.mjs "lib/web/.$inside" >lib/web/.index.html
+for file in ribjasper.wasm "$inside" ribjasper.mjs ribjasper.d.mts index.html; do
+    [ ! -f "lib/web/.$file" ] || mv "lib/web/.$file" "lib/web/$file"
 done
 echo "lib/web/ribjasper.wasm and lib/web/index.html are built and proved"

@@ -33,7 +33,16 @@ put() {
         link) ln -sf "$2" "$3" ;;
         calls)
             install -d "$3"
-            for call in $(calls); do ln -sf "$2" "$3/$call.3"; done
+            if command -v python3 >/dev/null; then
+                tools/write/library_page.py --into "$3" && (cd "$3" && chmod 644 ribjasper_*.3)
+            else
+                for call in $(calls); do ln -sf "$2" "$3/$call.3"; done
+            fi
+            ;;
+        web)
+            for file in ribjasper.mjs ribjasper32.wasm ribjasper.wasm index.html; do
+                [ ! -f "$2/$file" ] || install -D -m 644 "$2/$file" "$3/$file"
+            done
             ;;
         tree)
             (cd "$2" && find . -type f -not -path '*__pycache__*') | while read -r file; do
@@ -46,7 +55,7 @@ put() {
 # remove HOW SOURCE PLACE: removes what a line lists, and folders that are then empty.
 remove() {
     case $1 in
-        tree) rm -rf "$3" ;;
+        tree | web) rm -rf "$3" ;;
         calls) rm -f "$3"/ribjasper_*.3 ;;
         *) rm -f "$3" ;;
     esac

@@ -2,8 +2,11 @@
 # Installs, where it may, what the checks use beside Python itself, as root, by apt-get, within some minutes: packages of
 # Python, fonts, compilers, a browser, and the programs that ours are compared with. Whatever comes of it, it ends well: checks that
 # lack a package are skipped, and counted.
-packages="python3-venv python3-pil python3-tqdm python3-distributed python3-hypothesis python3-mido mypy fonts-dejavu-core
-fonts-vlgothic ffmpeg cdrdao cdrskin libburn-dev valgrind gcc g++ clang binutils pkg-config cmake lld nodejs chromium"
+packages="black pyflakes3 python3-venv python3-pil python3-tqdm python3-distributed python3-hypothesis python3-mido mypy fonts-dejavu-core
+fonts-vlgothic ffmpeg cdrdao cdrskin libburn-dev valgrind gcc g++ clang binutils pkg-config cmake lld nodejs chromium
+wine wine64 gcc-mingw-w64-x86-64 g++-mingw-w64-x86-64 qemu-user gcc-aarch64-linux-gnu g++-aarch64-linux-gnu libc6-dev-arm64-cross
+binaryen wabt esbuild libjavascriptcoregtk-4.0-bin lintian libunwind-dev libdw-dev libgstreamer-plugins-base1.0-dev
+gstreamer1.0-tools gstreamer1.0-plugins-base libvlccore-dev gddrescue"
 [ "$(id -u)" = 0 ] && command -v apt-get >/dev/null && command -v dpkg-query >/dev/null || exit 0
 # A Rust compiler from elsewhere does as well.
 command -v rustc >/dev/null || packages="$packages rustc"
@@ -12,7 +15,7 @@ for package in $packages; do
     dpkg-query --show --showformat='${db:Status-Status}' "$package" 2>/dev/null | grep -qx installed || lacking="$lacking $package"
 done
 [ -n "$lacking" ] || exit 0
-get() { DEBIAN_FRONTEND=noninteractive timeout 240 apt-get -qq -o Acquire::Retries=1 -o DPkg::Lock::Timeout=60 "$@"; }
+get() { DEBIAN_FRONTEND=noninteractive timeout 480 apt-get -qq -o Acquire::Retries=1 -o DPkg::Lock::Timeout=60 "$@"; }
 # One that cannot be had does not keep the others out.
 { get install -y --no-install-recommends $lacking || { get update && get install -y --no-install-recommends $lacking; } ||
     for package in $lacking; do get install -y --no-install-recommends "$package"; done; } </dev/null >/dev/null 2>&1

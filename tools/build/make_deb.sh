@@ -1,58 +1,176 @@
 #!/bin/sh
-# Makes packages for Debian of what `make` and `make library` built, with dpkg-deb alone, and leaves them in deb/:
+# Makes packages for Debian of what `make` and `make library` built, with dpkg-deb only, and leaves them in deb/:
 # ribjasper (the program, its page and completions), libribjasper0 (the shared library), libribjasper-dev (header,
-# archive, pkg-config, CMake) and ribjasper-desk. Without lib/ it makes the first alone, and says so.
+# archive, pkg-config, CMake) and ribjasper-desk. Without lib/ it makes only the first, and says so. The same commit gives the
+# same packages byte for byte (SOURCE_DATE_EPOCH, or the time of the commit).
 set -e
 cd "$(dirname "$0")/../.."
 command -v dpkg-deb >/dev/null || { echo "make_deb: dpkg-deb is missing (package dpkg)" >&2; exit 1; }
 [ -x bin/ribjasper ] || { echo "make_deb: there is no bin/ribjasper (make)" >&2; exit 1; }
-# To Debian what comes before a release stands behind a tilde.
-version=$(sed 's/-dev$/~dev/' VERSION)
+# To Debian a version before a release has a tilde. The number behind the hyphen counts the packages of a version.
+upstream=$(sed 's/-dev$/~dev/' VERSION)
+version=$upstream-1
 architecture=$(dpkg --print-architecture)
+multiarch=$(command -v dpkg-architecture >/dev/null && dpkg-architecture -qDEB_HOST_MULTIARCH || echo "$(uname -m)-linux-gnu")
+SOURCE_DATE_EPOCH=${SOURCE_DATE_EPOCH:-$(git log -1 --format=%ct 2>/dev/null || date +%s)}
+export SOURCE_DATE_EPOCH
+maintainer="Ribjasper maintainers <maintainers@users.noreply.ribjasper.example>"
+umask 022
 work=$(mktemp -d)
 trap 'rm -rf "$work"' EXIT
+mkdir -p deb
 
-# package NAME SUMMARY DEPENDS: makes a package of what tools/build/installed.txt lists. `built_for` is what runs it,
-# `recommends` what it can do without, and `warrant` what it can be trusted for.
-built_for=$architecture recommends= warrant="Its functions are proved."
-package() {
-    name=$1 summary=$2 depends=$3
-    room=$work/$name
-    mkdir -p "$room/DEBIAN"
-    tools/build/install.sh "$room" /usr /usr/lib "$name"
-    install -D -m 644 share/copyright "$room/usr/share/doc/$name/copyright"
-    {
-        echo "Package: $name"
-        echo "Version: $version"
-        echo "Architecture: $built_for"
-        echo "Maintainer: Ribjasper maintainers <maintainers@users.noreply.ribjasper.example>"
-        echo "Section: sound"
-        echo "Priority: optional"
-        [ -z "$depends" ] || echo "Depends: $depends"
-        [ -z "$recommends" ] || echo "Recommends: $recommends"
-        echo "Installed-Size: $(du -sk "$room" | cut -f1)"
-        echo "Description: $summary"
-        echo " Ribjasper works on the subcode channels P to W of the Compact Disc. $warrant"
-    } >"$room/DEBIAN/control"
-    mkdir -p deb
-    dpkg-deb --root-owner-group --build "$room" "deb/${name}_${version}_$built_for.deb" >/dev/null
-    echo "deb/${name}_${version}_$built_for.deb"
+# The newest version of the C library that a file asks for, as a dependency.
+libc_for() {
+    newest=$(readelf --version-info --wide "$1" | grep -oE 'GLIBC_[0-9.]+' | sed 's/GLIBC_//' | sort -uV | tail -n 1)
+    echo "libc6 (>= ${newest:-2.17})"
 }
 
-package ribjasper "subcode of Compact Discs: graphics, texts, Q frames, both ways" "libc6"
-if [ -e lib/libribjasper.so.0 ]; then
-    package libribjasper0 "player and tools for the subcode of Compact Discs, shared library" "libc6"
-    package libribjasper-dev "player and tools for the subcode of Compact Discs, for programs in C" "libribjasper0 (= $version)"
-    # What Python makes of its sources when it is installed goes with them.
-    mkdir -p "$work/ribjasper-desk/DEBIAN"
-    printf '#!/bin/sh\nset -e\n[ "$1" != configure ] || py3compile -p ribjasper-desk /usr/share/ribjasper-desk\n' \
-        >"$work/ribjasper-desk/DEBIAN/postinst"
-    printf '#!/bin/sh\nset -e\npy3clean -p ribjasper-desk\n' >"$work/ribjasper-desk/DEBIAN/prerm"
-    chmod 755 "$work/ribjasper-desk/DEBIAN/postinst" "$work/ribjasper-desk/DEBIAN/prerm"
-    warrant="Its desk is tested, not proved; it stands on the proved library."
-    built_for=all recommends="ribjasper, python3-pil, python3-tqdm, python3-distributed, ffmpeg, fonts-dejavu-core"
-    package ribjasper-desk "whole jobs over dumps and songs of the subcode of Compact Discs" \
-        "libribjasper0 (= $version), python3 (>= 3.11)"
-else
+# The entries of the package's changelog: this version, and those before it that CHANGELOG.md dates.
+entry() {
+    echo "ribjasper ($1) unstable; urgency=medium"
+    echo
+    echo "  * New upstream release; changelog.gz lists what changed."
+    echo
+    echo " -- $maintainer  $(LC_ALL=C date -u -R -d "$2")"
+    echo
+}
+entries() {
+    entry "$version" "@$SOURCE_DATE_EPOCH"
+    sed -n 's/^## \([0-9.]*\), \([0-9-]*\)$/\1 \2/p' CHANGELOG.md | while read -r number day; do
+        [ "$number" = "$upstream" ] || entry "$number-1" "$day"
+    done
+}
+
+# begin NAME: installs what tools/build/installed.txt lists for a package into its room.
+begin() {
+    name=$1 room=$work/$1
+    tools/build/install.sh "$room" /usr "/usr/lib/$multiarch" "$name"
+    doc=$room/usr/share/doc/$name
+    install -D -m 644 share/copyright "$doc/copyright"
+    mkdir -p "$room/DEBIAN"
+}
+
+documents() { install -m 644 "$@" "$doc"; }
+
+# control_file NAME MODE: writes a file of the package's control area from standard input.
+control_file() { cat >"$room/DEBIAN/$1" && chmod "$2" "$room/DEBIAN/$1"; }
+
+# finish SUMMARY SECTION ARCHITECTURE DEPENDS [RECOMMENDS]: makes the package; standard input is its description.
+finish() {
+    # Pages of the manual are compressed, and so are the links between them.
+    find "$room/usr/share/man" -type l 2>/dev/null | while read -r link; do
+        ln -s "$(readlink "$link").gz" "$link.gz"
+        rm "$link"
+    done
+    find "$room/usr/share/man" -type f ! -name '*.gz' -exec gzip -9n {} + 2>/dev/null || true
+    gzip -9nc CHANGELOG.md >"$doc/changelog.gz"
+    entries | gzip -9n >"$doc/changelog.Debian.gz"
+    (cd "$room" && find usr -type f -print0 | LC_ALL=C sort -z | xargs -0 md5sum) | control_file md5sums 644
+    {
+        echo "Package: $name"
+        echo "Source: ribjasper"
+        echo "Version: $version"
+        echo "Architecture: $3"
+        echo "Maintainer: $maintainer"
+        echo "Section: $2"
+        echo "Priority: optional"
+        [ "$name" = ribjasper-desk ] || [ "$name" = ribjasper ] || echo "Multi-Arch: same"
+        [ "$name" != ribjasper ] || echo "Multi-Arch: foreign"
+        [ -z "$4" ] || echo "Depends: $4"
+        [ -z "$5" ] || echo "Recommends: $5"
+        [ -z "$suggests" ] || echo "Suggests: $suggests"
+        echo "Installed-Size: $(du -sk --apparent-size "$room/usr" | cut -f1)"
+        echo "Description: $1"
+        sed 's/^/ /'
+    } | control_file control 644
+    find "$room" -newermt "@$SOURCE_DATE_EPOCH" -exec touch -hd "@$SOURCE_DATE_EPOCH" {} +
+    dpkg-deb --root-owner-group -Zxz --build "$room" "deb/${name}_${version}_$3.deb" >/dev/null
+    echo "deb/${name}_${version}_$3.deb"
+}
+
+suggests=ribjasper-desk
+begin ribjasper
+strip --remove-section=.note --strip-unneeded "$room/usr/bin/ribjasper"
+documents docs/FORMATS.md docs/PROVED.md
+install -D -m 644 -t "$doc/examples" examples/hello.cue examples/hello.script
+finish "subcode of Compact Discs: graphics, texts and Q frames, both ways" sound "$architecture" \
+    "$(libc_for bin/ribjasper)" <<'END'
+Ribjasper works on the subcode channels P to W of the Compact Disc: it
+converts raw subcode to CD+G files with error correction, shows pictures,
+checks words, lists Q frames and CD-TEXT, and authors the subcode of a disc
+from a cue sheet and a picture script. Every function of it is proved.
+END
+if [ ! -e lib/libribjasper.so.0 ]; then
     echo "make_deb: skipped the library and the desk, since lib/ is not built (make library)"
+    exit 0
 fi
+
+suggests=
+begin libribjasper0
+strip --strip-unneeded "$room/usr/lib/$multiarch/libribjasper.so.0"
+chmod 644 "$room/usr/lib/$multiarch/libribjasper.so.0"
+echo "activate-noawait ldconfig" | control_file triggers 644
+echo "libribjasper 0 libribjasper0 (>= $upstream)" | control_file shlibs 644
+# Each call with the version that first had it.
+{
+    echo "libribjasper.so.0 libribjasper0 #MINVER#"
+    echo "* Build-Depends-Package: libribjasper-dev"
+    echo " RIBJASPER_1@RIBJASPER_1 1.1.0"
+    sed -n 's/^\([0-9.]*\): call \(ribjasper_[a-z0-9_]*\)$/ \2@RIBJASPER_1 \1/p' tools/check/abi.txt | LC_ALL=C sort
+} | control_file symbols 644
+finish "player and tools for the subcode of Compact Discs - shared library" libs "$architecture" \
+    "$(libc_for lib/libribjasper.so.0)" <<'END'
+A proved player of CD+G, error correction, surveys, mending of several
+readings and plans of discs, for programs in any language that calls C.
+.
+This package has the shared library.
+END
+
+begin libribjasper-dev
+strip --strip-debug --enable-deterministic-archives "$room/usr/lib/$multiarch/libribjasper.a"
+install -D -m 644 -t "$doc/examples" examples/player.c examples/player.cpp examples/player.py examples/player.rs
+finish "player and tools for the subcode of Compact Discs - development files" libdevel "$architecture" \
+    "libribjasper0 (= $version)" <<'END'
+A proved player of CD+G, error correction, surveys, mending of several
+readings and plans of discs, for programs in any language that calls C.
+.
+This package has the header, the static library, pages of the manual, the
+files of pkg-config and CMake, and examples.
+END
+
+begin ribjasper-desk
+# What Python compiles of its sources on installation is removed with them.
+control_file postinst 755 <<'END'
+#!/bin/sh
+set -e
+if [ "$1" = configure ] && command -v py3compile >/dev/null; then
+    py3compile -p ribjasper-desk /usr/share/ribjasper-desk
+fi
+END
+control_file prerm 755 <<'END'
+#!/bin/sh
+set -e
+if command -v py3clean >/dev/null; then
+    py3clean -p ribjasper-desk
+else
+    find /usr/share/ribjasper-desk -name __pycache__ -prune -exec rm -rf {} +
+fi
+END
+documents docs/GUIDE.md docs/*.png
+for example in album song; do
+    for file in examples/$example/*; do
+        [ ! -f "$file" ] || install -D -m 644 "$file" "$doc/$file"
+    done
+done
+suggests="python3-distributed, python3-mido"
+finish "whole jobs over dumps and songs of the subcode of Compact Discs" sound all \
+    "libribjasper0 (>= $upstream), python3 (>= 3.11)" \
+    "ribjasper, python3-pil, python3-tqdm, ffmpeg, fonts-dejavu-core" <<'END'
+Commands for archivists and publishers of CD+G: identify the form of a
+dump, find and mend damage, report on folders, turn lyrics into discs,
+pairs of files, films and web pages.
+.
+The desk is tested, not proved. It reads blocks, words and texts by the
+proved library.
+END

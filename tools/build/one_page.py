@@ -1,8 +1,8 @@
 #!/usr/bin/env python3
-"""Writes a page with its library inside: one_page.py PAGE LIBRARY MODULE.
+"""Writes a page with its scripts and its library inside: one_page.py PAGE LIBRARY MODULE.
 
-The page imports the library by one statement and has one line `const MODULE = undefined;`. In their place come the text
-of the library and the bytes of the module, so that a browser can open the page as a file.
+The page has one `<script type="module" src="..">`, and one of its scripts the line `const MODULE = undefined;`. The script, the
+scripts that it imports, the library and the bytes of the module come into the page, so that a browser can open it as a file.
 """
 from __future__ import annotations
 
@@ -12,20 +12,66 @@ import re
 import sys
 from pathlib import Path
 
-IMPORT = re.compile(r"^import \{[^}]*\}\s*from \"[^\"]*\";$", re.MULTILINE)
+SCRIPT = re.compile(r"<script type=\"module\" src=\"([^\"]*)\"></script>")
+IMPORT = re.compile(r"^import \{([^}]*)\}\s*from \"(\.[^\"]*)\";\n", re.MULTILINE)
+EXPORT = re.compile(r"^export (?=(?:const|let|class|async|function)\b)", re.MULTILINE)
+DECLARED = re.compile(r"^(?:async )?(?:const|let|class|function\*?) (?:(\w+)|[\[{]([^\]}]*)[\]}])", re.MULTILINE)
 MODULE = "const MODULE = undefined;"
+LIBRARY = "ribjasper.mjs"
 
 
-def with_library(page: str, library: str, module: bytes) -> str:
-    """The page with the library's text and the module's bytes inside."""
-    text = re.sub(r"^export (?=const|class|async|function)", "", library, flags=re.MULTILINE)
-    found = IMPORT.findall(page)
-    if len(found) != 1 or page.count(MODULE) != 1:
-        raise ValueError("the page imports its library once and has one line for the module")
-    if "</script" in text:
-        raise ValueError("the library ends the page's script")
+class Scripts:
+    """Scripts in the order in which they depend on each other, without their imports and exports."""
+
+    def __init__(self, library: Path):
+        self.library = library
+        self.texts: dict[Path, str] = {}
+        self.owners: dict[str, Path] = {}
+
+    def add(self, path: Path) -> None:
+        """Adds a script behind those that it imports."""
+        path = self.library.resolve() if path.name == LIBRARY else path.resolve()
+        if path in self.texts:
+            return
+        text = path.read_text(encoding="utf-8")
+        for names, place in IMPORT.findall(text):
+            if " as " in names:
+                raise ValueError(f"{path.name} renames what it imports")
+            self.add(path.parent / place)
+        text = EXPORT.sub("", IMPORT.sub("", text))
+        if re.search(r"^(import|export) ", text, re.MULTILINE):
+            raise ValueError(f"{path.name} imports or exports in a way that is not known here")
+        self.claim(path, text)
+        self.texts[path] = text
+
+    def claim(self, path: Path, text: str) -> None:
+        """All scripts become one, so each name is declared by one of them."""
+        for one, several in DECLARED.findall(text):
+            for name in [one] if one else re.findall(r"\w+", several):
+                other = self.owners.setdefault(name, path)
+                if other != path:
+                    raise ValueError(f"{path.name} and {other.name} both declare {name}")
+
+    def text(self) -> str:
+        return "\n".join(self.texts.values())
+
+
+def with_scripts(page: Path, library: Path, module: bytes) -> str:
+    """The page with the texts of its scripts and the module's bytes inside."""
+    content = page.read_text(encoding="utf-8")
+    found = SCRIPT.findall(content)
+    if len(found) != 1:
+        raise ValueError("the page has one script")
+    scripts = Scripts(library)
+    scripts.add(page.parent / found[0])
+    text = scripts.text()
+    if text.count(MODULE) != 1:
+        raise ValueError("the scripts have one line for the module")
+    if "</script" in text or "<!--" in text:
+        raise ValueError("a script holds what ends a script of a page")
     encoded = base64.b64encode(module).decode("ascii")
-    return page.replace(found[0], text).replace(MODULE, f'const MODULE = "{encoded}";')
+    inside = text.replace(MODULE, f'const MODULE = "{encoded}";')
+    return SCRIPT.sub(lambda _: f'<script type="module">\n{inside}</script>', content)
 
 
 def main() -> int:
@@ -34,7 +80,7 @@ def main() -> int:
         parser.add_argument(name, type=Path)
     given = parser.parse_args()
     try:
-        sys.stdout.write(with_library(given.page.read_text(), given.library.read_text(), given.module.read_bytes()))
+        sys.stdout.write(with_scripts(given.page, given.library, given.module.read_bytes()))
     except (OSError, ValueError) as error:
         print(f"one_page: {error}", file=sys.stderr)
         return 1

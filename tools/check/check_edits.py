@@ -1,25 +1,26 @@
 #!/usr/bin/env python3
-"""Looks at the wrong bodies that the checker has to refuse: check_edits.py [TOP]
+"""Checks the wrong bodies that the checker has to refuse: check_edits.py [TOP]
 
-Each edit's old text has to stand exactly once in the file that it names, so that the edit still turns what it was
-written for. Where an edit has several texts, each is looked for in what those before it made. Those of `must-fail/` are
-tried by the gate, and those of `wrong-bodies/` by tools/check/try_wrong_bodies.py.
+Each edit's old text stands exactly once in the file that it names, so that the edit still changes what it was written
+for. If an edit has several texts, each is looked for in the result of those before it. The gate tries the edits of
+`must-fail/`, and tools/check/try_wrong_bodies.py those of `wrong-bodies/`.
 
-docs/WRONG_BODIES.md has to list each edit of `wrong-bodies/` once, below its crate, and no other; each row or test that it
-names has to stand in the file that it names.
+The first line of each edit of `wrong-bodies/` says what a user would notice and what refuses the edit; each row or test
+that it names stands in the file that it names. tools/write/list_wrong_bodies.py makes a list of these lines.
 """
 import argparse
 import re
+import site
 import sys
-from collections import Counter
 from pathlib import Path
 from typing import Iterator
 
 TOP = Path(__file__).resolve().parents[2]
+site.addsitedir(str(TOP / "tools" / "write"))
+from list_wrong_bodies import wrong_bodies  # noqa: E402
+
 KEYS = ("file", "old", "new")
 FOLDERS = ("must-fail", "wrong-bodies")
-LIST = Path("docs") / "WRONG_BODIES.md"
-CRATE, EDIT = re.compile(r"## `(\w+)`"), re.compile(r"\| `(\w+)` \|")
 # A file of rows or tests, and a row or a test that stands in it.
 WITNESS = re.compile(r"`([\w.]+)`: `([\w-]+)`")
 WITNESSES = ("crates/rows/data/*.rows", "crates/call_tests/src/*.rt", "tests/*/*", "desk/tests/*.py")
@@ -58,53 +59,31 @@ def complaints(edit: Path) -> Iterator[str]:
         yield "turns nothing"
 
 
-def listed(text: str) -> Iterator[str]:
-    """The wrong bodies that the list names, each behind its crate."""
-    crate = ""
-    for line in text.splitlines():
-        if heading := CRATE.match(line):
-            crate = heading[1]
-        elif row := EDIT.match(line):
-            yield f"{crate}/{row[1]}"
-
-
-def differences(top: Path, text: str) -> Iterator[str]:
-    """What the list leaves out, and what it names that does not stand there, or twice."""
-    names = Counter(listed(text))
-    standing = {f"{edit.parents[1].name}/{edit.stem}" for edit in top.glob("crates/*/wrong-bodies/*.edit")}
-    yield from (f"leaves out {name}" for name in sorted(standing - names.keys()))
-    yield from (f"names {name}, which is not there" for name in sorted(names.keys() - standing))
-    yield from (f"names {name} {count} times" for name, count in names.items() if count > 1)
-
-
 def stands(file: Path, witness: str) -> bool:
     """Whether a file has this row, or this function."""
     what = rf"^row {witness}$" if file.suffix == ".rows" else rf"\b{witness}\("
     return re.search(what, file.read_text(), re.MULTILINE) is not None
 
 
-def lost_witnesses(top: Path, text: str) -> Iterator[str]:
-    """The rows and tests that the list names, and that do not stand in their file."""
+def complaints_of_lines(top: Path) -> Iterator[str]:
+    """Edits of wrong-bodies/ without a first line, and rows and tests that the lines name and that are not there."""
     files = {file.name: file for pattern in WITNESSES for file in top.glob(pattern)}
-    for name, witness in WITNESS.findall(text):
-        if name not in files or not stands(files[name], witness):
-            yield f"names {witness} of {name}, which is not there"
-
-
-def complaints_of_list(top: Path) -> Iterator[str]:
-    """What is wrong with the list of the wrong bodies that the gate leaves out."""
-    text = (top / LIST).read_text() if (top / LIST).is_file() else ""
-    yield from differences(top, text)
-    yield from lost_witnesses(top, text)
+    for body in wrong_bodies(top):
+        parts = body.parts()
+        if not parts:
+            yield f"{body.crate}/{body.name} has no first line `# NOTICE | REFUSED`"
+        for name, witness in WITNESS.findall(parts[1] if parts else ""):
+            if name not in files or not stands(files[name], witness):
+                yield f"{body.crate}/{body.name} names {witness} of {name}, which is not there"
 
 
 def main() -> int:
-    parser = argparse.ArgumentParser(description="Looks at the wrong bodies that the checker has to refuse.")
+    parser = argparse.ArgumentParser(description="Checks the wrong bodies that the checker has to refuse.")
     parser.add_argument("top", nargs="?", type=Path, default=TOP, help="the repository (default: this one)")
     top = parser.parse_args().top
     edits = sorted(edit for folder in FOLDERS for edit in top.glob(f"crates/*/{folder}/*.edit"))
     wrong = [f"{edit.relative_to(top)} {what}" for edit in edits for what in complaints(edit)]
-    wrong += [f"{LIST} {what}" for what in complaints_of_list(top)]
+    wrong += complaints_of_lines(top)
     for line in wrong:
         print(f"check_edits: {line}", file=sys.stderr)
     return 1 if wrong or not edits else 0

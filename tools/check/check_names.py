@@ -4,7 +4,7 @@
 Complains of a definition whose name stands in the public specs of two crates, of a type (a struct, an enum, a trait, or
 a record of definitions) whose name stands in two crates, of a line of code, clause, definition or proof over 110 columns
 (comments, proof hints and imports are laid out by `rt fmt`, and are passed over), and of a public item or a definition
-that nothing names: neither another place in the code nor tools/check/surface.txt, the list of names that callers were promised.
+that no other place in the code names. The crate `surface` names what callers were promised.
 """
 import argparse
 import functools
@@ -84,11 +84,6 @@ def uses() -> Counter[str]:
     return count
 
 
-def surface() -> set[str]:
-    path = Path("tools/check/surface.txt")
-    return set(WORD.findall(path.read_text())) if path.exists() else set()
-
-
 def place(path: Path, number: int) -> str:
     return f"{path}:{number}"
 
@@ -108,7 +103,7 @@ def long_lines() -> Iterator[str]:
 
 
 def unused(found: Found) -> Iterator[str]:
-    count, promised = uses(), surface()
+    count = uses()
     for name, places in sorted(found.items()):
         # A definition names itself in its type and on each of its lines.
         path, number = places[0]
@@ -118,7 +113,7 @@ def unused(found: Found) -> Iterator[str]:
         if count[name] <= own:
             yield f"{name} ({place(path, number)}) is named by nothing"
     for name, path, number in items():
-        if count[name] <= 1 and name not in promised and name not in ALLOWED:
+        if count[name] <= 1 and name not in ALLOWED:
             yield f"{name} ({place(path, number)}) is called by nothing"
 
 

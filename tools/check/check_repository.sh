@@ -38,9 +38,8 @@ for crate in $present; do
     grep -qw "$crate" docs/ARCHITECTURE.md || complain "docs/ARCHITECTURE.md leaves out $crate"
 done
 
-# No name means two things, no line is too long, and each name that callers were promised is there.
+# No name means two things, and no line is too long.
 tools/check/check_names.py || complain "names or lines are not in order"
-tools/check/check_surface.py || complain "a promised name is gone or changed"
 
 # What `make` proves is all of each crate.
 told=$(tools/build/test_proving.py 2>&1) || complain "tools/build/test_proving.py fails: $(echo "$told" | tail -n 6)"
@@ -82,6 +81,10 @@ done
 try tests/library/compare_player.sh || complain "the library for programs in C is not as the program"
 try tests/library/test_linking.sh || complain "the library for programs in C is not linked as it should be"
 
+# The libraries and programs for other systems, and the plug-ins, do what those of this machine do, where they are built.
+try tests/library/compare_targets.sh || complain "what is built for another system is not as the program"
+try tests/library/compare_plugins.sh || complain "a plug-in does not show what the program shows"
+
 # What linked programs rest on is as it was, examples show what the program shows, mending is that of another program, no call
 # takes more of the stack than is said, and nothing that is asked for is forgotten.
 try tools/check/check_abi.py || complain "tools/check/abi.txt does not list what the library is"
@@ -96,6 +99,7 @@ try tests/program/test_live_stream.py || complain "a live stream is held back"
 
 # The module and the page for browsers do what the program does, where they are built and Node and Chromium are there.
 try tests/peers/compare_web.sh || complain "the player for web pages is not as the program"
+try tests/peers/compare_c.sh || complain "the player as plain C is not as the program"
 
 # The desk does what it says, where the program and the library are built.
 try tools/check/test_desk.sh || complain "a test of the desk fails"
@@ -110,7 +114,11 @@ fi
 
 # No function of Python is without its types, and no command takes more instructions than it did.
 try tools/check/check_types.sh || complain "the types of what is written in Python are not in order"
+try tools/check/check_style.sh || complain "the desk's Python is not laid out as it should be"
 try bench/instructions.py --check || complain "a command takes more instructions than bench/instructions.tsv says"
+
+# No more code runs than tools/check/way_of.tsv says, by 2 %.
+try tools/check/way_of.py --check || complain "more code runs for a command than tools/check/way_of.tsv says"
 
 # Other programs agree, where they are installed.
 for other in compare_ffmpeg compare_cdrskin; do
@@ -125,6 +133,9 @@ for document in $(git ls-files '*.md'); do
         [ -e "$folder/$link" ] || complain "$document links to $link, which is not there"
     done
 done
+
+# Documents are short and are read once.
+tools/check/check_words.py || complain "a document has a long sentence, a word to avoid, or too many lines"
 
 # Each target of make and each script that README.md names is there.
 if [ -f README.md ]; then

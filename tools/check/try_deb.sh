@@ -1,9 +1,18 @@
 #!/bin/sh
-# Installs the packages of deb/ and removes them again, where that is allowed (as root, with dpkg): each file that they
-# name is there between, and gone after. Skipped elsewhere, and where a package of that name is installed already.
+# Looks at the packages of deb/ with lintian, which may find nothing. Then installs the packages and removes them again, where
+# that is allowed (as root, with dpkg): each file that they name is there between, and gone after. Skipped elsewhere, and where a
+# package of that name is installed already.
 set -e
 cd "$(dirname "$0")/../.."
 ls deb/*.deb >/dev/null 2>&1 || { echo "try_deb: skipped, there are no packages (make deb)"; exit 0; }
+if command -v lintian >/dev/null; then
+    found=$(lintian --fail-on none --tag-display-limit 0 --display-level '>=warning' deb/*.deb 2>&1 |
+        grep -v -e '^running with root' -e '^N:' || true)
+    [ -z "$found" ] || { echo "try_deb: lintian finds: $found" >&2; exit 1; }
+    echo "try_deb: lintian finds no error and no warning"
+else
+    echo "try_deb: skipped lintian, it is not installed"
+fi
 [ "$(id -u)" = 0 ] && command -v dpkg >/dev/null || { echo "try_deb: skipped, packages cannot be installed here"; exit 0; }
 names=$(for file in deb/*.deb; do dpkg-deb --field "$file" Package; done)
 for name in $names; do

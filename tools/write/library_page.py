@@ -1,5 +1,10 @@
 #!/usr/bin/env python3
-"""Writes the page of section 3 of the manual to standard output, from the comments of include/ribjasper.h."""
+"""Writes the manual pages of section 3 from the comments of include/ribjasper.h.
+
+    library_page.py                  writes the page of the whole library to standard output
+    library_page.py --call NAME      writes the page of one call to standard output
+    library_page.py --into FOLDER    writes a page for each call into a folder"""
+import argparse
 import re
 import sys
 from pathlib import Path
@@ -10,6 +15,9 @@ PARTS = re.compile(r"^(?:/\*(.*?)\*/\n)?((?:(?!/\*|\n)[^\n]*\n)*)", re.M | re.S)
 # Lines that are for the compiler alone, and a word that is.
 GUARDS = re.compile(r'^(#if|#el|#endif|#include|#define RIBJASPER_(H$|NODISCARD)|RIBJASPER_NODISCARD$|extern "C"|\}$)')
 FOR_COMPILERS = "RIBJASPER_NODISCARD "
+# A line of a comment that begins what is said of one or more parameters.
+PARAMETER = re.compile(r"^ {5}[a-z_]\w*(?:, [a-z_]\w*)*: ")
+CALL = re.compile(r"\b(ribjasper_\w+)\(")
 
 
 def roff(text: str) -> str:
@@ -19,16 +27,21 @@ def roff(text: str) -> str:
 
 
 def said(comment: str) -> list[str]:
-    """A comment as paragraphs; lines that are set in further keep their places."""
+    """A comment as paragraphs. Indented lines are parameters; each begins a line of its own."""
     out: list[str] = []
+    listed = False
     for line in comment.strip("\n").rstrip().splitlines():
         text = line.strip()
         if not text:
             out.append(".PP")
-        elif line.startswith("     "):
-            out += [".br", roff(text)]
-        else:
-            out.append(roff(text))
+            continue
+        if PARAMETER.match(line):
+            out.append(".br")
+            listed = True
+        elif listed and not line.startswith("     "):
+            out.append(".PP")
+            listed = False
+        out.append(roff(text))
     return out
 
 
@@ -63,9 +76,59 @@ def page(header: str, version: str) -> str:
     return "\n".join(out) + "\n"
 
 
+def calls(header: str) -> dict[str, tuple[str, str]]:
+    """The comment and the declaration of each call."""
+    found: dict[str, tuple[str, str]] = {}
+    for comment, code in PARTS.findall(header)[1:]:
+        name = CALL.search(code)
+        if name and comment:
+            found[name.group(1)] = (comment, code)
+    return found
+
+
+def call_page(name: str, comment: str, code: str, version: str) -> str:
+    """The page of one call."""
+    lines = [line.replace(FOR_COMPILERS, "") for line in code.splitlines() if not GUARDS.match(line)]
+    first = re.split(r"(?<=[.:]) ", " ".join(comment.split()), maxsplit=1)[0].rstrip(".:")
+    out = [
+        '.\\" Written by tools/write/library_page.py from include/ribjasper.h.',
+        f'.TH {name.upper()} 3 "" "Ribjasper {version}" "Library calls"',
+        ".SH NAME",
+        f"{name} \\- {roff(first[0].lower() + first[1:])}",
+        ".SH LIBRARY",
+        "libribjasper (\\-lribjasper, or pkg\\-config \\-\\-cflags \\-\\-libs ribjasper)",
+        ".SH SYNOPSIS",
+        ".nf",
+        ".B #include <ribjasper.h>",
+        ".PP",
+        *(f"\\fB{roff(line)}\\fR" for line in lines),
+        ".fi",
+        ".SH DESCRIPTION",
+        *said(comment),
+        ".SH SEE ALSO",
+        ".BR ribjasper (3),",
+        "which has the rules of all calls: threads, pointers, failures and memory.",
+    ]
+    return "\n".join(out) + "\n"
+
+
 def main() -> int:
+    parser = argparse.ArgumentParser(description="Writes the manual pages of the library's calls.")
+    wanted = parser.add_mutually_exclusive_group()
+    wanted.add_argument("--call", metavar="NAME", help="write the page of this call to standard output")
+    wanted.add_argument("--into", metavar="FOLDER", type=Path, help="write a page for each call into this folder")
+    options = parser.parse_args()
     header = (TOP / "include" / "ribjasper.h").read_text()
-    sys.stdout.write(page(header, (TOP / "VERSION").read_text().strip()))
+    version = (TOP / "VERSION").read_text().strip()
+    if options.into:
+        for name, (comment, code) in calls(header).items():
+            (options.into / f"{name}.3").write_text(call_page(name, comment, code, version))
+    elif options.call:
+        if options.call not in calls(header):
+            parser.error(f"unknown call {options.call}")
+        sys.stdout.write(call_page(options.call, *calls(header)[options.call], version))
+    else:
+        sys.stdout.write(page(header, version))
     return 0
 
 

@@ -1,11 +1,11 @@
 #!/usr/bin/env python3
-"""Writes docs/DEFINITIONS.md: what a reader has to believe, the claims first and then the definitions that they cite.
+"""Writes docs/DEFINITIONS.md: the claims of the headline, and the definitions that they cite.
 
-An act begins with clauses of the top call `run`, with definitions or with laws, and shows each definition that these
-rest on, once, in the order in which they are met, and those that only name a number in a table at its end; what an
-earlier act shows is not shown again. What no act reaches is listed by name at the end. Two long acts that few read are
-counted there alone: with --whole (`make definitions`) they are written too, to a file that is not kept. With --check it only
-says whether the document is the one that would be written; --count prints the lines of each act.
+An act begins with clauses of the top call `run`, with definitions or with laws. It shows each definition that these rest
+on once, in the order in which they are met; definitions that only name a number stand in a table at its end. A later act
+does not repeat them. The document has the acts of the headline. With --whole (`make definitions`) the script writes all
+acts, and the names that no act reaches, to a file that is not committed. With --check it reports whether the document is
+current; --count prints the lines of each act.
 """
 import argparse
 import re
@@ -38,8 +38,8 @@ ACTS = [
     ("What the calls of the library say", ["library"]),
 ]
 
-# The acts that are written on demand.
-ON_DEMAND = ("Words, answers, and what each command takes and writes", "What the calls of the library say")
+# The acts of the headline, which the document shows.
+HEADLINE = 3
 
 # The crates whose definitions the clauses of the library for programs in C rest on, beside those of the program.
 LIBRARY = ("block_survey", "rw_mend", "mended_stream", "disc_plan", "live_player", "ribjasper_c")
@@ -396,11 +396,9 @@ class Book:
         """The lines of the acts, and how many definitions and printed lines each has."""
         out: list[str] = []
         counts = []
-        for number, (title, _) in enumerate(ACTS):
+        for number, (title, _) in enumerate(ACTS if is_whole else ACTS[:HEADLINE]):
             lines, definitions = self.printed(number)
             counts.append((title, definitions, len(lines)))
-            if title in ON_DEMAND and not is_whole:
-                lines = [f"{definitions} definitions, {len(lines)} lines: `make definitions` writes them to {WHOLE.relative_to(TOP)}.", ""]
             out += [f"## {ROMAN[number]}. {title}", "", *lines]
         return out, counts
 
@@ -462,23 +460,24 @@ class Book:
     def text(self, is_whole: bool) -> tuple[str, list[tuple[str, int, int]]]:
         """The document, and how many definitions and printed lines each act has."""
         acts, counts = self.acts(is_whole)
-        first, second, third = (counts[k][2] for k in range(3))
+        first, second, third = (counts[k][2] for k in range(HEADLINE))
         out = [
             "# Definitions",
             "",
-            "What a reader has to believe: the clauses of the top call `run`, and each definition that they rest on, as it stands",
-            "in the code. A proof shows that a program meets its clauses; that these say what is meant, only reading can show.",
+            "The headline is a set of clauses of the top call `run`. This document shows these clauses and every definition that",
+            "they rest on, as they stand in the code. The checker proves that the program meets its clauses. Only a reader can",
+            "judge whether the clauses say what is meant.",
             "",
-            f"The headline's second half, that packs and pictures come back, is acts I and II, {first + second} lines as they are printed. Its",
-            f"first half, what is written and what is late, is act III with {third} more. Each act shows the claims first and then what",
-            "they cite, each definition once, and at the end the numbers that have names. A line that begins with `--` says in plain",
-            "words what the next definition is. `tools/write/list_definitions.py` writes this document from the code, and the repository's",
-            "own check compares it.",
+            f"Acts I and II ({first + second} lines) are the headline's second half: packs and pictures come back. Act III ({third} lines) is",
+            "its first half: what is written, and what is late. Each act shows its claims first and then what they cite. A line",
+            "that begins with `--` explains the next definition. `tools/write/list_definitions.py` writes this document, and",
+            "`make check` compares it with the code. `make definitions` writes all acts to `docs/DEFINITIONS-WHOLE.md`.",
             "",
-            "| Act | Definitions | Lines as printed |",
+            "| Act | Definitions | Lines |",
             "|---|---|---|",
         ]
         out += [f"| {ROMAN[k]}. {title} | {number} | {count} |" for k, (title, number, count) in enumerate(counts)]
+        out += [f"| {ROMAN[k]}. {title} | `make definitions` | |" for k, (title, _) in enumerate(ACTS) if k >= len(counts)]
         out += ["", "## How to read them", "", "```", *signature(), "```", "", KEY, ""]
         for crate, name in (("raw_subcode", "Form"), ("cdg_cmd", "Status"), ("cdg_instructions", "Instr")):
             out += [f"The variants of `{name}`:", "", "```", *variants(crate, name), "```", ""]
@@ -486,9 +485,10 @@ class Book:
         out += [f"| `{word}` | {WORDS[word]} |" for word in sorted(self.words) if word in WORDS]
         types = sorted({f"`{it.split('.')[-1]}` ({it.split('.')[0]})" for it in self.types})
         out += ["", f"Types of the code that they name: {', '.join(types)}."]
-        out += [""] + acts
-        out += ["## What no act reaches", "", "Definitions of steps within proofs and of calls below `run`.", ""]
-        return "\n".join(out + self.rest()) + "\n", counts
+        out += ["", *acts]
+        if is_whole:
+            out += ["## What no act reaches", "", "Definitions of steps within proofs and of calls below `run`.", "", *self.rest()]
+        return "\n".join(out).rstrip("\n") + "\n", counts
 
 
 def main() -> int:

@@ -1,0 +1,73 @@
+#!/usr/bin/env python3
+"""Packs a folder as a .tar.gz or .zip archive that is always the same: archive.py FOLDER ARCHIVE
+
+Files stand in the order of their names, belong to root, and have the time SOURCE_DATE_EPOCH. Programs and shared libraries keep
+their right to be run. In a .zip a link is the file that it leads to."""
+from __future__ import annotations
+
+import argparse
+import gzip
+import io
+import os
+import sys
+import tarfile
+import time
+import zipfile
+from pathlib import Path
+
+# A Zip archive has no earlier time.
+FIRST_TIME = 315532800
+TIME = max(FIRST_TIME, int(os.environ.get("SOURCE_DATE_EPOCH", FIRST_TIME)))
+
+
+def mode_of(path: Path) -> int:
+    return 0o755 if path.is_dir() or os.access(path, os.X_OK) else 0o644
+
+
+def members(folder: Path) -> list[Path]:
+    return [folder, *sorted(folder.rglob("*"))]
+
+
+def tar_of(folder: Path) -> bytes:
+    whole = io.BytesIO()
+    with tarfile.open(fileobj=whole, mode="w", format=tarfile.PAX_FORMAT) as archive:
+        for path in members(folder):
+            member = tarfile.TarInfo(path.relative_to(folder.parent).as_posix())
+            member.mtime, member.mode, member.uname, member.gname = TIME, mode_of(path), "root", "root"
+            if path.is_symlink():
+                member.type, member.linkname, member.mode = tarfile.SYMTYPE, os.readlink(path), 0o777
+                archive.addfile(member)
+            elif path.is_dir():
+                member.type = tarfile.DIRTYPE
+                archive.addfile(member)
+            else:
+                content = path.read_bytes()
+                member.size = len(content)
+                archive.addfile(member, io.BytesIO(content))
+    return gzip.compress(whole.getvalue(), mtime=0)
+
+
+def zip_of(folder: Path) -> bytes:
+    whole = io.BytesIO()
+    with zipfile.ZipFile(whole, "w") as archive:
+        for path in members(folder):
+            if path.is_file():
+                member = zipfile.ZipInfo(path.relative_to(folder.parent).as_posix(), time.gmtime(TIME)[:6])
+                member.compress_type, member.create_system = zipfile.ZIP_DEFLATED, 3
+                member.external_attr = (0o100000 | mode_of(path)) << 16
+                archive.writestr(member, path.read_bytes())
+    return whole.getvalue()
+
+
+def main() -> int:
+    parser = argparse.ArgumentParser(description="Packs a folder as an archive that is always the same.")
+    parser.add_argument("folder", type=Path)
+    parser.add_argument("archive", type=Path)
+    arguments = parser.parse_args()
+    is_zip = arguments.archive.suffix == ".zip"
+    arguments.archive.write_bytes((zip_of if is_zip else tar_of)(arguments.folder))
+    return 0
+
+
+if __name__ == "__main__":
+    sys.exit(main())

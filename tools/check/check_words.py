@@ -1,0 +1,122 @@
+#!/usr/bin/env python3
+"""Checks the language of the documents: check_words.py [--count]
+
+Three limits hold: no sentence of README, the guide and the header has more than 35 words, no text uses a word of WORDS
+outside its exceptions, and all documents together have at most 5,000 lines. --count prints the lines and the seconds of
+reading (240 words a minute) of each document.
+"""
+import argparse
+import re
+import subprocess
+import sys
+from pathlib import Path
+from typing import Iterator, NamedTuple
+
+TOP = Path(__file__).resolve().parents[2]
+MOST_WORDS, MOST_LINES, WORDS_A_MINUTE = 35, 5_000, 240
+SHORT = ("README.md", "docs/GUIDE.md", "include/ribjasper.h")
+
+
+class Word(NamedTuple):
+    """A phrase that readers stumble over, what to write instead, and the documents that may use it."""
+
+    phrase: str
+    instead: str
+    exceptions: tuple[str, ...] = ()
+
+
+WORDS = (
+    Word(r"for good", "statically; for ever"),
+    Word(r"want of memory", "out of memory"),
+    Word(r"lacks? memory", "runs out of memory"),
+    Word(r"of which", "whose, of these"),
+    Word(r"is no clause", "no clause says"),
+    Word(r"(is|are|was|were) told", "is reported"),
+    Word(r"tells? of", "reports"),
+    Word(r"gives? up to", "passes to"),
+    Word(r"named so", "so called"),
+    Word(r"that which", "what"),
+    Word(r"hands? on", "passes"),
+    Word(r"with `--?[a-z-]+` alone", "only with"),
+    Word(r"for who\b", "for anyone who"),
+    Word(r"makers? of players", "player makers"),
+)
+
+
+def documents() -> list[Path]:
+    """The documents of the repository: its Markdown files, without those of other projects."""
+    listed = subprocess.run(["git", "ls-files", "*.md"], cwd=TOP, capture_output=True, text=True, check=True)
+    return [TOP / name for name in listed.stdout.split()]
+
+
+def prose(path: Path) -> str:
+    """The sentences of a text: without code, tables, headings and quotations; of a header, its comments."""
+    text = path.read_text()
+    if path.suffix == ".h":
+        text = "\n\n".join(re.findall(r"/\*(.*?)\*/", text, re.DOTALL))
+        return re.sub(r"^ *\*( |$)", "", text, flags=re.MULTILINE)
+    text = re.sub(r"^```.*?^```", "", text, flags=re.DOTALL | re.MULTILINE)
+    text = re.sub(r"^(\||#|!\[|>).*$", "", text, flags=re.MULTILINE)
+    return re.sub(r"\]\([^)]*\)", "]", text)
+
+
+def sentences(text: str) -> Iterator[str]:
+    """Sentences, items of lists and paragraphs."""
+    for part in re.split(r"(?<=[.!?:;])\s+|\n\s*\n|\n\s*[-*] |\n\d+\. |\n(?= +\w+: )|\n(?= *Returns )", text):
+        if words := " ".join(part.split()):
+            yield words
+
+
+def long_sentences(path: Path) -> Iterator[str]:
+    for sentence in sentences(prose(path)):
+        count = len(sentence.split())
+        if count > MOST_WORDS:
+            yield f"has a sentence of {count} words: {' '.join(sentence.split()[:9])} .."
+
+
+def stumbling_words(path: Path, name: str) -> Iterator[str]:
+    text = prose(path)
+    for word in WORDS:
+        if name not in word.exceptions:
+            for found in re.finditer(rf"\b{word.phrase}", text, re.IGNORECASE):
+                yield f"says {found[0]!r} (better: {word.instead})"
+
+
+def complaints() -> Iterator[str]:
+    total = 0
+    for path in documents():
+        name = str(path.relative_to(TOP))
+        total += len(path.read_text().splitlines())
+        if name != "CHANGELOG.md" and name != "docs/DEFINITIONS.md":
+            yield from (f"{name} {what}" for what in stumbling_words(path, name))
+    for name in SHORT:
+        yield from (f"{name} {what}" for what in long_sentences(TOP / name))
+    yield from (f"include/ribjasper.h {what}" for what in stumbling_words(TOP / "include" / "ribjasper.h", "include/ribjasper.h"))
+    if total > MOST_LINES:
+        yield f"all documents have {total} lines, and {MOST_LINES} are the most"
+
+
+def count() -> None:
+    total = seconds = 0
+    for path in documents():
+        text = path.read_text()
+        lines, words = len(text.splitlines()), len(prose(path).split())
+        total, seconds = total + lines, seconds + 60 * words // WORDS_A_MINUTE
+        print(f"{lines:6} lines {60 * words // WORDS_A_MINUTE:6} s  {path.relative_to(TOP)}")
+    print(f"{total:6} lines {seconds:6} s  all")
+
+
+def main() -> int:
+    parser = argparse.ArgumentParser(description="Checks the language of the documents.")
+    parser.add_argument("--count", action="store_true", help="print the lines and the reading time of each document")
+    if parser.parse_args().count:
+        count()
+        return 0
+    wrong = list(complaints())
+    for line in wrong:
+        print(f"check_words: {line}", file=sys.stderr)
+    return 1 if wrong else 0
+
+
+if __name__ == "__main__":
+    sys.exit(main())

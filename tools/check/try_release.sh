@@ -1,0 +1,89 @@
+#!/bin/sh
+# Tries a release as a stranger does: in a fresh Debian without kit and checkout, one for each form, the files of dist/ (make dist)
+# lead to README's first result: try_release.sh [wheel] [deb] [archive]. Prints how many seconds the way took, without the
+# Debian itself, and fails if it takes two minutes. By hand, before a release: as root, with mmdebstrap and a mirror of Debian.
+set -e
+cd "$(dirname "$0")/../.."
+top=$PWD
+[ "$(id -u)" = 0 ] && command -v mmdebstrap >/dev/null || { echo "try_release: skipped, this needs root and mmdebstrap"; exit 0; }
+[ -f dist/SHA256SUMS ] || { echo "try_release: there is no dist/ (make dist)" >&2; exit 1; }
+(cd dist && sha256sum --quiet -c SHA256SUMS)
+work=$(mktemp -d)
+trap 'umount "$work"/*/proc 2>/dev/null; rm -rf "$work"' EXIT
+failed=0
+
+# The first result: a publisher's disc and a look at it, an archivist's answers. EXAMPLES has the two texts.
+cat >"$work/first_result" <<'END'
+set -e
+mkdir /tmp/first-result
+cd /tmp/first-result
+cp "$EXAMPLES/hello.cue" "$EXAMPLES/hello.script" .
+ribjasper author --lead-in 30 --length 00:22:00 -- hello.cue hello.script >hello.raw
+ribjasper check --lead-in 30 -- hello.raw
+ribjasper screen --lead-in 30 --at 00:07:10 -- hello.raw >third.ppm
+[ "$(wc -c <third.ppm)" = 194415 ]
+ribjasper-desk --version
+ribjasper-desk identify hello.raw
+ribjasper-desk damage hello.raw
+ribjasper-desk report . -o report
+ls report
+END
+# A player on the library, if there is a C compiler.
+cat >"$work/first_player" <<'END'
+set -e
+cd /tmp/first-result
+cc "$EXAMPLES_OF_LIBRARY/player.c" $FLAGS -o player
+tail -c +2881 hello.raw | ./player 535
+cmp third.ppm 535.ppm
+END
+
+# try NAME PACKAGES SCRIPT: SCRIPT is run in a fresh Debian with these packages; dist/ is there as /dist.
+try() {
+    room=$work/$1
+    mmdebstrap --quiet --variant=minbase ${2:+--include="$2"} bookworm "$room" 2>"$work/told" ||
+        { cat "$work/told" >&2; echo "try_release: $1: there is no fresh Debian" >&2; exit 1; }
+    cp -r dist "$work/first_result" "$work/first_player" "$room/"
+    mount -t proc proc "$room/proc" 2>/dev/null || true
+    begun=$(date +%s)
+    if chroot "$room" env -i PATH=/usr/local/bin:/usr/bin:/bin:/usr/sbin:/sbin HOME=/root LC_ALL=C.UTF-8 sh -ec "$3" \
+        >"$work/told" 2>&1; then
+        seconds=$(($(date +%s) - begun))
+        echo "try_release: $1: the first result after $seconds seconds"
+        [ "$seconds" -lt 120 ] || failed=1
+    else
+        tail -n 20 "$work/told" >&2
+        echo "try_release: $1 fails" >&2
+        failed=1
+    fi
+    umount "$room/proc" 2>/dev/null || true
+    rm -rf "$room"
+}
+
+[ $# -gt 0 ] || set -- wheel deb archive
+for form in "$@"; do
+    case $form in
+        wheel)
+            try wheel python3,python3-venv,fonts-dejavu-core '
+                python3 -m venv /root/ribjasper
+                . /root/ribjasper/bin/activate
+                pip install --quiet --no-index /dist/*manylinux*x86_64.whl
+                EXAMPLES=/root/ribjasper/share/doc/ribjasper/examples; export EXAMPLES
+                sh /first_result' ;;
+        deb)
+            try deb ca-certificates '
+                apt-get install -y --no-install-recommends /dist/*_amd64.deb /dist/*_all.deb python3-pil fonts-dejavu-core gcc libc6-dev
+                EXAMPLES=/usr/share/doc/ribjasper/examples; export EXAMPLES
+                sh /first_result
+                EXAMPLES_OF_LIBRARY=/usr/share/doc/libribjasper-dev/examples FLAGS=-lribjasper sh /first_player' ;;
+        archive)
+            try archive python3,gcc,libc6-dev,fonts-dejavu-core '
+                tar -C /opt -xf /dist/ribjasper-*-x86_64-linux.tar.gz
+                cd /opt/ribjasper-*; PATH=$PWD/bin:$PATH; export PATH
+                EXAMPLES=$PWD/share/doc/ribjasper/examples; export EXAMPLES
+                top=$PWD
+                sh /first_result
+                EXAMPLES_OF_LIBRARY=$EXAMPLES FLAGS="-I$top/include $top/lib/libribjasper.a" sh /first_player' ;;
+        *) echo "try_release: there is no form $form" >&2; exit 2 ;;
+    esac
+done
+exit "$failed"
