@@ -45,6 +45,17 @@ static GstStaticPadTemplate sink_template = GST_STATIC_PAD_TEMPLATE("sink", GST_
 static GstStaticPadTemplate source_template = GST_STATIC_PAD_TEMPLATE("src", GST_PAD_SRC, GST_PAD_ALWAYS,
     GST_STATIC_CAPS(GST_VIDEO_CAPS_MAKE("{ BGRx, RGBx, RGB16 }") ", width = 300, height = 216"));
 
+/* If the library did not do what it was asked for, posts an error message of the element with its answer in words. */
+static gboolean is_done(RibjasperDec *self, gint32 answer, const gchar *what)
+{
+    char text[RIBJASPER_ANSWER_TEXT];
+    if (answer == RIBJASPER_DONE)
+        return TRUE;
+    ribjasper_answer_text(answer, text);
+    GST_ELEMENT_ERROR(self, STREAM, DECODE, (NULL), ("%s: %s", what, text));
+    return FALSE;
+}
+
 /* Begins anew, and agrees on what the next element takes. */
 static gboolean begin(RibjasperDec *self, GstVideoCodecState *input)
 {
@@ -59,7 +70,8 @@ static gboolean begin(RibjasperDec *self, GstVideoCodecState *input)
         format = name != NULL ? gst_video_format_from_string(name) : format;
     }
     g_clear_pointer(&allowed, gst_caps_unref);
-    if (ribjasper_player_begin(&self->player, self->is_raw ? RIBJASPER_RAW : RIBJASPER_PACKS, self->lead_in) != RIBJASPER_DONE)
+    if (!is_done(self, ribjasper_player_begin(&self->player, self->is_raw ? RIBJASPER_RAW : RIBJASPER_PACKS, self->lead_in),
+                 "the stream does not begin"))
         return FALSE;
     output = gst_video_decoder_set_output_state(decoder, format, RIBJASPER_WIDTH, RIBJASPER_HEIGHT, input);
     output->info.fps_n = RIBJASPER_BLOCKS_A_SECOND;
@@ -77,7 +89,7 @@ static gboolean start(GstVideoDecoder *decoder)
     /* A file source has no caps: then the property `layout` says what comes. */
     gst_video_decoder_set_needs_format(decoder, FALSE);
     self->is_begun = FALSE;
-    return ribjasper_player_open(&self->player) == RIBJASPER_DONE;
+    return is_done(self, ribjasper_player_open(&self->player), "the player does not open");
 }
 
 static gboolean stop(GstVideoDecoder *decoder)
@@ -109,14 +121,49 @@ static gboolean flush(GstVideoDecoder *decoder)
     return TRUE;
 }
 
+/* Feeds or draws the piece of the stream in a buffer. On failure it posts an error message of the element. */
+static gboolean play(RibjasperDec *self, GstBuffer *buffer)
+{
+    ribjasper_change change;
+    GstMapInfo in;
+    gint32 answer;
+    if (!gst_buffer_map(buffer, &in, GST_MAP_READ)) {
+        GST_ELEMENT_ERROR(self, RESOURCE, READ, (NULL), ("the input buffer cannot be mapped"));
+        return FALSE;
+    }
+    if (self->is_raw)
+        answer = ribjasper_player_feed_all(&self->player, in.data, in.size / RIBJASPER_BLOCK, &change);
+    else
+        answer = ribjasper_player_draw_all(&self->player, in.data, in.size / RIBJASPER_PACK, &change);
+    gst_buffer_unmap(buffer, &in);
+    return is_done(self, answer, "no block is played");
+}
+
+/* Writes the screen into a buffer of the output. On failure it posts an error message of the element. */
+static gboolean show(RibjasperDec *self, GstVideoCodecState *state, GstBuffer *buffer)
+{
+    GstVideoFrame out;
+    guint32 pixels;
+    guint stride;
+    gint32 answer;
+    if (!gst_video_frame_map(&out, &state->info, buffer, GST_MAP_WRITE)) {
+        GST_ELEMENT_ERROR(self, RESOURCE, WRITE, (NULL), ("the output buffer cannot be mapped"));
+        return FALSE;
+    }
+    pixels = GST_VIDEO_INFO_FORMAT(&state->info) == GST_VIDEO_FORMAT_RGBx ? RIBJASPER_RGBA
+        : GST_VIDEO_INFO_FORMAT(&state->info) == GST_VIDEO_FORMAT_RGB16 ? RIBJASPER_RGB565 : RIBJASPER_BGRA;
+    stride = GST_VIDEO_FRAME_PLANE_STRIDE(&out, 0);
+    answer = ribjasper_player_pixels(&self->player, pixels, 0, 0, RIBJASPER_WIDTH, RIBJASPER_HEIGHT,
+                                     GST_VIDEO_FRAME_PLANE_DATA(&out, 0), (gsize)stride * RIBJASPER_HEIGHT, stride);
+    gst_video_frame_unmap(&out);
+    return is_done(self, answer, "no picture is written");
+}
+
 static GstFlowReturn handle_frame(GstVideoDecoder *decoder, GstVideoCodecFrame *frame)
 {
     RibjasperDec *self = RIBJASPER_DEC(decoder);
     GstVideoCodecState *state;
-    GstVideoFrame out;
-    GstMapInfo in;
-    ribjasper_change change;
-    guint32 pixels;
+    gboolean shown;
     GstFlowReturn flow;
 
     if (!self->is_begun && !begin(self, NULL))
@@ -127,22 +174,12 @@ static GstFlowReturn handle_frame(GstVideoDecoder *decoder, GstVideoCodecFrame *
         return flow;
     }
     state = gst_video_decoder_get_output_state(decoder);
-    pixels = GST_VIDEO_INFO_FORMAT(&state->info) == GST_VIDEO_FORMAT_RGBx ? RIBJASPER_RGBA
-        : GST_VIDEO_INFO_FORMAT(&state->info) == GST_VIDEO_FORMAT_RGB16 ? RIBJASPER_RGB565 : RIBJASPER_BGRA;
-    if (gst_buffer_map(frame->input_buffer, &in, GST_MAP_READ)) {
-        if (self->is_raw)
-            ribjasper_player_feed_all(&self->player, in.data, in.size / RIBJASPER_BLOCK, &change);
-        else
-            ribjasper_player_draw_all(&self->player, in.data, in.size / RIBJASPER_PACK, &change);
-        gst_buffer_unmap(frame->input_buffer, &in);
-    }
-    if (gst_video_frame_map(&out, &state->info, frame->output_buffer, GST_MAP_WRITE)) {
-        guint stride = GST_VIDEO_FRAME_PLANE_STRIDE(&out, 0);
-        ribjasper_player_pixels(&self->player, pixels, 0, 0, RIBJASPER_WIDTH, RIBJASPER_HEIGHT,
-                                GST_VIDEO_FRAME_PLANE_DATA(&out, 0), (gsize)stride * RIBJASPER_HEIGHT, stride);
-        gst_video_frame_unmap(&out);
-    }
+    shown = play(self, frame->input_buffer) && show(self, state, frame->output_buffer);
     gst_video_codec_state_unref(state);
+    if (!shown) {
+        gst_video_decoder_release_frame(decoder, frame);
+        return GST_FLOW_ERROR;
+    }
     frame->pts = gst_util_uint64_scale(self->frames, GST_SECOND, RIBJASPER_BLOCKS_A_SECOND);
     frame->duration = GST_SECOND / RIBJASPER_BLOCKS_A_SECOND;
     self->frames++;
