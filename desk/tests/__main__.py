@@ -1,11 +1,44 @@
-"""Runs the tests of the desk, and tells in one line how many there were and what was skipped for want of what. A test that
-fails is run once more, since some wait for processes, and a machine may be busy; that is told too."""
+"""Runs the tests of the desk and prints in one line how many ran, and how many were skipped for which reason.
+
+A test that takes longer than LIMIT seconds fails. A test that fails runs once more, because some tests wait for processes
+and the machine may be busy; the output says so. Arguments are names of modules: `python -m tests test_harm`."""
 import collections
+import signal
 import sys
+import time
 import unittest
 from pathlib import Path
+from types import FrameType
 
 HERE = Path(__file__).resolve().parent
+LIMIT = 600
+SLOWEST = 10
+
+
+class TimedResult(unittest.TestResult):
+    """A result that stops each test at the limit and keeps how long it took."""
+
+    def __init__(self) -> None:
+        super().__init__()
+        self.seconds: list[tuple[float, str]] = []
+        self._began = 0.0
+
+    def startTest(self, test: unittest.TestCase) -> None:
+        super().startTest(test)
+        self._began = time.monotonic()
+        if hasattr(signal, "SIGALRM"):
+            signal.signal(signal.SIGALRM, _too_long)
+            signal.alarm(LIMIT)
+
+    def stopTest(self, test: unittest.TestCase) -> None:
+        if hasattr(signal, "SIGALRM"):
+            signal.alarm(0)
+        self.seconds.append((time.monotonic() - self._began, test.id()))
+        super().stopTest(test)
+
+
+def _too_long(_number: int, _frame: FrameType | None) -> None:
+    raise TimeoutError(f"the test takes longer than {LIMIT} s")
 
 
 def summary(result: unittest.TestResult) -> str:
@@ -18,7 +51,7 @@ def summary(result: unittest.TestResult) -> str:
 def once_more(result: unittest.TestResult) -> unittest.TestResult:
     """Runs what failed again, each test by itself."""
     failed = {test.id(): test for test, _ in [*result.failures, *result.errors]}
-    again = unittest.TestResult()
+    again = TimedResult()
     for test in failed.values():
         whole = getattr(test, "test_case", test)
         if isinstance(whole, unittest.TestCase):
@@ -28,13 +61,21 @@ def once_more(result: unittest.TestResult) -> unittest.TestResult:
     return again
 
 
+def chosen_tests(modules: list[str]) -> unittest.TestSuite:
+    if not modules:
+        return unittest.defaultTestLoader.discover(str(HERE), top_level_dir=str(HERE))
+    sys.path.insert(0, str(HERE))
+    return unittest.defaultTestLoader.loadTestsFromNames(modules)
+
+
 def main() -> int:
-    tests = unittest.defaultTestLoader.discover(str(HERE), top_level_dir=str(HERE))
-    result = unittest.TestResult()
-    tests.run(result)
+    result = TimedResult()
+    chosen_tests(sys.argv[1:]).run(result)
     for test, why in [*result.failures, *result.errors]:
         print(f"{test}\n{why}", file=sys.stderr)
     print(summary(result))
+    for seconds, name in sorted(result.seconds, reverse=True)[:SLOWEST]:
+        print(f"desk: {seconds:.0f} s {name}")
     if result.wasSuccessful():
         return 0
     again = once_more(result)

@@ -380,12 +380,12 @@ class StoppedTest(CallsTest):
         os.mkfifo(song)
         for number in (signal.SIGINT, signal.SIGTERM, signal.SIGHUP):
             for out in (script, self.folder / "new"):
-                words = [sys.executable, str(DESK), "lyrics", str(song), "-o", str(out)]
+                words = [sys.executable, str(DESK), "lyrics", str(song), "-o", str(out), "--force"]
                 with subprocess.Popen(words, stderr=subprocess.PIPE) as running:
-                    # It is opened once the command reads it, which then waits.
+                    # The pipe opens when the command begins to read it.
                     with open(song, "wb"):
                         running.send_signal(number)
-                        told = running.communicate()[1]
+                        told = running.communicate(timeout=60)[1]
                 self.assertEqual((running.returncode, told), (128 + number, b"ribjasper-desk: stopped\n"))
                 self.assertEqual(sorted(os.listdir(self.folder)), ["s.script", "song"])
                 self.assertEqual(script.read_bytes(), b"# old\n")

@@ -63,7 +63,7 @@ inspect() {
     others=$(llvm llvm-nm -g --defined-only -j "$1" | sed 's/^_//' | grep -v -e '^ribjasper_' -e ':$' -e '^$' -e '^_xmm@' -e '^_real@' || true)
     [ -z "$others" ] || { echo "build_target: $1 brings $others" >&2; exit 1; }
     needed=$(llvm llvm-nm -u -j "$1" | sed 's/^_//' | grep -vxE \
-        '(mem(cpy|move|set|cmp)|malloc|realloc|free|bzero|_bzero|memset_pattern16|_?_?_chkstk(_ms)?|_GLOBAL_OFFSET_TABLE_|.*:|)' || true)
+        '(mem(cpy|move|set|cmp)|malloc|realloc|free|_?_?bzero|memset_pattern16|_?_?_chkstk(_ms)?|_GLOBAL_OFFSET_TABLE_|.*:|)' || true)
     [ -z "$needed" ] || { echo "build_target: $1 needs $needed" >&2; exit 1; }
 }
 

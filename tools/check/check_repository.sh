@@ -9,14 +9,19 @@ complain() {
     failed=1
 }
 
-# try COMMAND ..: runs a check, and keeps what it says that it skipped for the end.
+# try COMMAND ..: runs a check for at most LIMIT seconds, prints how long it took, and keeps the lines on what it skipped
+# for the end.
+LIMIT=1200
 skipped=$(mktemp)
-trap 'rm -f "$skipped" "$skipped.told"' EXIT
+trap 'rm -f "$skipped" "$skipped.output"' EXIT
 try() {
-    "$@" >"$skipped.told" 2>&1
+    began=$(date +%s)
+    timeout -k 10 "$LIMIT" "$@" >"$skipped.output" 2>&1 </dev/null
     status=$?
-    cat "$skipped.told"
-    grep -i 'skipped' "$skipped.told" | grep -v ' 0 skipped' >>"$skipped"
+    cat "$skipped.output"
+    [ "$status" != 124 ] || echo "check: stopped after $LIMIT s: $*"
+    echo "check: $(($(date +%s) - began)) s: $*"
+    grep -i 'skipped' "$skipped.output" | grep -v ' 0 skipped' >>"$skipped"
     return "$status"
 }
 
@@ -42,10 +47,10 @@ done
 tools/check/check_names.py || complain "names or lines are not in order"
 
 # What `make` proves is all of each crate.
-told=$(tools/build/test_proving.py 2>&1) || complain "tools/build/test_proving.py fails: $(echo "$told" | tail -n 6)"
+output=$(tools/build/test_proving.py 2>&1) || complain "tools/build/test_proving.py fails: $(echo "$output" | tail -n 6)"
 
 # What wraps proof lines changes nothing but white space.
-told=$(tools/write/test_wrapping.py 2>&1) || complain "tools/write/test_wrapping.py fails: $(echo "$told" | tail -n 6)"
+output=$(tools/write/test_wrapping.py 2>&1) || complain "tools/write/test_wrapping.py fails: $(echo "$output" | tail -n 6)"
 
 # Each edit's old text stands exactly once in the file that it names.
 tools/check/check_edits.py || complain "an edit does not turn what it was written for"
@@ -54,10 +59,10 @@ tools/check/check_edits.py || complain "an edit does not turn what it was writte
 try tools/check/try_wrong_bodies.py --by-function || complain "a wrong body is not refused"
 
 # The tables of numbers are those that are reckoned.
-tests/peers/tables.py || complain "a table of numbers is not what tests/peers/tables.py reckons"
+try tests/peers/tables.py || complain "a table of numbers is not what tests/peers/tables.py reckons"
 
 # What rows want is what their definitions give.
-tests/peers/reckon_rows.py --check >/dev/null || complain "a row does not want what tests/peers/reckon_rows.py reckons"
+try tests/peers/reckon_rows.py --check || complain "a row does not want what tests/peers/reckon_rows.py reckons"
 
 # The manual page and the completions are those of the table of commands, which README.md lists too, and
 # the guide's commands do what it says.
@@ -68,11 +73,11 @@ try tools/check/run_guide.sh || complain "the guide does not run"
 for program in bin/ribjasper crates/ribjasper/out/ribjasper; do
     if [ -x "$program" ]; then
         room=$(mktemp -d)
-        told=$(examples/demo.py "$room" 2>&1) || complain "the tour fails: $(echo "$told" | tail -n 3)"
+        output=$(examples/demo.py "$room" 2>&1) || complain "the tour fails: $(echo "$output" | tail -n 3)"
         rm -rf "$room"
         tests/program/try_refusals.py "$program" || complain "an example of docs/FORMATS.md is not refused as it says"
-        told=$(tests/program/try_formats.py "$program" 2>&1) ||
-            complain "the program is not as docs/FORMATS.md says: $(echo "$told" | tail -n 6)"
+        output=$(tests/program/try_formats.py "$program" 2>&1) ||
+            complain "the program is not as docs/FORMATS.md says: $(echo "$output" | tail -n 6)"
         break
     fi
 done
@@ -102,11 +107,13 @@ try tests/peers/compare_web.sh || complain "the player for web pages is not as t
 try tests/peers/compare_c.sh || complain "the player as plain C is not as the program"
 
 # The desk does what it says, where the program and the library are built.
+LIMIT=3000
 try tools/check/test_desk.sh || complain "a test of the desk fails"
 
+LIMIT=1200
 # Packages are made, installed and removed again, where that can be done.
 if [ -x bin/ribjasper ] && command -v dpkg-deb >/dev/null; then
-    try tools/build/make_deb.sh >/dev/null || complain "make deb fails"
+    try tools/build/make_deb.sh || complain "make deb fails"
     try tools/check/try_deb.sh || complain "the packages cannot be installed and removed"
 else
     echo "try_deb: skipped, there is no bin/ribjasper (make) or no dpkg-deb" | tee -a "$skipped"
