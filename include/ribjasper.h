@@ -163,7 +163,7 @@ typedef struct ribjasper_player {
 #endif
 #define RIBJASPER_CLOSED_PLAYER RIBJASPER_CLOSED
 
-/* Opens a player of a raw stream without lead-in. A player that is already open keeps its memory and begins anew; it is
+/* Opens a player of a raw stream without lead-in. A player that is already open keeps its memory and is reset; it is
    never refused. Allocates memory that ribjasper_player_close frees.
      player: the player
    Returns RIBJASPER_DONE, or RIBJASPER_REFUSED if the player was closed and memory is exhausted; then it stays closed. */
@@ -416,7 +416,7 @@ int32_t ribjasper_player_seek_packs(ribjasper_player *player, const uint8_t *pac
 #define RIBJASPER_TOUCHES_COLOURS 903 /* colours of the table */
 #define RIBJASPER_TOUCHES_LEVELS 904
 
-/* Says what the instruction of a pack can change, whatever the screen shows. Nothing else changes.
+/* Reports what the instruction of a pack can change, for every screen. Nothing else changes.
      pack: 24 bytes
    Returns no answer but a number: 50 times the row and the column of a tile of the memory, 0 to 899, or one of the numbers
    above. */
@@ -432,7 +432,7 @@ int32_t ribjasper_pack_touches(const uint8_t pack[24]);
 RIBJASPER_NODISCARD
 int32_t ribjasper_pack_change(const uint8_t pack[24], uint8_t across, uint8_t down, ribjasper_change *change);
 
-/* Returns the fewest packs that draw a tile whatever it showed before, 1 to 4, or -1 if a number is above 15. (A tile of one
+/* Returns the fewest packs that draw a tile over any earlier content, 1 to 4, or -1 if a number is above 15. (A tile of one
    colour that already shows it needs none.) Only the colours of the tile matter, not their places. It is no answer of
    the list above.
      pixels: the numbers of the colours of the tile, row by row */
@@ -561,47 +561,45 @@ typedef struct ribjasper_converted {
      form: RIBJASPER_RAW, RIBJASPER_PACKS or RIBJASPER_SECTORS
      lead_in: how many blocks at the start are ignored, at most 450,000
      packs, room: the output, and its size in bytes
-     told: the result
+     result: the counts
    Returns RIBJASPER_CONVERTED or RIBJASPER_DAMAGED; otherwise the first that applies of RIBJASPER_USAGE, RIBJASPER_TORN and
    RIBJASPER_NO_ROOM. */
 RIBJASPER_NODISCARD
 int32_t ribjasper_convert(const uint8_t *stream, size_t length, uint32_t form, uint32_t lead_in, uint8_t *packs,
-                          size_t room, ribjasper_converted *told);
+                          size_t room, ribjasper_converted *result);
 
-/* Readings of one disc, mended: word by word the best of them. A word has 24 symbols, and those of word n stand in the
-   blocks n / 4 to (n + 7) / 4 of the program. A block is unread if its 96 bytes are 0. A caller that knows a block was
-   not read writes zeros over it.
+/* Mending: from several readings of one disc, the best codeword of each word. Word n has 24 symbols, in the blocks n / 4 to
+   (n + 7) / 4 of the program. A block is unread if its 96 bytes are 0. A caller that knows that a block was not read writes
+   zeros over it.
 
-   A reading of a word gives the codeword that differs from it in two symbols at most, unless all blocks under the word
-   are unread: then it was not read. So many symbols stand against the codeword; three, if it is the idle pack (24 zeros)
-   and one of the blocks under the word is unread. A reading is quiet at a word if it gives the idle pack or was not read.
+   A reading of a word gives the codeword that differs from it in at most two symbols. The number of these symbols is its
+   distance. The distance of the idle pack (24 zeros) is 3 if a block under the word is unread. If all blocks under the
+   word are unread, the reading gives nothing there. A reading is quiet at a word if it gives the idle pack or nothing.
 
-   Two kinds of codewords count for nothing. First, idle packs of a reading that lacks graphics. A reading misses graphics
-   at a word if it gives the idle pack and another reading shows that the word is not idle. That other reading gives a
-   codeword with no wrong symbol, or a graphics pack (mode and item 9, a known instruction) with one or two. A reading
-   lacks graphics at each word from which it is quiet up to a word at which it misses graphics, forwards or backwards.
-   Second, doubtful codewords where some reading is quiet. A codeword is doubtful if a symbol stands against it and its
-   mode and item are none that discs carry (8, 9, 10, 24).
+   Two kinds of codewords do not count. First, idle packs of a reading that lacks graphics. A reading misses graphics at a
+   word if it gives the idle pack and another reading shows that the word is not idle. That other reading gives a codeword
+   with no wrong symbol, or a graphics pack (mode and item 9, a known instruction) with one or two. A reading lacks graphics
+   at each word from which it is quiet up to a word at which it misses graphics, forwards or backwards. Second, doubtful
+   codewords at words where some reading is quiet. A codeword is doubtful if it has a wrong symbol and its mode and item are
+   not used on discs (8, 9, 10 and 24 are).
 
-   Of the codewords that count the one is taken against which the fewest symbols stand; of several with as few the one
-   that most readings give; if that is undecided there is none. If nothing counts, it is the codeword on which two readings
-   agree that were read there and give none, if no other two agree on another. Two readings agree if twice the symbols
-   that both have equally wrong and those in which they differ are at most four.
+   The result is the codeword with the smallest distance among those that count; of several, the one that most readings
+   give; if this is a tie, none. If no codeword counts, the result is the codeword on which two readings agree that were
+   read there and give none, unless two others agree on a different one. Two readings agree if twice the symbols that both
+   have equally wrong plus the symbols in which they differ is at most four.
 
-   So a reading without a wrong symbol comes out whole beside any others under two conditions. If a word of theirs has no
-   wrong symbol, it is the same codeword or the idle pack. Where the reading gives the idle pack, none of them gives a
-   graphics pack, also with one or two wrong symbols. Random symbols imitate one once in 28 million words. Whether the Q
-   frames of the reading are good does not matter.
+   A reading without a wrong symbol comes out whole under two conditions. If another reading has a word without a wrong
+   symbol, it is the same codeword or the idle pack. Where this reading gives the idle pack, no other reading gives a
+   graphics pack, even with one or two wrong symbols. Random symbols imitate one once in 28 million words. The Q frames of
+   the reading may be good, bad or absent.
 
-   Readings that are each damaged in at most two symbols of each word give back every pack. If whatever the others give
-   counts for nothing, what comes out is what ribjasper_convert writes of the one that is left, but for words on which two
-   agree and for doubtful codewords. The order of the readings changes nothing but which of those that give the same is
-   named. If a reading gives a codeword with one or two wrong symbols, another one may have it less wrong, and then that
-   one is taken. */
+   Readings that are each damaged in at most two symbols of each word give back every pack. If no codeword of the other
+   readings counts, the result is what ribjasper_convert writes of the remaining one, except for doubtful codewords and for
+   words on which two readings agree. The order of the readings changes only which of several equal readings is named. */
 
-/* The result of mending two readings. Each word is counted in one of five numbers: both readings give its codeword, only the
-   first does, only the second does, both agree on it because none counts, or it has none and is written as 24 zeros. The
-   five add up to the words, which are bytes / 24. If the readings change places, so do of_first and of_second. */
+/* The result of mending two readings. Each word is counted in one of five numbers: `both` if both readings give its
+   codeword, `of_first` or `of_second` if only one does, `agreed` if none counts and both agree on it, `none` if there is no
+   codeword and 24 zeros are written. The five add up to the number of words, which is bytes / 24. */
 typedef struct ribjasper_mended {
     uint64_t bytes;
     uint32_t blocks;
@@ -612,41 +610,44 @@ typedef struct ribjasper_mended {
     uint32_t none;
 } ribjasper_mended;
 
-/* Mends two readings of one stream of raw blocks, whose first `lead_in` blocks are passed over: writes 24 bytes for each
-   word to the front of the `room` bytes at `packs`, 4 B - 7 of B blocks of the program (none of one or none).
-   Answers RIBJASPER_CONVERTED, or RIBJASPER_DAMAGED if words have no codeword; or otherwise, whichever holds
-   first: RIBJASPER_USAGE if `lead_in` is above 450,000; RIBJASPER_TORN if the lengths differ, or are no whole blocks or
-   more than 1,000,000; RIBJASPER_NO_ROOM. Then nothing is written. It asks malloc for nothing. The readings may be the
-   same bytes. */
+/* Mends two readings of one stream of raw blocks into packs: 24 bytes for each word, 4 B - 7 words of B program blocks (none
+   of fewer than two). The readings may be the same bytes.
+     first, first_length, second, second_length: the readings, and the bytes of each
+     lead_in: how many blocks at the start of each reading are ignored, at most 450,000
+     packs, room: the output, and its size in bytes
+     result: the counts
+   Returns RIBJASPER_CONVERTED, or RIBJASPER_DAMAGED if words have no codeword. Otherwise it returns the first of these that
+   holds, and writes nothing. RIBJASPER_USAGE: `lead_in` is out of range. RIBJASPER_TORN: the lengths differ, are not whole
+   blocks, or are more than 1,000,000 blocks. RIBJASPER_NO_ROOM: the output is too small. It allocates nothing. */
 RIBJASPER_NODISCARD
 int32_t ribjasper_mend(const uint8_t *first, size_t first_length, const uint8_t *second, size_t second_length,
-                       uint32_t lead_in, uint8_t *packs, size_t room, ribjasper_mended *told);
+                       uint32_t lead_in, uint8_t *packs, size_t room, ribjasper_mended *result);
 
 #define RIBJASPER_READINGS 254   /* the most readings that are mended at once */
 #define RIBJASPER_AGREED 254     /* in place of the number of a reading: two readings agree on the codeword */
 #define RIBJASPER_NO_READING 255 /* there is no codeword */
 
-/* What is reported of any number of readings that were mended, which are numbered from 0. Places of more readings than
-   there are hold 0. The tallies of `of_reading`, `agreed` and `none` add up to the words, which are bytes / 24. */
+/* The result of mending any number of readings, numbered from 0. Entries beyond the last reading are 0. The numbers of
+   `of_reading`, `agreed` and `none` add up to the number of words, which is bytes / 24. */
 typedef struct ribjasper_mended_readings {
-    uint64_t bytes;    /* that were written at packs */
-    uint32_t blocks;   /* of the program */
+    uint64_t bytes;    /* bytes written */
+    uint32_t blocks;   /* program blocks */
     uint32_t agreed;   /* words whose codeword is the one on which two readings agree */
-    uint32_t none;     /* words with no codeword, for which 24 zeros are written */
+    uint32_t none;     /* words without a codeword; 24 zeros are written for each */
     uint32_t reserved; /* 0 */
-    uint32_t of_reading[RIBJASPER_READINGS]; /* words whose codeword is that of the reading, and of none before it that
-                                                gives it with as few wrong symbols */
-    uint32_t dropped[RIBJASPER_READINGS];    /* words at which what the reading gives counts for nothing */
+    uint32_t of_reading[RIBJASPER_READINGS]; /* words whose codeword is that of the reading, and of no earlier reading
+                                                with the same distance */
+    uint32_t dropped[RIBJASPER_READINGS];    /* words at which the codeword of the reading does not count */
 } ribjasper_mended_readings;
 
-/* Mends readings of one stream of raw blocks, word by word, into packs. The readings lie one behind another, each as long.
-     readings, length: all readings and their bytes together (ribjasper_mend takes the bytes of each)
+/* Mends readings of one stream of raw blocks into packs. The readings follow each other and have equal lengths.
+     readings, length: all readings, and the bytes of all together (ribjasper_mend takes the bytes of each)
      count: how many readings, 1 to 254
      lead_in: lead-in blocks of each reading, at most 450,000
      packs, room: the output and its bytes: 24 for each word
      sources, words: the output and its bytes: for each word the number of the reading whose codeword it is,
        RIBJASPER_AGREED or RIBJASPER_NO_READING; null and 0 leave it out
-     told: the output
+     result: the counts
    Returns RIBJASPER_CONVERTED, or RIBJASPER_DAMAGED if words have no codeword.
    Otherwise it returns the first of these that holds, and writes nothing. RIBJASPER_USAGE: `lead_in` or `count` is out of
    range. RIBJASPER_TORN: the readings are not whole blocks of equal length, or more than 1,000,000 each. RIBJASPER_NO_ROOM:
@@ -654,26 +655,26 @@ typedef struct ribjasper_mended_readings {
 RIBJASPER_NODISCARD
 int32_t ribjasper_mend_readings(const uint8_t *readings, size_t length, uint32_t count, uint32_t lead_in,
                                 uint8_t *packs, size_t room, uint8_t *sources, size_t words,
-                                ribjasper_mended_readings *told);
+                                ribjasper_mended_readings *result);
 
-/* Mends readings as the call above, into a stream of blocks as long as each reading, its lead-in included. A symbol of a
-   mended word is that of its codeword. Every other symbol is that of the first reading whose block is not unread, or 0 if
-   all are. P and Q of a block are those of the first reading with a Q frame there; without one, of the first that was read
-   there. So ribjasper_convert of the stream gives the codeword of each mended word, and of each other word what is found
-   for the symbols that were first read. One reading alone comes out with its words corrected.
+/* Mends readings as the call above does, into a stream of blocks that is as long as each reading, its lead-in included. The
+   symbols of a mended word are those of its codeword. Every other symbol is that of the first reading whose block is not
+   unread, or 0 if all are unread. P and Q of a block come from the first reading with a good Q frame there, or without one
+   from the first reading that was read there. ribjasper_convert of this stream gives the codeword of each mended word. If
+   there is only one reading, the stream is that reading with its words corrected.
      blocks, room: the output and its bytes, as many as a reading has; it must not overlap the readings
      sources, words: as above
-     told: the output; told->bytes are the bytes of the stream
+     result: the counts; result->bytes are the bytes of the stream
    Returns what the call above returns; RIBJASPER_NO_ROOM if `room` is less than a reading. It allocates nothing. */
 RIBJASPER_NODISCARD
 int32_t ribjasper_mend_stream(const uint8_t *readings, size_t length, uint32_t count, uint32_t lead_in,
                               uint8_t *blocks, size_t room, uint8_t *sources, size_t words,
-                              ribjasper_mended_readings *told);
+                              ribjasper_mended_readings *result);
 
-/* A report of mended readings: the result of the calls above, and the number of lost words of each reading. A word is
-   lost if the reading gives a codeword with no wrong symbol that counts, and another codeword or none came out. */
+/* A report on mended readings: the result of the calls above (`counts`), and the number of lost words of each reading. A word
+   of a reading is lost if it has no wrong symbol and counts, and the output has another codeword or none. */
 typedef struct ribjasper_mend_reported {
-    ribjasper_mended_readings told;
+    ribjasper_mended_readings counts;
     uint32_t lost[RIBJASPER_READINGS];
 } ribjasper_mend_reported;
 
@@ -691,7 +692,7 @@ int32_t ribjasper_mend_stream_report(const uint8_t *readings, size_t length, uin
 /* A picture of a script in a plan. Times are blocks of the program, 75 a second, from the absolute time 00:00:00; packs
    are numbered from 0. */
 typedef struct ribjasper_plan_row {
-    uint32_t line;  /* the line of the script on which its `show` stands, from 1 */
+    uint32_t line;  /* the line of the script with its `show`, from 1 */
     uint32_t ready; /* when it is ready */
     uint32_t hold;  /* until when it is held */
     uint32_t need;  /* the packs that its change needs, at most 3,076 */
@@ -726,9 +727,9 @@ typedef struct ribjasper_planned {
 
 /* What the call below answers beside RIBJASPER_USAGE, if `lead_in` is above 450,000 or `audio` above 449,999, and
    RIBJASPER_NO_MEMORY, which comes only if neither text is too long and no line of them is refused: then nothing is
-   written. If it answers RIBJASPER_NO_ROOM, `told` says how many pictures and blocks there are, and no row is written. */
+   written. If it returns RIBJASPER_NO_ROOM, `result` has the numbers of pictures and blocks there are, and no row is written. */
 #define RIBJASPER_PLANNED 0     /* each picture is in time */
-#define RIBJASPER_NOT_PLANNED 3 /* `told` says why, and no row is written */
+#define RIBJASPER_NOT_PLANNED 3 /* `result` has the reason, and no row is written */
 #define RIBJASPER_LATE 4        /* some pictures are late: their rows say which */
 
 /* Plans a disc: writes a row for each picture of a script, in time or not, to the front of the `room` rows at `rows`. The
@@ -738,7 +739,7 @@ typedef struct ribjasper_planned {
 RIBJASPER_NODISCARD
 int32_t ribjasper_plan(const uint8_t *sheet, size_t sheet_length, const uint8_t *script, size_t script_length,
                        uint32_t lead_in, uint32_t audio, ribjasper_plan_row *rows, size_t room,
-                       ribjasper_planned *told);
+                       ribjasper_planned *result);
 
 /* An index line of a cue sheet, with what the sheet says of its track. Times are blocks, 75 a second, below 450,000. */
 typedef struct ribjasper_sheet_row {
@@ -764,11 +765,11 @@ typedef struct ribjasper_sheet_told {
 
 /* Writes a row for each index line of the cue sheet of `length` bytes, in its order, to the front of the `room` rows at
    `rows`. Answers RIBJASPER_CONVERTED; RIBJASPER_USAGE if the sheet has more than 67,108,864 bytes; RIBJASPER_TORN if a
-   line is refused: `told` says which; RIBJASPER_NO_ROOM if there are fewer rows than index lines: `told` says how many
+   line is refused: `result` has it; RIBJASPER_NO_ROOM if there are fewer rows than index lines: `result` has the number
    there are, and the rest; or RIBJASPER_NO_MEMORY, which comes only if no line is refused. Memory is asked of malloc,
    and freed before it returns. */
 RIBJASPER_NODISCARD int32_t ribjasper_sheet(const uint8_t *sheet, size_t length, ribjasper_sheet_row *rows, size_t room,
-                                            ribjasper_sheet_told *told);
+                                            ribjasper_sheet_told *result);
 
 /* The kinds of texts of a cue sheet. */
 #define RIBJASPER_TITLE 0
@@ -781,7 +782,7 @@ RIBJASPER_NODISCARD int32_t ribjasper_sheet(const uint8_t *sheet, size_t length,
 RIBJASPER_NODISCARD int32_t ribjasper_sheet_text(const uint8_t *sheet, size_t length, uint32_t kind, uint32_t place,
                                                  uint8_t *out, size_t room, uint32_t *bytes);
 
-/* What stands in each block of a stream, and what a lead-in holds. */
+/* What each block of a stream holds, and what a lead-in holds. */
 
 #define RIBJASPER_NO_TIME 0xFFFFFFFFu /* in place of an absolute time */
 
@@ -818,7 +819,7 @@ typedef struct ribjasper_surveyed {
    RIBJASPER_NO_ROOM if there are more blocks than rows. Then nothing is written. */
 RIBJASPER_NODISCARD
 int32_t ribjasper_survey(const uint8_t *stream, size_t length, uint32_t form, uint32_t lead_in, ribjasper_row *rows,
-                         size_t room, ribjasper_surveyed *told);
+                         size_t room, ribjasper_surveyed *result);
 
 /* Writes the four CD-TEXT packs of a block of the lead-in, eighteen bytes each, one after another: the six bits of its
    96 symbols in order. Which of them are packs ribjasper_text_pack_matches says. */
@@ -841,10 +842,10 @@ typedef struct ribjasper_listed {
    of the `room` bytes at `out`. Answers RIBJASPER_CONVERTED; RIBJASPER_USAGE, also if the form is RIBJASPER_PACKS;
    RIBJASPER_TORN; one of the three above; RIBJASPER_NO_ROOM; or RIBJASPER_NO_MEMORY, which comes only if the texts are
    not refused (it asks for memory for the texts and their lines, and frees all of it). `out` is written if it answers
-   RIBJASPER_CONVERTED, and `told` then and if the texts are refused; otherwise nothing is. */
+   RIBJASPER_CONVERTED, `result` then and if the texts are refused; otherwise nothing is written. */
 RIBJASPER_NODISCARD
 int32_t ribjasper_texts(const uint8_t *stream, size_t length, uint32_t form, uint32_t lead_in, uint8_t *out, size_t room,
-                        ribjasper_listed *told);
+                        ribjasper_listed *result);
 
 #ifdef __cplusplus
 }

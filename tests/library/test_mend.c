@@ -228,13 +228,13 @@ static void reports(void)
     put_word(all + BYTES, 1, extended);
     memset(&report, 7, sizeof report);
     CHECK(ribjasper_mend_report(all, 2 * BYTES, 2, 0, packs, ROOM, sources, WORDS, &report) == RIBJASPER_DAMAGED);
-    CHECK(report.told.none == 1 && report.told.of_reading[0] == 8 && sources[1] == RIBJASPER_NO_READING);
+    CHECK(report.counts.none == 1 && report.counts.of_reading[0] == 8 && sources[1] == RIBJASPER_NO_READING);
     CHECK(report.lost[0] == 1 && report.lost[1] == 1);
     for (size_t r = 2; r < RIBJASPER_READINGS; r++)
-        CHECK(report.lost[r] == 0 && report.told.of_reading[r] == 0 && report.told.dropped[r] == 0);
+        CHECK(report.lost[r] == 0 && report.counts.of_reading[r] == 0 && report.counts.dropped[r] == 0);
     memset(&report, 7, sizeof report);
     CHECK(ribjasper_mend_stream_report(all, 2 * BYTES, 2, 0, blocks, BYTES, sources, WORDS, &report) == RIBJASPER_DAMAGED);
-    CHECK(report.told.bytes == BYTES && report.told.none == 1 && report.lost[0] == 1 && report.lost[1] == 1);
+    CHECK(report.counts.bytes == BYTES && report.counts.none == 1 && report.lost[0] == 1 && report.lost[1] == 1);
     /* A third decides; and one without graphics loses nothing, since what it gives does not count. */
     make_stream(all + 2 * BYTES);
     CHECK(ribjasper_mend_report(all, 3 * BYTES, 3, 0, packs, ROOM, sources, WORDS, &report) == RIBJASPER_CONVERTED);
@@ -242,7 +242,7 @@ static void reports(void)
     for (size_t k = 0; k < BYTES; k++)
         all[BYTES + k] &= 0xc0;
     CHECK(ribjasper_mend_report(all, 3 * BYTES, 3, 0, packs, ROOM, NULL, 0, &report) == RIBJASPER_CONVERTED);
-    CHECK(report.lost[0] == 0 && report.lost[1] == 0 && report.lost[2] == 0 && report.told.dropped[1] == WORDS);
+    CHECK(report.lost[0] == 0 && report.lost[1] == 0 && report.lost[2] == 0 && report.counts.dropped[1] == WORDS);
     memset(&report, 7, sizeof report);
     CHECK(ribjasper_mend_report(all, 3 * BYTES, 0, 0, packs, ROOM, NULL, 0, &report) == RIBJASPER_USAGE);
     CHECK(ribjasper_mend_stream_report(all, 3 * BYTES, 3, 0, blocks, BYTES - 1, sources, WORDS, &report) == RIBJASPER_NO_ROOM);

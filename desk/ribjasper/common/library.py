@@ -120,7 +120,7 @@ class MendedReadings(Structure):
 class MendReported(Structure):
     """What is told of readings that were mended, and how many words of each are lost."""
 
-    _fields_ = [("told", MendedReadings), ("lost", c_uint32 * READINGS)]
+    _fields_ = [("counts", MendedReadings), ("lost", c_uint32 * READINGS)]
 
 
 class PlanRow(Structure):

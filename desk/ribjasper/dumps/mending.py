@@ -102,7 +102,7 @@ def mend(laid: Laid, as_stream: bool) -> Mended:
     status = library.call(name)(readings, len(content), len(order), 0, target, room, names, words, report)
     if status not in (library.DONE, library.DAMAGED):
         raise ValueError(f"{name} answers {status}")
-    told = report.told
+    told = report.counts
     places = [order.index(number) for number in range(len(order))]
     counts = [Counts(told.of_reading[k], told.dropped[k], report.lost[k]) for k in places]
     return Mended(memoryview(out)[: told.bytes], bytes(sources[:words]), told.agreed, told.none, counts)
