@@ -689,29 +689,29 @@ int32_t ribjasper_mend_stream_report(const uint8_t *readings, size_t length, uin
                                      uint8_t *blocks, size_t room, uint8_t *sources, size_t words,
                                      ribjasper_mend_reported *report);
 
-/* A picture of a script in a plan. Times are blocks of the program, 75 a second, from the absolute time 00:00:00; packs
-   are numbered from 0. */
+/* A picture of a script in a plan. Times are program blocks, 75 a second, from the absolute time 00:00:00. Packs are
+   numbered from 0. */
 typedef struct ribjasper_plan_row {
     uint32_t line;  /* the line of the script with its `show`, from 1 */
-    uint32_t ready; /* when it is ready */
-    uint32_t hold;  /* until when it is held */
+    uint32_t ready; /* its ready time */
+    uint32_t hold;  /* its hold time */
     uint32_t need;  /* the packs that its change needs, at most 3,076 */
     uint32_t free;  /* the packs that are free for it */
     uint32_t first; /* the first of them */
-    uint8_t late;   /* 1 if the change has no room before the picture is ready, also one that needs no pack; otherwise 0 */
+    uint8_t late;   /* 1 if the change does not fit before the ready time, even one of no packs; otherwise 0 */
 } ribjasper_plan_row;
 
-/* What is reported of a plan. */
+/* The result of a plan. */
 typedef struct ribjasper_planned {
-    uint32_t pictures; /* of the script */
-    uint32_t blocks;   /* of the program */
+    uint32_t pictures; /* pictures of the script */
+    uint32_t blocks;   /* program blocks of the disc */
     uint32_t late;     /* how many pictures are late */
     uint32_t why;      /* why there is no plan: one of the reasons below, or 0 */
-    uint32_t line;     /* the line that is refused, from 1, or 0 */
-    uint32_t number;   /* the number that the reason gives, or 0 */
+    uint32_t line;     /* the refused line, from 1, or 0 */
+    uint32_t number;   /* the number that the reason below explains, or 0 */
 } ribjasper_planned;
 
-/* Why there is no plan, in the order in which the program's `author` refuses. (A script that is too long comes after the
+/* Why there is no plan, in the order in which the program's `author` checks. (The length of the script is checked after the
    lines of the sheet.) */
 #define RIBJASPER_TEXT_TOO_LONG 1   /* the sheet or the script has more than 67,108,864 bytes */
 #define RIBJASPER_SHEET_REFUSED 2   /* a line of the sheet; the number is its reason: 1 unknown-command, 2 second-file,
@@ -719,55 +719,63 @@ typedef struct ribjasper_planned {
     11 no-file, 12 no-track */
 #define RIBJASPER_SCRIPT_REFUSED 3  /* a line of the script; the number is its reason: 1 unknown-command,
     2 bad-argument, 3 out-of-range, 4 time-order, 5 too-many */
-#define RIBJASPER_LENGTH_SHORT 4    /* the audio is too short: the index lines need so many blocks */
-#define RIBJASPER_DISC_TOO_LONG 5   /* the program would have so many blocks */
-#define RIBJASPER_PAST_END 6        /* the last picture is held for longer than these program blocks */
-#define RIBJASPER_CD_TEXT_TOO_LONG 7 /* the CD-TEXT needs so many packs, and 256 are the most */
-#define RIBJASPER_LEAD_IN_SHORT 8   /* the lead-in needs so many blocks */
+#define RIBJASPER_LENGTH_SHORT 4    /* the audio is too short; the number is how many blocks the index lines need */
+#define RIBJASPER_DISC_TOO_LONG 5   /* the disc is too long; the number is its program blocks */
+#define RIBJASPER_PAST_END 6        /* the last picture is held beyond the end; the number is the program blocks */
+#define RIBJASPER_CD_TEXT_TOO_LONG 7 /* the number is how many packs the CD-TEXT needs; 256 are allowed */
+#define RIBJASPER_LEAD_IN_SHORT 8   /* the lead-in is too short; the number is how many blocks it needs */
 
-/* What the call below answers beside RIBJASPER_USAGE, if `lead_in` is above 450,000 or `audio` above 449,999, and
-   RIBJASPER_NO_MEMORY, which comes only if neither text is too long and no line of them is refused: then nothing is
-   written. If it returns RIBJASPER_NO_ROOM, `result` has the numbers of pictures and blocks there are, and no row is written. */
+/* What ribjasper_plan returns, besides RIBJASPER_USAGE, RIBJASPER_NO_ROOM and RIBJASPER_NO_MEMORY. */
 #define RIBJASPER_PLANNED 0     /* each picture is in time */
 #define RIBJASPER_NOT_PLANNED 3 /* `result` has the reason, and no row is written */
-#define RIBJASPER_LATE 4        /* some pictures are late: their rows say which */
+#define RIBJASPER_LATE 4        /* pictures are late; their rows have `late` 1 */
 
-/* Plans a disc: writes a row for each picture of a script, in time or not, to the front of the `room` rows at `rows`. The
-   disc has the cue sheet and the script of these bytes, a lead-in of `lead_in` blocks and an audio of `audio` blocks. A
-   row speaks of its picture alone, whether those before it are late or not; the first one that is late is what `author`
-   reports. Memory is asked of malloc, and freed before the call returns. */
+/* Plans a disc: one row for each picture of a script. A row is about its own picture, even if earlier ones are late. The first
+   late one is what the program's `author` reports.
+     sheet, sheet_length, script, script_length: the texts of the cue sheet and of the script, and their bytes
+     lead_in: lead-in blocks, at most 450,000
+     audio: audio blocks, at most 449,999
+     rows, room: the output, and how many rows fit
+     result: the counts, or the reason
+   Returns RIBJASPER_PLANNED or RIBJASPER_LATE. RIBJASPER_NOT_PLANNED: `result` has the reason, no row is written.
+   RIBJASPER_NO_ROOM: `result` has the numbers of pictures and blocks, no row is written. RIBJASPER_USAGE: a number is out of
+   range, nothing is written. RIBJASPER_NO_MEMORY: malloc failed, nothing is written; this comes only if neither text is too
+   long and no line is refused. It allocates memory. */
 RIBJASPER_NODISCARD
 int32_t ribjasper_plan(const uint8_t *sheet, size_t sheet_length, const uint8_t *script, size_t script_length,
                        uint32_t lead_in, uint32_t audio, ribjasper_plan_row *rows, size_t room,
                        ribjasper_planned *result);
 
-/* An index line of a cue sheet, with what the sheet says of its track. Times are blocks, 75 a second, below 450,000. */
+/* An index line of a cue sheet, with the data of its track. Times are blocks, 75 a second, below 450,000. */
 typedef struct ribjasper_sheet_row {
     uint32_t time;    /* its time in the file */
     uint32_t pregap;  /* the silence before its track */
-    uint32_t postgap; /* the silence behind its track */
+    uint32_t postgap; /* the silence after its track */
     uint8_t track;    /* the number of its track, 1 to 99 */
     uint8_t index;    /* its number, 0 to 99 */
-    uint8_t control;  /* of its track: 8 four channels, 2 copying permitted, 1 pre-emphasis */
-    uint8_t has_isrc; /* 1 if its track has a recording code, or 0 */
-    uint8_t isrc[12]; /* the code, or zeros */
+    uint8_t control;  /* flags of its track: 8 four channels, 2 copying permitted, 1 pre-emphasis */
+    uint8_t has_isrc; /* 1 if its track has an ISRC, or 0 */
+    uint8_t isrc[12]; /* the ISRC, or zeros */
 } ribjasper_sheet_row;
 
-/* What is reported of a cue sheet; if it is refused, its first line that is, and every other number is 0. */
+/* The result of reading a cue sheet. If it is refused, only `line` and `why` are not 0. */
 typedef struct ribjasper_sheet_told {
-    uint32_t rows;         /* how many index lines it has, at most 9,900 */
-    uint32_t tracks;       /* how many tracks it has, 1 to 99 */
-    uint32_t line;         /* the line that is refused, from 1, the end as the line after the last; or 0 */
-    uint32_t why;          /* the reason, by the numbers at RIBJASPER_SHEET_REFUSED; or 0 */
+    uint32_t rows;         /* index lines, at most 9,900 */
+    uint32_t tracks;       /* tracks, 1 to 99 */
+    uint32_t line;         /* the first refused line, from 1 (the end counts as the line after the last), or 0 */
+    uint32_t why;          /* the reason, a number listed at RIBJASPER_SHEET_REFUSED, or 0 */
     uint8_t has_catalogue; /* 1 if it has a catalogue number, or 0 */
     uint8_t catalogue[13]; /* its digits in ASCII, or zeros */
 } ribjasper_sheet_told;
 
-/* Writes a row for each index line of the cue sheet of `length` bytes, in its order, to the front of the `room` rows at
-   `rows`. Answers RIBJASPER_CONVERTED; RIBJASPER_USAGE if the sheet has more than 67,108,864 bytes; RIBJASPER_TORN if a
-   line is refused: `result` has it; RIBJASPER_NO_ROOM if there are fewer rows than index lines: `result` has the number
-   there are, and the rest; or RIBJASPER_NO_MEMORY, which comes only if no line is refused. Memory is asked of malloc,
-   and freed before it returns. */
+/* Reads a cue sheet: one row for each index line, in order.
+     sheet, length: the text, and its bytes
+     rows, room: the output, and how many rows fit
+     result: the counts, or the refused line
+   Returns RIBJASPER_CONVERTED. RIBJASPER_TORN: a line is refused, `result` has it, no row is written. RIBJASPER_NO_ROOM:
+   there are more index lines than rows, `result` has all counts, no row is written. RIBJASPER_USAGE: the sheet has more than
+   67,108,864 bytes, nothing is written. RIBJASPER_NO_MEMORY: malloc failed, nothing is written; this comes only if no line
+   is refused. It allocates memory. */
 RIBJASPER_NODISCARD int32_t ribjasper_sheet(const uint8_t *sheet, size_t length, ribjasper_sheet_row *rows, size_t room,
                                             ribjasper_sheet_told *result);
 
@@ -776,9 +784,15 @@ RIBJASPER_NODISCARD int32_t ribjasper_sheet(const uint8_t *sheet, size_t length,
 #define RIBJASPER_PERFORMER 1
 #define RIBJASPER_SONGWRITER 2
 
-/* Writes a text of a cue sheet to the front of the `room` bytes at `out`, and its length, which is 0 if none is given:
-   at place 0 that of the album, at place k that of the k-th track. Answers as the call above; RIBJASPER_USAGE also if
-   there is no such kind or place; and RIBJASPER_NO_ROOM if the text is longer than the room: then `bytes` is written. */
+/* Writes one text of a cue sheet.
+     sheet, length: the text of the sheet, and its bytes
+     kind: RIBJASPER_TITLE, RIBJASPER_PERFORMER or RIBJASPER_SONGWRITER
+     place: 0 for the album, k for the k-th track
+     out, room: the output, and its size in bytes
+     bytes: the length of the text, 0 if the sheet has none
+   Returns RIBJASPER_CONVERTED. RIBJASPER_NO_ROOM: the text is longer than the output, only `bytes` is written. Otherwise
+   nothing is written. RIBJASPER_USAGE: there is no such kind or place, or the sheet has more than 67,108,864 bytes.
+   RIBJASPER_TORN: a line is refused. RIBJASPER_NO_MEMORY: as above. It allocates memory. */
 RIBJASPER_NODISCARD int32_t ribjasper_sheet_text(const uint8_t *sheet, size_t length, uint32_t kind, uint32_t place,
                                                  uint8_t *out, size_t room, uint32_t *bytes);
 
@@ -786,63 +800,73 @@ RIBJASPER_NODISCARD int32_t ribjasper_sheet_text(const uint8_t *sheet, size_t le
 
 #define RIBJASPER_NO_TIME 0xFFFFFFFFu /* in place of an absolute time */
 
-/* How the Q channel of a block that holds no frame is read (RIBJASPER_Q_PROGRAM, 0, to RIBJASPER_Q_OTHER, 7). */
-#define RIBJASPER_Q_NONE 253      /* it is not read: a stream of RIBJASPER_PACKS has no frames */
+/* In place of the kind of a frame (RIBJASPER_Q_PROGRAM, 0, to RIBJASPER_Q_OTHER, 7), if a block has no frame. */
+#define RIBJASPER_Q_NONE 253      /* a stream of RIBJASPER_PACKS has no Q channel */
 #define RIBJASPER_Q_BAD_FIELD 254 /* the check is right, but a field is out of its range */
-#define RIBJASPER_Q_BAD_CHECK 255 /* the check is wrong, as it is if all bits are zero */
+#define RIBJASPER_Q_BAD_CHECK 255 /* the check is wrong; this includes 96 zero bits */
 
-/* What is found of a block. The words counted are those whose last symbol comes with the block: with block b of the
-   program the words 4 b - 7 to 4 b - 4 (none below 0), or of RIBJASPER_PACKS its four; with a block of the lead-in none.
-   The sums over all rows are six numbers of the program's command `check`: clean, one, two, bad, q-good and q-bad. */
+/* What a survey reports of a block. It counts the words whose last symbol is in the block: in program block b the words
+   4 b - 7 to 4 b - 4 (none below 0), in a block of RIBJASPER_PACKS its four, in a lead-in block none. The sums over all rows
+   are the numbers clean, one, two, bad, q-good and q-bad of the program's command `check`. */
 typedef struct ribjasper_row {
-    uint32_t absolute; /* of a frame of kind 0 the block of its absolute time, or RIBJASPER_NO_TIME */
-    uint8_t clean;     /* how many words are codewords */
-    uint8_t one;       /* how many have one wrong symbol */
-    uint8_t two;       /* how many have two */
-    uint8_t bad;       /* how many have no codeword near */
+    uint32_t absolute; /* the absolute time in blocks, if the frame is of kind 0; otherwise RIBJASPER_NO_TIME */
+    uint8_t clean;     /* words that are codewords */
+    uint8_t one;       /* words with one wrong symbol */
+    uint8_t two;       /* words with two wrong symbols */
+    uint8_t bad;       /* words with no codeword within two symbols */
     uint8_t q;         /* the kind of the frame, or one of the three numbers above */
-    uint8_t track;     /* of a frame of kind 0 to 3 its track, or 0 */
-    uint8_t index;     /* of a frame of kind 0 its index, or 0 */
+    uint8_t track;     /* the track, if the frame is of kind 0 to 3; otherwise 0 */
+    uint8_t index;     /* the index, if the frame is of kind 0; otherwise 0 */
     uint8_t empty;     /* 1 if all 96 bytes are zero, or 0 */
 } ribjasper_row;
 
-/* What is reported of a stream that was surveyed: its whole blocks, of lead-in and program, and the bytes that stand
-   behind the last of them (0 unless the stream is torn at its end). */
+/* The result of a survey. */
 typedef struct ribjasper_surveyed {
-    uint32_t blocks;
-    uint32_t rest;
+    uint32_t blocks; /* whole blocks, lead-in included */
+    uint32_t rest;   /* bytes after the last whole block; 0 if the stream is not torn */
 } ribjasper_surveyed;
 
-/* Writes a row for each whole block of the `length` bytes at `stream`, whose first `lead_in` blocks are the lead-in, to
-   the front of the `room` rows at `rows`. It asks for no memory. Answers RIBJASPER_CONVERTED, or otherwise, whichever
-   holds first: RIBJASPER_USAGE; RIBJASPER_TORN, here only if there are more than 1,000,000 whole blocks;
-   RIBJASPER_NO_ROOM if there are more blocks than rows. Then nothing is written. */
+/* Surveys a stream: one row for each whole block.
+     stream, length: the stream, and its length in bytes
+     form: RIBJASPER_RAW, RIBJASPER_PACKS or RIBJASPER_SECTORS
+     lead_in: lead-in blocks, at most 450,000
+     rows, room: the output, and how many rows fit
+     result: the counts
+   Returns RIBJASPER_CONVERTED. Otherwise it returns the first of these that holds, and writes nothing. RIBJASPER_USAGE: a
+   number is out of range. RIBJASPER_TORN: there are more than 1,000,000 whole blocks (a torn end is allowed here).
+   RIBJASPER_NO_ROOM: there are more blocks than rows. It allocates nothing. */
 RIBJASPER_NODISCARD
 int32_t ribjasper_survey(const uint8_t *stream, size_t length, uint32_t form, uint32_t lead_in, ribjasper_row *rows,
                          size_t room, ribjasper_surveyed *result);
 
-/* Writes the four CD-TEXT packs of a block of the lead-in, eighteen bytes each, one after another: the six bits of its
-   96 symbols in order. Which of them are packs ribjasper_text_pack_matches says. */
+/* Writes the four CD-TEXT packs of a lead-in block: the low six bits of its 96 symbols in order, 18 bytes for each pack.
+   ribjasper_text_pack_matches reports which of them are packs.
+     block: the block, 96 bytes
+     packs: the output, 72 bytes */
 void ribjasper_block_text_packs(const uint8_t block[RIBJASPER_BLOCK], uint8_t packs[72]);
 
-/* What is reported of the texts of a lead-in: the bytes written, or if the texts are refused (then 0) the number of the
-   pack, 0 to 255, and of its byte. What does not belong to an answer is 0. */
+/* The result of listing texts. Numbers that do not belong to the answer are 0. */
 typedef struct ribjasper_listed {
-    uint64_t bytes;
-    uint32_t seq;
-    uint32_t byte;
+    uint64_t bytes; /* bytes written, if the texts are not refused */
+    uint32_t seq;   /* the number of the pack that is the reason, 0 to 255 */
+    uint32_t byte;  /* the number of its byte that is the reason */
 } ribjasper_listed;
 
-/* Why the packs of a lead-in give no texts. */
-#define RIBJASPER_TEXT_MISSING 8    /* pack `seq` is wanted and not there */
-#define RIBJASPER_TEXT_NO_SIZE 9    /* one of the three packs with the sizes is not there */
-#define RIBJASPER_TEXT_MALFORMED 10 /* byte `byte` of pack `seq` cannot be */
+/* Why the texts of a lead-in are refused. */
+#define RIBJASPER_TEXT_MISSING 8    /* pack `seq` is missing */
+#define RIBJASPER_TEXT_NO_SIZE 9    /* one of the three packs with the sizes is missing */
+#define RIBJASPER_TEXT_MALFORMED 10 /* byte `byte` of pack `seq` is invalid */
 
-/* Writes the lines of the texts of the first `lead_in` blocks, as the program's command `text` writes them, to the front
-   of the `room` bytes at `out`. Answers RIBJASPER_CONVERTED; RIBJASPER_USAGE, also if the form is RIBJASPER_PACKS;
-   RIBJASPER_TORN; one of the three above; RIBJASPER_NO_ROOM; or RIBJASPER_NO_MEMORY, which comes only if the texts are
-   not refused (it asks for memory for the texts and their lines, and frees all of it). `out` is written if it answers
-   RIBJASPER_CONVERTED, `result` then and if the texts are refused; otherwise nothing is written. */
+/* Lists the texts of a lead-in: the lines that the program's command `text` writes.
+     stream, length: the stream, and its length in bytes
+     form: RIBJASPER_RAW or RIBJASPER_SECTORS
+     lead_in: lead-in blocks, at most 450,000
+     out, room: the output, and its size in bytes
+     result: the counts, or the pack that is the reason
+   Returns RIBJASPER_CONVERTED. RIBJASPER_TEXT_MISSING, RIBJASPER_TEXT_NO_SIZE or RIBJASPER_TEXT_MALFORMED: the texts are
+   refused, only `result` is written. Otherwise nothing is written. RIBJASPER_USAGE: `form` or `lead_in` is out of range.
+   RIBJASPER_TORN: the stream is torn or too long. RIBJASPER_NO_ROOM: the output is too small. RIBJASPER_NO_MEMORY: malloc
+   failed; this comes only if the texts are not refused. It allocates memory. */
 RIBJASPER_NODISCARD
 int32_t ribjasper_texts(const uint8_t *stream, size_t length, uint32_t form, uint32_t lead_in, uint8_t *out, size_t room,
                         ribjasper_listed *result);
