@@ -18,7 +18,7 @@ from .common.library import version
 # Each command has a module with `add_parser(subparsers)`, which adds it with set_defaults(run=run), and
 # `run(arguments) -> int`, the exit number.
 ARCHIVE = ("identify", "damage", "mend", "q-fix", "convert", "sums", "report", "sheet", "texts")
-PUBLISH = ("plan", "picture", "lyrics", "image", "film", "album", "pair", "look")
+PUBLISH = ("plan", "picture", "lyrics", "image", "film", "album", "pair", "look", "studio")
 COMMANDS = (*ARCHIVE, *PUBLISH)
 # Modules that are not called as their commands.
 MODULES = {"q-fix": "q_fix", "sheet": "sheets"}

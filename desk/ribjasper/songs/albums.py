@@ -26,12 +26,56 @@ from .tracks import packs_of
 
 MOST_TRACKS = 99
 LONGEST_GAP = 60.0
+NEW = """# An album: `ribjasper-desk album {name} -o DISC` makes a disc of it. Names of files are told from this folder on.
+title = "{title}"
+singer = "{singer}"
+# catalogue = "4006381333931"
+style = "night"
+# Seconds of silence between the tracks.
+gap = 2
+"""
+NEW_TRACK = """
+[[track]]
+lyrics = {lyrics}
+sound = {sound}
+title = {title}
+singer = {singer}
+# picture = "title.png"
+# isrc = "GBAAA2600001"
+"""
+NEW_PAIR = """
+[[track]]
+pair = {pair}
+title = {title}
+singer = ""
+# isrc = "GBAAA2600001"
+"""
 CODE = re.compile(r"[A-Z]{2}[A-Z0-9]{3}\d{7}", re.ASCII)
 CATALOGUE = re.compile(r"\d{13}", re.ASCII)
 PACKS_A_SECOND = PACKS_A_BLOCK * BLOCKS_A_SECOND
 # A disc of 80 minutes, behind its first pause; and the longest sound that a list may ask for, in seconds.
 CAPACITY = BLOCKS_A_SECOND * (79 * 60 + 57)
 LONGEST = 6000.0
+
+
+def quoted(word: str) -> str:
+    """A text as TOML spells it."""
+    marks = {'"': '\\"', "\\": "\\\\"}
+    spelled = (
+        marks.get(letter, letter if ord(letter) >= 32 and ord(letter) != 127 else f"\\u{ord(letter):04X}")
+        for letter in word
+    )
+    return f'"{"".join(spelled)}"'
+
+
+def entry_of(lyrics: Path, sound: Path, song: Song, folder: Path) -> str:
+    """The entry of a song in a list that is in a folder."""
+    return NEW_TRACK.format(
+        lyrics=quoted(os.path.relpath(lyrics, folder)),
+        title=quoted(song.title or lyrics.stem),
+        sound=quoted(os.path.relpath(sound, folder)),
+        singer=quoted(song.performer),
+    )
 
 
 @dataclass

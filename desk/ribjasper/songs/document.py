@@ -35,6 +35,7 @@ class Sung(NamedTuple):
     voices: list[int]
     whole: bool
     until: float | None
+    page: bool
 
 
 def sung(line: Line) -> Sung:
@@ -46,6 +47,7 @@ def sung(line: Line) -> Sung:
         [one.voice for one in parts],
         line.is_whole,
         line.until,
+        line.new_page,
     )
 
 
@@ -88,28 +90,29 @@ def others_in(text: str) -> list[str]:
 
 @dataclass
 class Document:
-    """A song, its rests, rows of LRC that hold no lyrics, and the two files that it was read from if these are LRC and
-    TOML; a save of what is unchanged gives these files again."""
+    """A song, its rests, rows of LRC that hold no lyrics, the two files that it was read from if these are LRC and TOML,
+    and how it is to look, which the TOML keeps; a save of what is unchanged gives these files again."""
 
     song: Song
     rests: list[float] = field(default_factory=list)
     others: list[str] = field(default_factory=list)
     lrc: bytes | None = None
     toml: bytes | None = None
+    look: dict[str, Any] = field(default_factory=dict)
 
     def __post_init__(self) -> None:
-        self.opened = copy.deepcopy((self.song, self.rests))
+        self.opened = copy.deepcopy((self.song, self.rests, self.look))
 
     def is_changed(self) -> bool:
-        song, rests = self.opened
-        return not is_same(self.song, song) or self.rests != rests
+        song, rests, look = self.opened
+        return not is_same(self.song, song) or self.rests != rests or self.look != look
 
     def files(self) -> tuple[bytes, bytes | None]:
         """The LRC file and, where it is needed, the TOML file beside it."""
         if self.lrc is not None and not self.is_changed():
             return self.lrc, self.toml
         written = lrc_of(self.song, self.rests, self.others)
-        toml = toml_of(self.song, written)
+        toml = toml_of(self.song, written, self.look)
         again = Song([], path=self.song.path)
         read_lrc(written.text, again)
         if toml:
@@ -126,7 +129,17 @@ def document_of(song: Song, lrc: bytes, toml: bytes | None) -> Document:
     """The document of a song that was read from LRC. The rests that end a line belong to the line."""
     text = lrc.decode(song.encoding)
     ends = {line.end for line in song.lines if line.is_whole and not line.is_open}
-    return Document(song, [one for one in rests_in(text) if one not in ends], others_in(text), lrc, toml)
+    rests = [one for one in rests_in(text) if one not in ends]
+    return Document(song, rests, others_in(text), lrc, toml, look_in(toml))
+
+
+def look_in(toml: bytes | None) -> dict[str, Any]:
+    """How the file beside LRC says that the song is to look."""
+    try:
+        found = tomllib.loads((toml or b"").decode("utf-8")).get("look", {})
+    except (UnicodeDecodeError, tomllib.TOMLDecodeError):
+        return {}
+    return found if isinstance(found, dict) else {}
 
 
 class Written(NamedTuple):
@@ -268,7 +281,7 @@ def heads_of(song: Song) -> dict[str, object]:
     }
 
 
-def toml_of(song: Song, written: Written) -> str:
+def toml_of(song: Song, written: Written, look: dict[str, Any]) -> str:
     """What the LRC does not say, or nothing if it says all."""
     again = Song([], path=song.path)
     read_lrc(written.text, again)
@@ -283,6 +296,8 @@ def toml_of(song: Song, written: Written) -> str:
     for row, line in written.lines.items():
         read = by_row.get(row, [])
         parts += entry_of(line, sung(read[0]) if len(read) == 1 else None, row, rows[row - 1])
+    if look:
+        parts.append("[look]\n" + "".join(f"{name} = {quoted(value)}\n" for name, value in look.items()))
     if not parts:
         return ""
     about = "# Belongs to the LRC file of this name, and holds what LRC cannot express.\n"
@@ -391,7 +406,9 @@ def line_of(entry: dict[str, Any], read: Sung | None) -> Line:
         raise ValueError("a line has not as many times as words")
     until = value("until")
     syllables = [Syllable(*parts) for parts in zip(texts, *lists, voices)]
-    return Line(0, syllables, bool(value("whole")), until=None if until in (None, False) else number(until))
+    # Files of before page breaks have no such value.
+    new_page = bool(entry.get("page", read.page if read else False))
+    return Line(0, syllables, bool(value("whole")), "", None if until in (None, False) else number(until), new_page)
 
 
 def pictures_in(content: bytes) -> list[str]:

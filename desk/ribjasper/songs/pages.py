@@ -199,7 +199,8 @@ def groups_of(lines: list[Line], font: Font, style: Style, rests: bool = True, e
     for number, line in enumerate(lines):
         rest = line.start - end
         rows = [(line, row) for row in wrapped(line, font)]
-        if not number or rest >= REST or len(pages[-1].rows) + len(rows) > most >= len(rows):
+        is_full = number and len(pages[-1].rows) + len(rows) > most >= len(rows)
+        if not number or rest >= REST or is_full or line.new_page:
             pages.append(Group())
             if rests and rest > COUNTED_REST:
                 pages[-1].is_counted = True

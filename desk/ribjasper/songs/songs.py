@@ -29,14 +29,15 @@ class Syllable:
 @dataclass
 class Line:
     """A line of lyrics: its syllables, one after the other; its number in the file; whether it has one time for all of
-    its words; its time as the file spells it; and if no file says when it ends, the time until which it is taken as
-    sung: the line then stays on the screen, although all of it is lit."""
+    its words; its time as the file spells it; if no file says when it ends, the time until which it is taken as sung: the
+    line then stays on the screen, although all of it is lit; and whether a page begins with it."""
 
     number: int
     syllables: list[Syllable]
     is_whole: bool = False
     written: str = ""
     until: float | None = None
+    new_page: bool = False
 
     @property
     def start(self) -> float:

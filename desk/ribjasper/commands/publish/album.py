@@ -13,35 +13,14 @@ from ...common.targets import DASH
 from ...common.times import clock
 from ...common.words import Commands
 from ...songs import audio
-from ...songs.albums import CAPACITY, Album, check_capacity, length_of, made_ready, read_album, sing_all, write_disc
+
+from ...songs.albums import (
+    CAPACITY, NEW, NEW_PAIR, Album, check_capacity, entry_of, length_of, made_ready, quoted, read_album, sing_all, write_disc,
+)  # fmt: skip
 from ...songs.pairs import CDG, is_pair
 from ...songs.song_files import pictures_of, read_song
 from ...songs.wishes import add_encoding
 
-NEW = """# An album: `ribjasper-desk album {name} -o DISC` makes a disc of it. Names of files are told from this folder on.
-title = "{title}"
-singer = "{singer}"
-# catalogue = "4006381333931"
-style = "night"
-# Seconds of silence between the tracks.
-gap = 2
-"""
-NEW_TRACK = """
-[[track]]
-lyrics = {lyrics}
-sound = {sound}
-title = {title}
-singer = {singer}
-# picture = "title.png"
-# isrc = "GBAAA2600001"
-"""
-NEW_PAIR = """
-[[track]]
-pair = {pair}
-title = {title}
-singer = ""
-# isrc = "GBAAA2600001"
-"""
 COLUMNS = ("track", "kind", "start", "length", "left", "title", "singer", "file")
 # A capacity as a word: minutes and seconds, with frames or without.
 LENGTH = re.compile(r"(\d{1,2}):([0-5]\d)(?::([0-6]\d|7[0-4]))?", re.ASCII)
@@ -168,16 +147,6 @@ def check(album: Album, most: int, as_json: bool) -> int:
     return 0 if length <= most else FOUND
 
 
-def text_of(word: str) -> str:
-    """A text as TOML spells it."""
-    marks = {'"': '\\"', "\\": "\\\\"}
-    spelled = (
-        marks.get(letter, letter if ord(letter) >= 32 and ord(letter) != 127 else f"\\u{ord(letter):04X}")
-        for letter in word
-    )
-    return f'"{"".join(spelled)}"'
-
-
 def begin(arguments: argparse.Namespace) -> int:
     """Writes a list of songs, with what their lyrics tell of them."""
     out = arguments.output or Path(DASH)
@@ -187,21 +156,16 @@ def begin(arguments: argparse.Namespace) -> int:
         singers = {song.performer for _, song in songs if song}
         title, singer = "", singers.pop() if len(singers) == 1 else ""
         name = arguments.output.name if arguments.output else "LIST.toml"
-        lines = NEW.format(name=name, title=title, singer=text_of(singer)[1:-1])
+        lines = NEW.format(name=name, title=title, singer=quoted(singer)[1:-1])
         for path, song in songs:
             if song is None:
                 if path.suffix.lower() == CDG and not audio.beside(path):
                     tell(f"{path}: no sound of that name stands beside it; `sound = ...` names one")
-                lines += NEW_PAIR.format(pair=text_of(os.path.relpath(path, folder)), title=text_of(path.stem))
+                lines += NEW_PAIR.format(pair=quoted(os.path.relpath(path, folder)), title=quoted(path.stem))
                 continue
             sound = audio.beside(path)
             if not sound:
                 tell(f"{path}: no sound of that name stands beside it; the list names {path.with_suffix('.wav').name}")
-            lines += NEW_TRACK.format(
-                lyrics=text_of(os.path.relpath(path, folder)),
-                title=text_of(song.title or path.stem),
-                sound=text_of(os.path.relpath(sound or path.with_suffix(".wav"), folder)),
-                singer=text_of(song.performer),
-            )
+            lines += entry_of(path, sound or path.with_suffix(".wav"), song, folder)
         outputs.write(out, lines.encode())
     return 0

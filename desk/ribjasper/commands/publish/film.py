@@ -2,31 +2,24 @@
 import argparse
 import contextlib
 import math
-import os
 import shutil
-import subprocess
-import tempfile
 from pathlib import Path
-from typing import Any, IO, Iterator, NamedTuple
+from typing import Any, IO, NamedTuple
 
 from ...common import kinds
-from ...common.failures import Missing, Refusal
+from ...common.failures import Refusal
 from ...common.library import HEIGHT, WIDTH
 from ...common.output import Outputs, add_force, package, tell
 from ...common.words import Commands, number_in
 from ...dumps.streams import Stream, open_stream
 from ...songs import audio
+from ...songs.films import FilmForm, film_of
 
 # A picture that stands so long, in seconds, has a place on a page of stills.
 STANDS = 0.2
 MOST_STILLS = 1_000
 # A sound that is shorter than the pictures by no more seconds is as long as they are.
 SHORT_SOUND = 1.0
-# What x264 leaves out: frames between two others, and a long search for what moved. Pictures of tiles change where they stand.
-PLAIN_SEARCH = "bframes=0:me=dia:subme=0:trellis=0"
-# Frames are small: more threads take longer, and more of the processors.
-READING = ["-threads", "1", "-filter_threads", "1"]
-CODING = ["-threads", "2"]
 # A still in pixels, the line below it, and what is between them.
 STILL_WIDTH, STILL_HEIGHT, LABEL, BETWEEN = WIDTH // 2, HEIGHT // 2, 14, 8
 
@@ -65,57 +58,6 @@ def audio_seconds(path: Path | None) -> float:
     if wave and wave.channels and wave.bits >= 8 and wave.rate:
         return wave.size / (wave.channels * (wave.bits // 8) * wave.rate)
     return audio.frames(path) / audio.RATE if shutil.which("ffmpeg") else 0
-
-
-def film_words(arguments: argparse.Namespace, out: str) -> list[str]:
-    """The call of ffmpeg, which reads frames from its standard input."""
-    size, scale = f"{WIDTH}x{HEIGHT}", arguments.scale
-    coding = (
-        ["-c:v", "libx264rgb", "-qp", "0"]
-        if arguments.lossless
-        else ["-preset", "veryfast", "-x264-params", PLAIN_SEARCH, "-crf", "16", "-pix_fmt", "yuv420p"]
-    )
-    sound = ["-i", os.fspath(arguments.audio), "-map", "0:v", "-map", "1:a"] if arguments.audio else []
-    frames = ["-f", "rawvideo", "-pix_fmt", "rgb24", "-s", size, "-r", str(arguments.rate), "-i", "pipe:0"]
-    larger = ["-vf", f"scale=iw*{scale}:ih*{scale}:flags=neighbor"]
-    return [
-        "ffmpeg",
-        "-v",
-        "error",
-        "-y",
-        *READING,
-        *frames,
-        *sound,
-        *larger,
-        *CODING,
-        *coding,
-        "-movflags",
-        "+faststart",
-        out,
-    ]
-
-
-@contextlib.contextmanager
-def film_of(arguments: argparse.Namespace, part: str) -> Iterator[IO[bytes]]:
-    """Where frames are written to, of which ffmpeg makes a film."""
-    with tempfile.TemporaryFile() as said:
-        try:
-            ffmpeg = subprocess.Popen(film_words(arguments, part), stdin=subprocess.PIPE, stderr=said)
-        except FileNotFoundError:
-            raise Missing("this needs the program ffmpeg (apt-get install ffmpeg)") from None
-        assert ffmpeg.stdin is not None
-        try:
-            yield ffmpeg.stdin
-        except BrokenPipeError:
-            pass
-        finally:
-            with contextlib.suppress(BrokenPipeError):
-                ffmpeg.stdin.close()
-            status = ffmpeg.wait()
-        if status:
-            said.seek(0)
-            why = said.read().decode(errors="replace").strip().splitlines()
-            raise Refusal(arguments.output, f"ffmpeg ended with {status}: {why[-1] if why else 'it says nothing'}")
 
 
 class Still(NamedTuple):
@@ -192,7 +134,9 @@ def run(arguments: argparse.Namespace) -> int:
         with contextlib.ExitStack() as open_film:
             out = None
             if arguments.output:
-                out = open_film.enter_context(film_of(arguments, outputs.path(arguments.output, ".mp4")))
+                form = FilmForm(arguments.audio, arguments.rate, arguments.scale, arguments.lossless)
+                part = outputs.path(arguments.output, ".mp4")
+                out = open_film.enter_context(film_of(form, arguments.output, part))
             show_all(stream, arguments, count, out, stills)
         if arguments.stills:
             if len(stills.kept) > MOST_STILLS:

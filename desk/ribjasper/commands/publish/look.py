@@ -10,11 +10,12 @@ import shutil
 import struct
 import zlib
 from pathlib import Path
-from typing import Any, Iterator, NamedTuple
+from typing import Any, Iterator
 
 from ...common import kinds
-from ...common.library import BLOCKS_A_SECOND, COLOURS, HEIGHT, PACK, PACKAGE, PACKS_A_BLOCK, Player, WIDTH, checkout
+from ...common.library import BLOCKS_A_SECOND, COLOURS, HEIGHT, PACK, PACKS_A_BLOCK, Player, WIDTH
 from ...common.output import Outputs, add_force, tell
+from ...common.web import web as web
 from ...common.words import Commands
 from ...songs import audio
 from ...songs.albums import Sung, sing_one
@@ -131,25 +132,6 @@ def sound_word(sung: Sung) -> str:
         return f"data:audio/mpeg;base64,{base64.b64encode(made.read_bytes()).decode()}"
     samples = b"".join(audio.sectors(sung.sound))
     return f"data:audio/wav;base64,{base64.b64encode(audio.header(len(samples)) + samples).decode()}"
-
-
-class Web(NamedTuple):
-    """The proved library for pages: its module and the script that calls it."""
-
-    module: Path
-    script: Path
-
-
-def web() -> Web | None:
-    """The one in the folder that RIBJASPER_WEB names, or that of the checkout or of the package, if it is built. A module
-    with a 32-bit memory comes first, since every browser runs it."""
-    named = os.environ.get("RIBJASPER_WEB")
-    folders: list[Path | None] = [Path(named)] if named is not None else [checkout("lib", "web"), PACKAGE / "web"]
-    for folder in folders:
-        for module in ("ribjasper32.wasm", "ribjasper.wasm"):
-            if folder and (folder / module).exists() and (folder / "ribjasper.mjs").exists():
-                return Web(folder / module, folder / "ribjasper.mjs")
-    return None
 
 
 def packed(content: bytes) -> str:

@@ -1,15 +1,14 @@
 """`pair`: a song as karaoke players take it: the graphics as a .cdg file, and the sound beside it."""
 import argparse
-import os
 from dataclasses import replace
 from pathlib import Path
 
 from ...common import kinds
-from ...common.failures import Refusal
 from ...common.output import Outputs, add_force, stem_of, tell
 from ...common.words import Commands
 from ...songs.albums import sing_one, write_disc
-from ...songs.sound_files import sound_of, write_sound, write_zip
+from ...songs.finishing import PairFiles
+from ...songs.sound_files import sound_of
 from ...songs.tracks import as_pair
 from ...songs.wishes import add_wishes, reads_of, wishes_of
 
@@ -35,26 +34,16 @@ def add_parser(commands: Commands) -> None:
 def run(arguments: argparse.Namespace) -> int:
     sound = sound_of(arguments)
     name = stem_of(arguments.output)
-    ending = ".mp3" if arguments.mp3 else sound.suffix.lower()
-    cdg, beside, packed = f"{name}.cdg", f"{name}{ending}", f"{name}.zip"
-    is_there = os.path.exists(beside) and os.path.samefile(beside, sound) and not arguments.mp3
-    if is_there and arguments.intro and not arguments.zip:
-        raise Refusal(beside, "is read here, and --intro would change it; -o names another pair")
-    writes = [(packed, kinds.ZIP)] if arguments.zip else [(cdg, kinds.CDG)]
-    writes += [(beside, kinds.SOUND)] * (not arguments.zip and not is_there)
+    files = PairFiles(name, sound, arguments.mp3, arguments.zip, arguments.intro)
+    writes = files.writes()
     disc = [f"{name}.bin", f"{name}.toc", f"{name}.cue", f"{name}.raw", f"{name}-sheet.cue"]
     if arguments.karaoke_cd:
         writes += zip(disc, (kinds.IMAGE, kinds.TOC, kinds.CUE, kinds.STREAM, kinds.CUE))
+    told = files.told()
     with Outputs([*reads_of(arguments), sound], writes, arguments.force) as outputs:
         album, sung = sing_one(arguments.song, sound, wishes_of(arguments, None))
-        if arguments.zip:
-            write_zip(outputs, packed, as_pair(sung.packs), sung.sound, sung.song, ending)
-        else:
-            outputs.write(cdg, as_pair(sung.packs))
-            if not is_there:
-                write_sound(outputs, beside, sung.sound, sung.song, ending)
+        files.write(outputs, as_pair(sung.packs), sung.sound, sung.song)
         if arguments.karaoke_cd:
             write_disc(replace(album, title=sung.song.title), [sung], outputs, disc)
-    written = packed if arguments.zip else f"{cdg} and {beside}{' (which is there already)' * is_there}"
-    tell(f"{written}: {sung.blocks / 75:.1f} seconds")
+    tell(f"{told}: {sung.blocks / 75:.1f} seconds")
     return 0

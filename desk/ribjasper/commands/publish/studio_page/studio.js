@@ -1,0 +1,543 @@
+// The page of the studio: it asks the desk for each edit, and shows what the desk answers.
+import { Screen } from "./screen.js";
+import {
+  STEP, firstTarget, isOwnKey, lateText, lineAt, marked, nextTarget, pressedAt, secondsOf, span, spelled, tapsIn, unmarked,
+} from "./times.js";
+import { Wave } from "./wave.js";
+
+const $ = (id) => document.getElementById(id);
+const sound = $("sound");
+const VOICES = ["first voice", "second voice", "third voice", "fourth voice", "all"];
+const EXPORTS = { ".srt": "SubRip (.srt)", ".ass": "ASS with \\k (.ass)", ".txt": "UltraStar (.txt)" };
+// How long before a line the song plays when it goes back, in seconds.
+const BEFORE = 2;
+
+/** Everything that the page knows. `line` is the place of the chosen line, `word` that of the chosen word. */
+const app = {
+  state: null, choices: null, line: 0, word: 0, more: new Set(), late: new Map(), sent: Promise.resolve(), loop: null, until: null,
+  tapped: null, shownLine: -1, times: [],
+};
+
+// What the desk answers
+
+async function ask(path, table) {
+  const options = table === undefined ? {} : { method: "POST", headers: { "Content-Type": "application/json" }, body: JSON.stringify(table) };
+  const answer = await fetch(path, options);
+  const found = await answer.json().catch(() => ({ error: `the desk answers ${answer.status}` }));
+  if (found.error) throw new Error(found.error);
+  return found;
+}
+
+/** Sends one request after the other, and takes the state that each brings. */
+function send(path, table) {
+  const began = performance.now();
+  const task = app.sent.then(() => ask(path, table)).then((found) => {
+    const state = found.state ?? found;
+    if (state.lines) take(state, began);
+    return found;
+  });
+  app.sent = task.catch((error) => tell(String(error.message), true));
+  return task;
+}
+
+const edit = (table) => send("edit", { edit: table }).catch(() => null);
+
+function tell(text, isWrong = false) {
+  $("told").textContent = text;
+  $("told").classList.toggle("wrong", isWrong);
+}
+
+function take(state, began = performance.now()) {
+  const isNew = !app.state || state.revision !== app.state.revision;
+  app.state = state;
+  app.line = Math.min(app.line, state.lines.length - 1);
+  app.word = Math.min(app.word, Math.max(0, tapsIn(state.lines[app.line]) - 1));
+  render();
+  if (isNew) fetchPacks(state.revision, began);
+}
+
+/** The packs of a revision, and what is late in them. */
+async function fetchPacks(revision, began) {
+  let answer = await fetch(`packs?revision=${revision}`);
+  while (answer.status === 503) answer = await fetch(`packs?revision=${revision}`);
+  if (!answer.ok || app.screen === undefined) return;
+  const bytes = await answer.arrayBuffer(), long = new DataView(bytes).getUint32(0);
+  const made = JSON.parse(new TextDecoder().decode(new Uint8Array(bytes, 4, long)));
+  if (made.revision < (app.planned ?? -1)) return;
+  app.planned = made.revision;
+  app.late = new Map();
+  for (const one of made.late) if (!app.late.has(one.line)) app.late.set(one.line, lateText(one));
+  $("plan").textContent = [made.error || made.summary, ...made.notes].filter(Boolean).join("; ");
+  $("plan").classList.toggle("wrong", Boolean(made.error));
+  if (!made.error) app.screen.packs = new Uint8Array(bytes.slice(4 + long));
+  drawScreen(true);
+  app.times.push(performance.now() - began);
+  document.body.dataset.planned = made.revision;
+  renderLines();
+  app.wave.lay();
+}
+
+// Showing
+
+const lineNow = () => app.state.lines[app.line];
+const wordNow = () => lineNow().words[Math.min(app.word, lineNow().words.length - 1)];
+
+function render() {
+  const state = app.state;
+  document.title = `${state.title || state.name} – Studio`;
+  $("name").textContent = `${state.name}${state.saved ? "" : " – not saved"}`;
+  $("undo").disabled = !state.undo;
+  $("redo").disabled = !state.redo;
+  renderLines();
+  renderLine();
+  renderSong();
+  app.wave.lay();
+  document.body.dataset.revision = state.revision;
+}
+
+/** Lines that did not change keep their elements, and so the focus. */
+function renderLines() {
+  const list = $("lines"), old = new Map([...list.children].map((row) => [Number(row.dataset.key), row]));
+  let before = null;
+  app.state.lines.forEach((line, number) => {
+    const row = old.get(line.key) ?? document.createElement("li");
+    old.delete(line.key);
+    if (before ? before.nextSibling !== row : list.firstChild !== row) list.insertBefore(row, before ? before.nextSibling : list.firstChild);
+    before = row;
+    const spoken = JSON.stringify([line, number, app.late.get(number + 1), number === app.line && [app.word, ...app.more]]);
+    if (row.dataset.spoken !== spoken) renderRow(row, line, number);
+    row.dataset.spoken = spoken;
+  });
+  for (const row of old.values()) row.remove();
+}
+
+function renderRow(row, line, number) {
+  row.dataset.key = line.key;
+  row.className = `v${line.voice}`;
+  row.classList.toggle("page", line.page);
+  row.classList.toggle("chosen", number === app.line);
+  let button = row.firstElementChild;
+  if (!button) {
+    button = document.createElement("button");
+    button.type = "button";
+    button.addEventListener("click", (event) => chooseRow(Number(row.dataset.key), event));
+    row.append(button);
+  }
+  const time = document.createElement("time");
+  time.textContent = line.words[0].start === null ? "--:--.--" : spelled(line.words[0].start);
+  const words = line.words.map((word, place) => {
+    const item = document.createElement("i");
+    item.textContent = word.text;
+    item.dataset.place = place;
+    item.classList.toggle("untimed", word.start === null);
+    item.classList.toggle("chosen", isChosen(line.key, place));
+    return item;
+  });
+  button.replaceChildren(time, ...words);
+  button.setAttribute("aria-current", String(number === app.line));
+  const why = app.late.get(number + 1);
+  if (why) {
+    const note = document.createElement("small");
+    note.textContent = why;
+    button.append(note);
+  }
+}
+
+function renderLine() {
+  const line = lineNow(), word = wordNow();
+  $("which").textContent = `Line ${app.line + 1}: ${word.text.trim()}`;
+  fill($("words"), marked(line.words));
+  $("voice").value = line.voice;
+  $("page").checked = line.page;
+  fill($("from"), word.start === null ? "" : spelled(word.start));
+  fill($("to"), word.end === null ? "" : spelled(word.end));
+  $("glue").disabled = app.line + 1 >= app.state.lines.length;
+  $("cut").disabled = app.word === 0;
+  $("divide").hidden = !app.choices?.languages.length;
+  renderTarget();
+}
+
+function renderTarget() {
+  const isOn = $("taps").checked, isAll = app.line >= app.state.lines.length;
+  const line = app.state.lines[Math.min(app.line, app.state.lines.length - 1)];
+  const texts = line.whole ? unmarked(line.words[0].text) : line.words.map((one) => one.text);
+  const text = unit() === "line" ? texts.join("") : texts[Math.min(app.word, texts.length - 1)];
+  $("target").textContent = isOn ? (isAll || app.isDone ? "Done: all is timed" : `Tap: ${text.trim()}`) : "Tap (off)";
+  $("tap").classList.toggle("on", isOn && !sound.paused);
+  $("tap").disabled = !isOn;
+}
+
+function renderSong() {
+  const { state, choices } = app;
+  fill($("title"), state.title);
+  fill($("performer"), state.performer);
+  fill($("singers"), state.singers.join(", "));
+  const names = VOICES.map((name, at) => state.singers[at] && at < 4 ? state.singers[at] : name);
+  options($("voice"), names.map((name, at) => [String(at), name]), String(lineNow().voice));
+  if (!choices) return;
+  const look = state.look, images = choices.images.map((name) => [name, name]);
+  options($("style"), choices.styles.map((name) => [name, name]), look.style ?? "night");
+  $("rows").value = look.rows ?? "";
+  options($("image"), [["", "the title as text"], ...images], look.title ?? "");
+  options($("between"), [["", "nothing"], ...images], look.between?.[0] ?? "");
+  options($("picture"), [["", "choose …"], ...images], $("picture").value);
+  $("sweep").checked = look.sweep ?? false;
+  $("legend").checked = look.legend ?? false;
+  $("rests").checked = look.rests ?? true;
+  $("pictures").replaceChildren(...state.pictures.map(({ what, start, after }, place) => {
+    const item = document.createElement("li"), button = document.createElement("button");
+    button.type = "button";
+    button.textContent = `${what} at ${spelled(start ?? after)} ✕`;
+    button.setAttribute("aria-label", `Remove ${what} at ${spelled(start ?? after)}`);
+    button.addEventListener("click", () => edit({ do: "unpicture", place }));
+    item.append(button);
+    return item;
+  }));
+}
+
+/** A value that the user is typing stays. */
+function fill(field, value) {
+  if (document.activeElement !== field || field.dataset.filled === field.value) field.value = value;
+  field.dataset.filled = value;
+}
+
+function options(list, pairs, value) {
+  const spoken = JSON.stringify(pairs);
+  if (list.dataset.spoken !== spoken) {
+    list.replaceChildren(...pairs.map(([name, text]) => new Option(text, name)));
+    list.dataset.spoken = spoken;
+  }
+  list.value = value;
+}
+
+function drawScreen(always = false) {
+  const now = sound.currentTime + (app.state?.look.intro ?? 0);
+  if (!app.screen || !app.screen.show(now) && !always) return;
+  $("screen").getContext("2d").putImageData(app.screen.image(), 0, 0);
+}
+
+// Choosing
+
+const isChosen = (key, place) => app.state.lines[app.line]?.key === key && place === app.word || app.more.has(`${key}.${place}`);
+
+function choose(line, word = 0, isMore = false) {
+  if (isMore) app.more.add(`${lineNow().key}.${app.word}`);
+  else app.more.clear();
+  app.line = Math.max(0, Math.min(app.state.lines.length - 1, line));
+  app.word = Math.max(0, Math.min(Math.max(lineNow().words.length, tapsIn(lineNow())) - 1, word));
+  app.isDone = false;
+  renderLines();
+  renderLine();
+  app.wave.lay();
+  $("lines").children[app.line].scrollIntoView({ block: "nearest" });
+}
+
+const placeOf = (key) => app.state.lines.findIndex((line) => line.key === key);
+
+function chooseRow(key, event) {
+  const place = event.target.closest("i")?.dataset.place ?? 0;
+  choose(placeOf(key), Number(place), event.shiftKey || event.ctrlKey);
+  const start = wordNow().start ?? lineNow().words[0].start;
+  if (start !== null && !event.shiftKey && !event.ctrlKey && sound.paused) seek(start);
+}
+
+// Moving words
+
+const chosenWords = () => [[lineNow().key, Math.min(app.word, lineNow().words.length - 1)], ...[...app.more].map((name) => name.split(".").map(Number))];
+
+function move(by, key = lineNow().key, place = app.word) {
+  const how = $("moves").value, line = app.state.lines[placeOf(key)];
+  const start = line.words[Math.min(place, line.words.length - 1)].start;
+  if (start === null) return;
+  if (how === "rest") edit({ do: "move", from: start, by });
+  else if (how === "line") edit({ do: "move", lines: [key], by });
+  else edit({ do: "move", words: unique([[key, Math.min(place, line.words.length - 1)], ...chosenWords()]), by });
+}
+
+const unique = (pairs) => [...new Map(pairs.map((pair) => [pair.join("."), pair])).values()];
+
+function drag(key, place, part, by) {
+  const word = app.state.lines[placeOf(key)].words[place];
+  if (part === "start") edit({ do: "start", line: key, word: place, at: Math.max(0, word.start + by) });
+  else if (part === "end") edit({ do: "end", line: key, word: place, at: Math.max(0, word.end + by) });
+  else move(by, key, place);
+}
+
+// Playing
+
+function seek(second) {
+  sound.currentTime = Math.max(0, Math.min(app.state.seconds, second));
+}
+
+function play() {
+  if (sound.paused) sound.play().catch((error) => tell(`the sound cannot be played: ${error.message}`, true));
+  else sound.pause();
+}
+
+function hear() {
+  const word = wordNow();
+  if (word.start === null) return;
+  [app.until, app.loop] = [Math.max(word.start + 0.15, word.end), null];
+  seek(word.start);
+  sound.play();
+}
+
+function loop() {
+  const whole = span(lineNow());
+  app.loop = app.loop || !whole ? null : { start: Math.max(0, whole.start - 0.3), end: whole.end + 0.3 };
+  $("loop").setAttribute("aria-pressed", String(app.loop !== null));
+  if (app.loop) {
+    seek(app.loop.start);
+    sound.play();
+  }
+}
+
+// Timing
+
+const unit = () => document.querySelector("input[name=unit]:checked").value;
+
+/** Sets the time of what is next, as it was when the key was pressed. */
+function tap(stamp) {
+  if (!$("taps").checked) return;
+  if (sound.paused) {
+    play();
+    return;
+  }
+  if (app.isDone) return;
+  const at = pressedAt(sound.currentTime, performance.now(), stamp, sound.playbackRate, Number($("late").value) || 0);
+  const line = lineNow();
+  edit(unit() === "line" ? { do: "tap", line: line.key, at } : { do: "tap", line: line.key, word: app.word, at });
+  app.tapped = { key: line.key, word: unit() === "line" ? 0 : app.word };
+  const next = nextTarget(app.state.lines, app.line, app.word, unit());
+  app.isDone = next.line >= app.state.lines.length;
+  if (!app.isDone) [app.line, app.word] = [next.line, next.word];
+  app.more.clear();
+  renderLines();
+  renderLine();
+  $("lines").children[app.line].scrollIntoView({ block: "nearest" });
+}
+
+/** Goes back to the line before, or to the beginning of this one, and plays from a little before it. */
+function back() {
+  const isBegun = app.word > 0 || app.isDone;
+  choose(isBegun ? app.line : app.line - 1, 0);
+  const before = app.state.lines.slice(0, app.line).map(span).filter(Boolean).pop();
+  const start = span(lineNow())?.start ?? before?.end ?? 0;
+  seek(start - BEFORE * sound.playbackRate);
+}
+
+/** The line that was tapped last ends now. */
+function stopLine(stamp) {
+  if (!app.tapped || sound.paused) return;
+  const at = pressedAt(sound.currentTime, performance.now(), stamp, sound.playbackRate, Number($("late").value) || 0);
+  const line = app.state.lines[placeOf(app.tapped.key)];
+  app.sent.then(() => edit({ do: "end", line: line.key, word: Math.min(app.tapped.word, line.words.length - 1), at }));
+}
+
+// Saving and finishing
+
+async function save() {
+  const found = await send("save", {}).catch(() => null);
+  if (found) tell(`saved: ${found.written.join(", ")}`);
+}
+
+async function exported(ending) {
+  const found = await send("export", { ending }).catch(() => null);
+  if (found) tell(`written: ${found.written.join("; ")}`);
+}
+
+async function finish(what) {
+  const bar = $("progress"), told = $("finished");
+  const started = await send("finish", { what }).catch(() => null);
+  if (!started) return;
+  bar.hidden = false;
+  told.textContent = `${what} …`;
+  let job = started;
+  while (!job.over) {
+    bar.value = job.done;
+    await new Promise((done) => { setTimeout(done, 200); });
+    job = await ask("job");
+  }
+  bar.value = 1;
+  told.textContent = job.error || `written: ${job.told}`;
+  if (what === "album" && !job.error) take(await ask("song"));
+}
+
+// What keys and fields do
+
+const keys = {
+  p: play,
+  h: hear,
+  l: loop,
+  "+": () => app.wave.zoom(0.5),
+  "-": () => app.wave.zoom(2),
+  ",": () => move(-STEP),
+  ".": () => move(STEP),
+  ArrowUp: () => choose(app.line - 1),
+  ArrowDown: () => choose(app.line + 1),
+  ArrowLeft: () => (app.word ? choose(app.line, app.word - 1) : app.line && choose(app.line - 1, 1e3)),
+  ArrowRight: () => (app.word + 1 < tapsIn(lineNow()) ? choose(app.line, app.word + 1) : choose(app.line + 1)),
+  Backspace: back,
+  Enter: (event) => stopLine(event.timeStamp),
+  " ": (event) => ($("taps").checked ? tap(event.timeStamp) : play()),
+};
+const control = { z: () => send("undo", {}).catch(() => null), y: () => send("redo", {}).catch(() => null), s: save };
+
+function pressed(event) {
+  const isControl = event.ctrlKey || event.metaKey;
+  if (isControl && !event.altKey) {
+    const name = event.shiftKey && event.key.toLowerCase() === "z" ? "y" : event.key.toLowerCase();
+    const isTyping = event.target.closest?.("input[type=text]") && name !== "s";
+    if (control[name] && !isTyping) {
+      event.preventDefault();
+      control[name]();
+    }
+    return;
+  }
+  const isTap = event.key === " " && event.target === $("tap");
+  if (event.altKey || !keys[event.key] || isOwnKey(event) && !isTap) return;
+  event.preventDefault();
+  if (!event.repeat || event.key !== " ") keys[event.key](event);
+}
+
+/** What a field changes, when its value is another one. */
+function onChange(id, change) {
+  $(id).addEventListener("change", () => change($(id)));
+}
+
+const look = (table) => edit({ do: "look", look: table });
+
+function wireLine() {
+  onChange("words", (field) => edit({ do: "text", line: lineNow().key, texts: unmarked(field.value) }));
+  onChange("voice", (field) => edit({ do: "voice", lines: unique([lineNow().key, ...chosenWords().map(([key]) => key)].map((key) => [key])).flat(), voice: Number(field.value) }));
+  onChange("page", (field) => edit({ do: "page", line: lineNow().key, page: field.checked }));
+  for (const [id, kind] of [["from", "start"], ["to", "end"]]) {
+    onChange(id, (field) => {
+      const at = secondsOf(field.value);
+      if (at === null) tell(`${field.value} is no time like 01:02.50`, true);
+      else edit({ do: kind, line: lineNow().key, word: Math.min(app.word, lineNow().words.length - 1), at });
+    });
+  }
+  const acts = {
+    divide: () => send("divide", { line: lineNow().key, language: navigator.language.replace("-", "_") }).catch(() => null),
+    cut: () => edit({ do: "cut", line: lineNow().key, word: app.word }),
+    glue: () => edit({ do: "glue", line: lineNow().key }),
+    add: () => edit({ do: "add", after: lineNow().key, text: "new line" }).then(() => { choose(app.line + 1); $("words").focus(); $("words").select(); }),
+    clear: () => edit({ do: "clear", lines: [lineNow().key] }),
+    remove: () => edit({ do: "remove", lines: [lineNow().key] }),
+  };
+  for (const [id, act] of Object.entries(acts)) $(id).addEventListener("click", act);
+}
+
+function wireSong() {
+  onChange("title", (field) => edit({ do: "head", title: field.value }));
+  onChange("performer", (field) => edit({ do: "head", performer: field.value }));
+  onChange("singers", (field) => edit({ do: "head", singers: field.value.split(",").map((name) => name.trim()).filter(Boolean) }));
+  onChange("style", (field) => look({ style: field.value }));
+  onChange("rows", (field) => look({ rows: field.value ? Number(field.value) : null }));
+  onChange("image", (field) => look({ title: field.value }));
+  onChange("between", (field) => look({ between: field.value ? [field.value] : [] }));
+  for (const id of ["sweep", "legend", "rests"]) onChange(id, (field) => look({ [id]: field.checked }));
+  $("place").addEventListener("click", () => {
+    if ($("picture").value) edit({ do: "picture", what: $("picture").value, at: Math.round(100 * sound.currentTime) / 100 });
+    else tell("choose a picture first", true);
+  });
+  for (const button of document.querySelectorAll("[data-finish]")) button.addEventListener("click", () => finish(button.dataset.finish));
+}
+
+/** After a click the space bar goes on setting times, and does not press the button that was clicked. */
+function handOver(event) {
+  if (event.detail && $("taps").checked) $("tap").focus();
+}
+
+function wire() {
+  document.addEventListener("keydown", pressed);
+  for (const name of ["undo", "redo"]) $(name).addEventListener("click", () => send(name, {}).catch(() => null));
+  $("save").addEventListener("click", save);
+  onChange("export", (field) => {
+    const ending = field.value;
+    field.value = "";
+    if (ending) exported(ending);
+  });
+  $("play").addEventListener("click", (event) => { play(); handOver(event); });
+  $("back").addEventListener("click", (event) => { back(); handOver(event); });
+  $("stop").addEventListener("click", (event) => { stopLine(event.timeStamp); handOver(event); });
+  $("hear").addEventListener("click", hear);
+  $("loop").addEventListener("click", loop);
+  $("in").addEventListener("click", () => keys["+"]());
+  $("out").addEventListener("click", () => keys["-"]());
+  $("tap").addEventListener("pointerdown", (event) => tap(event.timeStamp));
+  // A button is pressed by other means too, as by a screen reader.
+  $("tap").addEventListener("click", (event) => { if (!event.detail && !event.pointerType) tap(event.timeStamp); });
+  $("tap").addEventListener("keyup", (event) => { if (event.key === " ") event.preventDefault(); });
+  $("seek").addEventListener("input", () => seek(Number($("seek").value)));
+  for (const button of document.getElementsByName("speed")) button.addEventListener("change", () => { sound.playbackRate = Number(button.value); });
+  for (const button of document.getElementsByName("unit")) button.addEventListener("change", renderTarget);
+  $("taps").addEventListener("change", renderTarget);
+  for (const name of ["play", "pause"]) sound.addEventListener(name, () => { $("play").textContent = sound.paused ? "Play" : "Pause"; renderTarget(); });
+  sound.addEventListener("seeked", () => { drawScreen(true); app.wave.show(sound.currentTime); });
+  $("close").addEventListener("click", () => ask("close", {}).then(() => { tell("The studio is closed. Its journal keeps every edit."); sound.pause(); }));
+  wireLine();
+  wireSong();
+}
+
+/** What changes while time goes on. */
+function tick() {
+  const now = sound.currentTime;
+  if (app.until !== null && now >= app.until) {
+    sound.pause();
+    app.until = null;
+  }
+  if (app.loop && now >= app.loop.end) seek(app.loop.start);
+  drawScreen();
+  $("clock").textContent = spelled(now);
+  if (document.activeElement !== $("seek") || !sound.paused) $("seek").value = now;
+  if (!sound.paused) app.wave.show(now);
+  showSung(now);
+  requestAnimationFrame(tick);
+}
+
+function showSung(now) {
+  const number = lineAt(app.state.lines, now), rows = $("lines").children;
+  if (number !== app.shownLine) {
+    rows[app.shownLine]?.classList.remove("sung");
+    for (const item of rows[app.shownLine]?.querySelectorAll("i.sung") ?? []) item.classList.remove("sung");
+    app.shownLine = number;
+    if (!sound.paused && !$("taps").checked) rows[number]?.scrollIntoView({ block: "nearest" });
+  }
+  if (number < 0) return;
+  rows[number].classList.add("sung");
+  const items = rows[number].querySelectorAll("i");
+  app.state.lines[number].words.forEach((word, at) => items[at]?.classList.toggle("sung", word.start !== null && word.start <= now && now < word.end));
+}
+
+async function start() {
+  app.wave = new Wave({
+    get lines() { return app.state?.lines ?? []; },
+    get length() { return app.state?.seconds ?? 1; },
+    get late() { return app.late; },
+    now: () => sound.currentTime,
+    isChosen, drag, seek,
+    choose: (key, place, isMore) => choose(placeOf(key), place, isMore),
+  });
+  const state = await ask("song");
+  app.choices = state.choices;
+  app.screen = await Screen.load();
+  options($("export"), [["", "choose …"], ...state.choices.exports.map((ending) => [ending, EXPORTS[ending]])], "");
+  $("seek").max = state.seconds;
+  sound.preservesPitch = true;
+  $("taps").checked = state.untimed.length > 0;
+  app.state = state;
+  Object.assign(app, firstTarget(state.lines));
+  take({ ...state, revision: state.revision });
+  fetchPacks(state.revision, performance.now());
+  wire();
+  tick();
+  $("lines").children[app.line].scrollIntoView({ block: "nearest" });
+  app.wave.peaks = await (await fetch("peaks")).arrayBuffer();
+  tell(state.undo ? `${state.undo} edits are restored from the journal` : "");
+  document.body.dataset.ready = "yes";
+}
+
+globalThis.studio = app;
+start().catch((error) => tell(String(error.message), true));

@@ -1,0 +1,128 @@
+"""The journal of a song that is edited: the files that it was opened from, all edits, and how many of them hold. It
+stands beside the song, and a studio that is opened again goes on from it."""
+import base64
+import hashlib
+import json
+from dataclasses import dataclass, field
+from pathlib import Path
+from typing import Any
+
+from ..common.failures import Refusal
+from .edits import BadEdit, Edit, edited
+from .scores import Score
+
+ENDING = ".studio"
+VERSION = 1
+# How a journal begins.
+MARK = '{"ribjasper-studio": '
+
+
+def journal_of(song: Path) -> Path:
+    """The journal of a song: its name has the whole name of the song's file in front."""
+    return song.with_name(song.name + ENDING)
+
+
+def checksum(content: bytes | None) -> str | None:
+    return None if content is None else hashlib.sha256(content).hexdigest()
+
+
+class History:
+    """A score as it was opened, and edits; the scores after each of them. Nothing is changed in place: undo and redo
+    only choose another score."""
+
+    def __init__(self, first: Score) -> None:
+        self.scores, self.edits, self.at = [first], list[Edit](), 0
+
+    @property
+    def first(self) -> Score:
+        return self.scores[0]
+
+    @property
+    def score(self) -> Score:
+        return self.scores[self.at]
+
+    def do(self, edit: Edit) -> Score:
+        """The score after one more edit; edits that were undone are forgotten."""
+        made = edited(self.score, edit)
+        if made != self.score:
+            self.scores[self.at + 1 :] = [made]
+            self.edits[self.at :] = [edit]
+            self.at += 1
+        return made
+
+    def undo(self) -> Score:
+        self.at = max(0, self.at - 1)
+        return self.score
+
+    def redo(self) -> Score:
+        self.at = min(len(self.edits), self.at + 1)
+        return self.score
+
+    def go(self, at: int) -> Score:
+        """The score after so many of the edits."""
+        self.at = max(0, min(len(self.edits), at))
+        return self.score
+
+
+@dataclass
+class Journal:
+    """What a journal holds: the lyrics and the file beside them as they were opened, edits and how many of them hold;
+    after how many edits the song was saved last, and the checksums of the files that this wrote."""
+
+    lyrics: bytes
+    more: bytes | None
+    edits: list[Edit] = field(default_factory=list)
+    at: int = 0
+    saved: int | None = None
+    sums: dict[str, str | None] = field(default_factory=dict)
+
+    def content(self) -> bytes:
+        """The journal as a file: a table for what was opened, one for each edit, and one for where it is."""
+        files = [None if one is None else base64.b64encode(one).decode() for one in (self.lyrics, self.more)]
+        head = {"ribjasper-studio": VERSION, "lyrics": files[0], "more": files[1]}
+        last = {"at": self.at, "saved": self.saved, "sums": self.sums}
+        return "".join(f"{json.dumps(one)}\n" for one in (head, *self.edits, last)).encode()
+
+    @property
+    def is_saved(self) -> bool:
+        """Whether nothing is lost without the journal."""
+        return self.at == (self.saved if self.saved is not None else 0)
+
+
+def read_journal(path: Path, content: bytes) -> Journal:
+    """The journal in a file."""
+    try:
+        head, *edits, last = (table_of(json.loads(row)) for row in content.decode().splitlines())
+        if head["ribjasper-studio"] != VERSION:
+            raise Refusal(path, f"is the journal of another version ({head['ribjasper-studio']})")
+        more = head["more"]
+        return Journal(
+            base64.b64decode(head["lyrics"]),
+            None if more is None else base64.b64decode(more),
+            edits,
+            int(last["at"]),
+            None if last["saved"] is None else int(last["saved"]),
+            {str(name): one for name, one in table_of(last["sums"]).items()},
+        )
+    except (ValueError, KeyError, TypeError) as error:
+        raise Refusal(path, f"is no journal of the studio: {error}") from None
+
+
+def table_of(value: object) -> dict[str, Any]:
+    if not isinstance(value, dict):
+        raise TypeError("a table is missing")
+    return value
+
+
+def history_of(path: Path, first: Score, journal: Journal) -> History:
+    """The history that a journal holds of a score as it was opened."""
+    history = History(first)
+    try:
+        for edit in journal.edits:
+            history.do(edit)
+    except BadEdit as error:
+        raise Refusal(path, f"has an edit that cannot be made: {error}") from None
+    if len(history.edits) != len(journal.edits):
+        raise Refusal(path, "has an edit that changes nothing")
+    history.go(journal.at)
+    return history
