@@ -88,7 +88,13 @@ if ! node $flag -e 'process.exit(typeof WebSocket === "undefined" ? 1 : 0)' 2>/d
     echo "compare_web: the page is skipped, this node has no WebSocket"
     exit 0
 fi
-node $flag tests/peers/test_page.mjs "$chromium" "$top/bin/ribjasper" lib/web/index.html "$work/page"
+# The page plays in real time. On a busy machine it may fail, so it has a second try.
+page() { node $flag tests/peers/test_page.mjs "$chromium" "$top/bin/ribjasper" lib/web/index.html "$1"; }
+if ! page "$work/page"; then
+    echo "compare_web: the page failed and is tried once more"
+    mkdir "$work/again"
+    page "$work/again"
+fi
 if [ -n "$PICTURES" ]; then
     mkdir -p "$PICTURES"
     cp "$work"/page/*.png "$PICTURES"

@@ -280,7 +280,7 @@ async function tryControls(browser) {
     // Full screen, by a click.
     await browser.click("full");
     await browser.until("document.fullscreenElement?.id === 'player'");
-    assert.equal(await browser.value(`${byId("full")}.textContent`), "Leave full screen");
+    await browser.until(`${byId("full")}.textContent === "Leave full screen"`);
     await browser.photograph("full");
     // While it plays, the controls hide, and any movement brings them back.
     const isSeen = (id) => browser.value(`${byId(id)}.checkVisibility()`);
@@ -296,7 +296,7 @@ async function tryControls(browser) {
     await browser.click("play");
     await browser.click("full");
     await browser.until("document.fullscreenElement === null");
-    assert.equal(await browser.value(`${byId("full")}.textContent`), "Full screen");
+    await browser.until(`${byId("full")}.textContent === "Full screen"`);
     return "volume, speed and full screen work";
 }
 
