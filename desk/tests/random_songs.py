@@ -18,7 +18,7 @@ from ribjasper.songs.song_script import Made, Wishes, best
 from ribjasper.songs.tracks import packs_of
 
 BLOCKS, PAUSE = 75, 150
-# A word may be lit so many blocks late, which is 40 ms, and so many early.
+# A word may be lit so many blocks late, which is 40 ms, and so many early, or as many as its tiles take: one pack each.
 LATE, EARLY = 3, 10
 WORDS = """river under morning light of the a we go home silver paper moon dancing slowly over hills and valleys
 tomorrow never knows my heart is calling you again over wide water bright summer evening falling""".split()
@@ -67,6 +67,7 @@ class Row:
     ink: int
     dots: int
     words: list[tuple[float, float, int]]
+    takes: list[int]
     start: float
     end: float
     is_whole: bool
@@ -92,6 +93,11 @@ def rows_of(made: Made) -> list[Row]:
     return found
 
 
+def tiles_of(area: list[bytearray], top: int) -> set[tuple[int, int]]:
+    """The tiles of the screen in which an area from a row of pixels on has ink."""
+    return {(x // 6, (top + y) // 12) for y, row in enumerate(area) for x, pixel in enumerate(row) if pixel}
+
+
 def row_of(placed: Placed, page: int) -> Row:
     assert placed.letters
     area = [bytearray(288) for _ in placed.area]
@@ -102,14 +108,15 @@ def row_of(placed: Placed, page: int) -> Row:
     for left in placed.dots:
         for at in range(placed.top - 12 - placed.area.start, placed.top - placed.area.start):
             dots[at][left : left + 6] = b"\1" * 6
-    words = []
+    words, takes = [], []
     for part in placed.letters.parts:
         mask = [bytearray(288) for _ in placed.area]
         for at, row in enumerate(area):
             mask[at][part.left : part.right] = row[part.left : part.right]
         words.append((part.syllable.start, part.syllable.end, bits([bytes(row) for row in mask])))
+        takes.append(-(-len(tiles_of(mask, placed.area.start)) // 4))
     last = placed.letters.syllables[-1].end
-    return Row(page, placed.slot, placed.text(), ink, bits([bytes(row) for row in dots]), words,
+    return Row(page, placed.slot, placed.text(), ink, bits([bytes(row) for row in dots]), words, takes,
                placed.letters.syllables[0].start, last, placed.letters.line.is_whole)  # fmt: skip
 
 
@@ -126,6 +133,8 @@ class Watch:
         self.still = [(placed.slot, still_ink(placed)) for placed in still]
         self.areas = {placed.slot: placed.area for page in made.maker.pages for placed in page.placed}
         self.shown: dict[int, Row | None] = {}
+        # The block at which each row is not shown any more.
+        self.gone: dict[str, int] = {}
         self.worst = -1e9
 
     def fault(self, block: int, what: str) -> None:
@@ -141,6 +150,8 @@ class Watch:
     def look(self, block: int, slot: int, ink: int, lit: int) -> None:
         """Which row stands in a place, and how much of it is lit."""
         if not ink:
+            if stood := self.shown.get(slot):
+                self.gone[stood.text] = block
             self.shown[slot] = None
             return
         fits = [row for row in self.slots.get(slot, []) if not_of(ink, row) <= 72]
@@ -208,7 +219,7 @@ class Watch:
             self.worst = max(self.worst, whole)
             # The first column of a word that is swept over may have no ink.
             column = BLOCKS * (end - start) / 3 * self.made.maker.wishes.sweep
-            if not -EARLY <= off <= LATE + 0.5 + column or whole > LATE + 0.5:
+            if not -max(EARLY, row.takes[number]) <= off <= LATE + 0.5 + column or whole > LATE + 0.5:
                 offs = f"{1000 * off / BLOCKS:.0f} and {1000 * whole / BLOCKS:.0f} ms"
                 self.fault(row.stands, f"word {number} of '{row.text}' is lit {offs} off")
         if row.is_whole and row.sung > PAUSE + BLOCKS * row.end + LATE + 0.5:

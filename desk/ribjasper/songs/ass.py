@@ -101,7 +101,8 @@ def parts_of(text: str, start: float, end: float) -> list[tuple[str, float, floa
     """The pieces of an event between its overrides, each with the time at which it is sung; drawings are none."""
     parts: list[tuple[str, float, float]] = []
     at, sung, until, is_drawing = 0, start, start, False
-    for override in OVERRIDE.finditer(text):
+    # Behind the last brace that closes there is no override: an open one is not looked for at each brace.
+    for override in OVERRIDE.finditer(text, 0, text.rfind("}") + 1):
         parts.append(("" if is_drawing else text[at : override.start()], sung, until))
         for drawing in DRAWING.findall(override[1]):
             is_drawing = int(drawing) > 0

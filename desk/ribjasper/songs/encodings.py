@@ -86,7 +86,7 @@ def decodes(content: bytes, name: str) -> bool:
 
 def without_times(content: bytes) -> bytes:
     """A text without the times and tags between its words, which only blur a guess."""
-    return re.sub(rb"[\[<{][\d:.,]+[\]>}]|\[\w+:|\{[^}]*\}", b" ", content)
+    return re.sub(rb"[\[<{][\d:.,]+[\]>}]|\[\w+:|\{[^{}]*\}", b" ", content)
 
 
 def guessed(content: bytes) -> str | None:

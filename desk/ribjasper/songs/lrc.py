@@ -1,11 +1,12 @@
 """Lyrics as LRC files: `[mm:ss.xx]` before a line, `<mm:ss.xx>` or `[mm:ss.xx]` before a word inside it."""
 import re
+from collections import Counter
 from dataclasses import dataclass
 
 from .songs import BOTH, FIRST, FOURTH, LONGEST_WORD, Insert, Line, SECOND, Song, Syllable, THIRD, open_line, seconds
 
 TAG = re.compile(r"\[([a-zA-Z#]+):([^\]]*)\]\s*$")
-STAMP = re.compile(r"\[(\d{1,6}):(\d{1,6})(?:[.:](\d{1,6}))?\]")
+STAMP = re.compile(r"\[(\d{1,6}):(\d{1,6})(?:[.:](\d{1,6}))?\]\s*")
 WORD = re.compile(r"[<\[](\d{1,6}):(\d{1,6})(?:[.:](\d{1,6}))?[>\]]")
 OFFSET = re.compile(r"[+-]?\d{1,9}")
 # The marks of a man, a woman and both, or of one of up to four voices, in front of a line, for it and those after it.
@@ -62,8 +63,7 @@ def read_lrc(text: str, song: Song) -> None:
             song.tell(number, f"has no time and is left out: {line}")
     tell_order(song, stamped)
     stamped.sort(key=lambda one: one.start)
-    for place, one in enumerate(stamped):
-        following = next((other for other in stamped[place + 1 :] if other.start > one.start), None)
+    for one, following in zip(stamped, later_ones(stamped)):
         if not one.is_empty():
             add_line(song, one, following, offset)
     for insert in song.inserts:
@@ -71,11 +71,22 @@ def read_lrc(text: str, song: Song) -> None:
         insert.start = None if insert.start is None else insert.start - offset
 
 
+def later_ones(stamped: list[Stamped]) -> list[Stamped | None]:
+    """For each line the first one with a later time."""
+    found: list[Stamped | None] = []
+    following: Stamped | None = None
+    for place in range(len(stamped) - 1, -1, -1):
+        if place + 1 < len(stamped) and stamped[place + 1].start > stamped[place].start:
+            following = stamped[place + 1]
+        found.append(following)
+    return found[::-1]
+
+
 def tell_order(song: Song, stamped: list[Stamped]) -> None:
     """Notes each line that is earlier than one before it, or at the same time; a line that comes at several times may be
     earlier."""
-    counts = [one.number for one in stamped]
-    once = [one for one in stamped if counts.count(one.number) == 1 and not one.is_empty()]
+    counts = Counter(one.number for one in stamped)
+    once = [one for one in stamped if counts[one.number] == 1 and not one.is_empty()]
     for before, one in zip(once, once[1:]):
         if one.start < before.start:
             song.tell(
@@ -96,11 +107,11 @@ def offset_of(value: str, song: Song, number: int) -> float:
 
 def stamps_of(line: str) -> tuple[list[tuple[float, str]], str]:
     """The times in front of a line, also as they are written, and what follows."""
-    starts = []
-    while stamp := STAMP.match(line):
-        starts.append((seconds(*stamp.groups()), stamp[0]))
-        line = line[stamp.end() :].lstrip()
-    return starts, line
+    starts, at = [], 0
+    while stamp := STAMP.match(line, at):
+        starts.append((seconds(*stamp.groups()), stamp[0].rstrip()))
+        at = stamp.end()
+    return starts, line[at:]
 
 
 def parts_of(rest: str, later: float) -> list[tuple[float | None, str]]:

@@ -15,6 +15,8 @@ from .songs import Line, Syllable
 REST, COUNTED_REST, TOLD_REST = 3.0, 6.0, 12.0
 # What is left of a page goes so long after its last word; a page after a long rest comes so long before its first.
 GOES, COMES = 2.0, 6.0
+# A row comes into a place so long after what was sung there, where a short page may choose.
+ROOM_BEFORE = 1.5
 # The dots that count a line in go out a second after each other.
 DOTS = 3
 DOT = (
@@ -246,6 +248,21 @@ class Screen:
         self.standing[slot] = placed
         return placed
 
+    def first_for(self, group: Group) -> int:
+        """The first place of a page: so that it stands in the middle, or higher if a row would have too little time there
+        after the row that it follows."""
+        middle = (self.style.rows - len(group.rows)) // 2
+        starts = [row[0][0].start for _, row in group.rows]
+
+        def room(first: int) -> float:
+            stand = zip(starts, self.standing[first:])
+            return min((start - one.end for start, one in stand if one and one.letters), default=ROOM_BEFORE)
+
+        return next(
+            (first for first in range(middle, -1, -1) if room(first) >= ROOM_BEFORE),
+            max(range(middle, -1, -1), key=room),
+        )
+
     def clear(self, slot: int) -> list[Placed]:
         """Makes a place empty where letters stand, as soon as they are sung."""
         standing = self.standing[slot]
@@ -256,10 +273,12 @@ class Screen:
 
 @dataclass
 class Page:
-    """What is to be drawn of a page, in its order, and what it is made of."""
+    """What is to be drawn of a page, in its order, and what it is made of. A page that follows quickly does not wait until
+    the one in front of it is left."""
 
     placed: list[Placed]
     group: Group
+    is_quick: bool = False
 
 
 def laid_out(groups: list[Group], setter: Setter, style: Style, empty: Raster, is_last: bool = True) -> list[Page]:
@@ -271,7 +290,7 @@ def laid_out(groups: list[Group], setter: Setter, style: Style, empty: Raster, i
     last_rows = {id(line): row for group in groups for line, row in group.rows}
     before: Placed | None = None
     for group in groups:
-        first = (style.rows - len(group.rows)) // 2
+        first = screen.first_for(group)
         used = range(first, first + len(group.rows))
         page = [placed for slot in range(style.rows) if slot not in used for placed in screen.clear(slot)]
         for slot, (line, row) in zip(used, group.rows):

@@ -586,6 +586,29 @@ class Maker:
         raise Refusal(self.song.path, f"{len(found.late())} pictures stay late")
 
     def made(self) -> Made:
+        """The script. Pages that go as a whole leave no time for a row of the next one where that follows quickly: its
+        rows then come one by one, which is reported."""
+        made = self.by_lead()
+        quick = [page for page in self.pages if made.told.rows().intersection(page.placed)] if self.style.by_page else []
+        for page in quick:
+            page.is_quick = True
+        again = self.by_lead() if quick else made
+        if again.told.total() < made.told.total():
+            self.note_quick(quick)
+            return again
+        for page in quick:
+            page.is_quick = False
+        return made
+
+    def note_quick(self, pages: list[Page]) -> None:
+        firsts = [next(placed.letters for placed in page.placed if placed.letters).line.number for page in pages]
+        of, follow = ("page of line", "follows") if len(firsts) == 1 else ("pages of lines", "follow")
+        numbers = ", ".join(map(str, firsts))
+        self.notes.append(
+            f"{self.song.path}: the {of} {numbers} {follow} too soon to come as a whole: the rows come one by one"
+        )
+
+    def by_lead(self) -> Made:
         """The script with the lead that is asked for, or with the shortest one with which nothing is late."""
         lead = self.wishes.lead
         tried: list[Made] = []
@@ -609,7 +632,7 @@ def dues_of_rows(rows: list[Placed]) -> dict[Placed, int]:
 def tasks_of(pages: list[Page], begin: int, style: Style, lead: float | None, stays: bool = True) -> list[Task]:
     """What is to be drawn, and from when on: in the order of singing; not before what stood there is sung; a page ahead at
     most, and nothing of a page before the page in front of it begins; and no longer than the lead before it is sung. What
-    stays without need goes. If lines whose end is a guess do not stay, their places are free when they are lit."""
+    stays without need goes. With pages that go as a whole, one that follows quickly comes row by row. If lines whose end is a guess do not stay, their places are free when they are lit."""
     follows = {placed.before: placed for page in pages for placed in page.placed if placed.letters}
     rows = [placed for page in pages for placed in page.placed if placed.letters]
     ahead = dict(zip(rows[style.rows :], rows))
@@ -620,33 +643,35 @@ def tasks_of(pages: list[Page], begin: int, style: Style, lead: float | None, st
     def free_at(placed: Placed) -> int:
         return times.nearest_block(placed.end if stays else placed.lit_end) + STAYS
 
-    def free_from(placed: Placed) -> int:
-        """When its place is free, and the row a page in front of it is sung."""
+    def free_from(placed: Placed, waits: bool) -> int:
+        """When its place is free, and the row a page in front of it is sung, or that whole page."""
         stood = [placed.before, ahead.get(placed)]
         ends = [free_at(one) for one in stood if one]
-        soonest: int = max([begin, times.nearest_block(placed.begin), before_page * style.by_page, *ends])
+        soonest: int = max([begin, times.nearest_block(placed.begin), before_page * waits, *ends])
         return soonest
 
     firsts, befores = list[int](), list[int]()
     for page in pages:
+        waits = style.by_page and not page.is_quick
         letters = [placed for placed in page.placed if placed.letters]
         sung = [placed for placed in letters if placed.is_sung]
         firsts.append(min((due[placed] for placed in sung), default=0))
         befores.append(before_page)
         for placed in letters:
-            free = max(free_from(placed), opens if placed.is_sung else times.nearest_block(placed.start))
-            wanted = firsts[-1] if style.by_page else due[placed]
+            free = max(free_from(placed, waits), opens if placed.is_sung else times.nearest_block(placed.start))
+            wanted = firsts[-1] if waits else due[placed]
             if lead is not None and placed.is_sung:
                 free = max(free, wanted - round(BLOCKS * lead) - blocks_for(placed.draws))
             release[placed] = free
         before_page = max([before_page, *map(free_at, letters)])
         opens = max(opens, firsts[-1])
     for page, first, gone in zip(pages, firsts, befores):
+        waits = style.by_page and not page.is_quick
         for placed in page.placed:
             if placed.letters:
                 tasks.append(Task(placed, list(placed.draws), release[placed], due[placed]))
                 continue
-            goes = max(begin, gone if style.by_page else times.nearest_block(placed.end + GOES))
+            goes = max(begin, gone if waits else times.nearest_block(placed.end + GOES))
             if placed.before and not placed.before.is_sung:
                 # What only stands goes before the first line of the verse comes.
                 goes = max(begin, times.nearest_block(placed.end))
@@ -655,7 +680,7 @@ def tasks_of(pages: list[Page], begin: int, style: Style, lead: float | None, st
                 after = follows[placed]
                 needed = release[after] - blocks_for(placed.draws)
                 early = max(free_at(placed), needed)
-                wanted = first if style.by_page and first else due[after]
+                wanted = first if waits and first else due[after]
                 tasks.append(Task(placed, list(placed.draws), min(early, goes), wanted))
             else:
                 tasks.append(Task(placed, list(placed.draws), goes, times.nearest_block(placed.start) + LATER))

@@ -4,9 +4,9 @@ import re
 from .songs import Line, Song, Syllable
 
 TIME = r"(\d{1,6}):(\d{1,6}):(\d{1,6})[,.](\d{1,6})"
-TIMES = re.compile(rf"\s*{TIME}\s*-->\s*{TIME}")
+TIMES = re.compile(rf"[^\S\n]*{TIME}\s*-->\s*{TIME}")
 # Marks of how a text looks.
-MARKS = re.compile(r"<[^>]*>|\{[^}]*\}")
+MARKS = re.compile(r"<[^<>]*>|\{[^{}]*\}")
 
 
 def read_srt(text: str, song: Song) -> None:
@@ -30,8 +30,8 @@ def time_of(parts: tuple[str, ...]) -> float:
 
 def below(lines: list[str], number: int) -> list[str]:
     """The lines of text that follow, to the next empty one."""
-    text = lines[number:]
-    return text[: next((place for place, line in enumerate(text) if not line.strip()), len(text))]
+    end = next((place for place in range(number, len(lines)) if not lines[place].strip()), len(lines))
+    return lines[number:end]
 
 
 def add_texts(song: Song, texts: list[tuple[int, str]], start: float, end: float, written: str) -> None:

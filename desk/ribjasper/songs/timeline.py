@@ -138,9 +138,7 @@ class Arranger:
 
     def fill(self, until: int) -> None:
         """Draws what may be drawn before a block, that which is due first before others, column by column."""
-        while waiting := [
-            task for task in self.tasks.values() if task.steps and task.release < until and self.may_come(task)
-        ]:
+        while waiting := self.waiting(until):
             begin = max(self.line.now, min(task.release for task in waiting))
             task = min((task for task in waiting if task.release <= begin), key=lambda task: task.block)
             self.take_over(task)
@@ -148,6 +146,10 @@ class Arranger:
             if not count:
                 return
             self.draw(task, count, begin)
+
+    def waiting(self, until: int) -> list[Task]:
+        """What may be drawn before a block."""
+        return [task for task in self.tasks.values() if task.steps and task.release < until and self.may_come(task)]
 
     def may_come(self, task: Task) -> bool:
         """Whether the row in front of it is drawn, and what stood in its place is sung, and is cleared where letters are to
@@ -178,6 +180,9 @@ class Arranger:
     def draw(self, task: Task, count: int, start: int) -> None:
         now = self.line.put(list(task.steps[:count]), start)
         del task.steps[:count]
+        self.note_drawn(task, now)
+
+    def note_drawn(self, task: Task, now: int) -> None:
         if not task.steps and task.placed.letters and task.placed.is_sung:
             note(self.told.drawn_late, task.placed, now - task.block)
 
@@ -187,7 +192,28 @@ class Arranger:
         if any(step.left < right for step in task.steps):
             self.clear_for(placed)
             self.draw(task, len(task.steps), self.line.now)
-        note(self.told.lit_late, placed, self.line.put(list(due.steps), start) - due.block)
+        beside = self.beside(due, max(start, self.line.now))
+        now = self.line.put([*due.steps, *(step for _, step in beside)], start)
+        note(self.told.lit_late, placed, now - due.block)
+        for task in {id(task): task for task, _ in beside}.values():
+            self.note_drawn(task, now)
+
+    def beside(self, due: Due, start: int) -> list[tuple[Task, Draw]]:
+        """Columns that are drawn with the packs that a light leaves free in its blocks."""
+        room = PACKS_A_BLOCK * blocks_for(due.steps) - sum(step.need for step in due.steps)
+        found: list[tuple[Task, Draw]] = []
+        while room and (task := self.next_within(room, start)):
+            room -= task.steps[0].need
+            found.append((task, task.steps.pop(0)))
+        return found
+
+    def next_within(self, room: int, start: int) -> Task | None:
+        """What may be drawn at a block and is due first, if its next column needs no more packs than there are."""
+        for task in sorted(self.waiting(start + 1), key=lambda task: task.block):
+            self.take_over(task)
+            if task.steps[0].need <= room:
+                return task
+        return None
 
     def clear_for(self, placed: Placed) -> None:
         """Clears a place at once, whether what stands there is sung or not."""

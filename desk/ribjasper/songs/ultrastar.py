@@ -22,7 +22,7 @@ FASTEST, LONGEST_GAP = 100_000, 10_000_000
 
 @dataclass
 class Clock:
-    """Turns beats into seconds; the tempo may change at some beats."""
+    """Turns beats into seconds; the tempo may change at some beats, which are in order."""
 
     beats_a_minute: float = 0.0
     gap: float = 0.0
@@ -32,7 +32,7 @@ class Clock:
     def seconds(self, beat: int) -> float:
         """The time of a beat: the beats in front of it, each as long as its tempo tells."""
         time, until = self.gap / 1000, self.base + beat
-        tempos = [(0, self.beats_a_minute), *(change for change in sorted(self.changes) if 0 < change[0] < until)]
+        tempos = [(0, self.beats_a_minute), *(change for change in self.changes if 0 < change[0] < until)]
         for (first, tempo), (following, _) in itertools.pairwise([*tempos, (until, 0.0)]):
             time += 60 * (following - first) / (BEATS * tempo)
         return time
@@ -50,7 +50,7 @@ def read_ultrastar(text: str, song: Song) -> None:
         line = Line(0, [])
 
     rows = list(enumerate(text.splitlines(), 1))
-    clock.changes = [change for number, row in rows if (change := tempo_of(song, row, number))]
+    clock.changes = sorted(change for number, row in rows if (change := tempo_of(song, row, number)))
     for number, row in rows:
         if player := PLAYER.match(row):
             close()
@@ -126,9 +126,10 @@ def joined(lines: list[Line]) -> list[Line]:
     """In the order of the times; a line that both sing at once is one of both."""
     lines = sorted(lines, key=lambda one: one.start)
     kept: list[Line] = []
+    firsts: dict[tuple[float, str], Line] = {}
     for line in lines:
-        same = next((one for one in kept if one.start == line.start and one.text == line.text), None)
-        if same and same.voice != line.voice:
+        same = firsts.setdefault((line.start, line.text), line)
+        if same.voice != line.voice:
             for syllable in same.syllables:
                 syllable.voice = BOTH
         else:

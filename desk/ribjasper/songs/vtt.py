@@ -7,8 +7,8 @@ from .srt import add_texts, below
 TIME = r"(?:(\d{1,6}):)?(\d{1,2}):(\d{1,2})[.,](\d{1,6})"
 TIMES = re.compile(rf"\s*{TIME}[ \t]+-->[ \t]+{TIME}")
 STAMP = re.compile(rf"<{TIME}>")
-VOICE = re.compile(r"<v(?:\.[^\s>]*)?\s+([^>]*)>")
-MARKS = re.compile(r"<[^>]*>")
+VOICE = re.compile(r"<v(?:\.[^\s>]*)?\s+([^<>]*)>")
+MARKS = re.compile(r"<[^<>]*>")
 ESCAPES = (
     ("&lt;", "<"),
     ("&gt;", ">"),
