@@ -132,8 +132,8 @@ uint64_t ribjasper_time_of_packs(uint32_t packs);
    2,448 bytes, each 2,352 bytes of audio and a raw block; only calls on whole streams take sectors.
 
    A .cdg file may lack parity. Its packs then have no codeword near: as RIBJASPER_PACKS they draw nothing, and every
-   word counts as bad. Draw the packs of a .cdg file with ribjasper_player_draw_all, which ignores parity. To detect such a
-   file, count the packs with graphics (first symbol 9) for which ribjasper_correct returns -1: they are nearly all. */
+   word counts as bad. ribjasper_packs_parity detects such a file. Either draw its packs with ribjasper_player_draw_all, which
+   ignores parity, or write their parity first with ribjasper_packs_seal. */
 #define RIBJASPER_RAW 0
 #define RIBJASPER_PACKS 1
 #define RIBJASPER_SECTORS 2
@@ -443,6 +443,28 @@ int32_t ribjasper_tile_weight(const uint8_t pixels[72]);
      out: the codeword, 24 bytes
    Returns no answer but the number of wrong symbols, 0 to 2, or -1 if no codeword is near; then nothing is written. */
 int32_t ribjasper_correct(const uint8_t word[24], uint8_t out[24]);
+
+/* How many packs have valid parity. `invalid` also counts packs with a wrong symbol. The three numbers add up to the
+   number of packs. */
+typedef struct ribjasper_parity {
+    uint64_t idle;    /* packs whose 24 symbols are 0; their parity is valid */
+    uint64_t valid;   /* other packs whose parity is valid */
+    uint64_t invalid; /* packs whose parity is not valid */
+} ribjasper_parity;
+
+/* Counts packs by their parity, to detect a .cdg file without parity: there `valid` is 0, or far below `invalid`. The low six
+   bits of the bytes are the symbols of a pack.
+     packs: the packs, 24 bytes each, one after another
+     count: their number
+     parity: the output */
+void ribjasper_packs_parity(const uint8_t *packs, size_t count, ribjasper_parity *parity);
+
+/* Writes the parity of packs in place, so that a player of RIBJASPER_PACKS draws them. Each pack becomes the one codeword
+   with its symbols 0, 1 and 4 to 19; the upper two bits of its bytes become 0. A pack with valid parity keeps its symbols.
+   Do not seal packs that have parity and may be damaged: a wrong symbol then counts as a right one.
+     packs: the packs, 24 bytes each, one after another; all of them are written
+     count: their number */
+void ribjasper_packs_seal(uint8_t *packs, size_t count);
 
 /* Returns 1 if the last two bytes of a CD-TEXT pack are the check of the others, or 0. It is no answer of the list above.
      pack: 18 bytes */

@@ -2,7 +2,7 @@
 # What lib/libribjasper.a does for programs in C. Builds examples/player.c on it, as C and as C++, and
 # compares its screens with those of the command `screen`, byte for byte, at ten moments of the stream of
 # the tour: fed as blocks and drawn as packs. A stream with twenty blocks lost has to be noticed. Runs
-# tests/library/test_library.c, test_mend.c, test_plan.c, test_desk_calls.c, test_pixels.c, test_seeking.c and test_sheets.c, and all of it
+# tests/library/test_library.c, test_mend.c, test_plan.c, test_desk_calls.c, test_pixels.c, test_seeking.c, test_parity.c and test_sheets.c, and all of it
 # once under the address sanitizer if that is available. tests/library/test_closed.c looks at closed players,
 # tests/library/test_given_back.c counts what the calls allocate and free, and tests/library/test_threads.sh looks at one player
 # from eight threads. Skipped if a compiler or what make builds is missing.
@@ -28,11 +28,11 @@ c++ $flags -x c++ tests/library/test_library.c -x none lib/libribjasper.a $wrap 
 "$work/test_library_of_cxx" >/dev/null
 cc $flags -std=c99 tests/library/test_mend.c lib/libribjasper.a -o "$work/test_mend"
 c++ $flags -x c++ tests/library/test_mend.c -x none lib/libribjasper.a -o "$work/test_mend_of_cxx"
-for name in test_plan test_desk_calls test_pixels test_seeking test_sheets; do
+for name in test_plan test_desk_calls test_pixels test_seeking test_parity test_sheets; do
     cc $flags -std=c99 tests/library/$name.c lib/libribjasper.a $wrap -o "$work/$name"
     c++ $flags -x c++ tests/library/$name.c -x none lib/libribjasper.a $wrap -o "$work/${name}_of_cxx"
 done
-for name in test_mend test_plan test_desk_calls test_pixels test_seeking test_sheets; do
+for name in test_mend test_plan test_desk_calls test_pixels test_seeking test_parity test_sheets; do
     "$work/$name"
     "$work/${name}_of_cxx" >/dev/null
 done
@@ -108,7 +108,7 @@ if cc $sanitize empty.c -o empty 2>/dev/null && ./empty 2>/dev/null; then
     cc $flags $sanitize -std=c99 "$top/tests/library/test_plan.c" "$top/lib/libribjasper.a" $wrap -o test_plan_watched
     cc $flags $sanitize -std=c99 "$top/tests/library/test_desk_calls.c" "$top/lib/libribjasper.a" $wrap -o test_desk_watched
     ./test_desk_watched scratched 300 scratched.check scratched.text >/dev/null
-    for name in test_pixels test_seeking test_sheets; do
+    for name in test_pixels test_seeking test_parity test_sheets; do
         cc $flags $sanitize -std=c99 "$top/tests/library/$name.c" "$top/lib/libribjasper.a" $wrap -o ${name}_watched
         ./${name}_watched stream >/dev/null
     done

@@ -143,9 +143,12 @@ static void single(void)
 {
     static const uint8_t text[18] = { 0x80, 0, 0, 0, 'D', 'e', 'm', 'o', 0, 'O', 'n', 'e', 0, 0, 0, 0, 0x51, 0xd3 };
     static const uint8_t pause[12] = { 1, 1, 0, 0, 2, 0, 0, 0, 0, 0, 0xf0, 0xd9 };
+    ribjasper_parity parity;
     ribjasper_q_frame frame;
     uint8_t bytes[72], block[RIBJASPER_BLOCK], bit;
     answer = ribjasper_correct(worn, bytes);
+    ribjasper_packs_parity(worn, 4 * BLOCKS, &parity);
+    ribjasper_packs_seal(packs, 4 * BLOCKS);
     answer = ribjasper_text_pack_matches(text);
     ribjasper_text_pack_symbols(text, bytes);
     answer = ribjasper_q_decode(pause, &frame, &bit);

@@ -1,5 +1,5 @@
 -- A block of four idle packs changes nothing that is told.
-use Rattle.std.proofs.Common.{◌≡◌, ℕ, ◌≤◌, ◌∷◌, [], List, max, min, replicate, refl, sym, ap, ◌∙◌, arith, Some}
+use Rattle.std.proofs.Common.{◌≡◌, ℕ, ◌≤◌, ◌∷◌, [], List, max, min, replicate, sym, ap, ◌∙◌, arith}
 use Rattle.std.specs.declared.option.Option.{Option}
 use Rattle.cdg_io.specs.Run.{run_state}
 use Rattle.cdg_instructions.specs.Meaning.{meaning}
@@ -28,7 +28,7 @@ joined change within = λ i. record {
   levels = most change.levels i;
 }
 
-once : (watch : Watch) → IsWithinScreen watch.change → sees watch Idle ≡ watch
+pub once : (watch : Watch) → IsWithinScreen watch.change → sees watch Idle ≡ watch
 once watch within = ap (λ (c : ScreenChange). record watch { change = c }) (joined watch.change within)
 
 four : (watch : Watch) → IsWithinScreen watch.change

@@ -9,5 +9,7 @@ mod Rows
 mod Kept
 pub mod Seen
 mod Idle
+mod Quiet
+mod Parities
 mod Places
 pub mod Drops

@@ -1,15 +1,10 @@
 -- Instructions one after the other.
-use Rattle.std.proofs.Common.{◌≡◌, ℕ, suc, ◌+◌, ◌<◌, List, [], ◌∷◌, ◌++◌, length, get_or, map, take, drop, reverse, append_assoc, append-nil, refl, sym, ap, ◌∙◌, subst, arith, None, Some}
-use Rattle.std.specs.declared.option.Option.{Option}
-use Rattle.std.proofs.Math.Seq.{drop-append_seam, take-suc}
-use Rattle.std.proofs.lemmas.List.{map-append, reverse-append}
+use Rattle.std.proofs.Common.{◌≡◌, ℕ, suc, ◌+◌, ◌<◌, List, [], ◌∷◌, ◌++◌, length, get_or, map, take, reverse, append_assoc, append-nil, refl, sym, ap, ◌∙◌, subst, arith}
+use Rattle.std.proofs.Math.Seq.{take-suc}
+use Rattle.std.proofs.lemmas.List.{reverse-append}
 use Rattle.cdg_instructions.specs.declared.instr.Instr.{Instr}
-use Rattle.cdg_instructions.specs.Meaning.{meaning}
-use Rattle.rw_code.specs.Finding.{finding}
-use Rattle.arrayvec.specs.ArrayVec.{ArrayVec}
-use Rattle.raw_subcode.specs.declared.form.Form.{Form}
-use Rattle.live_player.specs.Lives.{Given, Fed, blocks_in, drawn_for, instructions_in, instructions_of, meant_by, stream_words, words_with}
-use Rattle.live_player.specs.Steps.{TakesBlock, words_come}
+use Rattle.live_player.specs.Lives.{Given, drawn_for}
+use Rattle.live_player.specs.Steps.{TakesBlock}
 use Rattle.live_player.specs.declared.live.LivePlayer.{LivePlayer}
 use Rattle.stream_stages.specs.Steps.{words_give, words_next}
 use Rattle.stream_stages.specs.declared.block_words.BlockWords.{BlockWords}

@@ -3,6 +3,7 @@ use Rattle.std.specs.Prelude.{◌≡◌, ◌+◌, ◌-◌, ◌*◌, ◌<◌, ◌
 use Rattle.cdg_io.specs.Run.{run_state}
 use Rattle.cdg_instructions.specs.declared.effect.Effect.{Effect}
 use Rattle.cdg_instructions.specs.declared.effect.Effect.TheVariants.{Scroll}
+use Rattle.cdg_instructions.specs.Sizes.{last_column, last_row}
 use Rattle.cdg_instructions.specs.declared.instr.Instr.{Instr}
 use Rattle.cdg_screen.specs.Standing.{Standing, offsets_from, screen_pixel}
 use Rattle.cdg_screen.specs.Touched.{touched_by}
@@ -72,6 +73,15 @@ sees watch instr = record {
   across = (offsets_from (watch.across, watch.down) (instr ∷ [])).0;
   down = (offsets_from (watch.across, watch.down) (instr ∷ [])).1;
 }
+
+-- a tile of the memory lies in the rectangle of what changed, so far as the window shows it
+pub record HoldsTile (watch : Watch) (row column : ℕ) : Type 0 where
+  pub column_most : column ≤ last_column
+  pub row_most : row ≤ last_row
+  pub left : watch.change.left + watch.across ≤ 6 * column
+  pub right : 6 * column + 6 ≤ watch.change.right + watch.across
+  pub top : watch.change.top + watch.down ≤ 12 * row
+  pub bottom : 12 * row + 12 ≤ watch.change.bottom + watch.down
 
 -- what may change by instructions that are carried out in turn on what stands
 abbrev pub changes_on : Standing → List Instr → ScreenChange

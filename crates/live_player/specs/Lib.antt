@@ -2,6 +2,7 @@ pub mod Changes
 pub mod Formats
 pub mod Lives
 pub mod Marks
+pub mod Parity
 pub mod Parts
 pub mod Plain
 pub mod Saving

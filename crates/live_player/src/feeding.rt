@@ -1,15 +1,16 @@
 // Many blocks or packs in one call.
-ghost use Rattle.std.specs.Prelude.{◌≡◌, ◌∷◌, [], map, reverse};
+ghost use Rattle.std.specs.Prelude.{◌≡◌, ◌↔◌, ◌%◌, ◌∷◌, [], IsTrue, map, reverse, slice_index};
 ghost use Rattle.cdg_io.specs.Run.{run_state};
 ghost use Rattle.cdg_screen.specs.Standing.{IsWholeStanding, Standing, standing_after};
 ghost use Rattle.live_player.specs.Changes.{changes_on, sees, watch_from, AreDrawnFor, IsWithinScreen, KeepsUntold};
 ghost use Rattle.live_player.specs.Lives.{instruction_of, standing_on, PlaysOn};
 ghost use Rattle.live_player.specs.Lives.Given.{Drawn, Fed};
+ghost use Rattle.live_player.specs.Steps.{DrawsPack};
 ghost use Rattle.live_player.specs.Taken.{instructions_from, DrawsPacks, TakesBlocks};
 
 use crate::change::{ScreenChange, untold_stays};
 use crate::plays::AnyPlayer;
-use crate::seeing::read_pack;
+use crate::seeing::{GRAPHICS, read_pack};
 use crate::watch::Watch;
 use raw_subcode::BLOCK_BYTES;
 use rw_code::SYMBOLS;
@@ -54,9 +55,33 @@ pub fn draw_all<P: AnyPlayer>(player: &mut P, packs: &[[u8; SYMBOLS]]) -> Screen
     untold_stays();
     let mut watch = watch_of(player);
     for pack in packs {
-        player.play_pack(&mut watch, pack);
+        draw_next(player, &mut watch, pack);
     }
     watch.change
+}
+
+// Draws a pack, and sees what changes. Most packs of a file have no graphics; they cost a look at their first symbol.
+#[inline(always)]
+fn draw_next<P: AnyPlayer>(player: &mut P, watch: &mut Watch, pack: &[u8; SYMBOLS])
+    requires { IsWithinScreen watch.old.change }
+    ensures draws { DrawsPack pack.now (P.played player.old) (P.played player.new) }
+    ensures sees { watch.new ≡ sees watch.old (instruction_of pack.now) }
+    ensures within { IsWithinScreen watch.new.change }
+{
+    if has_graphics(pack) {
+        player.play_pack(watch, pack);
+    } else {
+        // A law: instructions are carried out on what stands.
+        player.shown().what_stands_is_whole();
+    }
+}
+
+// Whether the first symbol of a pack says that it has graphics.
+#[inline(always)]
+fn has_graphics(pack: &[u8; SYMBOLS]) -> bool
+    ensures { IsTrue result ↔ (slice_index pack.now 0 % 64 ≡ 9) }
+{
+    pack[0] % 64 == GRAPHICS
 }
 
 /// Feeds blocks in turn, and tells what may have changed.

@@ -1,12 +1,15 @@
 // What a block of a stream draws on a screen, and what of the screen changes by it.
-ghost use Rattle.std.specs.Prelude.{◌≡◌, ◌≤◌, ◌<◌, ◌^◌, ◌∷◌, [], map, true};
+ghost use Rattle.std.specs.Prelude.{◌≡◌, ◌≤◌, ◌<◌, ◌^◌, ◌%◌, ◌⊎◌, ◌∷◌, [], All, IsTrue, ℕ, drop, length, map, slice_index, true};
 ghost use Rattle.cdg_io.specs.Run.{run_state};
 ghost use Rattle.cdg_screen.specs.Memory.{seen};
-ghost use Rattle.cdg_screen.specs.Standing.{standing_after};
+ghost use Rattle.cdg_screen.specs.Standing.{offsets_from, standing_after};
 ghost use Rattle.live_player.specs.Changes.{sees, IsWithinScreen};
 ghost use Rattle.live_player.specs.Lives.{bad_counted, drawn_for, instruction_of, instructions_of};
-ghost use Rattle.cdg_instructions.specs.Instruction.{InRange};
-ghost use Rattle.rw_code.specs.Codeword.{IsCodeword};
+ghost use Rattle.cdg_instructions.specs.Instruction.{content_of, InRange, Means};
+ghost use Rattle.cdg_instructions.specs.Meaning.{meaning};
+ghost use Rattle.cdg_instructions.specs.Sizes.{tile_height};
+ghost use Rattle.cdg_screen.specs.Touched.{tile_touched, touched_by};
+ghost use Rattle.rw_code.specs.Codeword.{IsCodeword, IsWord};
 ghost use Rattle.rw_code.specs.Finding.{finding};
 ghost use Rattle.rw_code.specs.Packs.{idle_pack};
 ghost use Rattle.rw_interleave.specs.Stream.{bad_count};
@@ -15,12 +18,21 @@ ghost use Rattle.stream_stages.specs.Steps.{bad_next, words_give, words_next, Id
 
 use crate::watch::Watch;
 use arrayvec::ArrayVec;
-use cdg_instructions::{Instr, read, read_word};
+use cdg_instructions::{Instr, TILE_HEIGHT, read, read_word};
 use cdg_io::Stage;
 use cdg_screen::PlainScreen;
 use raw_subcode::{BLOCK_BYTES, SLOTS_A_BLOCK};
 use rw_code::{Pack, SYMBOLS, Word, correct};
 use stream_stages::{BlockOfWords, BlockWords};
+
+/// The first symbol of a pack with graphics.
+pub(crate) const GRAPHICS: u8 = 9;
+
+// The second symbol of a pack that sets a tile, or combines one with what stands there.
+
+const SET_TILE: u8 = 6;
+
+const XOR_TILE: u8 = 38;
 
 /// Takes the next block of a stream, and sees what of the screen changes.
 #[inline(always)]
@@ -48,14 +60,99 @@ pub(crate) fn play_seen(
 }
 
 /// Draws a pack as a file of packs has them, and sees what of the screen changes.
-#[inline]
+#[inline(always)]
 pub(crate) fn draw_seen(screen: &mut PlainScreen, watch: &mut Watch, pack: &[u8; SYMBOLS])
+    ensures draws { seen screen.new ≡ standing_after (seen screen.old) (instruction_of pack.now ∷ []) }
+    ensures sees { watch.new ≡ sees watch.old (instruction_of pack.now) }
+{
+    let symbols = Word::new(pack).bytes();
+    // Most packs with graphics draw a tile.
+    if is_tile(&symbols) {
+        draw_tile_seen(screen, watch, &symbols);
+    } else {
+        draw_other_seen(screen, watch, pack);
+    }
+}
+
+// The same of a pack that draws no tile. It stands apart, so that tiles do not pay for its variables.
+#[inline(never)]
+fn draw_other_seen(screen: &mut PlainScreen, watch: &mut Watch, pack: &[u8; SYMBOLS])
     ensures draws { seen screen.new ≡ standing_after (seen screen.old) (instruction_of pack.now ∷ []) }
     ensures sees { watch.new ≡ sees watch.old (instruction_of pack.now) }
 {
     let instr = read_pack(pack);
     screen.obey(&instr);
     watch.see(&instr);
+}
+
+#[inline(always)]
+fn is_tile(symbols: &[u8; SYMBOLS]) -> bool
+    ensures { IsTrue result → (slice_index symbols.now 0 ≡ 9)
+        × ((slice_index symbols.now 1 ≡ 6) ⊎ (slice_index symbols.now 1 ≡ 38)) }
+{
+    symbols[0] == GRAPHICS && (symbols[1] == SET_TILE || symbols[1] == XOR_TILE)
+}
+
+// Draws the tile of a pack with these symbols.
+#[inline(always)]
+fn draw_tile_seen(screen: &mut PlainScreen, watch: &mut Watch, symbols: &[u8; SYMBOLS])
+    requires symbols { IsWord symbols.now }
+    requires mode { slice_index symbols.now 0 ≡ 9 }
+    requires code { (slice_index symbols.now 1 ≡ 6) ⊎ (slice_index symbols.now 1 ≡ 38) }
+    ensures draws { seen screen.new ≡ standing_after (seen screen.old) (meaning symbols.now ∷ []) }
+    ensures sees { watch.new ≡ sees watch.old (meaning symbols.now) }
+{
+    let instr = tile_of(symbols);
+    screen.obey(&instr);
+    watch.see_tile(symbols[6] % 32, symbols[7]);
+}
+
+// The instruction of a pack that sets or combines a tile.
+#[inline(always)]
+fn tile_of(symbols: &[u8; SYMBOLS]) -> Instr
+    requires symbols { IsWord symbols.now }
+    requires mode { slice_index symbols.now 0 ≡ 9 }
+    requires code { (slice_index symbols.now 1 ≡ 6) ⊎ (slice_index symbols.now 1 ≡ 38) }
+    ensures meaning { Means symbols.now result }
+    ensures range { InRange result }
+    ensures touches { touched_by result
+        ≡ tile_touched (slice_index symbols.now 6 % 32) (slice_index symbols.now 7) }
+    ensures stays { (start : ℕ × ℕ) → offsets_from start (result ∷ []) ≡ start }
+{
+    let colour0 = symbols[4] % 16;
+    let colour1 = symbols[5] % 16;
+    let row = symbols[6] % 32;
+    let column = symbols[7];
+    let lines = lines_of(symbols);
+    if symbols[1] == SET_TILE {
+        Instr::SetTile {
+            colour0,
+            colour1,
+            row,
+            column,
+            lines,
+        }
+    } else {
+        Instr::XorTile {
+            colour0,
+            colour1,
+            row,
+            column,
+            lines,
+        }
+    }
+}
+
+#[inline(always)]
+fn lines_of(symbols: &[u8; SYMBOLS]) -> [u8; TILE_HEIGHT]
+    requires { IsWord symbols.now }
+    ensures lines { result ≡ drop 4 (content_of symbols.now) }
+    ensures count { length result ≡ tile_height }
+    ensures range { All (λ line. line < 64) result }
+{
+    let mut lines = [0; TILE_HEIGHT];
+    lines.copy_from_slice(&symbols[8..20]);
+    lines
 }
 
 /// The instruction of a pack, whose parity has no part in it.

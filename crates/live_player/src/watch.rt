@@ -1,10 +1,11 @@
 // Instructions, and what changes by them one after the other.
-ghost use Rattle.std.specs.Prelude.{◌≡◌};
-ghost use Rattle.live_player.specs.Changes.{offsets_by, sees, watch_from};
+ghost use Rattle.std.specs.Prelude.{◌≡◌, IsTrue};
+ghost use Rattle.cdg_screen.specs.Touched.{tile_touched};
+ghost use Rattle.live_player.specs.Changes.{join, offsets_by, sees, touched_change, watch_from, HoldsTile};
 
 use crate::change::{ScreenChange, touched_change};
 use cdg_instructions::{Effect, Instr};
-use cdg_screen::touches;
+use cdg_screen::{Touched, touches};
 
 /// What changed so far, and where in the memory the screen begins now.
 #[derive(Clone, Copy)]
@@ -37,6 +38,66 @@ impl Watch {
             across,
             down,
         };
+    }
+}
+
+impl Watch {
+    /// An instruction is carried out that touches this tile. Most tiles lie where others were drawn before, which is seen
+    /// without their rectangle.
+    #[inline(always)]
+    pub fn see_tile(&mut self, row: u8, column: u8)
+        ensures { self.new ≡ record {
+          change = join self.old.change
+              (touched_change (tile_touched row column) self.old.across self.old.down);
+          across = self.old.across;
+          down = self.old.down;
+        } }
+    {
+        if !self.holds_tile(row, column) {
+            self.add_tile(row, column);
+        }
+    }
+
+    // Whether a tile of the memory lies in the rectangle of what changed.
+    #[inline(always)]
+    fn holds_tile(&self, row: u8, column: u8) -> bool
+        ensures { IsTrue result → HoldsTile self.now row column }
+    {
+        let left = 6 * u64::from(column);
+        let top = 12 * u64::from(row);
+        let across = u64::from(self.across);
+        let down = u64::from(self.down);
+        column < 50
+            && row < 18
+            && u64::from(self.change.left) + across <= left
+            && left + 6 <= u64::from(self.change.right) + across
+            && u64::from(self.change.top) + down <= top
+            && top + 12 <= u64::from(self.change.bottom) + down
+    }
+
+    #[inline(never)]
+    fn add_tile(&mut self, row: u8, column: u8)
+        ensures { self.new ≡ record {
+          change = join self.old.change
+              (touched_change (tile_touched row column) self.old.across self.old.down);
+          across = self.old.across;
+          down = self.old.down;
+        } }
+    {
+        let touched = touched_tile(row, column);
+        let change = touched_change(touched, self.across, self.down);
+        self.change = self.change.join(&change);
+    }
+}
+
+// A tile that is drawn, or nothing where it is not on the memory.
+fn touched_tile(row: u8, column: u8) -> Touched
+    ensures { result ≡ tile_touched row column }
+{
+    if row < 18 && column < 50 {
+        Touched::Tile { row, column }
+    } else {
+        Touched::Nothing
     }
 }
 

@@ -1,5 +1,5 @@
 -- What a page is told of a player: its counts, what it shows and what a pack touches.
-use Rattle.std.specs.Prelude.{◌≡◌, ◌<◌, ◌+◌, ◌*◌, ◌/◌, ◌%◌, ℕ, slice_index, ◌-◌}
+use Rattle.std.specs.Prelude.{◌≡◌, ◌<◌, ◌+◌, ◌*◌, ◌/◌, ◌%◌, ◌==◌, if◌then◌else◌, ℕ, slice_index, ◌-◌}
 use Rattle.cdg_instructions.specs.Sizes.{screen_width}
 use Rattle.cdg_screen.specs.Standing.{Standing, screen_pixel}
 use Rattle.ribjasper_web.specs.declared.picture.WebShown.{WebShown}
@@ -8,6 +8,9 @@ use Rattle.live_player.specs.declared.live.LivePlayer.{LivePlayer}
 use Rattle.ribjasper_web.specs.declared.counting.WebCounts.{WebCounts}
 use Rattle.cdg_screen.specs.declared.touching.Touched.{Touched}
 use Rattle.cdg_screen.specs.declared.touching.Touched.TheVariants.{Nothing, Tile, All, Border, Colours, Levels}
+use Rattle.live_player.specs.declared.format.PixelFormat.{PixelFormat}
+use Rattle.live_player.specs.declared.format.PixelFormat.TheVariants.{Rgba, RgbaLevels}
+use Rattle.live_player.specs.declared.looking.ScreenPart.{ScreenPart}
 
 -- what a player counts, whose form has this number; the words are those of the blocks that came behind its lead-in
 abbrev pub web_counts : ℕ → LivePlayer → WebCounts
@@ -28,6 +31,18 @@ opaque colour =
 abbrev pub opaque_pixel : Standing → ℕ → ℕ
 opaque_pixel now n =
     opaque (slice_index now.colours (screen_pixel now (n % screen_width) (n / screen_width)))
+
+-- four bytes a pixel, of which the last is 255 or the opacity of its colour
+abbrev pub web_format : ℕ → PixelFormat
+web_format levels = if levels == 0 then Rgba else RgbaLevels
+
+-- all pixels of the screen
+abbrev pub whole_screen : ScreenPart
+whole_screen = record { left = 0; top = 0; width = 300; height = 216 }
+
+-- the bytes of a row of the screen, four for each pixel
+abbrev pub picture_stride : ℕ
+picture_stride = 1200
 
 -- border, offsets, colours and levels of what stands
 pub record IsShown (now : Standing) (shown : WebShown) : Type 0 where

@@ -5,6 +5,7 @@ mod changing;
 mod counting;
 mod marking;
 mod mending;
+mod parity;
 mod picture;
 mod planar;
 mod playing;

@@ -3,13 +3,14 @@ ghost use Rattle.std.specs.Prelude.{◌≡◌, ◌<◌, ◌/◌, ◌%◌, ℕ, s
 ghost use Rattle.cdg_instructions.specs.Sizes.{colour_values, screen_pixels, screen_width};
 ghost use Rattle.cdg_screen.specs.Memory.{seen};
 ghost use Rattle.cdg_screen.specs.Standing.{screen_pixel};
+ghost use Rattle.live_player.specs.Formats.{ShowsPixels};
 ghost use Rattle.live_player.specs.Lives.{standing_on};
 ghost use Rattle.live_player.specs.Plain.{player_of};
-ghost use Rattle.ribjasper_web.specs.Shown.{IsShown, opaque, opaque_pixel};
+ghost use Rattle.ribjasper_web.specs.Shown.{IsShown, opaque, opaque_pixel, picture_stride, web_format, whole_screen};
 
 use cdg_instructions::{SCREEN_HEIGHT, SCREEN_PIXELS, SCREEN_WIDTH};
 use cdg_screen::PlainScreen;
-use live_player::PlainPlayer;
+use live_player::{PixelFormat, PlainPlayer, ScreenPart, write_pixels};
 
 #[repr(C)]
 #[derive(Clone, Copy)]
@@ -40,6 +41,31 @@ pub extern "C" fn ribjasper_web_picture(player: &PlainPlayer, pixels: &mut [u32;
             pixels[SCREEN_WIDTH * y + x] = table[usize::from(row[x])];
         }
     }
+}
+
+/// Writes the screen's pixels row by row, each as four bytes: red, green, blue, and the opacity that the level of its colour
+/// gives, or 255 where `levels` is 0.
+#[unsafe(no_mangle)]
+pub extern "C" fn ribjasper_web_pixels(
+    player: &PlainPlayer,
+    levels: u32,
+    pixels: &mut [u8; 4 * SCREEN_PIXELS],
+)
+    ensures { ShowsPixels (web_format levels) (standing_on (player_of player.now)) whole_screen picture_stride
+        pixels.old pixels.new }
+{
+    let whole = ScreenPart {
+        left: 0,
+        top: 0,
+        width: SCREEN_WIDTH,
+        height: SCREEN_HEIGHT,
+    };
+    let format = if levels == 0 {
+        PixelFormat::Rgba
+    } else {
+        PixelFormat::RgbaLevels
+    };
+    write_pixels(&player.screen, &whole, format, pixels, 4 * SCREEN_WIDTH);
 }
 
 /// Writes the numbers of the colours of the screen's pixels, row by row.

@@ -16,7 +16,7 @@ pub loop-pack-preserved : goal.loop-pack-preserved
 loop-pack-preserved g c =
     let before_all = g.P.AnyPlayer.played c.args.player.now in
     let now = g.P.AnyPlayer.played c.loop-pack.player in
-    let after = g.P.AnyPlayer.played c.play_pack.new.self in
+    let after = g.P.AnyPlayer.played c.draw_next.new.player in
     let packs = c.args.packs.now in
     let i = c.loop-pack.pack-index in
     let pack = get_or packs i [] in
@@ -29,29 +29,30 @@ loop-pack-preserved g c =
     sym (map-append instruction_of (take i packs) (pack ∷ [])) ∙ ap (map instruction_of) (sym more) in
     record {
       told =
-          c.play_pack.ensures.sees
+          c.draw_next.ensures.sees
           ∙ ap (λ (w : Watch). sees w (instruction_of pack)) c.loop-pack.invariant.told
           ∙ sym (run_state-append sees watch before (instruction_of pack ∷ []))
           ∙ ap (run_state sees watch) instrs;
       draws = record {
-        gathers = c.play_pack.ensures.draws.gathers ∙ c.loop-pack.invariant.draws.gathers;
+        gathers = c.draw_next.ensures.draws.gathers ∙ c.loop-pack.invariant.draws.gathers;
         draws =
-            c.play_pack.ensures.draws.draws
+            c.draw_next.ensures.draws.draws
             ∙ ap (λ (s : Standing). standing_after s (instruction_of pack ∷ []))
             c.loop-pack.invariant.draws.draws
             ∙ sym (in_turn start before (instruction_of pack ∷ []))
             ∙ ap (standing_after start) instrs;
-        lead_in = c.play_pack.ensures.draws.lead_in ∙ c.loop-pack.invariant.draws.lead_in;
-        counts = c.play_pack.ensures.draws.counts ∙ c.loop-pack.invariant.draws.counts;
-        bad = c.play_pack.ensures.draws.bad ∙ c.loop-pack.invariant.draws.bad;
+        lead_in = c.draw_next.ensures.draws.lead_in ∙ c.loop-pack.invariant.draws.lead_in;
+        counts = c.draw_next.ensures.draws.counts ∙ c.loop-pack.invariant.draws.counts;
+        bad = c.draw_next.ensures.draws.bad ∙ c.loop-pack.invariant.draws.bad;
       };
       drawn =
           λ form lead_in given played. subst (λ (all : List Given). HasPlayed form lead_in all after)
           (sym (ap (λ (l : List (List ℕ)). map Drawn (reverse l) ++ given) more
           ∙ given_more Drawn (take i packs) pack given))
-          (drawn_on pack now after c.play_pack.ensures.draws form lead_in
+          (drawn_on pack now after c.draw_next.ensures.draws form lead_in
           (map Drawn (reverse (take i packs)) ++ given)
           (c.loop-pack.invariant.drawn form lead_in given played));
+      within = c.draw_next.ensures.within;
     }
 
 pub loop-pack-init : goal.loop-pack-init
@@ -65,6 +66,7 @@ loop-pack-init g c = record {
     bad = refl;
   };
   drawn = λ form lead_in given played. played;
+  within = c.watch_of-watch.ensures.within;
 }
 
 pub returns-clause-keeps : goal.returns-clause-keeps

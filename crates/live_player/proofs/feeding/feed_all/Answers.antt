@@ -5,7 +5,7 @@ use Rattle.cdg_instructions.specs.declared.instr.Instr.{Instr}
 use Rattle.cdg_screen.specs.Standing.{Standing, standing_after}
 use Rattle.cdg_screen.proofs.Turns.{in_turn}
 use Rattle.stream_stages.specs.Steps.{words_give}
-use Rattle.live_player.specs.Lives.{Given, Fed, HasPlayed, drawn_for, instructions_in, instructions_of, standing_on}
+use Rattle.live_player.specs.Lives.{Given, Fed, HasPlayed, drawn_for, instructions_in, standing_on}
 use Rattle.live_player.specs.Changes.{changes_on, sees, watch_from, KeepsUntold}
 use Rattle.live_player.specs.declared.change.ScreenChange.{ScreenChange}
 use Rattle.live_player.specs.declared.watch.Watch.{Watch}

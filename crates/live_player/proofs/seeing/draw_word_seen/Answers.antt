@@ -1,7 +1,6 @@
-use Rattle.std.proofs.Common.{◌≡◌, ◌∙◌, [], ◌∷◌, List, ℕ, ap}
+use Rattle.std.proofs.Common.{◌∙◌, [], ◌∷◌, List, ℕ, ap}
 use Rattle.std.specs.declared.option.Option.{Option}
 use Rattle.cdg_io.specs.Run.{run_state}
-use Rattle.cdg_instructions.specs.Meaning.{meaning}
 use Rattle.cdg_instructions.specs.declared.instr.Instr.{Instr}
 use Rattle.cdg_instructions.proofs.Meaning.{only_meaning}
 use Rattle.cdg_screen.specs.Memory.{seen}
