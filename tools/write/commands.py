@@ -27,12 +27,13 @@ ribjasper \- the subcode of Compact Discs: graphics, texts, Q frames, both ways
 .RB [ \-\-
 .IR first " [" second ]]
 .SH DESCRIPTION
-Works on the subcode channels P to W of a Compact Disc. A command has one spelling, its options in the order shown
-here. What is read is standard input, or the files that are named after a word
-.BR \-\- ;
-what is written is standard output. The one word
+Works on the subcode channels P to W of a Compact Disc. Each command has one spelling, with its options in the order
+shown here. The input is standard input, or the files that are named after the word
+.BR \-\- .
+The output is standard output. The word
 .B usage
-on standard error means: the words are no command, see this page. Streams are read and written as they come.
+on standard error means that the words are no command: compare them with this page. Streams are read and written as they
+arrive.
 .SH COMMANDS
 """.strip().splitlines()
 
@@ -85,11 +86,11 @@ def statuses(formats: str) -> list[str]:
 
 def refusals(formats: str) -> list[str]:
     """The parts on the reasons of a refusal, and on those of a refused line of each text."""
-    out = [".SH REFUSALS", "What stands after", ".BR refused :"]
+    out = [".SH REFUSALS", "The reason after", ".BR refused :"]
     for reason, comes in table(formats, "| Reason after `refused` | Comes if |"):
         out += entry(reason, roff(comes) + ".")
     for kind, what in (("cue", "CUE SHEET"), ("script", "PICTURE SCRIPT")):
-        out += [f".SH REFUSED LINES OF {what}", "What stands after", f'.BR "refused {kind} " LINE :']
+        out += [f".SH REFUSED LINES OF {what}", "The reason after", f'.BR "refused {kind} " LINE :']
         for why, _, remedy in reasons(formats)[kind]:
             out += entry(why, roff(remedy) + ".")
     return out
@@ -105,7 +106,7 @@ def manual(formats: str, commands: list[Row]) -> str:
     for words, inputs, output in commands:
         out += entry(words, f"Reads {'nothing' if inputs == 'none' else roff(inputs)}. Writes {roff(output)}.")
     out += [*letters(formats), *statuses(formats), *refusals(formats)]
-    out += [".SH NOTES", "What ends quietly, or with a line that is easily misread."]
+    out += [".SH NOTES", "Wrong results that end quietly or with a line that is easily misread."]
     for seen, meaning, remedy in table(formats, "| You see | It is | What to do |"):
         out += entry(seen, f"{roff(meaning)}. Remedy: {roff(remedy)}.")
     out += [".SH EXAMPLES"]
