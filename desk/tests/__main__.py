@@ -62,10 +62,10 @@ def once_more(result: unittest.TestResult) -> unittest.TestResult:
 
 
 def chosen_tests(modules: list[str]) -> unittest.TestSuite:
-    if not modules:
-        return unittest.defaultTestLoader.discover(str(HERE), top_level_dir=str(HERE))
-    sys.path.insert(0, str(HERE))
-    return unittest.defaultTestLoader.loadTestsFromNames(modules)
+    """The tests of these modules, or of all."""
+    find = unittest.defaultTestLoader.discover
+    patterns = [f"{module}.py" for module in modules] or ["test*.py"]
+    return unittest.TestSuite([find(str(HERE), pattern=pattern, top_level_dir=str(HERE)) for pattern in patterns])
 
 
 def main() -> int:

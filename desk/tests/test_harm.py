@@ -1,5 +1,6 @@
 """No command costs a user a file: an output that is read too, in each command and option; outputs that are pipes, links,
 devices and standard output; and what is there already."""
+import hashlib
 import os
 import signal
 import stat
@@ -31,9 +32,10 @@ def png() -> bytes:
 class CallsTest(FolderTest):
     """A folder with an input of each kind, and what is in it before and after a call."""
 
-    def content(self) -> dict[str, bytes]:
+    def content(self) -> dict[str, str]:
+        """The checksums of all files. Files may be long, and a failed comparison prints both sides."""
         return {
-            os.fspath(path.relative_to(self.folder)): path.read_bytes()
+            os.fspath(path.relative_to(self.folder)): hashlib.sha256(path.read_bytes()).hexdigest()
             for path in sorted(self.folder.rglob("*"))
             if path.is_file()
         }
@@ -167,13 +169,18 @@ class CompanionsTest(CallsTest):
             os.link(self.folder / name, self.folder / "other")
             self.refuses(*words, self.folder / "other", "--force", why="is read here as")
             (self.folder / "other").unlink()
-        for command in ("q-fix", "convert", "mend"):
-            dumps = (self.dump, self.dump) if command == "mend" else (self.dump,)
-            form = ("--as", "raw") if command == "convert" else ()
+        os.link(self.folder / "rip.cue", self.folder / "linked.raw")
+        others: tuple[tuple[Word, ...], ...] = (
+            ("q-fix", self.dump, "-o", self.folder / "rip.cue"),
+            ("convert", self.dump, "--as", "raw", "-o", self.folder / "rip.cue"),
+            ("mend", self.dump, self.dump, "-o", self.folder / "linked.raw"),
+        )
+        for words in others:
             before = self.content()
-            ran = desk(command, *dumps, "-o", self.folder / "rip.cue", "--force", *form)
-            self.assertEqual((ran.status, self.content()), (3, before), command)
+            ran = desk(*words, "--force")
+            self.assertEqual((ran.status, self.content()), (3, before), words)
             self.assertIn("is read here", ran.told)
+        (self.folder / "linked.raw").unlink()
         self.refuses("texts", self.dump, "--packs", self.folder / "rip.cue", "--force", why="is read here")
 
     def test_other_names_are_outputs(self) -> None:

@@ -66,9 +66,11 @@ def keep(path: str, content: str) -> None:
         with open(number, "r+b", buffering=0) as record:
             # Several calls may write outputs to one folder at the same time.
             lock(number)
-            if os.fstat(number).st_size > LONGEST:
-                record.seek(0)
-                last = dict(entries(record.read()))
+            known = record.read()
+            if line in known.splitlines(keepends=True):
+                return
+            if len(known) > LONGEST:
+                last = dict(entries(known))
                 record.truncate(0)
                 record.write(
                     b"".join(f"{found} {json.dumps(other)}\n".encode("ascii") for other, found in last.items())
