@@ -211,9 +211,9 @@ int32_t ribjasper_player_take(ribjasper_player *player, const uint8_t block[RIBJ
    Returns RIBJASPER_DONE, or RIBJASPER_REFUSED if the player is closed. */
 int32_t ribjasper_player_draw(ribjasper_player *player, const uint8_t pack[24]);
 
-/* What of the screen may have changed: the pixels from column `left` to `right` - 1 of rows `top` to `bottom` - 1 (none if
-   `left` is 300), and whether colours of the table or levels may have changed (1 or 0). With other colours or levels
-   any pixel may look different, although its number is the same. Nothing else changed. */
+/* The part of the screen that may have changed: the pixels from column `left` to `right` - 1 of rows `top` to `bottom` - 1
+   (none if `left` is 300), and whether colours of the table or levels may have changed (1 or 0). If colours or levels
+   changed, any pixel may look different, although its number is the same. Nothing else changed. */
 typedef struct ribjasper_change {
     uint32_t left;
     uint32_t top;
@@ -223,9 +223,9 @@ typedef struct ribjasper_change {
     uint8_t levels;
 } ribjasper_change;
 
-/* Feeds an open player many blocks, as ribjasper_player_feed does one, and writes what of the screen may have changed: the
-   smallest rectangle around the tiles that were drawn, the window if the memory was cleared or scrolled, and the whole
-   screen if the border was set. It is faster than a call for each block.
+/* Feeds an open player many blocks, as ribjasper_player_feed does one, and writes which part of the screen may have changed.
+   This is the smallest rectangle around the tiles that were drawn, the window if the memory was cleared or scrolled, and the
+   whole screen if the border was set. One call is faster than a call for each block.
      player: the player
      blocks: the blocks, 96 bytes each, one after another
      count: their number
@@ -234,7 +234,7 @@ typedef struct ribjasper_change {
 int32_t ribjasper_player_feed_all(ribjasper_player *player, const uint8_t *blocks, size_t count,
                                   ribjasper_change *change);
 
-/* Draws many packs, as ribjasper_player_draw does one, and writes what of the screen may have changed.
+/* Draws many packs, as ribjasper_player_draw does one, and writes which part of the screen may have changed.
      player: the player
      packs: the packs, 24 bytes each, one after another
      count: their number
@@ -361,31 +361,32 @@ RIBJASPER_NODISCARD int32_t ribjasper_player_save(const ribjasper_player *player
    the player that was saved. Allocates 65,056 bytes if the file is a checkpoint.
      player: the player
      file: the checkpoint, 65,045 bytes
-     byte: where the file is refused, the first byte of the first field that is out of range
+     byte: if the file is refused, the first byte of the first field that is out of range
    Returns RIBJASPER_DONE; RIBJASPER_REFUSED if the player is closed; RIBJASPER_NO_CHECKPOINT if the file is no checkpoint
    (only then `byte` is written); or RIBJASPER_NO_MEMORY. */
 RIBJASPER_NODISCARD
 int32_t ribjasper_player_load(ribjasper_player *player, const uint8_t file[RIBJASPER_CHECKPOINT], uint32_t *byte);
 
-/* Makes an open player show and continue what another open player does, of any form and after any number of blocks.
+/* Copies an open player into another one, which then shows the same and continues in the same way. Any form and any number of
+   blocks are allowed.
      from: the player that is copied
      to: the player that changes
    Returns RIBJASPER_DONE, or RIBJASPER_REFUSED if one of them is closed or both are the same player. */
 RIBJASPER_NODISCARD int32_t ribjasper_player_copy(const ribjasper_player *from, ribjasper_player *to);
 
-/* A player at a place of a stream, in the memory of the caller. Begin with zeros: a mark of zeros is not set. Change marks
-   only by the calls below, and use a list of marks for one stream, with one form and lead-in; set it to zeros for another
-   stream. A mark may be copied byte for byte. */
+/* A mark is a copy of a player at a place of a stream, in the memory of the caller. Begin with zeros: a mark of zeros is not
+   set. Change marks only by the calls below. A list of marks belongs to one stream with one form and lead-in; set it to zeros
+   for another stream. A mark may be copied byte for byte. */
 typedef struct ribjasper_mark {
     uint64_t place;       /* how many blocks or packs the player was given; 0 if the mark is not set */
     uint64_t state[8135]; /* the player */
 } ribjasper_mark;
 
-/* Seeks in a stream of blocks: brings an open player to where it would be if it had begun and been fed the first `to`
-   blocks. It starts from the last mark before that place, or from the start, and sets the marks on the way. Mark k, from
-   0, is for place (k + 1) * every. So a seek feeds less than `every` blocks after the first pass.
+/* Seeks in a stream of blocks: puts an open player into the state after ribjasper_player_begin and feeding the first
+   `to` blocks. The call starts from the last mark before that place, or from the start, and sets the marks on the way. Mark
+   k, from 0, is for place (k + 1) * every. So a seek feeds less than `every` blocks if the marks up to there are set.
      player: the player
-     form, lead_in: as of ribjasper_player_begin
+     form, lead_in: as in ribjasper_player_begin
      blocks, count: the stream from its start, with the lead-in: blocks of 96 bytes, and their number
      to: the number of blocks, at most `count`
      marks, marks_count: the marks, which may be none
@@ -395,8 +396,8 @@ RIBJASPER_NODISCARD
 int32_t ribjasper_player_seek(ribjasper_player *player, uint32_t form, uint32_t lead_in, const uint8_t *blocks,
                               size_t count, uint64_t to, ribjasper_mark *marks, size_t marks_count, uint32_t every);
 
-/* Seeks in a list of packs, such as a .cdg file: brings an open player to where it would be if it had begun and drawn the
-   first `to` packs. Marks are as of ribjasper_player_seek.
+/* Seeks in a list of packs, such as a .cdg file: puts an open player into the state after ribjasper_player_begin and
+   drawing the first `to` packs. Marks are as in ribjasper_player_seek.
      player: the player; it continues as a player of a raw stream without lead-in
      packs, count: the packs from the first, 24 bytes each, and their number
      to: the number of packs, at most `count`
@@ -407,8 +408,8 @@ RIBJASPER_NODISCARD
 int32_t ribjasper_player_seek_packs(ribjasper_player *player, const uint8_t *packs, size_t count, uint64_t to,
                                     ribjasper_mark *marks, size_t marks_count, uint32_t every);
 
-/* What the instruction of a pack can change, if it is no tile. A tile is a place of the memory, rows of twelve pixels and
-   columns of six. The screen shows it moved left and up by the offsets, and the outermost tiles of the screen lie under
+/* What the instruction of a pack can change, if it is not a tile. The memory consists of tiles: rows of twelve pixels and
+   columns of six. The screen shows each tile moved left and up by the offsets. The outermost tiles of the screen are under
    the border. */
 #define RIBJASPER_TOUCHES_NOTHING 900
 #define RIBJASPER_TOUCHES_ALL 901     /* the whole memory, and the offsets */
@@ -418,8 +419,8 @@ int32_t ribjasper_player_seek_packs(ribjasper_player *player, const uint8_t *pac
 
 /* Reports what the instruction of a pack can change, for every screen. Nothing else changes.
      pack: 24 bytes
-   Returns no answer but a number: 50 times the row and the column of a tile of the memory, 0 to 899, or one of the numbers
-   above. */
+   Returns no answer of the list above but a number: 50 times the row plus the column of a tile of the memory, 0 to 899, or
+   one of the numbers above. */
 int32_t ribjasper_pack_touches(const uint8_t pack[24]);
 
 /* Writes what may change on the screen if a pack is drawn. The pixels of a tile at row r and column c are
@@ -432,16 +433,17 @@ int32_t ribjasper_pack_touches(const uint8_t pack[24]);
 RIBJASPER_NODISCARD
 int32_t ribjasper_pack_change(const uint8_t pack[24], uint8_t across, uint8_t down, ribjasper_change *change);
 
-/* Returns the fewest packs that draw a tile over any earlier content, 1 to 4, or -1 if a number is above 15. (A tile of one
-   colour that already shows it needs none.) Only the colours of the tile matter, not their places. It is no answer of
-   the list above.
+/* Returns the smallest number of packs that draw a tile over any earlier content, 1 to 4, or -1 if a number is above 15.
+   (A tile of one colour needs no pack if it shows this colour already.) Only the colours of the tile matter, not their
+   places. The result is no answer of the list above.
      pixels: the numbers of the colours of the tile, row by row */
 int32_t ribjasper_tile_weight(const uint8_t pixels[72]);
 
 /* Corrects a word: writes the codeword near it. The low six bits of the bytes are its symbols.
      word: 24 bytes
      out: the codeword, 24 bytes
-   Returns no answer but the number of wrong symbols, 0 to 2, or -1 if no codeword is near; then nothing is written. */
+   Returns no answer of the list above but the number of wrong symbols, 0 to 2, or -1 if no codeword is near; then nothing is
+   written. */
 int32_t ribjasper_correct(const uint8_t word[24], uint8_t out[24]);
 
 /* How many packs have valid parity. `invalid` also counts packs with a wrong symbol. The three numbers add up to the
@@ -466,11 +468,12 @@ void ribjasper_packs_parity(const uint8_t *packs, size_t count, ribjasper_parity
      count: their number */
 void ribjasper_packs_seal(uint8_t *packs, size_t count);
 
-/* Returns 1 if the last two bytes of a CD-TEXT pack are the check of the others, or 0. It is no answer of the list above.
+/* Returns 1 if the last two bytes of a CD-TEXT pack are the CRC of the others, or 0. The result is no answer of the list
+   above.
      pack: 18 bytes */
 int32_t ribjasper_text_pack_matches(const uint8_t pack[18]);
 
-/* Writes the 24 symbols, each below 64, that carry a CD-TEXT pack in a lead-in. Four such packs make the symbols of a block.
+/* Writes the 24 symbols, each below 64, of a CD-TEXT pack in a lead-in. Four such packs are the symbols of a block.
      pack: 18 bytes
      symbols: the output, 24 bytes */
 void ribjasper_text_pack_symbols(const uint8_t pack[18], uint8_t symbols[24]);
@@ -506,8 +509,8 @@ typedef struct ribjasper_q_frame {
 /* Reads the twelve bytes of a frame of the Q channel.
      bytes: the frame, 12 bytes
      frame: the output
-     bit: where a field is refused, its first bit, 0 to 95
-   Returns RIBJASPER_DONE; RIBJASPER_BAD_CHECK if the last sixteen bits are not the check of the others; or
+     bit: if a field is refused, its first bit, 0 to 95
+   Returns RIBJASPER_DONE; RIBJASPER_BAD_CHECK if the last sixteen bits are not the CRC of the others; or
    RIBJASPER_BAD_FIELD if a field is out of range: then only `bit` is written, for the first such field. */
 RIBJASPER_NODISCARD int32_t ribjasper_q_decode(const uint8_t bytes[12], ribjasper_q_frame *frame, uint8_t *bit);
 
@@ -551,9 +554,9 @@ typedef struct ribjasper_tally {
     ribjasper_q_frame frame; /* this frame, or zeros */
 } ribjasper_tally;
 
-/* Feeds an open player the next block, as ribjasper_player_feed, and adds what comes with it to a tally. If the tally began
-   with the player, its packs and frames are those that the program's command `check` counts, of all blocks so far. A
-   player that is saved, restored or copied does not include the tally: keep a copy of it beside the checkpoint.
+/* Feeds an open player the next block, as ribjasper_player_feed, and adds its packs and its frame to a tally. If the tally
+   began with the player, its numbers of packs and frames are those of the program's command `check` for all blocks so far.
+   Saving, restoring or copying a player does not include the tally: keep a copy of it together with the checkpoint.
      player: the player
      block: 96 bytes
      tally: the counts, which are read and written
@@ -590,38 +593,42 @@ RIBJASPER_NODISCARD
 int32_t ribjasper_convert(const uint8_t *stream, size_t length, uint32_t form, uint32_t lead_in, uint8_t *packs,
                           size_t room, ribjasper_converted *result);
 
-/* Mending: from several readings of one disc, the best codeword of each word. Word n has 24 symbols, in the blocks n / 4 to
-   (n + 7) / 4 of the program. A block is unread if its 96 bytes are 0. A caller that knows that a block was not read writes
-   zeros over it.
+/* Mending: the best codeword of each word, from several readings of one disc. Word n has 24 symbols, in the program blocks
+   n / 4 to (n + 7) / 4. A block is unread if its 96 bytes are 0. If a caller knows that a block was not read, the caller
+   writes zeros over it.
 
-   A reading of a word gives the codeword that differs from it in at most two symbols. The number of these symbols is its
-   distance. The distance of the idle pack (24 zeros) is 3 if a block under the word is unread. If all blocks under the
-   word are unread, the reading gives nothing there. A reading is quiet at a word if it gives the idle pack or nothing.
+   A reading has a codeword at a word if the codeword differs from the symbols of the reading in at most two symbols. The
+   number of these symbols is the distance of the codeword. The idle pack (24 zeros) has the distance 3 if one of the blocks
+   of the word is unread. If all blocks of the word are unread, the reading has nothing there. A reading is quiet at a word
+   if it has the idle pack or nothing there.
 
-   Two kinds of codewords do not count. First, idle packs of a reading that lacks graphics. A reading misses graphics at a
-   word if it gives the idle pack and another reading shows that the word is not idle. That other reading gives a codeword
-   with no wrong symbol, or a graphics pack (mode and item 9, a known instruction) with one or two. A reading lacks graphics
-   at each word from which it is quiet up to a word at which it misses graphics, forwards or backwards. Second, doubtful
-   codewords at words where some reading is quiet. A codeword is doubtful if it has a wrong symbol and its mode and item are
-   not used on discs (8, 9, 10 and 24 are).
+   A reading misses graphics at a word if it has the idle pack there and another reading shows that the word is not idle.
+   This other reading has a codeword with no wrong symbol, or a graphics pack (mode and item 9, a known instruction) with one
+   or two wrong symbols. A reading lacks graphics at each word from which it is quiet up to a word at which it misses
+   graphics, forwards or backwards. A codeword is doubtful if it has a wrong symbol and a mode and item that no disc uses
+   (discs use 8, 9, 10 and 24).
 
-   The result is the codeword with the smallest distance among those that count; of several, the one that most readings
-   give; if this is a tie, none. If no codeword counts, the result is the codeword on which two readings agree that were
-   read there and give none, unless two others agree on a different one. Two readings agree if twice the symbols that both
-   have equally wrong plus the symbols in which they differ is at most four.
+   Two kinds of codewords do not count. The first is the idle pack of a reading that lacks graphics at the word. The second is
+   a doubtful codeword at a word where some reading is quiet.
 
-   A reading without a wrong symbol comes out whole under two conditions. If another reading has a word without a wrong
-   symbol, it is the same codeword or the idle pack. Where this reading gives the idle pack, no other reading gives a
-   graphics pack, even with one or two wrong symbols. Random symbols imitate one once in 28 million words. The Q frames of
-   the reading may be good, bad or absent.
+   Of the codewords that count, the result is the one with the smallest distance. If several have this distance, the result is
+   the one that most readings have; a tie has no result. If no codeword counts, two readings that were read there and have no
+   codeword may agree on one. Then this is the result, unless two others agree on a different one. Two readings agree on a
+   codeword if this sum is at most four: twice the symbols that both have equally wrong, plus the symbols in which they differ.
 
-   Readings that are each damaged in at most two symbols of each word give back every pack. If no codeword of the other
-   readings counts, the result is what ribjasper_convert writes of the remaining one, except for doubtful codewords and for
-   words on which two readings agree. The order of the readings changes only which of several equal readings is named. */
+   A reading without a wrong symbol is the result at every word under two conditions. Where another reading has a codeword
+   without a wrong symbol, it is the same codeword or the idle pack. Where this reading has the idle pack, no other reading
+   has a graphics pack, even with one or two wrong symbols. Random symbols look like such a graphics pack once in 28 million
+   words. The Q frames of the reading may be good, bad or absent.
 
-/* The result of mending two readings. Each word is counted in one of five numbers: `both` if both readings give its
-   codeword, `of_first` or `of_second` if only one does, `agreed` if none counts and both agree on it, `none` if there is no
-   codeword and 24 zeros are written. The five add up to the number of words, which is bytes / 24. */
+   If each reading has at most two wrong symbols in each word, the result contains every pack. Suppose that only one reading has
+   codewords that count. Then the result is what ribjasper_convert writes for this reading. There are two exceptions: doubtful
+   codewords, and words on which two readings agree. The order of the readings changes only which of several equal readings
+   is named. */
+
+/* The result of mending two readings. Each word is counted in one of five numbers: `both` if both readings have its
+   codeword; `of_first` or `of_second` if only one has it; `agreed` if no codeword counts and both readings agree on one;
+   `none` if there is no codeword and 24 zeros are written. The five add up to the number of words, which is bytes / 24. */
 typedef struct ribjasper_mended {
     uint64_t bytes;
     uint32_t blocks;
@@ -659,11 +666,11 @@ typedef struct ribjasper_mended_readings {
     uint32_t reserved; /* 0 */
     uint32_t of_reading[RIBJASPER_READINGS]; /* words whose codeword is that of the reading, and of no earlier reading
                                                 with the same distance */
-    uint32_t dropped[RIBJASPER_READINGS];    /* words at which the codeword of the reading does not count */
+    uint32_t dropped[RIBJASPER_READINGS];    /* words at which the reading has a codeword that does not count */
 } ribjasper_mended_readings;
 
 /* Mends readings of one stream of raw blocks into packs. The readings follow each other and have equal lengths.
-     readings, length: all readings, and the bytes of all together (ribjasper_mend takes the bytes of each)
+     readings, length: all readings, and the bytes of all together (ribjasper_mend takes the bytes of each reading)
      count: how many readings, 1 to 254
      lead_in: lead-in blocks of each reading, at most 450,000
      packs, room: the output and its bytes: 24 for each word
@@ -682,7 +689,7 @@ int32_t ribjasper_mend_readings(const uint8_t *readings, size_t length, uint32_t
 /* Mends readings as the call above does, into a stream of blocks that is as long as each reading, its lead-in included. The
    symbols of a mended word are those of its codeword. Every other symbol is that of the first reading whose block is not
    unread, or 0 if all are unread. P and Q of a block come from the first reading with a good Q frame there, or without one
-   from the first reading that was read there. ribjasper_convert of this stream gives the codeword of each mended word. If
+   from the first reading that was read there. ribjasper_convert writes the codeword of each mended word from this stream. If
    there is only one reading, the stream is that reading with its words corrected.
      blocks, room: the output and its bytes, as many as a reading has; it must not overlap the readings
      sources, words: as above
@@ -720,7 +727,7 @@ typedef struct ribjasper_plan_row {
     uint32_t need;  /* the packs that its change needs, at most 3,076 */
     uint32_t free;  /* the packs that are free for it */
     uint32_t first; /* the first of them */
-    uint8_t late;   /* 1 if the change does not fit before the ready time, even one of no packs; otherwise 0 */
+    uint8_t late;   /* 1 if the change does not fit before the ready time, also an empty change; otherwise 0 */
 } ribjasper_plan_row;
 
 /* The result of a plan. */
@@ -744,16 +751,16 @@ typedef struct ribjasper_planned {
 #define RIBJASPER_LENGTH_SHORT 4    /* the audio is too short; the number is how many blocks the index lines need */
 #define RIBJASPER_DISC_TOO_LONG 5   /* the disc is too long; the number is its program blocks */
 #define RIBJASPER_PAST_END 6        /* the last picture is held beyond the end; the number is the program blocks */
-#define RIBJASPER_CD_TEXT_TOO_LONG 7 /* the number is how many packs the CD-TEXT needs; 256 are allowed */
+#define RIBJASPER_CD_TEXT_TOO_LONG 7 /* the number is how many packs the CD-TEXT needs; at most 256 are allowed */
 #define RIBJASPER_LEAD_IN_SHORT 8   /* the lead-in is too short; the number is how many blocks it needs */
 
 /* What ribjasper_plan returns, besides RIBJASPER_USAGE, RIBJASPER_NO_ROOM and RIBJASPER_NO_MEMORY. */
-#define RIBJASPER_PLANNED 0     /* each picture is in time */
+#define RIBJASPER_PLANNED 0     /* each picture is on time */
 #define RIBJASPER_NOT_PLANNED 3 /* `result` has the reason, and no row is written */
 #define RIBJASPER_LATE 4        /* pictures are late; their rows have `late` 1 */
 
-/* Plans a disc: one row for each picture of a script. A row is about its own picture, even if earlier ones are late. The first
-   late one is what the program's `author` reports.
+/* Plans a disc: one row for each picture of a script. A row is about its own picture, even if earlier ones are late. The
+   program's `author` reports the first late picture.
      sheet, sheet_length, script, script_length: the texts of the cue sheet and of the script, and their bytes
      lead_in: lead-in blocks, at most 450,000
      audio: audio blocks, at most 449,999
@@ -824,8 +831,8 @@ RIBJASPER_NODISCARD int32_t ribjasper_sheet_text(const uint8_t *sheet, size_t le
 
 /* In place of the kind of a frame (RIBJASPER_Q_PROGRAM, 0, to RIBJASPER_Q_OTHER, 7), if a block has no frame. */
 #define RIBJASPER_Q_NONE 253      /* a stream of RIBJASPER_PACKS has no Q channel */
-#define RIBJASPER_Q_BAD_FIELD 254 /* the check is right, but a field is out of its range */
-#define RIBJASPER_Q_BAD_CHECK 255 /* the check is wrong; this includes 96 zero bits */
+#define RIBJASPER_Q_BAD_FIELD 254 /* the CRC is right, but a field is out of its range */
+#define RIBJASPER_Q_BAD_CHECK 255 /* the CRC is wrong; this includes 96 zero bits */
 
 /* What a survey reports of a block. It counts the words whose last symbol is in the block: in program block b the words
    4 b - 7 to 4 b - 4 (none below 0), in a block of RIBJASPER_PACKS its four, in a lead-in block none. The sums over all rows
@@ -862,12 +869,12 @@ int32_t ribjasper_survey(const uint8_t *stream, size_t length, uint32_t form, ui
                          size_t room, ribjasper_surveyed *result);
 
 /* Writes the four CD-TEXT packs of a lead-in block: the low six bits of its 96 symbols in order, 18 bytes for each pack.
-   ribjasper_text_pack_matches reports which of them are packs.
+   ribjasper_text_pack_matches reports which of the four have a valid CRC.
      block: the block, 96 bytes
      packs: the output, 72 bytes */
 void ribjasper_block_text_packs(const uint8_t block[RIBJASPER_BLOCK], uint8_t packs[72]);
 
-/* The result of listing texts. Numbers that do not belong to the answer are 0. */
+/* The result of listing texts. Numbers that the answer does not use are 0. */
 typedef struct ribjasper_listed {
     uint64_t bytes; /* bytes written, if the texts are not refused */
     uint32_t seq;   /* the number of the pack that is the reason, 0 to 255 */
