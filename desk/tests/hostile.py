@@ -378,6 +378,17 @@ COMMANDS = (
     Command(
         ("look",), ("lyrics",), (Option("--audio", reads="audio", is_needed=True), Option("-o", writes=True), FORCE), 1
     ),
+    Command(
+        ("studio",),
+        ("lyrics",),
+        (
+            Option("--export", ("srt", "ass", "ultrastar", "x"), is_needed=True),
+            Option("-o", writes=True),
+            ENCODING,
+            FORCE,
+        ),
+        1,
+    ),
     Command(("report", "--jobs", "1", "--no-pictures"), ("folder",), (Option("-o", writes=True), FORCE), 1),
 )
 # Where an output may be.

@@ -6,7 +6,7 @@ import unittest
 
 from fixtures import DESK, TOP, FolderTest, Word, desk, has, hello, needs_library
 
-COMMANDS = "identify damage mend report sheet texts plan picture lyrics image film".split()
+COMMANDS = "identify damage mend report sheet texts plan picture lyrics image film album pair look studio".split()
 
 
 class MainTest(FolderTest):

@@ -168,7 +168,7 @@ class WordsTest(unittest.TestCase):
             with self.subTest(edit=edit), self.assertRaises(BadEdit):
                 edited(score, edit)
 
-    @unittest.skipUnless(hyphens.is_installed(), "python3-pyphen is not installed")
+    @unittest.skipUnless("en_US" in hyphens.languages(), "python3-pyphen or hyphen-en-us is not installed")
     def test_syllables_are_proposed(self) -> None:
         self.assertEqual(hyphens.syllables_of("morning light", "en_US"), ["morn", "ing ", "light"])
 

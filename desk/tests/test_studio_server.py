@@ -20,6 +20,8 @@ from ribjasper.commands.publish.studio import Page
 from ribjasper.common.failures import Refusal
 from ribjasper.common.serving import MOST_SENT, Server
 from ribjasper.common.web import web
+from ribjasper.songs.edits import Edit
+from ribjasper.songs.rehearsal import rehearsed
 from ribjasper.songs.song_files import read_song
 from ribjasper.songs.studio import Studio, files_of
 
@@ -339,6 +341,32 @@ class PicturesTest(StudioTest):
         self.assertLessEqual({"a.cdg", "a.zip"}, self.names())
         self.assertEqual(desk("pair", studio.lyrics, "-o", self.folder / "b").status, 0)
         self.assertEqual((self.folder / "a.cdg").read_bytes(), (self.folder / "b.cdg").read_bytes())
+
+    @needs_plan
+    @needs_program
+    @needs_pillow
+    @needs_font
+    def test_known_needs_change_nothing(self) -> None:
+        """After each edit the packs are those that are made without what is known of the edits before."""
+        rows = "".join(f"[00:{10 + 3 * n:02}.00]Line {n} of {n % 4}\n" for n in range(14))
+        studio = self.studio(self.song("a.lrc", rows, 60))
+        like, known = studio.opened.document.song, len(studio.known.answers)
+        edits: list[Edit] = [
+            {"do": "move", "lines": [5], "by": 0.3},
+            {"do": "text", "line": 9, "texts": ["Another ", "text"]},
+            {"do": "page", "line": 3, "page": True},
+            {"do": "tap", "line": 7, "word": 1, "at": 29.0},
+            {"do": "voice", "lines": [2, 6], "voice": 1},
+            {"do": "look", "look": {"rows": 3}},
+            {"do": "move", "from": 20.0, "by": 0.5},
+        ]
+        for edit in edits:
+            studio.do(edit)
+            made = studio.rehearsal.wait(studio.revision, 60)
+            assert made
+            plain = rehearsed(0, studio.score, like, studio.sound)
+            self.assertEqual((made.error, made.packs, made.late), ("", plain.packs, plain.late), edit)
+        self.assertGreater(len(studio.known.answers), known)
 
     @needs_plan
     @needs_program

@@ -1,7 +1,6 @@
 """Where words may be divided into syllables, by the package pyphen if it is installed."""
 import functools
 import importlib
-import importlib.util
 import re
 from typing import Any
 
@@ -11,27 +10,35 @@ MARK = "\u00ad"
 WORD = re.compile(r"\w+")
 
 
+@functools.lru_cache(maxsize=None)
+def package() -> Any:
+    """The package, or None: it is optional, and does not load without a folder of dictionaries."""
+    try:
+        return importlib.import_module("pyphen")
+    except (ImportError, OSError):
+        return None
+
+
 def is_installed() -> bool:
-    return importlib.util.find_spec("pyphen") is not None
+    return package() is not None
 
 
 @functools.lru_cache(maxsize=None)
 def dictionary(language: str) -> Any:
     """The dictionary of a language like en_US, or None if there is none."""
-    pyphen = importlib.import_module("pyphen")
-    found = pyphen.language_fallback(language)
-    return pyphen.Pyphen(lang=found, left=1, right=1) if found else None
+    found = package().language_fallback(language) if is_installed() else None
+    return package().Pyphen(lang=found, left=1, right=1) if found else None
 
 
 def languages() -> list[str]:
     """The languages whose words can be divided."""
-    return sorted(importlib.import_module("pyphen").LANGUAGES) if is_installed() else []
+    return sorted(package().LANGUAGES) if is_installed() else []
 
 
 def syllables_of(text: str, language: str) -> list[str]:
     """A text syllable by syllable; word by word without pyphen or without its dictionary."""
     words = split_words(text)
-    by = dictionary(language) if is_installed() else None
+    by = dictionary(language)
     if by is None:
         return words
     return [part for word in words for part in divided(word, by)]

@@ -11,6 +11,7 @@ from ..common.times import PAUSE
 from ..drawing.styles import read_style, shipped
 from . import audio
 from .audio import Treatment
+from .known_needs import Known
 from .pages import Placed
 from .scores import Look, Score, song_of
 from .song_files import clip
@@ -91,7 +92,7 @@ def late_of(made: Made) -> list[Late]:
     return found
 
 
-def rehearsed(revision: int, score: Score, like: Song, sound: Path) -> Rehearsed:
+def rehearsed(revision: int, score: Score, like: Song, sound: Path, known: Known | None = None) -> Rehearsed:
     """The packs of a score with its sound, or why there are none."""
     look = score.look
     song = song_of(score, like)
@@ -101,7 +102,7 @@ def rehearsed(revision: int, score: Score, like: Song, sound: Path) -> Rehearsed
     if not song.lines:
         return Rehearsed(revision, blocks=blocks, summary="no line has a time yet")
     try:
-        made = best(song, wishes_for(look, like.path.parent, PAUSE + blocks))
+        made = best(song, wishes_for(look, like.path.parent, PAUSE + blocks), known)
         packs = as_pair(packs_of(like.path, made.text(), blocks))
     except Exception as error:
         lines = (error if isinstance(error, Failure) else failure_of(error, like.path)).lines

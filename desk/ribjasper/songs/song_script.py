@@ -18,6 +18,8 @@ from ..drawing.lettering import Font, font_of, named
 from ..drawing.raster import COLOURS, HEIGHT, Raster, TILE_HEIGHT, WIDTH, joined, lines_between, spans
 from ..drawing.styles import INKS, Style
 
+from .known_needs import Known, ask_known
+
 from .pages import (
     Draw, GOES, Group, Light, Page, Part, Placed, Show, Step, TOLD_REST, groups_of, laid_out, still_page, texts_of,
 )  # fmt: skip
@@ -137,8 +139,11 @@ def steps_of(pages: list[Page], dues: list[Due]) -> list[Part]:
     return [step for page in pages for placed in page.placed for step in [*placed.draws, *lights.get(placed, [])]]
 
 
-def ask_needs(steps: Sequence[Part], ground: Raster) -> None:
-    """Asks the plan how many packs each step needs, one after the other."""
+def ask_needs(steps: Sequence[Part], ground: Raster, known: Known | None = None) -> None:
+    """Asks the plan how many packs each step needs, one after the other; what is known is not asked for."""
+    if known:
+        ask_known(steps, ground, known, lambda lines: plan_of(lines).rows)
+        return
     ground = ground.copy()
     for at in range(0, len(steps), MOST_PICTURES - 1):
         part = steps[at : at + MOST_PICTURES - 1]
@@ -329,12 +334,25 @@ def lines_of(steps: Sequence[Step], raster: Raster) -> list[str]:
             step.apply(raster)
         return lines_between(before, raster)
     old: dict[int, bytes] = {}
-    for part in parts:
+    for part in merged(parts):
         rows = part.differing(raster)
         old = {number: bytes(raster.rows[number]) for number, _ in rows} | old
         part.draw(raster, rows)
     found = [span for number, row in sorted(old.items()) for span in spans([row], [raster.rows[number]], number)]
     return list(joined(found))
+
+
+def merged(parts: Sequence[Part]) -> list[Part]:
+    """The same steps with one in place of those of one kind and one place whose columns are side by side."""
+    kept: list[Part] = []
+    for part in parts:
+        last = kept[-1] if kept else None
+        is_alike = last is not None and last.placed is part.placed and type(last) is type(part)
+        if last and is_alike and part.left <= last.right and last.left <= part.right:
+            kept[-1] = type(part)(part.placed, min(last.left, part.left), max(last.right, part.right))
+        else:
+            kept.append(part)
+    return kept
 
 
 @functools.lru_cache(maxsize=64)
@@ -388,7 +406,7 @@ def verses_of(song: Song, between: Sequence[str]) -> list[Verse]:
 class Maker:
     """Makes the script of a song in a font."""
 
-    def __init__(self, song: Song, wishes: Wishes, font: Font):
+    def __init__(self, song: Song, wishes: Wishes, font: Font, known: Known | None = None):
         self.song, self.wishes, self.font, self.style = song, wishes, font, wishes.style
         self.notes: list[str] = []
         self.ground = empty_page(self.style, song.voices)
@@ -405,7 +423,7 @@ class Maker:
         for verse, some in zip(self.verses, groups):
             verse.pages = laid_out(some, setter, self.style, self.ground, verse is self.verses[-1])
             verse.dues = self.dues_in(verse.pages)
-            ask_needs(steps_of(verse.pages, verse.dues), self.ground)
+            ask_needs(steps_of(verse.pages, verse.dues), self.ground, known)
         self.first = times.nearest_block(song.lines[0].start)
         first_page = [step for placed in self.pages[0].placed for step in placed.draws]
         self.page_begin = self.first - BEFORE_FIRST - blocks_for(first_page)
@@ -720,14 +738,15 @@ def end_with_sound(song: Song, end: int) -> None:
             syllable.end = min(syllable.end, max(syllable.start, last))
 
 
-def best(song: Song, wishes: Wishes) -> Made:
-    """The script in the first font in which hardly a row of the song is late, or else that in which least is."""
+def best(song: Song, wishes: Wishes, known: Known | None = None) -> Made:
+    """The script in the first font in which hardly a row of the song is late, or else that in which least is. Needs that
+    are known of another script are not asked for again."""
     made: list[Made] = []
     notes = without_missing(song, wishes)
     if wishes.end:
         end_with_sound(song, wishes.end)
     for font in fonts_for(song, wishes, notes):
-        maker = Maker(song, wishes, font)
+        maker = Maker(song, wishes, font, known)
         maker.notes = notes + maker.notes
         made.append(maker.made())
         rows = sum(bool(placed.letters) for page in maker.pages for placed in page.placed)

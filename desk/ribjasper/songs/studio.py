@@ -20,6 +20,7 @@ from .edits import BadEdit, Edit
 from .exports import EXPORTS
 from .finishing import PairFiles
 from .journal import Journal, checksum, history_of, journal_of, read_journal
+from .known_needs import Known
 from .peaks import peaks_of
 from .rehearsal import Rehearsal, Rehearsed, rehearsed
 from .scores import Score, document_for, score_of, score_of_text, song_of
@@ -161,6 +162,7 @@ class Studio:
             raise
         self.revision, self.job = 0, Job("")
         self.peaks: bytes | None = None
+        self.known = Known()
         self.rehearsal = Rehearsal(self.rehearse)
         self.rehearsal.ask(self.revision, self.score)
 
@@ -318,7 +320,7 @@ class Studio:
     # Finishing
 
     def rehearse(self, revision: int, score: Score) -> Rehearsed:
-        return rehearsed(revision, score, self.opened.document.song, self.sound)
+        return rehearsed(revision, score, self.opened.document.song, self.sound, self.known)
 
     def ready(self) -> Rehearsed:
         """The pictures of the song as it is, if all of it is timed and nothing keeps it from being made."""
@@ -343,8 +345,8 @@ class Studio:
         job.done = 0.5
         files = self.pair_files(is_mp3, is_packed)
         told = files.told()
-        with self.guard, Outputs([self.lyrics, self.sound], files.writes()) as outputs:
-            assert made.song
+        assert made.song
+        with Outputs([self.lyrics, self.sound], files.writes()) as outputs:
             files.write(outputs, made.packs, self.treated(), made.song)
         job.told = f"{told}: {made.blocks / BLOCKS_A_SECOND:.1f} seconds"
 

@@ -153,7 +153,6 @@ function renderLine() {
   fill($("to"), word.end === null ? "" : spelled(word.end));
   $("glue").disabled = app.line + 1 >= app.state.lines.length;
   $("cut").disabled = app.word === 0;
-  $("divide").hidden = !app.choices?.languages.length;
   renderTarget();
 }
 
@@ -221,6 +220,7 @@ function drawScreen(always = false) {
 const isChosen = (key, place) => app.state.lines[app.line]?.key === key && place === app.word || app.more.has(`${key}.${place}`);
 
 function choose(line, word = 0, isMore = false) {
+  const focused = document.activeElement, isOnBars = $("bars").contains(focused), isOnLines = $("lines").contains(focused);
   if (isMore) app.more.add(`${lineNow().key}.${app.word}`);
   else app.more.clear();
   app.line = Math.max(0, Math.min(app.state.lines.length - 1, line));
@@ -230,6 +230,9 @@ function choose(line, word = 0, isMore = false) {
   renderLine();
   app.wave.lay();
   $("lines").children[app.line].scrollIntoView({ block: "nearest" });
+  // The focus goes with the choice.
+  if (isOnBars) app.wave.focus();
+  if (isOnLines) $("lines").children[app.line].firstElementChild.focus();
 }
 
 const placeOf = (key) => app.state.lines.findIndex((line) => line.key === key);
@@ -407,6 +410,9 @@ function onChange(id, change) {
 
 const look = (table) => edit({ do: "look", look: table });
 
+/** Words are divided into syllables, in one line or in all lines without times. */
+const divide = (line) => send("divide", { line, language: $("language").value }).catch(() => null);
+
 function wireLine() {
   onChange("words", (field) => edit({ do: "text", line: lineNow().key, texts: unmarked(field.value) }));
   onChange("voice", (field) => edit({ do: "voice", lines: unique([lineNow().key, ...chosenWords().map(([key]) => key)].map((key) => [key])).flat(), voice: Number(field.value) }));
@@ -419,7 +425,8 @@ function wireLine() {
     });
   }
   const acts = {
-    divide: () => send("divide", { line: lineNow().key, language: navigator.language.replace("-", "_") }).catch(() => null),
+    divide: () => divide(lineNow().key),
+    "divide-all": () => divide(null),
     cut: () => edit({ do: "cut", line: lineNow().key, word: app.word }),
     glue: () => edit({ do: "glue", line: lineNow().key }),
     add: () => edit({ do: "add", after: lineNow().key, text: "new line" }).then(() => { choose(app.line + 1); $("words").focus(); $("words").select(); }),
@@ -524,6 +531,9 @@ async function start() {
   app.choices = state.choices;
   app.screen = await Screen.load();
   options($("export"), [["", "choose …"], ...state.choices.exports.map((ending) => [ending, EXPORTS[ending]])], "");
+  const languages = state.choices.languages, wanted = navigator.language.replace("-", "_");
+  $("syllables").hidden = !languages.length;
+  options($("language"), languages.map((name) => [name, name]), languages.includes(wanted) ? wanted : "en_US");
   $("seek").max = state.seconds;
   sound.preservesPitch = true;
   $("taps").checked = state.untimed.length > 0;

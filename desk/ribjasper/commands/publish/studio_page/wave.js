@@ -108,12 +108,22 @@ export class Wave {
     for (const [name, one] of wanted) this.#layBar(name, one);
   }
 
+  /** Gives the focus to the chosen word, and brings it into view. */
+  focus() {
+    const bar = this.bars.querySelector("button.chosen");
+    bar?.focus({ preventScroll: true });
+  }
+
   #layBar(name, { line, number, word, place }) {
     let bar = this.known.get(name);
     if (!bar) {
       bar = document.createElement("button");
       bar.type = "button";
       this.known.set(name, bar);
+      // A click of the mouse was a press before.
+      bar.addEventListener("click", (event) => {
+        if (!event.detail) this.page.choose(Number(bar.dataset.key), Number(bar.dataset.place), event.shiftKey);
+      });
       this.bars.append(bar);
     }
     bar.dataset.key = line.key;
