@@ -157,7 +157,12 @@ class Watch:
         fits = [row for row in self.slots.get(slot, []) if not_of(ink, row) <= 72]
         now = self.shown.get(slot)
         exact = [row for row in fits if not not_of(ink, row)]
-        if not exact and any(where == slot and (ink & ~some).bit_count() <= 72 for where, some in self.still):
+        stills = [some for where, some in self.still if where == slot]
+        if not exact and any((ink & ~some).bit_count() <= 72 for some in stills):
+            self.shown[slot] = None
+            return
+        # The first columns of a text that is not sung may be those of a row too.
+        if now not in exact and any(not ink & ~some for some in stills):
             self.shown[slot] = None
             return
         if not fits:

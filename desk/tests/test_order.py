@@ -24,6 +24,12 @@ SWEPT = """[00:08.59]<00:08.59>20. <00:08.79>is <00:09.05>falling <00:09.56>hill
 [00:20.00]<00:20.00>short <00:21.00>
 [00:22.00]<00:22.00>and <00:23.00>
 """
+# Four rows are to be drawn while each column of three of them is lit by itself: two columns at a time are lit together.
+DENSE = """[00:09.85]<00:09.85>4. <00:10.28>never <00:10.69>calling <00:11.01>paper <00:11.62>home <00:12.22>and <00:12.64>
+[00:13.84]<00:13.84>5. <00:14.37>morning <00:14.80>
+[00:14.90]<00:14.90>6. <00:15.27>morning <00:15.67>evening <00:16.09>heart <00:16.29>evening <00:16.59>tomorrow <00:16.88>slowly <00:17.19>
+[00:17.19]<00:17.19>7. <00:17.37>light <00:17.63>under <00:18.09>over <00:18.65>wide <00:18.93>
+"""
 # In the middle of its page the last row would stand where the line before it was sung.
 SHORT_AND_SOON = """[00:08.87]<00:08.87>17. <00:09.21>never <00:09.45>water <00:09.78>
 [00:09.88]<00:09.88>18. <00:10.28>calling <00:10.63>go <00:11.06>of <00:11.60>the <00:11.86>
@@ -67,7 +73,7 @@ class OrderTest(FolderTest):
             self.assertAlmostEqual(row.start - (row.stands - PAUSE) / BLOCKS, 2, delta=0.3)
 
     def test_a_row_that_follows_soon_in_its_place(self) -> None:
-        for text, sweep, size in ((SWEPT, True, 21), (SHORT_AND_SOON, False, 16)):
+        for text, sweep, size in ((SWEPT, True, 21), (DENSE, True, 20), (SHORT_AND_SOON, False, 16)):
             self.assertFalse(self.watched(text, sweep=sweep, size=size).made.told.rows())
 
     def test_a_page_that_follows_soon(self) -> None:

@@ -25,7 +25,7 @@ from .pages import (
 )  # fmt: skip
 from .setting import ROOM, Setter, filled, fits, spelled_with, unbroken_words, wrapped
 from .songs import BOTH, FIRST, Line, Song, Syllable, spelled
-from .timeline import FOREVER, Arranger, Due, Picture, Task, Timeline, Told, blocks_for, dues_of, grouped
+from .timeline import FOREVER, Arranger, Due, Picture, Task, Timeline, Told, blocks_for, dues_of, grouped, paired
 
 BLOCKS = BLOCKS_A_SECOND
 # A black picture is held through the pause, so that all that is drawn comes with the audio; the four packs that set it
@@ -51,7 +51,16 @@ ROUNDS = 8
 # A line is drawn so many seconds before it is sung, or earlier if lines would be late otherwise (None: as early as there
 # is room). If that is not enough, lines whose end is a guess go as soon as they are lit.
 LEAD = 4.0
-TRIALS = ((LEAD, True), (2 * LEAD, True), (LEAD, False), (None, False))
+# At last columns of a sweep are lit two by two, which takes fewer blocks.
+Trial = tuple[float | None, bool, bool]
+TRIALS: tuple[Trial, ...] = (
+    (LEAD, True, False),
+    (2 * LEAD, True, False),
+    (LEAD, False, False),
+    (None, False, False),
+    (LEAD, True, True),
+    (None, False, True),
+)
 # So much room is left between a picture and the first line of the verse behind it.
 BEFORE_VERSE = round((LEAD + 1.5) * BLOCKS)
 # What is to be done with letters that no font has.
@@ -559,7 +568,7 @@ class Maker:
         needs: int = sum(TITLE_STANDS + blocks_for([show]) for show in shows)
         return self.page_begin - BEGIN - needs - blocks_for([self.empty])
 
-    def arranged(self, lead: float | None, stays: bool) -> tuple[list[Picture], Told]:
+    def arranged(self, lead: float | None, stays: bool, is_paired: bool) -> tuple[list[Picture], Told]:
         """All steps on a line of time, as far as their needs are known."""
         line = Timeline(BEGIN)
         begin = self.page_begin - blocks_for([self.empty])
@@ -576,7 +585,8 @@ class Maker:
                     line.put(verse.shows[1:], verse.until)
             if verse.pages:
                 tasks = tasks_of(verse.pages, line.now, self.style, lead, stays)
-                told.add(Arranger(line, tasks, grouped(verse.dues)).run())
+                dues = paired(verse.dues) if is_paired else verse.dues
+                told.add(Arranger(line, tasks, grouped(dues)).run())
         return line.pictures, told
 
     def script(self, pictures: list[Picture], end: int | None) -> list[str]:
@@ -589,10 +599,10 @@ class Maker:
             lines.append(f"show {clock(picture.ready)} {clock(hold)}")
         return lines
 
-    def in_time(self, lead: float | None, stays: bool) -> tuple[list[str], Told]:
+    def in_time(self, lead: float | None, stays: bool, is_paired: bool) -> tuple[list[str], Told]:
         """Schedules until the plan finds nothing late."""
         for _ in range(ROUNDS):
-            pictures, told = self.arranged(lead, stays)
+            pictures, told = self.arranged(lead, stays, is_paired)
             pictures = within(pictures, self.wishes.end, told)
             lines = self.script(pictures, self.wishes.end)
             found = plan_of(lines)
@@ -607,7 +617,9 @@ class Maker:
         """The script. Pages that go as a whole leave no time for a row of the next one where that follows quickly: its
         rows then come one by one, which is reported."""
         made = self.by_lead()
-        quick = [page for page in self.pages if made.told.rows().intersection(page.placed)] if self.style.by_page else []
+        quick = (
+            [page for page in self.pages if made.told.rows().intersection(page.placed)] if self.style.by_page else []
+        )
         for page in quick:
             page.is_quick = True
         again = self.by_lead() if quick else made
@@ -630,7 +642,13 @@ class Maker:
         """The script with the lead that is asked for, or with the shortest one with which nothing is late."""
         lead = self.wishes.lead
         tried: list[Made] = []
-        for trial in TRIALS if lead is None else ((lead, True), (lead, False)):
+        trials = TRIALS
+        if lead is not None:
+            trials = (lead, True, False), (lead, False, False), (lead, False, True)
+        has_pairs = len(paired(self.dues)) < len(self.dues)
+        for trial in trials:
+            if trial[-1] and not has_pairs:
+                continue
             tried.append(Made(*self.in_time(*trial), self))
             if not tried[-1].told.rows():
                 break
@@ -650,7 +668,8 @@ def dues_of_rows(rows: list[Placed]) -> dict[Placed, int]:
 def tasks_of(pages: list[Page], begin: int, style: Style, lead: float | None, stays: bool = True) -> list[Task]:
     """What is to be drawn, and from when on: in the order of singing; not before what stood there is sung; a page ahead at
     most, and nothing of a page before the page in front of it begins; and no longer than the lead before it is sung. What
-    stays without need goes. With pages that go as a whole, one that follows quickly comes row by row. If lines whose end is a guess do not stay, their places are free when they are lit."""
+    stays without need goes. With pages that go as a whole, one that follows quickly comes row by row. If lines whose end is a guess do not stay, their places are free when they are lit.
+    """
     follows = {placed.before: placed for page in pages for placed in page.placed if placed.letters}
     rows = [placed for page in pages for placed in page.placed if placed.letters]
     ahead = dict(zip(rows[style.rows :], rows))

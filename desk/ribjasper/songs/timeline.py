@@ -89,6 +89,20 @@ def grouped(dues: Sequence[Due]) -> list[Due]:
     return [due for due, _ in reversed(kept)]
 
 
+def paired(dues: Sequence[Due]) -> list[Due]:
+    """What is lit soon after each other on a line is lit together where that fits into one block. Two columns of a tile's
+    width then take one block instead of two, and more blocks are left for what is drawn."""
+    kept: list[Due] = []
+    for due in dues:
+        last = kept[-1] if kept else None
+        together = [*last.steps, *due.steps] if last and last.placed is due.placed else []
+        if last and together and due.block - last.block <= SEEN and blocks_for(together) == 1:
+            kept[-1] = Due(together, last.block)
+        else:
+            kept.append(due)
+    return kept
+
+
 @dataclass
 class Told:
     """By how many blocks lines are drawn and words are lit after their times, the lines that are not sung out when others
