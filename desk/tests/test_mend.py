@@ -367,6 +367,22 @@ class MendedStreamTest(MendCase):
             counts = dict(line.split() for line in program("check", "--lead-in", 60, stdin=raw).decode().splitlines())
             self.assertEqual((counts["one"], counts["two"], counts["bad"]), ("0", "0", "0"))
 
+    def test_sectors_that_a_drive_doubted(self) -> None:
+        """C2 errors and states of samples are reported, and cost no word: here a perfect reading is marked where the other
+        is scratched."""
+        other, blocks = self.whole, len(self.whole) // BLOCK
+        for block in range(700, 760, 2):
+            other = with_burst(other, block, 90, block)
+        c2, state = bytearray(294 * blocks), bytearray(b"\4" * (588 * blocks))
+        for block in range(690, 770):
+            c2[294 * block + block % 294] = 1
+        state[588 * 1000] = 1
+        self.write("reading-0.c2", bytes(c2))
+        self.write("reading-1.state", bytes(state))
+        self.assertEqual(self.mended(self.whole, other), program("convert", "--lead-in", 60, stdin=self.whole))
+        self.assertRegex(self.ran.told, r"reading-0: 80 sectors were doubtful to the drive \(reading-0\.c2\)")
+        self.assertRegex(self.ran.told, r"reading-1: 1 sectors were doubtful to the drive \(reading-1\.state\)")
+
     def test_q_of_a_reading_that_is_left_out(self) -> None:
         """A reading without graphics gives its Q where the other's is bad."""
         bare, other = known.without_rw(self.whole), self.whole

@@ -1,6 +1,7 @@
 """Readings that were put side by side are mended by one call of the library, which decides and counts; this is what it takes
 and what it returns."""
 import ctypes
+import functools
 import itertools
 import re
 from dataclasses import dataclass
@@ -8,7 +9,7 @@ from typing import Iterator, NamedTuple, Sequence
 
 from ..common import library
 from ..common.library import BLOCK, PACK, PACKS_A_BLOCK, MendReported
-from .readings import Laid
+from .readings import Laid, Reading
 from .survey import Run, either, has_graphics_bits, runs
 
 # The slots that a word reaches over.
@@ -61,6 +62,29 @@ def whole_words(blocks: int) -> int:
     return max(0, PACKS_A_BLOCK * blocks - SLOTS + 1)
 
 
+@functools.total_ordering
+class Content:
+    """The blocks of a reading, which put those in order that are alike in all else."""
+
+    def __init__(self, reading: Reading):
+        self.reading = reading
+
+    def pieces(self) -> Iterator[bytes]:
+        return (content for _, content in self.reading.blocks(0, self.reading.loaded.survey.blocks))
+
+    def pairs(self, other: "Content") -> Iterator[tuple[bytes, bytes]]:
+        """The pieces in which both differ."""
+        return (
+            pair for pair in itertools.zip_longest(self.pieces(), other.pieces(), fillvalue=b"") if pair[0] != pair[1]
+        )
+
+    def __eq__(self, other: object) -> bool:
+        return isinstance(other, Content) and next(self.pairs(other), None) is None
+
+    def __lt__(self, other: "Content") -> bool:
+        return any(own < its for own, its in itertools.islice(self.pairs(other), 1))
+
+
 def in_order(laid: Laid) -> list[int]:
     """The readings in the order in which the library takes them: those with the fewest words lost first. Where no rule
     decides, as of words that both ends cut, the first reading does; so the order of the command line changes nothing.
@@ -68,21 +92,23 @@ def in_order(laid: Laid) -> list[int]:
 
     def rank(number: int) -> tuple[object, ...]:
         reading = laid.readings[number]
-        survey, stream = reading.loaded.survey, reading.loaded.stream
+        survey = reading.loaded.survey
         unread = PACKS_A_BLOCK * sum(survey.empty) + survey.total("bad")
         corrected = survey.total("one") + survey.total("two")
-        return reading.is_beside, not has_graphics_bits(stream), unread, corrected, stream, reading.parts
+        return reading.is_beside, not reading.has_graphics, unread, corrected, Content(reading), reading.parts
 
     return sorted(range(len(laid.readings)), key=rank)
 
 
 def joined(laid: Laid, order: Sequence[int]) -> bytearray:
-    """The program of all readings, one behind another. Streams of files that no later reading needs are let go."""
+    """The program of all readings, one behind another. What is known of their blocks, and the streams of files that no later
+    reading needs, are let go."""
     content = bytearray(laid.size * len(order))
     for place, number in enumerate(order):
         reading = laid.readings[number]
         laid.fill(reading, laid.lead_in, laid.blocks, memoryview(content)[laid.size * place : laid.size * (place + 1)])
         if all(laid.readings[other].loaded.dump is not reading.loaded.dump for other in order[place + 1 :]):
+            reading.loaded.survey.forget()
             reading.loaded = reading.loaded._replace(stream=b"")
     return content
 
@@ -105,15 +131,16 @@ def mend(laid: Laid, as_stream: bool) -> Mended:
     told = report.counts
     places = [order.index(number) for number in range(len(order))]
     counts = [Counts(told.of_reading[k], told.dropped[k], report.lost[k]) for k in places]
-    return Mended(memoryview(out)[: told.bytes], bytes(sources[:words]), told.agreed, told.none, counts)
+    return Mended(memoryview(out)[: told.bytes], bytes(memoryview(sources)[:words]), told.agreed, told.none, counts)
 
 
 def has_graphics(laid: Laid) -> bool:
     """Whether a reading has a bit of R to W where its parts are."""
     return any(
-        has_graphics_bits(reading.loaded.stream[BLOCK * part.first : BLOCK * part.end])
+        has_graphics_bits(content)
         for reading in laid.readings
         for part in reading.parts
+        for _, content in reading.blocks(part.first, part.end)
     )
 
 

@@ -1,4 +1,5 @@
 """The parts of a dump whose absolute times go on by one, and what they tell of where the dump begins."""
+import itertools
 from typing import NamedTuple, Sequence
 
 from ..common import library
@@ -29,12 +30,20 @@ class Piece(NamedTuple):
 
 def joined(pieces: Sequence[Piece]) -> list[Piece]:
     """Pieces in turn, those with the same shift as one."""
-    found: list[Piece] = []
-    for piece in pieces:
-        if found and found[-1].shift == piece.shift:
-            before = found.pop()
-            piece = Piece(before.first, piece.end, piece.shift, before.known + piece.known)
-        found.append(piece)
+    found = []
+    for shift, group in itertools.groupby(pieces, key=lambda it: it.shift):
+        own = list(group)
+        found.append(Piece(own[0].first, own[-1].end, shift, sum(it.known for it in own)))
+    return found
+
+
+def with_one_shift(stretches: Sequence[Stretch]) -> list[Piece]:
+    """Stretches in turn, those with the same shift as one piece."""
+    found = []
+    for shift, group in itertools.groupby(stretches, key=lambda it: it.time - it.first):
+        own = list(group)
+        known = sum(it.last for it in own) - sum(it.first for it in own) + len(own)
+        found.append(Piece(own[0].first, own[-1].last + 1, shift, known))
     return found
 
 
@@ -65,7 +74,7 @@ def in_order(pieces: Sequence[Piece]) -> list[Piece]:
 
 def pieces_of(stretches: Sequence[Stretch]) -> list[Piece]:
     """The pieces of a dump that go on from each to the next, but for frames that are wrong."""
-    found = joined([Piece(it.first, it.last + 1, it.shift, it.last - it.first + 1) for it in stretches])
+    found = with_one_shift(stretches)
     found = joined([it for it in found if it.known >= FEWEST]) or found
     return joined(in_order(found))
 
@@ -74,7 +83,7 @@ def layers_of(stretches: Sequence[Stretch]) -> list[list[Piece]]:
     """The pieces of a dump in layers, in each of which no two claim one place of the disc. The pieces that go on from each
     to the next keep their places, in the first layer. Another piece, as stale subcode, is in the first layer where its
     place is free; those with the most frames come first."""
-    found = joined([Piece(it.first, it.last + 1, it.shift, it.last - it.first + 1) for it in stretches])
+    found = with_one_shift(stretches)
     found = joined([it for it in found if it.known >= FEWEST]) or found
     run = in_order(found)
     layers = [list(run)]

@@ -1,28 +1,45 @@
 """Readings of one disc, put side by side by the times that their Q frames tell."""
-from dataclasses import dataclass, field
-from typing import Sequence
+from dataclasses import dataclass, field, replace
+from typing import Iterator, Sequence
 
 from ..common.failures import Refusal
 from ..common.library import BLOCK
+from .forms import Coding, Form, Order
 from .loading import Asked, Loaded, load_raw
 from .pieces import Piece, layers_of
-from .survey import Clock, Run
+from .survey import Clock, Run, has_graphics_bits
 
+# So many blocks are read at a time.
+AT_ONCE = 1 << 13
 _NOTHING = bytes(BLOCK)
 
 
 @dataclass
 class Reading:
-    """A reading and its parts by their times. Blocks of the file that count as unread are left out."""
+    """A reading and its parts by their times. Blocks of the file that count as unread are left out. The stream of a plain
+    file is not kept: its blocks are read again."""
 
     loaded: Loaded
     parts: list[Piece]
+    has_graphics: bool  # a bit of R to W is set
     unread: list[Run] = field(default_factory=list)
     is_beside: bool = False  # its parts claim places that the same file has already
 
     @property
     def path(self) -> str:
         return self.loaded.path
+
+    def blocks(self, first: int, end: int) -> Iterator[tuple[int, bytes]]:
+        """The blocks of the file from one up to another, in pieces, and the first of each."""
+        for begin in range(first, end, AT_ONCE):
+            stop = min(end, begin + AT_ONCE)
+            if self.loaded.stream:
+                yield begin, self.loaded.stream[BLOCK * begin : BLOCK * stop]
+                continue
+            content = self.loaded.dump.blocks(self.loaded.form, begin, stop - begin)
+            if len(content) != BLOCK * (stop - begin):
+                raise Refusal(self.path, "became shorter while it was read")
+            yield begin, content
 
 
 @dataclass
@@ -54,13 +71,20 @@ class Laid:
             begin, stop = max(part.first, -move), min(part.end, end - first - move)
             for free in readable(reading, begin, stop):
                 twice = min(free.last + 1, max(free.first, filled - move))
-                for block in range(free.first, twice):
-                    place = slice(BLOCK * (block + move), BLOCK * (block + move + 1))
-                    if stream[place] == _NOTHING:
-                        stream[place] = reading.loaded.stream[BLOCK * block : BLOCK * (block + 1)]
-                content = memoryview(reading.loaded.stream)[BLOCK * twice : BLOCK * (free.last + 1)]
-                stream[BLOCK * (twice + move) : BLOCK * (free.last + 1 + move)] = content
+                for block, content in reading.blocks(free.first, twice):
+                    fill_gaps(stream[BLOCK * (block + move) :], content)
+                for block, content in reading.blocks(twice, free.last + 1):
+                    at = BLOCK * (block + move)
+                    stream[at : at + len(content)] = content
                 filled = max(filled, free.last + 1 + move)
+
+
+def fill_gaps(stream: memoryview, content: bytes) -> None:
+    """Writes the blocks whose place is all zeros."""
+    for start in range(0, len(content), BLOCK):
+        place = slice(start, start + BLOCK)
+        if stream[place] == _NOTHING:
+            stream[place] = content[place]
 
 
 def readable(reading: Reading, begin: int, stop: int) -> list[Run]:
@@ -79,7 +103,14 @@ def readable(reading: Reading, begin: int, stop: int) -> list[Run]:
 
 def read(path: str, words: Asked) -> Reading:
     """A reading as raw blocks, not yet put anywhere."""
-    return Reading(load_raw(path, words, "blocks that could be mended: its packs are gathered already"), [])
+    loaded = load_raw(path, words, "blocks that could be mended: its packs are gathered already")
+    has_graphics = has_graphics_bits(loaded.stream)
+    return Reading(loaded._replace(stream=b"") if is_plain(loaded.form) else loaded, [], has_graphics)
+
+
+def is_plain(form: Form) -> bool:
+    """Whether a file has the blocks as they are, so that to read them again takes no time."""
+    return form.coding is Coding.RAW and form.order is Order.PLAIN
 
 
 def placed(reading: Reading) -> list[Reading]:
@@ -101,7 +132,7 @@ def placed(reading: Reading) -> list[Reading]:
             )
             for part in layer
         ]
-        found.append(Reading(reading.loaded, parts, reading.unread, number > 0))
+        found.append(replace(reading, parts=parts, is_beside=number > 0))
     return found
 
 
@@ -113,7 +144,7 @@ def side_by_side(readings: Sequence[Reading]) -> Laid:
         if len({reading.loaded.survey.blocks for reading in readings}) > 1:
             raise Refusal(without[0].path, "its Q frames have no time, and it is not as long as the others")
         blocks = readings[0].loaded.survey.blocks
-        whole = [Reading(it.loaded, [Piece(0, blocks, 0, 0)], it.unread) for it in readings]
+        whole = [replace(it, parts=[Piece(0, blocks, 0, 0)]) for it in readings]
         return Laid(whole, 0, blocks, max(reading.loaded.survey.lead_in for reading in readings))
     start = min(part.time for reading in found for part in reading.parts)
     end = max(part.end + part.shift for reading in found for part in reading.parts)

@@ -110,6 +110,12 @@ class Survey:
             raise ValueError(f"ribjasper_survey answers {status}")
         return ctypes.string_at(room, ROW * count)
 
+    def forget(self) -> None:
+        """Lets go of what is known of single blocks, and keeps how many there are."""
+        self.rows, self.columns = b"", {}
+        for name in ("bad_frames", "empty", "_stretches"):
+            self.__dict__.pop(name, None)
+
     @property
     def read(self) -> int:
         """How many blocks there are from the first that was read to the last."""

@@ -9,11 +9,12 @@ from ...common.library import BLOCK, PACK
 from ...common.output import Outputs, Table, add_json, tell
 from ...common.times import spelled
 from ...dumps import mending
+from ...dumps.drive_errors import drive_errors
 from ...dumps.forms import to_planar
 from ...dumps.loading import add_options, asked
 from ...dumps.readings import Laid, Reading, read, side_by_side
 from ...dumps.rescue_maps import areas, domain, unread_units
-from ...dumps.survey import Clock, Run, has_graphics_bits
+from ...dumps.survey import Clock, Run
 from ...dumps.text_packs import packs_of
 
 NAMES = ("reading", "words", "of-reading", "left-out", "lost")
@@ -164,7 +165,8 @@ def lead_in_of(laid: Laid) -> tuple[int, bytes]:
         reading = laid.readings[number]
         survey = reading.loaded.survey
         if laid.time == 0 and survey.first < survey.lead_in:
-            found.append((number + 1, reading.loaded.stream[BLOCK * survey.first : BLOCK * survey.lead_in]))
+            blocks = b"".join(content for _, content in reading.blocks(survey.first, survey.lead_in))
+            found.append((number + 1, blocks))
     with_texts = (it for it in found if packs_of(it[1]))
     return next(with_texts, found[0] if found else (0, b""))
 
@@ -226,9 +228,19 @@ def read_all(arguments: argparse.Namespace) -> list[Reading]:
     for path in arguments.unread:
         leave_unread(readings, path)
     for reading in readings:
-        for note in reading.loaded.notes():
+        for note in (*reading.loaded.notes(), *doubts(reading)):
             tell(f"{shown(reading.path)}: {note}")
     return readings
+
+
+def doubts(reading: Reading) -> Iterator[str]:
+    """How many sectors a drive was unsure of. Their words are not left out: a drive marks the main channel, and the subcode of
+    a marked sector is most often right."""
+    survey = reading.loaded.survey
+    if errors := drive_errors(reading.path, survey.blocks):
+        names = ", ".join(map(shown, errors.names))
+        inside = errors.within(survey.first, survey.end)
+        yield f"{inside} sectors were doubtful to the drive ({names}); their words count as the others"
 
 
 def leave_unread(readings: Sequence[Reading], path: str) -> None:
@@ -273,7 +285,7 @@ def compare(laid: Laid, odd: list[str], table: Table) -> int:
     """Whether two dumps are of one disc, by how many blocks they are offset, and where they differ. Where one has no graphics
     at all only P and Q are compared."""
     tell(odd[0] if odd else "the dumps seem to be of one disc")
-    has = [has_graphics_bits(reading.loaded.stream) for reading in laid.readings[:2]]
+    has = [reading.has_graphics for reading in laid.readings[:2]]
     has_both = has[0] == has[1]
     if not has_both:
         tell(f"the {'second' if has[0] else 'first'} has no channels R to W: only P and Q are compared")
