@@ -157,6 +157,22 @@ class WordsTest(unittest.TestCase):
         self.assertEqual(look_of(made.look.table()), made.look)
         self.assertEqual(edited(made, {"do": "look", "look": {"rows": None, "title": None}}), score)
 
+    def test_a_look_that_does_not_fit(self) -> None:
+        bad = {
+            "rows": 7,
+            "size": "x",
+            "lead": -1,
+            "between": ["/x"],
+            "title": "../x",
+            "style": 3,
+            "sweep": 1,
+            "other": 2,
+        }
+        self.assertEqual(look_of(bad), Look())
+        for name, value in bad.items():
+            with self.subTest(name=name), self.assertRaises(BadEdit):
+                edited(score_of_plain(), {"do": "look", "look": {name: value}})
+
     def test_what_is_no_edit_is_refused(self) -> None:
         score = score_of_plain()
         edits: list[Edit] = [{}, {"do": "x"}, {"do": "tap"}, {"do": "tap", "line": 9, "at": 1}, {"do": "tap", "line": 1, "at": "1"},

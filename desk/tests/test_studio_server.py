@@ -20,6 +20,8 @@ from ribjasper.commands.publish.studio import Page
 from ribjasper.common.failures import Refusal
 from ribjasper.common.serving import MOST_SENT, Server
 from ribjasper.common.web import web
+from ribjasper.drawing.styles import read_style
+from ribjasper.songs.albums import read_album
 from ribjasper.songs.edits import Edit
 from ribjasper.songs.rehearsal import rehearsed
 from ribjasper.songs.song_files import read_song
@@ -341,6 +343,25 @@ class PicturesTest(StudioTest):
         self.assertLessEqual({"a.cdg", "a.zip"}, self.names())
         self.assertEqual(desk("pair", studio.lyrics, "-o", self.folder / "b").status, 0)
         self.assertEqual((self.folder / "a.cdg").read_bytes(), (self.folder / "b.cdg").read_bytes())
+
+    @needs_plan
+    @needs_program
+    @needs_pillow
+    @needs_font
+    def test_the_look_is_saved(self) -> None:
+        """`pair` and `album` use the look that the studio saved."""
+        studio = self.studio(self.song())
+        studio.do({"do": "look", "look": {"style": "paper", "rows": 3}})
+        packs = studio.ready().packs
+        studio.begin_job("album", studio.add_to_album)
+        while not studio.job.is_over:
+            time.sleep(0.01)
+        self.assertEqual(desk("pair", studio.lyrics, "-o", self.folder / "b").status, 0)
+        self.assertEqual((self.folder / "b.cdg").read_bytes(), packs)
+        self.assertEqual(desk("pair", studio.lyrics, "--style", "night", "-o", self.folder / "c").status, 0)
+        self.assertNotEqual((self.folder / "c.cdg").read_bytes(), packs)
+        album = read_album(self.folder / "album.toml")
+        self.assertEqual([track.wishes.style.path for track in album.tracks], [read_style("paper").path])
 
     @needs_plan
     @needs_program

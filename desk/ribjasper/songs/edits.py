@@ -5,7 +5,9 @@ import math
 from dataclasses import replace
 from typing import Any, Callable, Iterable, Sequence
 
-from .scores import Picture, Score, ScoreLine, Word, last_end, look_of, opened_line, split_words
+from .scores import (
+    Picture, Score, ScoreLine, Word, fits, is_own_name, last_end, look_of, opened_line, split_words,
+)  # fmt: skip
 from .song_files import LONGEST_SONG
 from .songs import BOTH, FIRST, letters_in
 
@@ -29,7 +31,7 @@ def edited(score: Score, edit: Edit) -> Score:
         made = change(score, edit)
     except BadEdit:
         raise
-    except (KeyError, IndexError, TypeError, ValueError) as error:
+    except (KeyError, IndexError, TypeError, ValueError, AttributeError) as error:
         raise BadEdit(f"{edit.get('do')}: {error}") from None
     known = {line.key: line for line in score.lines}
     # Lines of a file may have other times, as those that begin before the sound.
@@ -479,17 +481,11 @@ def head(score: Score, edit: Edit) -> Score:
 
 def look(score: Score, edit: Edit) -> Score:
     """Values of the look; `null` is the default."""
-    table = {**score.look.table(), **edit["look"]}
-    made = look_of({name: value for name, value in table.items() if value is not None})
-    names = [made.title, *made.between]
-    if any(not is_own_name(name) for name in names if name) or not is_own_name(made.style):
-        raise BadEdit("pictures and styles are files in the folder of the song")
-    return replace(score, look=made)
-
-
-def is_own_name(name: str) -> bool:
-    """Whether a name is that of a file in the folder of the song, or a colour."""
-    return bool(name) and not any(mark in name for mark in "/\\\0") and name not in (".", "..")
+    asked = {str(name): value for name, value in edit["look"].items()}
+    wrong = [name for name, value in asked.items() if value is not None and not fits(name, value)]
+    if wrong:
+        raise BadEdit(f"{wrong[0]} cannot be {asked[wrong[0]]!r}; pictures and styles are files in the song's folder")
+    return replace(score, look=look_of({**score.look.table(), **asked}))
 
 
 def picture(score: Score, edit: Edit) -> Score:

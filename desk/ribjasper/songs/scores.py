@@ -4,6 +4,7 @@ import re
 from dataclasses import dataclass, field
 from typing import Any, Iterable, NamedTuple
 
+from ..drawing.styles import LEAST_ROWS, LEAST_SIZE, MOST_ROWS, MOST_SIZE
 from .document import Document
 from .lrc import TAG
 from .songs import FIRST, LONGEST_WORD, Insert, Line, Song, Syllable, open_line, spelled
@@ -114,19 +115,32 @@ class Score:
         return [number for number, line in enumerate(self.lines, 1) if not line.is_timed]
 
 
+# The least and the most of the numbers of a look, as the options of the commands have them.
+RANGES = {"rows": (LEAST_ROWS, MOST_ROWS), "size": (LEAST_SIZE, MOST_SIZE), "lead": (0, 60), "intro": (0, 600)}
+
+
 def look_of(table: dict[str, Any]) -> Look:
-    """The look that a table holds; what it does not name, or names in another way, is the default."""
-    plain, found = Look(), dict[str, Any]()
-    for name in Look.__dataclass_fields__:
-        value = table.get(name)
-        if isinstance(value, list) and all(isinstance(one, str) for one in value):
-            value = tuple(value)
-        wanted = getattr(plain, name)
-        is_number = isinstance(value, (int, float)) and not isinstance(value, bool)
-        fits = is_number if wanted is None or isinstance(wanted, float) else isinstance(value, type(wanted))
-        if value is not None and fits:
-            found[name] = value
-    return Look(**found)
+    """The look that a table holds; what it does not name, or what does not fit, is the default."""
+    found = {name: value for name, value in table.items() if value is not None and fits(name, value)}
+    return Look(**{name: tuple(value) if isinstance(value, list) else value for name, value in found.items()})
+
+
+def fits(name: str, value: Any) -> bool:
+    """Whether a look may have a value. Files are named by their names in the folder of the song."""
+    if name in RANGES:
+        least, most = RANGES[name]
+        kinds = (int,) if name in ("rows", "size") else (int, float)
+        return type(value) in kinds and least <= value <= most
+    if name == "between":
+        return isinstance(value, (list, tuple)) and all(isinstance(one, str) and is_own_name(one) for one in value)
+    if name in ("style", "title"):
+        return isinstance(value, str) and (is_own_name(value) or name == "title" and not value)
+    return name in ("sweep", "legend", "rests") and isinstance(value, bool)
+
+
+def is_own_name(name: str) -> bool:
+    """Whether a name is that of a file in the folder of the song, or a colour."""
+    return bool(name) and not any(mark in name for mark in "/\\\0") and name not in (".", "..")
 
 
 def score_of(document: Document) -> Score:

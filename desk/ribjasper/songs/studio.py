@@ -15,7 +15,7 @@ from ..drawing.styles import shipped
 from . import audio, hyphens
 from .albums import NEW, entry_of
 from .audio import Treatment
-from .document import Document, beside, document_of
+from .document import Document, beside, document_of, quoted
 from .edits import BadEdit, Edit
 from .exports import EXPORTS
 from .finishing import PairFiles
@@ -29,6 +29,15 @@ from .song_files import song_of as read_from
 LYRICS = (".lrc", ".txt", ".ass", ".ssa", ".srt", ".vtt", ".kar", ".mid")
 PICTURES = (".png", ".jpg", ".jpeg", ".gif", ".bmp", ".webp")
 ALBUM = "album.toml"
+# How a list of songs calls what the look of a song says.
+IN_ALBUM = {
+    "style": "style",
+    "title": "picture",
+    "sweep": "sweep",
+    "lead": "lead",
+    "between": "between",
+    "intro": "intro",
+}
 # How long a call waits for pictures.
 PATIENCE = 120.0
 
@@ -356,7 +365,7 @@ class Studio:
         path = self.folder / ALBUM
         with self.guard:
             song = song_of(self.score, self.opened.document.song)
-            entry = entry_of(self.target.resolve(), self.sound.resolve(), song, self.folder)
+            entry = entry_of(self.target.resolve(), self.sound.resolve(), song, self.folder) + self.look_rows()
             before = read_file(path).decode() if path.exists() else ""
             begin = before or NEW.format(name=ALBUM, title="", singer="")
             if entry.splitlines()[2] in before.splitlines():
@@ -366,6 +375,12 @@ class Studio:
             with Outputs([self.lyrics, self.sound], [(path, kinds.ALBUM)], True) as outputs:
                 outputs.write(path, (begin + entry).encode())
         job.told = f"{ALBUM} has the song now; `ribjasper-desk album {ALBUM} -o DISC` makes the disc"
+
+    def look_rows(self) -> str:
+        """The look of the song as rows of its entry."""
+        table = self.score.look.table()
+        rows = {IN_ALBUM[name]: value for name, value in table.items() if name in IN_ALBUM}
+        return "".join(f"{name} = {quoted(value)}\n" for name, value in rows.items())
 
     def begin_job(self, what: str, work: Callable[[Job], None]) -> None:
         """Makes something in a thread of its own, one thing at a time."""

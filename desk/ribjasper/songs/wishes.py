@@ -4,11 +4,14 @@ import os
 from dataclasses import replace
 from pathlib import Path
 
+from ..common.output import read_file
 from ..common.words import number_in, seconds_in
 from ..drawing.lettering import DEFAULT_FONT
-from ..drawing.styles import LEAST_ROWS, LEAST_SIZE, MOST_ROWS, MOST_SIZE, read_style, shipped
+from ..drawing.styles import LEAST_ROWS, LEAST_SIZE, MOST_ROWS, MOST_SIZE, Style, read_style, shipped
+from .document import look_in
 from .encodings import known
-from .song_files import pictures_of
+from .scores import Look, look_of
+from .song_files import companion_of, pictures_of
 from .song_script import BOXES, LEAVE, Wishes
 
 # How long before its time a line may be asked to stand.
@@ -19,9 +22,7 @@ LONGEST_INTRO = 600
 def add_wishes(parser: argparse.ArgumentParser) -> None:
     """The words that tell how a song is to look."""
     parser.add_argument("--title", type=Path, metavar="IMAGE", help="a picture that stands before the first words")
-    parser.add_argument(
-        "--style", default="night", metavar="STYLE", help=f"{', '.join(shipped())}, or a file STYLE.toml (night)"
-    )
+    parser.add_argument("--style", metavar="STYLE", help=f"{', '.join(shipped())}, or a file STYLE.toml (night)")
     parser.add_argument(
         "--font",
         type=Path,
@@ -89,29 +90,45 @@ def add_encoding(parser: argparse.ArgumentParser) -> None:
     )
 
 
+def look_for(arguments: argparse.Namespace) -> Look:
+    """The look that the studio saved beside the song; the default if it saved none."""
+    more = companion_of(arguments.song)
+    return look_of(look_in(read_file(more))) if more else Look()
+
+
+def style_of(arguments: argparse.Namespace, look: Look) -> Style:
+    """The style that is asked for, or else the one that the studio saved; its file is in the folder of the song."""
+    if arguments.style or look.style in shipped():
+        return read_style(arguments.style or look.style)
+    return read_style(os.fspath(arguments.song.parent / look.style))
+
+
 def wishes_of(arguments: argparse.Namespace, end: int | None) -> Wishes:
-    style = read_style(arguments.style)
-    if arguments.rows:
-        style = replace(style, rows=arguments.rows)
+    """What the options ask for; what they do not say is as the studio saved it."""
+    look, folder = look_for(arguments), arguments.song.parent
+    style, rows = style_of(arguments, look), arguments.rows or look.rows
+    between = arguments.between or [one if one.startswith("#") else os.fspath(folder / one) for one in look.between]
     return Wishes(
-        style=style,
+        style=replace(style, rows=rows) if rows else style,
         fonts=tuple(arguments.font),
-        size=arguments.size,
-        sweep=arguments.sweep,
-        title=arguments.title,
+        size=arguments.size or look.size,
+        sweep=arguments.sweep or look.sweep,
+        title=arguments.title or (folder / look.title if look.title else None),
         end=end,
-        lead=arguments.lead,
-        legend=arguments.legend,
-        rests=not arguments.no_rests,
+        lead=look.lead if arguments.lead is None else arguments.lead,
+        legend=arguments.legend or look.legend,
+        rests=look.rests and not arguments.no_rests,
         missing=arguments.missing,
-        between=tuple(word if word.startswith("#") else os.path.abspath(word) for word in arguments.between),
+        between=tuple(word if word.startswith("#") else os.path.abspath(word) for word in between),
         encoding=arguments.encoding,
-        intro=arguments.intro,
+        intro=arguments.intro or look.intro,
     )
 
 
 def reads_of(arguments: argparse.Namespace) -> list[Path | None]:
     """The files that a song is made from."""
+    look = look_for(arguments)
+    own = [arguments.song.parent / name for name in (look.title, *look.between) if name and not name.startswith("#")]
     between = [Path(word) for word in arguments.between if not word.startswith("#")]
-    fonts = [*arguments.font, *read_style(arguments.style).files()]
-    return [arguments.song, arguments.audio, arguments.title, *between, *fonts, *pictures_of(arguments.song)]
+    fonts = [*arguments.font, *style_of(arguments, look).files()]
+    return [arguments.song, arguments.audio, arguments.title, *own, *between, *fonts, *pictures_of(arguments.song)]

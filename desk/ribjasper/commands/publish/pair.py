@@ -34,14 +34,15 @@ def add_parser(commands: Commands) -> None:
 def run(arguments: argparse.Namespace) -> int:
     sound = sound_of(arguments)
     name = stem_of(arguments.output)
-    files = PairFiles(name, sound, arguments.mp3, arguments.zip, arguments.intro)
+    wishes = wishes_of(arguments, None)
+    files = PairFiles(name, sound, arguments.mp3, arguments.zip, wishes.intro)
     writes = files.writes()
     disc = [f"{name}.bin", f"{name}.toc", f"{name}.cue", f"{name}.raw", f"{name}-sheet.cue"]
     if arguments.karaoke_cd:
         writes += zip(disc, (kinds.IMAGE, kinds.TOC, kinds.CUE, kinds.STREAM, kinds.CUE))
     told = files.told()
     with Outputs([*reads_of(arguments), sound], writes, arguments.force) as outputs:
-        album, sung = sing_one(arguments.song, sound, wishes_of(arguments, None))
+        album, sung = sing_one(arguments.song, sound, wishes)
         files.write(outputs, as_pair(sung.packs), sung.sound, sung.song)
         if arguments.karaoke_cd:
             write_disc(replace(album, title=sung.song.title), [sung], outputs, disc)
