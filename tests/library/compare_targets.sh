@@ -175,7 +175,7 @@ calls=$(grep -oE '\bribjasper_[a-z0-9_]+\(' include/ribjasper.h | tr -d '(' | so
 for name in x86_64-apple-darwin:mach-o aarch64-apple-darwin:mach-o aarch64-apple-ios:mach-o aarch64-linux-android:elf64; do
     library=lib/${name%:*}/libribjasper.a
     [ -f "$library" ] || { echo "compare_targets: ${name%:*} is skipped, there is no $library"; continue; }
-    format=$(llvm llvm-objdump -f "$library" | sed -n 's/.*file format //p')
+    format=$(llvm llvm-objdump -f "$library" 2>/dev/null | sed -n 's/.*file format //p')
     case $format in
         ${name#*:}*) ;;
         *) complain "$library is of the format $format" ;;

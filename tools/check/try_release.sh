@@ -63,20 +63,22 @@ try() {
 for form in "$@"; do
     case $form in
         wheel)
-            try wheel python3,python3-venv,fonts-dejavu-core '
-                python3 -m venv /root/ribjasper
+            # Pillow, which the extra `pictures` names, comes from Debian here: the index of Python may be out of reach.
+            try wheel python3,python3-venv,python3-pil,fonts-dejavu-core '
+                python3 -m venv --system-site-packages /root/ribjasper
                 . /root/ribjasper/bin/activate
                 pip install --quiet --no-index /dist/*manylinux*x86_64.whl
                 EXAMPLES=/root/ribjasper/share/doc/ribjasper/examples; export EXAMPLES
                 sh /first_result' ;;
         deb)
             try deb ca-certificates '
+                apt-get update -qq
                 apt-get install -y --no-install-recommends /dist/*_amd64.deb /dist/*_all.deb python3-pil fonts-dejavu-core gcc libc6-dev
                 EXAMPLES=/usr/share/doc/ribjasper/examples; export EXAMPLES
                 sh /first_result
                 EXAMPLES_OF_LIBRARY=/usr/share/doc/libribjasper-dev/examples FLAGS=-lribjasper sh /first_player' ;;
         archive)
-            try archive python3,gcc,libc6-dev,fonts-dejavu-core '
+            try archive python3,python3-pil,gcc,libc6-dev,fonts-dejavu-core '
                 tar -C /opt -xf /dist/ribjasper-*-x86_64-linux.tar.gz
                 cd /opt/ribjasper-*; PATH=$PWD/bin:$PATH; export PATH
                 EXAMPLES=$PWD/share/doc/ribjasper/examples; export EXAMPLES
