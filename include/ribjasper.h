@@ -6,10 +6,10 @@
    Players. The library has no global state: players are independent. A player may be moved byte for byte while no call
    uses it, if the old place is no longer used. To get two players that show the same, use ribjasper_player_copy.
 
-   Threads. Any thread may call. A call that takes a const player only reads it, so any number of threads may make such
-   calls on one player at the same time. A call that takes a player without const must be the only call on that player at
-   that time; ribjasper_player_copy changes only its second player. Calls without a player share nothing. Do not call from
-   a signal handler. A forked process has its own copies of all players; if the parent had more than one thread, the child
+   Threads. Any thread may call. A call with a const player only reads the player, so any number of threads may make such
+   calls on one player at the same time. A call with a player that is not const must be the only call on that player at that
+   time; ribjasper_player_copy changes only its second player. Calls without a player share nothing. Do not call from a
+   signal handler. A forked process has its own copies of all players; if the parent had more than one thread, the child
    must not make calls that allocate or free memory.
 
    Pointers. A pointer must point to as many bytes or structs as its type or its comment says. With a count or length of 0
@@ -84,32 +84,32 @@ typedef enum ribjasper_answer {
 void ribjasper_answer_text(int32_t answer, char text[RIBJASPER_ANSWER_TEXT]);
 
 #define RIBJASPER_BLOCK 96     /* bytes of a raw block: a byte for each symbol, bit 7 channel P to bit 0 channel W */
-#define RIBJASPER_WIDTH 300    /* pixels of a row of the screen */
-#define RIBJASPER_HEIGHT 216   /* rows of the screen, with the border */
+#define RIBJASPER_WIDTH 300    /* width of the screen in pixels */
+#define RIBJASPER_HEIGHT 216   /* height of the screen in pixels, with the border */
 #define RIBJASPER_PIXELS 64800 /* pixels of the screen, row by row from the top, each row from the left */
 #define RIBJASPER_COLOURS 16   /* colours of the table */
 #define RIBJASPER_PICTURE 194400 /* bytes of a picture: red, green and blue of each pixel, 17 times their four bits */
-#define RIBJASPER_WINDOW_LEFT 6     /* the window inside the border: its first column, */
-#define RIBJASPER_WINDOW_TOP 12     /* its first row, */
-#define RIBJASPER_WINDOW_WIDTH 288  /* its width in pixels */
-#define RIBJASPER_WINDOW_HEIGHT 192 /* and its height in rows */
-#define RIBJASPER_TILE_WIDTH 6      /* pixels of a row of a tile */
-#define RIBJASPER_TILE_HEIGHT 12    /* rows of a tile */
-#define RIBJASPER_TILE_COLUMNS 50   /* tiles of a row of the memory */
-#define RIBJASPER_TILE_ROWS 18      /* rows of tiles of the memory */
+#define RIBJASPER_WINDOW_LEFT 6     /* the first column of the window inside the border */
+#define RIBJASPER_WINDOW_TOP 12     /* the first row of the window */
+#define RIBJASPER_WINDOW_WIDTH 288  /* the width of the window in pixels */
+#define RIBJASPER_WINDOW_HEIGHT 192 /* the height of the window in pixels */
+#define RIBJASPER_TILE_WIDTH 6      /* width of a tile in pixels */
+#define RIBJASPER_TILE_HEIGHT 12    /* height of a tile in pixels */
+#define RIBJASPER_TILE_COLUMNS 50   /* columns of tiles in the memory */
+#define RIBJASPER_TILE_ROWS 18      /* rows of tiles in the memory */
 
 #define RIBJASPER_PACK 24               /* bytes of a pack */
 #define RIBJASPER_SECTOR 2448           /* bytes of a sector: audio and a raw block */
-#define RIBJASPER_PACKS_A_BLOCK 4       /* packs that come with a block */
-#define RIBJASPER_BLOCKS_A_SECOND 75    /* blocks a second */
-#define RIBJASPER_PACKS_A_SECOND 300    /* packs a second */
-#define RIBJASPER_PACKS_BEHIND 7        /* packs by which the picture of a raw stream is behind its blocks */
-#define RIBJASPER_MOST_LEAD_IN 450000   /* most blocks of a lead-in */
-#define RIBJASPER_MOST_AUDIO 449999     /* most blocks of the audio of a plan */
-#define RIBJASPER_MOST_BLOCKS 1000000   /* most blocks of a whole stream */
-#define RIBJASPER_MOST_TEXT 67108864    /* most bytes of a sheet or a script */
-#define RIBJASPER_MOST_SHEET_ROWS 9900  /* most index lines of a sheet */
-#define RIBJASPER_MOST_TEXTS 1048576    /* most bytes of the texts of a lead-in */
+#define RIBJASPER_PACKS_A_BLOCK 4       /* packs of a block */
+#define RIBJASPER_BLOCKS_A_SECOND 75    /* blocks in a second */
+#define RIBJASPER_PACKS_A_SECOND 300    /* packs in a second */
+#define RIBJASPER_PACKS_BEHIND 7        /* how many packs the picture of a raw stream is behind its blocks */
+#define RIBJASPER_MOST_LEAD_IN 450000   /* maximum number of blocks of a lead-in */
+#define RIBJASPER_MOST_AUDIO 449999     /* maximum number of blocks of the audio of a plan */
+#define RIBJASPER_MOST_BLOCKS 1000000   /* maximum number of blocks of a whole stream */
+#define RIBJASPER_MOST_TEXT 67108864    /* maximum number of bytes of a sheet or a script */
+#define RIBJASPER_MOST_SHEET_ROWS 9900  /* maximum number of index lines of a sheet */
+#define RIBJASPER_MOST_TEXTS 1048576    /* maximum number of bytes of the texts of a lead-in */
 
 /* Returns how many blocks are complete after a time.
      milliseconds: the time since the first block began */
@@ -119,17 +119,18 @@ uint32_t ribjasper_blocks_after(uint32_t milliseconds);
      milliseconds: the time since the first pack began */
 uint32_t ribjasper_packs_after(uint32_t milliseconds);
 
-/* Returns the least time in milliseconds after which so many blocks are complete.
+/* Returns the smallest time in milliseconds after which this number of blocks is complete.
      blocks: the number of blocks */
 uint64_t ribjasper_time_of_blocks(uint32_t blocks);
 
-/* Returns the least time in milliseconds after which so many packs are complete.
+/* Returns the smallest time in milliseconds after which this number of packs is complete.
      packs: the number of packs */
 uint64_t ribjasper_time_of_packs(uint32_t packs);
 
 /* The forms of a stream. RIBJASPER_RAW: raw blocks of 96 bytes. RIBJASPER_PACKS: packs of 24 bytes that are already
-   deinterleaved, four in each block of 96 bytes; a player corrects them by their parity. RIBJASPER_SECTORS: sectors of
-   2,448 bytes, each 2,352 bytes of audio and a raw block; only calls on whole streams take sectors.
+   deinterleaved, four in each block of 96 bytes; a player corrects them by their parity. A codeword is called near a pack
+   if both differ in at most two symbols. RIBJASPER_SECTORS: sectors of 2,448 bytes, each 2,352 bytes of audio and a raw
+   block; only calls on whole streams accept sectors.
 
    A .cdg file may lack parity. Its packs then have no codeword near: as RIBJASPER_PACKS they draw nothing, and every
    word counts as bad. ribjasper_packs_parity detects such a file. Either draw its packs with ribjasper_player_draw_all, which
@@ -180,10 +181,10 @@ void ribjasper_player_close(ribjasper_player *player);
    Returns RIBJASPER_DONE, or RIBJASPER_REFUSED if the player is closed or a number is out of range. */
 RIBJASPER_NODISCARD int32_t ribjasper_player_begin(ribjasper_player *player, uint32_t form, uint32_t lead_in);
 
-/* Feeds an open player the next block of its stream and draws the packs that are complete with it. Each pack is read as the
-   codeword near it; a pack with no codeword near draws nothing. The symbols of a pack of a raw stream lie in three
-   blocks, so the last seven packs (RIBJASPER_PACKS_BEHIND) are not drawn yet: the picture is 23 milliseconds behind. In
-   the form RIBJASPER_PACKS every pack is drawn at once. A player plays for as long as it is fed.
+/* Feeds an open player the next block of its stream and draws the packs that are complete with it. Each pack is corrected
+   to the codeword near it; a pack with no codeword near draws nothing. The symbols of a pack of a raw stream lie in three
+   blocks, so the last seven packs (RIBJASPER_PACKS_BEHIND) are not drawn yet: the picture is 23 milliseconds behind. In the
+   form RIBJASPER_PACKS every pack is drawn at once. A player continues for as long as it is fed.
      player: the player
      block: 96 bytes
    Returns RIBJASPER_DONE, or RIBJASPER_REFUSED if the player is closed. */
@@ -204,8 +205,8 @@ typedef struct ribjasper_pack {
 int32_t ribjasper_player_take(ribjasper_player *player, const uint8_t block[RIBJASPER_BLOCK], ribjasper_pack packs[4]);
 
 /* Draws a pack as players read a .cdg file: the low six bits of the bytes are its symbols, and parity is ignored. Blocks
-   and packs may come in any order: the screen shows what all of them drew, in turn, since ribjasper_player_begin. The
-   stream of blocks continues as if the pack were not there.
+   and packs may come in any order: the screen shows what all of them have drawn, in this order, since
+   ribjasper_player_begin. The stream of blocks continues as if the pack were not there.
      player: the player
      pack: 24 bytes
    Returns RIBJASPER_DONE, or RIBJASPER_REFUSED if the player is closed. */
@@ -242,9 +243,9 @@ int32_t ribjasper_player_feed_all(ribjasper_player *player, const uint8_t *block
    Returns RIBJASPER_DONE, or RIBJASPER_REFUSED if the player is closed. */
 int32_t ribjasper_player_draw_all(ribjasper_player *player, const uint8_t *packs, size_t count, ribjasper_change *change);
 
-/* What a player counts since it began, or since the checkpoint that it was restored from: the packs that came (`words`),
-   its form and lead-in, the blocks that came, and how many of the packs have no codeword near (`bad`). Drawn packs are
-   not counted. `blocks` and `bad` saturate at 4,294,967,295. */
+/* The counts of a player since it began, or since the checkpoint from which it was restored: all packs (`words`), its form
+   and lead-in, all blocks, and the packs with no codeword near (`bad`). Drawn packs are not counted. `blocks` and `bad`
+   saturate at 4,294,967,295. */
 typedef struct ribjasper_counts {
     uint64_t words;
     uint32_t form;
@@ -285,7 +286,7 @@ RIBJASPER_NODISCARD
 int32_t ribjasper_player_rect(const ribjasper_player *player, uint32_t x, uint32_t y, uint32_t width, uint32_t height,
                               uint8_t *pixels, size_t room, uint32_t stride);
 
-/* Writes red, green and blue of all pixels of the screen. Those of pixel (x, y) begin at byte 3 (300 y + x).
+/* Writes red, green and blue of all pixels of the screen. The three bytes of pixel (x, y) begin at byte 3 (300 y + x).
      player: the player
      bytes: the output, 194,400 bytes
    Returns RIBJASPER_DONE, or RIBJASPER_REFUSED if the player is closed. */
@@ -339,26 +340,26 @@ int32_t ribjasper_player_levels(const ribjasper_player *player, uint8_t levels[R
    Returns RIBJASPER_DONE, or RIBJASPER_REFUSED if the player is closed. */
 int32_t ribjasper_player_border(const ribjasper_player *player, uint8_t *border);
 
-/* Writes by how many pixels the screen begins further right and further down in the memory.
+/* Writes the offsets of the screen: how many pixels further right and further down it begins in the memory.
      player: the player
      across, down: the outputs, 0 to 5 and 0 to 11
    Returns RIBJASPER_DONE, or RIBJASPER_REFUSED if the player is closed. */
 int32_t ribjasper_player_offsets(const ribjasper_player *player, uint8_t *across, uint8_t *down);
 
-/* Checkpoints. The file of a checkpoint is that of the program's commands `save` and `resume`. */
+/* Checkpoints. The file of a checkpoint has the same format as in the program's commands `save` and `resume`. */
 #define RIBJASPER_CHECKPOINT 65045 /* bytes of the file */
-#define RIBJASPER_NO_CHECKPOINT 3  /* what ribjasper_player_load returns if the bytes are no such file */
+#define RIBJASPER_NO_CHECKPOINT 3  /* what ribjasper_player_load returns if the bytes are no checkpoint */
 
-/* Writes the checkpoint of a player of a raw stream: how many blocks came, how many of its words were bad, the last seven
-   slots, and what the screen shows. Drawn packs are not counted. Allocates 65,056 bytes.
+/* Writes the checkpoint of a player of a raw stream: the number of blocks, the number of bad words, the last seven slots,
+   and the state of the screen. Drawn packs are not counted. Allocates 65,056 bytes.
      player: the player
      file: the output, 65,045 bytes
    Returns RIBJASPER_DONE; RIBJASPER_REFUSED if the player is closed, its form is RIBJASPER_PACKS, or more than 1,000,000
    blocks came since it began; or RIBJASPER_NO_MEMORY. */
 RIBJASPER_NODISCARD int32_t ribjasper_player_save(const ribjasper_player *player, uint8_t file[RIBJASPER_CHECKPOINT]);
 
-/* Restores an open player from a checkpoint, in a raw stream. Blocks that come from now on show what they would show after
-   the player that was saved. Allocates 65,056 bytes if the file is a checkpoint.
+/* Restores an open player from a checkpoint, in a raw stream. The player then continues exactly like the saved player.
+   Allocates 65,056 bytes if the file is a checkpoint.
      player: the player
      file: the checkpoint, 65,045 bytes
      byte: if the file is refused, the first byte of the first field that is out of range
@@ -378,8 +379,8 @@ RIBJASPER_NODISCARD int32_t ribjasper_player_copy(const ribjasper_player *from, 
    set. Change marks only by the calls below. A list of marks belongs to one stream with one form and lead-in; set it to zeros
    for another stream. A mark may be copied byte for byte. */
 typedef struct ribjasper_mark {
-    uint64_t place;       /* how many blocks or packs the player was given; 0 if the mark is not set */
-    uint64_t state[8135]; /* the player */
+    uint64_t place;       /* how many blocks or packs the player received; 0 if the mark is not set */
+    uint64_t state[8135]; /* the state of the player */
 } ribjasper_mark;
 
 /* Seeks in a stream of blocks: puts an open player into the state after ribjasper_player_begin and feeding the first
@@ -491,7 +492,7 @@ void ribjasper_text_pack_symbols(const uint8_t pack[18], uint8_t symbols[24]);
 /* A frame of the Q channel. Fields that its kind does not name are written as zeros and ignored when they are read. Times
    are blocks, 75 a second, below 450,000. */
 typedef struct ribjasper_q_frame {
-    uint32_t kind;     /* one of the above */
+    uint32_t kind;     /* one of the kinds above */
     uint32_t time;     /* kind 0: the distance from the start of the music of the track; 1 to 4: time of the lead-in */
     uint32_t absolute; /* a time from the start of the program area */
     uint8_t control;   /* 0 to 15: 8 four channels, 4 data, 2 copying permitted, 1 pre-emphasis */
@@ -499,8 +500,8 @@ typedef struct ribjasper_q_frame {
     uint8_t track;     /* 1 to 99 */
     uint8_t index;     /* 0 to 99; 0 is the pause before a track */
     uint8_t disc;      /* any byte */
-    uint8_t frame;     /* 0 to 74, that of the absolute time */
-    uint8_t text[13];  /* ASCII, or bytes as they are */
+    uint8_t frame;     /* 0 to 74, the frame of the absolute time */
+    uint8_t text[13];  /* ASCII characters, or unchanged bytes */
 } ribjasper_q_frame;
 
 #define RIBJASPER_BAD_CHECK 1
@@ -548,9 +549,9 @@ typedef struct ribjasper_tally {
     uint64_t one;            /* packs with one wrong symbol, which was corrected */
     uint64_t two;            /* packs with two wrong symbols, which were corrected */
     uint64_t bad;            /* packs with no codeword near */
-    uint64_t frames;         /* frames of the Q channel that were read, at most one a block; none of RIBJASPER_PACKS */
-    uint64_t bad_frames;     /* frames that were refused */
-    uint64_t frame_block;    /* the number of the block of the last frame that was read, from 1, or 0 */
+    uint64_t frames;         /* valid frames of the Q channel, at most one in each block; 0 for RIBJASPER_PACKS */
+    uint64_t bad_frames;     /* frames that are not valid */
+    uint64_t frame_block;    /* the number of the block of the last valid frame, from 1, or 0 */
     ribjasper_q_frame frame; /* this frame, or zeros */
 } ribjasper_tally;
 
@@ -578,7 +579,7 @@ typedef struct ribjasper_converted {
 #define RIBJASPER_USAGE 2     /* the form is above 2 or `lead_in` above 450,000 */
 #define RIBJASPER_TORN 3      /* the stream is not whole units, or more than 1,000,000 of them */
 #define RIBJASPER_NO_ROOM 6   /* the output is smaller than the packs */
-#define RIBJASPER_NO_MEMORY 7 /* out of memory, of calls that allocate */
+#define RIBJASPER_NO_MEMORY 7 /* out of memory, only from calls that allocate */
 
 /* Writes the packs of a stream, with their damage corrected: 24 bytes for each pack, 4 B - 7 packs of B program blocks (none
    of fewer than two), or 4 B packs if the form is RIBJASPER_PACKS (see there for .cdg files without parity).
@@ -621,10 +622,10 @@ int32_t ribjasper_convert(const uint8_t *stream, size_t length, uint32_t form, u
    has a graphics pack, even with one or two wrong symbols. Random symbols look like such a graphics pack once in 28 million
    words. The Q frames of the reading may be good, bad or absent.
 
-   If each reading has at most two wrong symbols in each word, the result contains every pack. Suppose that only one reading has
-   codewords that count. Then the result is what ribjasper_convert writes for this reading. There are two exceptions: doubtful
-   codewords, and words on which two readings agree. The order of the readings changes only which of several equal readings
-   is named. */
+   If each reading has at most two wrong symbols in each word, the result contains every pack. Suppose that only one reading
+   has codewords that count. Then the result is what ribjasper_convert writes for this reading. There are two exceptions:
+   doubtful codewords, and words on which two readings agree. The order of the readings changes only which of several equal
+   readings is named. */
 
 /* The result of mending two readings. Each word is counted in one of five numbers: `both` if both readings have its
    codeword; `of_first` or `of_second` if only one has it; `agreed` if no codeword counts and both readings agree on one;
@@ -647,12 +648,12 @@ typedef struct ribjasper_mended {
      result: the counts
    Returns RIBJASPER_CONVERTED, or RIBJASPER_DAMAGED if words have no codeword. Otherwise it returns the first of these that
    holds, and writes nothing. RIBJASPER_USAGE: `lead_in` is out of range. RIBJASPER_TORN: the lengths differ, are not whole
-   blocks, or are more than 1,000,000 blocks. RIBJASPER_NO_ROOM: the output is too small. It allocates nothing. */
+   blocks, or are more than 1,000,000 blocks. RIBJASPER_NO_ROOM: the output is too small. This call allocates nothing. */
 RIBJASPER_NODISCARD
 int32_t ribjasper_mend(const uint8_t *first, size_t first_length, const uint8_t *second, size_t second_length,
                        uint32_t lead_in, uint8_t *packs, size_t room, ribjasper_mended *result);
 
-#define RIBJASPER_READINGS 254   /* the most readings that are mended at once */
+#define RIBJASPER_READINGS 254   /* maximum number of readings in one call */
 #define RIBJASPER_AGREED 254     /* in place of the number of a reading: two readings agree on the codeword */
 #define RIBJASPER_NO_READING 255 /* there is no codeword */
 
@@ -674,13 +675,13 @@ typedef struct ribjasper_mended_readings {
      count: how many readings, 1 to 254
      lead_in: lead-in blocks of each reading, at most 450,000
      packs, room: the output and its bytes: 24 for each word
-     sources, words: the output and its bytes: for each word the number of the reading whose codeword it is,
-       RIBJASPER_AGREED or RIBJASPER_NO_READING; null and 0 leave it out
+     sources, words: the second output and its bytes. It has one byte for each word: the number of the reading that has the
+       codeword, RIBJASPER_AGREED or RIBJASPER_NO_READING; null and 0 omit this output
      result: the counts
-   Returns RIBJASPER_CONVERTED, or RIBJASPER_DAMAGED if words have no codeword.
-   Otherwise it returns the first of these that holds, and writes nothing. RIBJASPER_USAGE: `lead_in` or `count` is out of
-   range. RIBJASPER_TORN: the readings are not whole blocks of equal length, or more than 1,000,000 each. RIBJASPER_NO_ROOM:
-   there is room for fewer packs, or `words` is neither 0 nor the number of words. It allocates nothing. */
+   Returns RIBJASPER_CONVERTED, or RIBJASPER_DAMAGED if words have no codeword. Otherwise it returns the first of these that
+   holds, and writes nothing. RIBJASPER_USAGE: `lead_in` or `count` is out of range. RIBJASPER_TORN: the readings are not
+   whole blocks of equal length, or more than 1,000,000 each. RIBJASPER_NO_ROOM: there is room for fewer packs, or `words`
+   is neither 0 nor the number of words. This call allocates nothing. */
 RIBJASPER_NODISCARD
 int32_t ribjasper_mend_readings(const uint8_t *readings, size_t length, uint32_t count, uint32_t lead_in,
                                 uint8_t *packs, size_t room, uint8_t *sources, size_t words,
@@ -688,13 +689,14 @@ int32_t ribjasper_mend_readings(const uint8_t *readings, size_t length, uint32_t
 
 /* Mends readings as the call above does, into a stream of blocks that is as long as each reading, its lead-in included. The
    symbols of a mended word are those of its codeword. Every other symbol is that of the first reading whose block is not
-   unread, or 0 if all are unread. P and Q of a block come from the first reading with a good Q frame there, or without one
-   from the first reading that was read there. ribjasper_convert writes the codeword of each mended word from this stream. If
-   there is only one reading, the stream is that reading with its words corrected.
+   unread, or 0 if all are unread. P and Q of a block come from the first reading with a good Q frame there. If there is
+   none, they come from the first reading that was read there. ribjasper_convert writes the codeword of each mended word
+   from this stream. If there is only one reading, the stream is that reading with its words corrected.
      blocks, room: the output and its bytes, as many as a reading has; it must not overlap the readings
      sources, words: as above
      result: the counts; result->bytes are the bytes of the stream
-   Returns what the call above returns; RIBJASPER_NO_ROOM if `room` is less than a reading. It allocates nothing. */
+   Returns what the call above returns; RIBJASPER_NO_ROOM if `room` is smaller than a reading. This call allocates
+   nothing. */
 RIBJASPER_NODISCARD
 int32_t ribjasper_mend_stream(const uint8_t *readings, size_t length, uint32_t count, uint32_t lead_in,
                               uint8_t *blocks, size_t room, uint8_t *sources, size_t words,
@@ -726,7 +728,7 @@ typedef struct ribjasper_plan_row {
     uint32_t hold;  /* its hold time */
     uint32_t need;  /* the packs that its change needs, at most 3,076 */
     uint32_t free;  /* the packs that are free for it */
-    uint32_t first; /* the first of them */
+    uint32_t first; /* the first pack that is free for it */
     uint8_t late;   /* 1 if the change does not fit before the ready time, also an empty change; otherwise 0 */
 } ribjasper_plan_row;
 
@@ -740,8 +742,8 @@ typedef struct ribjasper_planned {
     uint32_t number;   /* the number that the reason below explains, or 0 */
 } ribjasper_planned;
 
-/* Why there is no plan, in the order in which the program's `author` checks. (The length of the script is checked after the
-   lines of the sheet.) */
+/* The reasons why there is no plan, in the order in which the program's `author` checks them. (`author` checks the length
+   of the script after the lines of the sheet.) */
 #define RIBJASPER_TEXT_TOO_LONG 1   /* the sheet or the script has more than 67,108,864 bytes */
 #define RIBJASPER_SHEET_REFUSED 2   /* a line of the sheet; the number is its reason: 1 unknown-command, 2 second-file,
     3 misplaced, 4 bad-argument, 5 repeated, 6 no-index, 7 not-audio, 8 number-order, 9 index-order, 10 time-order,
@@ -767,9 +769,9 @@ typedef struct ribjasper_planned {
      rows, room: the output, and how many rows fit
      result: the counts, or the reason
    Returns RIBJASPER_PLANNED or RIBJASPER_LATE. RIBJASPER_NOT_PLANNED: `result` has the reason, no row is written.
-   RIBJASPER_NO_ROOM: `result` has the numbers of pictures and blocks, no row is written. RIBJASPER_USAGE: a number is out of
-   range, nothing is written. RIBJASPER_NO_MEMORY: malloc failed, nothing is written; this comes only if neither text is too
-   long and no line is refused. It allocates memory. */
+   RIBJASPER_NO_ROOM: `result` has the numbers of pictures and blocks, no row is written. RIBJASPER_USAGE: a number is out
+   of range, nothing is written. RIBJASPER_NO_MEMORY: malloc failed, nothing is written; this comes only if neither text is
+   too long and no line is refused. This call allocates memory. */
 RIBJASPER_NODISCARD
 int32_t ribjasper_plan(const uint8_t *sheet, size_t sheet_length, const uint8_t *script, size_t script_length,
                        uint32_t lead_in, uint32_t audio, ribjasper_plan_row *rows, size_t room,
@@ -802,9 +804,9 @@ typedef struct ribjasper_sheet_told {
      rows, room: the output, and how many rows fit
      result: the counts, or the refused line
    Returns RIBJASPER_CONVERTED. RIBJASPER_TORN: a line is refused, `result` has it, no row is written. RIBJASPER_NO_ROOM:
-   there are more index lines than rows, `result` has all counts, no row is written. RIBJASPER_USAGE: the sheet has more than
-   67,108,864 bytes, nothing is written. RIBJASPER_NO_MEMORY: malloc failed, nothing is written; this comes only if no line
-   is refused. It allocates memory. */
+   there are more index lines than rows, `result` has all counts, no row is written. RIBJASPER_USAGE: the sheet has more
+   than 67,108,864 bytes, nothing is written. RIBJASPER_NO_MEMORY: malloc failed, nothing is written; this comes only if no
+   line is refused. This call allocates memory. */
 RIBJASPER_NODISCARD int32_t ribjasper_sheet(const uint8_t *sheet, size_t length, ribjasper_sheet_row *rows, size_t room,
                                             ribjasper_sheet_told *result);
 
@@ -821,7 +823,7 @@ RIBJASPER_NODISCARD int32_t ribjasper_sheet(const uint8_t *sheet, size_t length,
      bytes: the length of the text, 0 if the sheet has none
    Returns RIBJASPER_CONVERTED. RIBJASPER_NO_ROOM: the text is longer than the output, only `bytes` is written. Otherwise
    nothing is written. RIBJASPER_USAGE: there is no such kind or place, or the sheet has more than 67,108,864 bytes.
-   RIBJASPER_TORN: a line is refused. RIBJASPER_NO_MEMORY: as above. It allocates memory. */
+   RIBJASPER_TORN: a line is refused. RIBJASPER_NO_MEMORY: as above. This call allocates memory. */
 RIBJASPER_NODISCARD int32_t ribjasper_sheet_text(const uint8_t *sheet, size_t length, uint32_t kind, uint32_t place,
                                                  uint8_t *out, size_t room, uint32_t *bytes);
 
@@ -834,9 +836,9 @@ RIBJASPER_NODISCARD int32_t ribjasper_sheet_text(const uint8_t *sheet, size_t le
 #define RIBJASPER_Q_BAD_FIELD 254 /* the CRC is right, but a field is out of its range */
 #define RIBJASPER_Q_BAD_CHECK 255 /* the CRC is wrong; this includes 96 zero bits */
 
-/* What a survey reports of a block. It counts the words whose last symbol is in the block: in program block b the words
-   4 b - 7 to 4 b - 4 (none below 0), in a block of RIBJASPER_PACKS its four, in a lead-in block none. The sums over all rows
-   are the numbers clean, one, two, bad, q-good and q-bad of the program's command `check`. */
+/* What a survey reports of a block. A row counts the words whose last symbol is in the block. In program block b these are
+   the words 4 b - 7 to 4 b - 4 (none below 0), in a block of RIBJASPER_PACKS its four words, in a lead-in block none. The
+   sums over all rows are the numbers clean, one, two, bad, q-good and q-bad of the program's command `check`. */
 typedef struct ribjasper_row {
     uint32_t absolute; /* the absolute time in blocks, if the frame is of kind 0; otherwise RIBJASPER_NO_TIME */
     uint8_t clean;     /* words that are codewords */
@@ -863,7 +865,7 @@ typedef struct ribjasper_surveyed {
      result: the counts
    Returns RIBJASPER_CONVERTED. Otherwise it returns the first of these that holds, and writes nothing. RIBJASPER_USAGE: a
    number is out of range. RIBJASPER_TORN: there are more than 1,000,000 whole blocks (a torn end is allowed here).
-   RIBJASPER_NO_ROOM: there are more blocks than rows. It allocates nothing. */
+   RIBJASPER_NO_ROOM: there are more blocks than rows. This call allocates nothing. */
 RIBJASPER_NODISCARD
 int32_t ribjasper_survey(const uint8_t *stream, size_t length, uint32_t form, uint32_t lead_in, ribjasper_row *rows,
                          size_t room, ribjasper_surveyed *result);
@@ -877,8 +879,8 @@ void ribjasper_block_text_packs(const uint8_t block[RIBJASPER_BLOCK], uint8_t pa
 /* The result of listing texts. Numbers that the answer does not use are 0. */
 typedef struct ribjasper_listed {
     uint64_t bytes; /* bytes written, if the texts are not refused */
-    uint32_t seq;   /* the number of the pack that is the reason, 0 to 255 */
-    uint32_t byte;  /* the number of its byte that is the reason */
+    uint32_t seq;   /* the number of the missing or invalid pack, 0 to 255 */
+    uint32_t byte;  /* the number of the invalid byte in this pack */
 } ribjasper_listed;
 
 /* Why the texts of a lead-in are refused. */
@@ -895,7 +897,7 @@ typedef struct ribjasper_listed {
    Returns RIBJASPER_CONVERTED. RIBJASPER_TEXT_MISSING, RIBJASPER_TEXT_NO_SIZE or RIBJASPER_TEXT_MALFORMED: the texts are
    refused, only `result` is written. Otherwise nothing is written. RIBJASPER_USAGE: `form` or `lead_in` is out of range.
    RIBJASPER_TORN: the stream is torn or too long. RIBJASPER_NO_ROOM: the output is too small. RIBJASPER_NO_MEMORY: malloc
-   failed; this comes only if the texts are not refused. It allocates memory. */
+   failed; this comes only if the texts are not refused. This call allocates memory. */
 RIBJASPER_NODISCARD
 int32_t ribjasper_texts(const uint8_t *stream, size_t length, uint32_t form, uint32_t lead_in, uint8_t *out, size_t room,
                         ribjasper_listed *result);
