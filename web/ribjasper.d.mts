@@ -37,7 +37,10 @@ export interface PlayerOptions {
     leadIn?: number;
 }
 
-/** As the options of a stream; or a .cdg file. A seeker keeps at most so many marks, by default 128, of 65,080 bytes each. */
+/**
+ * As the options of a stream; or a .cdg file. A seeker keeps at most so many marks, by default 128, of 65,088 bytes each. They
+ * and a copy of the blocks or packs are in the module's memory.
+ */
 export interface SeekerOptions {
     form?: Form | "cdg";
     leadIn?: number;
@@ -65,6 +68,24 @@ export interface Rectangle {
     y: number;
     width: number;
     height: number;
+}
+
+/**
+ * What of the screen may have changed by so many blocks or packs: a rectangle, or null, and whether colours of the table or
+ * their levels may have. With other colours or levels any pixel may look different.
+ */
+export interface Changed {
+    count: number;
+    rectangle: Rectangle | null;
+    colours: boolean;
+    levels: boolean;
+}
+
+/** How many packs are idle, how many others have valid parity, and how many have none. */
+export interface Parity {
+    idle: number;
+    valid: number;
+    invalid: number;
 }
 
 /** A pack as it was read: its 24 symbols, and how many were wrong and were corrected, or -1 if no codeword is near. */
@@ -175,6 +196,10 @@ export class Ribjasper {
     mendReadings(readings: readonly Bytes[], options?: { leadIn?: number }): MendedReadings;
     textPacks(block: Bytes): TextPack[];
     fromPlanar(planar: Bytes): Uint8Array;
+    /** Counts the packs of a .cdg file by their parity. */
+    parity(packs: Bytes): Parity;
+    /** The packs with parity that is valid for their other symbols. */
+    seal(packs: Bytes): Uint8Array;
     touches(pack: Bytes): Touched;
 }
 
@@ -184,9 +209,13 @@ export class Player {
     begin(options?: PlayerOptions): void;
     feed(block: Bytes): void;
     feedAll(stream: Bytes, form?: Form): number;
+    /** As `feedAll`, and says what of the screen may have changed. */
+    feedChanges(stream: Bytes, form?: Form): Changed;
     take(block: Bytes): ReadPack[];
     draw(pack: Bytes): void;
     drawAll(packs: Bytes): number;
+    /** As `drawAll`, and says what of the screen may have changed. */
+    drawChanges(packs: Bytes): Changed;
     changes(pack: Bytes): boolean;
     /** Four bytes a pixel, in an array of this player that stays valid: the next picture of this player overwrites it. */
     picture(image?: undefined, options?: PictureOptions): Uint8Array;

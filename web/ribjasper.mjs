@@ -40,9 +40,12 @@ const PAGE_BYTES = 65536;
 // A chunk of a stream is copied into the module's memory at a time: whole blocks and whole sectors.
 const CHUNK_BYTES = 384 * SECTOR_BYTES;
 const BLOCKS_AT_ONCE = CHUNK_BYTES / SECTOR_BYTES;
+const BLOCKS_A_CHUNK = CHUNK_BYTES / BLOCK_BYTES;
 // A word has symbols in its last block and the two blocks before it.
 const BLOCKS_BEFORE = 2;
 const COLOURS = 16;
+// A place and a player. A mark of zeros is not set.
+const MARK_BYTES = 8 + PLAYER_BYTES;
 // What `touches` answers for a pack that touches no tile, from 900 on.
 const TOUCHED = ["nothing", "all", "border", "colours", "levels"];
 const FIRST_TOUCHED = 900;
@@ -206,10 +209,9 @@ class Room {
     }
 }
 
-// What the classes below do for each other: the packs of units, the bytes of a player, and a player from such bytes.
+// What the classes below do for each other: the packs of units, and calls that read a stream in the module's memory.
 let packsTaken;
-let stateOf;
-let restoreState;
+let callOn;
 
 /** The module, ready to be called. `load` makes one. */
 export class Ribjasper {
@@ -243,7 +245,7 @@ export class Ribjasper {
 
     /** A player of a whole stream or .cdg file (`form: "cdg"`) that goes to any block or pack. */
     seeker(stream, options = {}) {
-        return new Seeker(this, stream, options);
+        return new Seeker(this.#shared, stream, options);
     }
 
     /**
@@ -409,6 +411,39 @@ export class Ribjasper {
         return blocks;
     }
 
+    /**
+     * How many packs are idle, how many others have valid parity, and how many have none: the packs of a .cdg file without
+     * parity are idle or invalid. A player of the form "packs" draws no invalid pack; `draw` and `drawAll` ignore parity.
+     */
+    parity(packs) {
+        const bytes = wholePacks(packs);
+        const counts = { idle: 0, valid: 0, invalid: 0 };
+        for (let from = 0; from < bytes.length; from += CHUNK_BYTES) {
+            const piece = bytes.subarray(from, from + CHUNK_BYTES);
+            const at = this.#room.put(this.#shared.chunk, piece);
+            this.#room.call("packs_parity", at, BigInt(piece.length / PACK_BYTES), BigInt(this.#shared.work));
+            const numbers = this.#room.numbers(this.#shared.work);
+            Object.keys(counts).forEach((name, k) => { counts[name] += Number(numbers.getBigUint64(8 * k, true)); });
+        }
+        return counts;
+    }
+
+    /**
+     * The packs with their parity: each becomes the codeword with its symbols 0, 1 and 4 to 19. Do not seal packs that have
+     * parity and may be damaged: a wrong symbol then counts as a right one.
+     */
+    seal(packs) {
+        const bytes = wholePacks(packs);
+        const sealed = new Uint8Array(bytes.length);
+        for (let from = 0; from < bytes.length; from += CHUNK_BYTES) {
+            const piece = bytes.subarray(from, from + CHUNK_BYTES);
+            const at = this.#room.put(this.#shared.chunk, piece);
+            this.#room.call("packs_seal", at, BigInt(piece.length / PACK_BYTES));
+            sealed.set(this.#room.bytes.subarray(Number(at), Number(at) + piece.length), from);
+        }
+        return sealed;
+    }
+
     /** What the instruction of a pack may change: `{ kind: "tile", row, column }`, or a kind without a place. */
     touches(pack) {
         const number = this.#room.call("touches", this.#room.put(this.#shared.work, exactly("pack", pack, PACK_BYTES)));
@@ -428,8 +463,7 @@ export class Player {
 
     static {
         packsTaken = (player, units, form, to) => player.#takeAll(units, form, to);
-        stateOf = (player) => player.#room.bytes.slice(player.#place.at, player.#place.at + PLAYER_BYTES);
-        restoreState = (player, state) => player.#room.bytes.set(state, Number(player.#at));
+        callOn = (player, name, ...values) => player.#room.call(name, player.#at, ...values);
     }
 
     constructor(shared, options) {
@@ -482,6 +516,48 @@ export class Player {
             fed += Number(this.#room.call("feed_all", at, number, BigInt(this.#put(piece, form)), BigInt(piece.length)));
         }
         return fed;
+    }
+
+    /**
+     * Reads blocks as `feedAll` does, and says what of the screen may have changed since: the smallest rectangle around the
+     * tiles that were drawn, or null, and whether colours or their levels may have. With other colours or levels any pixel
+     * may look different. Nothing else changed.
+     */
+    feedChanges(stream, form = "raw") {
+        const bytes = bytesOf("stream", stream);
+        const unit = unitOf(form);
+        return this.#changesOf("feed_changes", bytes, form, unit);
+    }
+
+    /** Draws packs as `drawAll` does, and says what of the screen may have changed, as `feedChanges` does. */
+    drawChanges(packs) {
+        return this.#changesOf("draw_all", bytesOf("packs", packs), "cdg", PACK_BYTES);
+    }
+
+    #changesOf(name, bytes, form, unit) {
+        const at = this.#at;
+        const all = Math.floor(bytes.length / unit);
+        const most = Math.floor(CHUNK_BYTES / unit);
+        const changed = { count: all, rectangle: null, colours: false, levels: false };
+        for (let done = 0; done < all; done += most) {
+            const count = Math.min(most, all - done);
+            const place = this.#shared.turned;
+            putUnits(this.#shared, bytes.subarray(unit * done, unit * (done + count)), form, count, place);
+            this.#room.call(name, at, BigInt(place), BigInt(count), BigInt(this.#work));
+            this.#addChange(changed);
+        }
+        return changed;
+    }
+
+    /** Adds the change that the module wrote. */
+    #addChange(changed) {
+        const numbers = this.#room.numbers(this.#work);
+        const [left, top, right, bottom] = [0, 4, 8, 12].map((at) => numbers.getUint32(at, true));
+        if (left < WIDTH) {
+            changed.rectangle = around(changed.rectangle, { x: left, y: top, width: right - left, height: bottom - top });
+        }
+        changed.colours ||= numbers.getUint8(16) !== 0;
+        changed.levels ||= numbers.getUint8(17) !== 0;
     }
 
     /** Copies a chunk into the module's memory, planar blocks as raw ones, and gives its place. */
@@ -604,23 +680,27 @@ export class Player {
     #pixels(options) {
         const { levels, clear } = pictureOptions(options);
         const at = this.#at;
-        this.#room.call("picture", at, BigInt(this.#work));
-        if (levels || clear.length > 0) {
-            this.#writeOpacity(levels, clear);
+        if (levels) {
+            this.#room.call("pixels", at, 1, BigInt(this.#work));
+        } else {
+            this.#room.call("picture", at, BigInt(this.#work));
+        }
+        if (clear.length > 0) {
+            this.#makeClear(clear);
         }
         return this.#room.bytes.subarray(this.#work, this.#work + 4 * PIXELS);
     }
 
-    #writeOpacity(levels, clear) {
+    #makeClear(clear) {
         const behind = this.#work + 4 * PIXELS;
         this.#room.call("screen", this.#at, BigInt(behind));
-        const shown = this.#shown(behind + PIXELS);
-        const opacity = Uint8Array.from(shown.levels, (level) => (levels ? 255 - (4 * level + (level >> 4)) : 255));
-        clear.forEach((colour) => { opacity[colour] = 0; });
+        const isClear = Uint8Array.from({ length: COLOURS }, (_, colour) => (clear.includes(colour) ? 1 : 0));
         const pixels = this.#room.bytes.subarray(this.#work, behind);
         const colours = this.#room.bytes.subarray(behind, behind + PIXELS);
         for (let pixel = 0; pixel < PIXELS; pixel += 1) {
-            pixels[4 * pixel + 3] = opacity[colours[pixel]];
+            if (isClear[colours[pixel]] === 1) {
+                pixels[4 * pixel + 3] = 0;
+            }
         }
     }
 
@@ -632,12 +712,8 @@ export class Player {
 
     /** The colours as 0xRGB, their levels, the border and the offsets. */
     shown() {
-        return this.#shown(this.#work);
-    }
-
-    #shown(place) {
-        this.#room.call("shown", this.#at, BigInt(place));
-        const numbers = this.#room.numbers(place);
+        this.#room.call("shown", this.#at, BigInt(this.#work));
+        const numbers = this.#room.numbers(this.#work);
         return {
             colours: Array.from({ length: COLOURS }, (_, k) => numbers.getUint16(2 * k, true)),
             levels: Array.from({ length: COLOURS }, (_, k) => numbers.getUint8(32 + k)),
@@ -702,32 +778,49 @@ export class Player {
 }
 
 /**
- * A player of a whole stream that goes to any of its blocks, or any pack of a .cdg file. It keeps marks of the player on its
- * way, 65,080 bytes each, at most `marks` of them (default 128), and starts from the nearest one. After `seek(n)` the player
- * is exactly one that read the first n blocks.
+ * A player of a whole stream that goes to any of its blocks, or any pack of a .cdg file. The module's memory holds a copy of
+ * the blocks or packs, and marks of the player on its way, 65,088 bytes each, at most `marks` of them (default 128). After
+ * `seek(n)` the player is exactly one that read the first n blocks, which is proved of the module's call.
  */
 export class Seeker {
+    #shared;
     #player;
-    #bytes;
     #form;
+    #leadIn;
     #unit;
-    #begin;
+    #length;
+    // The blocks or packs from one mark to the next, and the number of marks.
     #every;
-    #marks = [];
+    #count;
+    // The rooms of the blocks or packs and of the marks, until they are given back.
+    #units = null;
+    #marks = null;
     #position = 0;
 
-    constructor(ribjasper, stream, options) {
-        if (!(ribjasper instanceof Ribjasper)) {
+    constructor(shared, stream, options) {
+        if (!(shared?.room instanceof Room)) {
             throw new TypeError("a Seeker is made by Ribjasper.seeker()");
         }
         const { form, leadIn, unit } = seekerOptions(options);
         const bytes = bytesOf("stream", stream);
+        this.#shared = shared;
         this.#form = form;
-        this.#unit = unit;
-        this.#bytes = bytes.subarray(0, bytes.length - (bytes.length % unit));
-        this.#begin = { form: form === "packs" ? "packs" : "raw", leadIn };
-        this.#every = everyOf(options, this.length);
-        this.#player = ribjasper.player(this.#begin);
+        this.#leadIn = leadIn;
+        this.#unit = form === "cdg" ? PACK_BYTES : BLOCK_BYTES;
+        this.#length = Math.floor(bytes.length / unit);
+        this.#every = everyOf(options, this.#length);
+        this.#count = Math.floor(this.#length / this.#every);
+        this.#player = new Player(shared, { form: form === "packs" ? "packs" : "raw", leadIn });
+        try {
+            this.#units = shared.room.take(this.#unit * this.#length);
+            this.#marks = shared.room.take(MARK_BYTES * this.#count);
+        } catch (error) {
+            this.close();
+            throw error;
+        }
+        putUnits(shared, bytes, form, this.#length, this.#units.at);
+        // All zeros are marks that are not set.
+        shared.room.bytes.fill(0, this.#marks.at, this.#marks.at + MARK_BYTES * this.#count);
     }
 
     /** The player, to look at. It belongs to the seeker. */
@@ -737,7 +830,7 @@ export class Seeker {
 
     /** How many blocks, or packs, the stream has. */
     get length() {
-        return this.#bytes.length / this.#unit;
+        return this.#length;
     }
 
     /** How many of them the player has read. */
@@ -747,43 +840,45 @@ export class Seeker {
 
     /** Goes to where the first `position` blocks, or packs, are read. */
     seek(position) {
-        const to = numberOf("position", position, this.length);
-        const mark = Math.min(Math.floor(to / this.#every), this.#marks.length);
-        if (to < this.#position || mark * this.#every > this.#position) {
-            this.#goTo(mark);
+        const to = numberOf("position", position, this.#length);
+        if (this.#units === null) {
+            throw new Error("the seeker is closed");
         }
-        while (this.#position < to) {
-            const next = Math.min(to, this.#every * (Math.floor(this.#position / this.#every) + 1));
-            this.#play(this.#bytes.subarray(this.#unit * this.#position, this.#unit * next));
-            this.#position = next;
-            if (next === this.#every * (this.#marks.length + 1)) {
-                this.#marks.push(stateOf(this.#player));
-            }
-        }
-    }
-
-    // Mark 0 is the beginning.
-    #goTo(mark) {
-        if (mark === 0) {
-            this.#player.begin(this.#begin);
+        const isNear = to >= this.#position && Math.floor(to / this.#every) === Math.floor(this.#position / this.#every);
+        if (isNear) {
+            this.#goOn(to);
         } else {
-            restoreState(this.#player, this.#marks[mark - 1]);
+            this.#goTo(to);
         }
-        this.#position = mark * this.#every;
+        this.#position = to;
     }
 
-    #play(units) {
+    /** No mark lies between here and there, so the player reads on. */
+    #goOn(to) {
+        const at = BigInt(this.#units.at + this.#unit * this.#position);
+        const count = to - this.#position;
         if (this.#form === "cdg") {
-            this.#player.drawAll(units);
+            callOn(this.#player, "draw_all", at, BigInt(count), BigInt(this.#shared.work));
         } else {
-            this.#player.feedAll(units, this.#form);
+            callOn(this.#player, "feed_all", 0, at, BigInt(BLOCK_BYTES * count));
         }
     }
 
-    /** Frees the player and the marks. */
+    #goTo(to) {
+        const units = [BigInt(this.#units.at), BigInt(this.#length), BigInt(to)];
+        const marks = [BigInt(this.#marks.at), BigInt(this.#count), this.#every];
+        const answer = this.#form === "cdg" ? callOn(this.#player, "seek_packs", ...units, ...marks)
+            : callOn(this.#player, "seek", this.#form === "packs" ? 1 : 0, this.#leadIn, ...units, ...marks);
+        if (answer !== 0) {
+            throw new Error(`the module refuses to seek: ${answer}`);
+        }
+    }
+
+    /** Frees the player, the marks and the copy of the stream. */
     close() {
         this.#player.close();
-        this.#marks = [];
+        [this.#units, this.#marks].filter((it) => it !== null).forEach((it) => this.#shared.room.give(it));
+        [this.#units, this.#marks] = [null, null];
     }
 }
 
@@ -874,6 +969,38 @@ function readPacks(room, count, at) {
         }
     }
     return { packs: new Uint8Array(packs.buffer), bad };
+}
+
+/** Copies blocks of 96 bytes, or the packs of a .cdg file, to a place of the module's memory; planar blocks become raw ones. */
+function putUnits({ room, chunk }, bytes, form, count, at) {
+    if (form === "planar") {
+        for (let done = 0; done < count; done += BLOCKS_A_CHUNK) {
+            const more = Math.min(BLOCKS_A_CHUNK, count - done);
+            room.put(chunk, bytes.subarray(BLOCK_BYTES * done, BLOCK_BYTES * (done + more)));
+            room.fromPlanar(chunk, at + BLOCK_BYTES * done, more);
+        }
+    } else if (form === "sectors") {
+        for (let block = 0; block < count; block += 1) {
+            const end = SECTOR_BYTES * (block + 1);
+            room.put(at + BLOCK_BYTES * block, bytes.subarray(end - BLOCK_BYTES, end));
+        }
+    } else {
+        room.put(at, bytes.subarray(0, (form === "cdg" ? PACK_BYTES : BLOCK_BYTES) * count));
+    }
+}
+
+/** The smallest rectangle around two, of which the first may be null. */
+function around(one, other) {
+    if (one === null) {
+        return other;
+    }
+    const [x, y] = [Math.min(one.x, other.x), Math.min(one.y, other.y)];
+    return {
+        x,
+        y,
+        width: Math.max(one.x + one.width, other.x + other.width) - x,
+        height: Math.max(one.y + one.height, other.y + other.height) - y,
+    };
 }
 
 /** The raw blocks of planar ones, at most a chunk, as a view that the next call may spoil. */
@@ -1008,6 +1135,14 @@ function wholeUnits(stream, options) {
     const { unit } = streamOptions(options);
     if (bytes.length % unit !== 0) {
         throw new RangeError(`stream: whole units of ${unit} bytes are wanted, not ${bytes.length} bytes`);
+    }
+    return bytes;
+}
+
+function wholePacks(packs) {
+    const bytes = bytesOf("packs", packs);
+    if (bytes.length % PACK_BYTES !== 0) {
+        throw new RangeError(`packs: whole packs of ${PACK_BYTES} bytes are wanted, not ${bytes.length} bytes`);
     }
     return bytes;
 }

@@ -270,6 +270,127 @@ function withoutOpacity(picture) {
     return picture.filter((_, k) => k % 4 !== 3);
 }
 
+/** Sectors are sought too, marks are used again, a closed seeker refuses, and it leaves no room behind. */
+function compareSeekers(ribjasper, stream, packs) {
+    const sectors = new Uint8Array((stream.length / BLOCK_BYTES) * SECTOR_BYTES).fill(0x77);
+    for (let b = 0; b < stream.length / BLOCK_BYTES; b += 1) {
+        sectors.set(stream.subarray(BLOCK_BYTES * b, BLOCK_BYTES * (b + 1)), SECTOR_BYTES * (b + 1) - BLOCK_BYTES);
+    }
+    const [one, other] = [ribjasper.seeker(sectors, { form: "sectors", leadIn: LEAD_IN }), ribjasper.seeker(stream, { leadIn: LEAD_IN })];
+    for (const to of [0, 1, 749, 750, 751, 1600, 1599, 3, one.length, one.length - 1, 1500]) {
+        [one, other].forEach((it) => it.seek(to));
+        same(one.player.screen(), other.player.screen(), `the screen of sectors at ${to}`);
+        assert.deepEqual(one.player.counts(), other.player.counts());
+    }
+    // What a seeker was given may change afterwards: it holds a copy.
+    const bytes = Uint8Array.from(packs);
+    const seeker = ribjasper.seeker(bytes, { form: "cdg" });
+    bytes.fill(0);
+    seeker.seek(seeker.length);
+    const player = ribjasper.player();
+    player.drawAll(packs);
+    same(seeker.player.screen(), player.screen(), "packs that were overwritten afterwards");
+    [one, other, seeker].forEach((it) => it.close());
+    assert.throws(() => seeker.seek(1), /closed/);
+    seeker.close();
+    const sizes = Array.from({ length: 6 }, () => {
+        const more = ribjasper.seeker(sectors, { form: "sectors" });
+        more.seek(more.length);
+        more.close();
+        return ribjasper.memoryBytes;
+    });
+    assert.equal(new Set(sizes).size, 1, `seekers leave memory behind: ${sizes}`);
+    player.close();
+    console.log("test_web: sectors are sought as raw blocks, a seeker holds a copy, and it gives its memory back");
+}
+
+/** What may have changed holds every pixel that did, and what is fed or drawn is the same as without asking. */
+function compareChanges(ribjasper, stream, packs) {
+    const planar = run(stream, "planar");
+    const [one, other] = [ribjasper.player({ leadIn: LEAD_IN }), ribjasper.player({ leadIn: LEAD_IN })];
+    const isKept = (before, after, { rectangle, colours, levels }) => before.every((pixel, k) => {
+        const [x, y] = [k % 300, Math.floor(k / 300)];
+        return pixel === after[k] || (rectangle !== null && x >= rectangle.x && x < rectangle.x + rectangle.width
+            && y >= rectangle.y && y < rectangle.y + rectangle.height);
+    }) && typeof colours === "boolean" && typeof levels === "boolean";
+    let told = 0;
+    for (const [bytes, form] of [[stream, "raw"], [planar, "planar"]]) {
+        [one, other].forEach((it) => it.begin({ leadIn: LEAD_IN }));
+        for (let at = 0; at < bytes.length; at += 97 * BLOCK_BYTES) {
+            const [piece, before, table] = [bytes.subarray(at, at + 97 * BLOCK_BYTES), one.screen(), one.shown().colours];
+            const change = one.feedChanges(piece, form);
+            assert.equal(change.count, other.feedAll(piece, form));
+            const after = one.screen();
+            same(after, other.screen(), `feedChanges of ${form} at ${at}`);
+            assert.ok(isKept(before, after, change), `what changes of ${form} at ${at}`);
+            assert.ok(change.colours || table.every((it, k) => it === one.shown().colours[k]), "colours that changed");
+            told += change.rectangle === null ? 0 : 1;
+        }
+    }
+    [one, other].forEach((it) => it.begin());
+    for (let at = 0; at < packs.length; at += 31 * PACK_BYTES) {
+        const [piece, before] = [packs.subarray(at, at + 31 * PACK_BYTES), one.screen()];
+        const change = one.drawChanges(piece);
+        assert.equal(change.count, other.drawAll(piece));
+        same(one.screen(), other.screen(), `drawChanges at ${at}`);
+        assert.ok(isKept(before, one.screen(), change), `what changes at ${at}`);
+        told += change.rectangle === null ? 0 : 1;
+    }
+    assert.ok(told > 20);
+    const pack = (...symbols) => Uint8Array.from({ length: PACK_BYTES }, (_, k) => symbols[k] ?? 0);
+    const nothing = { rectangle: null, colours: false, levels: false };
+    assert.deepEqual(one.drawChanges(new Uint8Array(0)), { count: 0, ...nothing });
+    assert.deepEqual(one.feedChanges(new Uint8Array(95)), { count: 0, ...nothing });
+    one.begin();
+    // A tile at row 3 and column 5, then one at row 7 and column 9: six by twelve pixels each.
+    const tiles = [pack(9, 6, 0, 0, 1, 2, 3, 5), pack(9, 38, 0, 0, 1, 2, 7, 9)];
+    assert.deepEqual(one.drawChanges(tiles[0]), { count: 1, ...nothing, rectangle: { x: 30, y: 36, width: 6, height: 12 } });
+    const both = Uint8Array.from([...tiles[0], ...tiles[1]]);
+    assert.deepEqual(one.drawChanges(both), { count: 2, ...nothing, rectangle: { x: 30, y: 36, width: 30, height: 60 } });
+    assert.deepEqual(one.drawChanges(pack(9, 30)), { count: 1, ...nothing, colours: true });
+    assert.deepEqual(one.drawChanges(pack(9, 28)), { count: 1, ...nothing, levels: true });
+    // More packs than the module takes at a time, of which the first and the last draw.
+    const many = new Uint8Array(PACK_BYTES * 90_000);
+    many.set(tiles[0], 0);
+    many.set(tiles[1], many.length - PACK_BYTES);
+    assert.deepEqual(one.drawChanges(many), { count: 90_000, ...nothing, rectangle: { x: 30, y: 36, width: 30, height: 60 } });
+    [one, other].forEach((it) => it.close());
+    console.log(`test_web: ${told} changes that are told hold each pixel that changed`);
+}
+
+/** Parity is counted and written: packs of the program keep theirs, and get it back after it was taken off. */
+function compareParity(ribjasper, packs) {
+    const [count, upper] = [packs.length / PACK_BYTES, packs.map((byte, k) => byte | (64 * (k % 4)))];
+    const idle = Array.from({ length: count }, (_, k) => packs.subarray(PACK_BYTES * k, PACK_BYTES * (k + 1)))
+        .filter((pack) => pack.every((byte) => byte === 0)).length;
+    assert.deepEqual(ribjasper.parity(packs), { idle, valid: count - idle, invalid: 0 });
+    assert.deepEqual(ribjasper.parity(upper), { idle, valid: count - idle, invalid: 0 });
+    const bare = packs.map((byte, k) => ([2, 3, 20, 21, 22, 23].includes(k % PACK_BYTES) ? 0 : byte));
+    assert.deepEqual(ribjasper.parity(bare), { idle, valid: 0, invalid: count - idle });
+    const before = Uint8Array.from(bare);
+    same(ribjasper.seal(bare), packs, "packs that are sealed");
+    same(bare, before, "what is sealed is a copy");
+    same(ribjasper.seal(upper), packs, "packs with upper bits");
+    const many = new Uint8Array(PACK_BYTES * 100_000);
+    many.set(bare, many.length - bare.length);
+    assert.deepEqual(ribjasper.parity(many), { idle: 100_000 - count + idle, valid: 0, invalid: count - idle });
+    same(ribjasper.seal(many).subarray(many.length - bare.length), packs, "the last of many packs");
+    // As blocks of packs they draw nothing without parity, and with it what `drawAll` draws.
+    const blocks = bare.subarray(0, bare.length - (bare.length % BLOCK_BYTES));
+    const [player, drawn] = [ribjasper.player({ form: "packs" }), ribjasper.player()];
+    const black = drawn.screen();
+    drawn.drawAll(blocks);
+    player.feedAll(blocks, "packs");
+    same(player.screen(), black, "packs without parity");
+    player.begin({ form: "packs" });
+    player.feedAll(ribjasper.seal(blocks), "packs");
+    same(player.screen(), drawn.screen(), "packs that were sealed");
+    assert.equal(player.counts().bad, 0);
+    assert.deepEqual(ribjasper.parity(new ArrayBuffer(0)), { idle: 0, valid: 0, invalid: 0 });
+    [player, drawn].forEach((it) => it.close());
+    console.log(`test_web: the parity of ${count} packs is counted and written`);
+}
+
 /** What is closed or done is used again: memory does not grow with what comes and goes. */
 async function compareMemory(module) {
     const ribjasper = await load(module);
@@ -302,9 +423,9 @@ async function refuseArguments(ribjasper, module) {
     structuredClone(detached, { transfer: [detached] });
     const noBytes = [undefined, null, 7, "abc", [1, 2], {}, new Uint16Array(48), new DataView(new ArrayBuffer(96)), new Float64Array(12)];
     const takeBytes = {
-        stream: [(it) => player.feedAll(it), (it) => ribjasper.survey(it), (it) => ribjasper.convert(it), (it) => ribjasper.seeker(it),
+        stream: [(it) => player.feedAll(it), (it) => player.feedChanges(it), (it) => ribjasper.survey(it), (it) => ribjasper.convert(it), (it) => ribjasper.seeker(it),
             (it) => [...ribjasper.converting(it)], (it) => [...ribjasper.surveying(it)]],
-        packs: [(it) => player.drawAll(it)],
+        packs: [(it) => player.drawAll(it), (it) => player.drawChanges(it), (it) => ribjasper.parity(it), (it) => ribjasper.seal(it)],
         planar: [(it) => ribjasper.fromPlanar(it)],
         block: [(it) => player.feed(it), (it) => player.take(it), (it) => ribjasper.textPacks(it)],
         pack: [(it) => player.draw(it), (it) => player.changes(it), (it) => ribjasper.touches(it)],
@@ -344,6 +465,12 @@ async function refuseArguments(ribjasper, module) {
     }
     ["sectors", "planar", "cdg"].forEach((form) => refuses(() => ribjasper.player({ form }), RangeError, "form", form));
     refuses(() => player.feedAll(block, "cdg"), RangeError, "form", "cdg");
+    ["cdg", "Raw", ""].forEach((form) => refuses(() => player.feedChanges(block, form), RangeError, "form", form));
+    [0, null].forEach((form) => refuses(() => player.feedChanges(block, form), TypeError, "form", String(form)));
+    for (const size of [1, 23, 25]) {
+        refuses(() => ribjasper.parity(new Uint8Array(size)), RangeError, "packs", size);
+        refuses(() => ribjasper.seal(new Uint8Array(size)), RangeError, "packs", size);
+    }
     refuses(() => ribjasper.seeker(pack, { form: "cdg", leadIn: 1 }), RangeError, "leadIn", "of a .cdg file");
     refuses(() => ribjasper.seeker(pack, { form: "cdg", marks: -1 }), RangeError, "marks", -1);
     refuses(() => ribjasper.mendReadings(block), TypeError, "readings", "bytes");
@@ -602,7 +729,11 @@ comparePacks(ribjasper, scratched);
 compareForms(ribjasper, scratched);
 compareParts(ribjasper, scratched);
 compareSeeking(ribjasper, scratched, run(whole, "convert", "--lead-in", `${LEAD_IN}`));
-comparePictures(ribjasper, run(whole, "convert", "--lead-in", `${LEAD_IN}`));
+const packs = run(whole, "convert", "--lead-in", `${LEAD_IN}`);
+compareSeekers(ribjasper, scratched, packs);
+compareChanges(ribjasper, scratched, packs);
+compareParity(ribjasper, packs);
+comparePictures(ribjasper, packs);
 await compareMemory(module);
 await refuseArguments(ribjasper, module);
 compareMending(ribjasper, whole, scratched);

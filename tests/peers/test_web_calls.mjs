@@ -1,4 +1,4 @@
-// The calls of the web module on many blocks and packs, and its seeking, by their plain exports: each gives what single calls
+// The calls of the web module on many blocks and packs, and its seeking, pixels and parity, by their plain exports: each gives what single calls
 // give, and what is refused changes nothing. Run by tests/peers/compare_web.sh, or:
 //     node tests/peers/test_web_calls.mjs lib/web/ribjasper.wasm
 import { readFile } from "node:fs/promises";
@@ -185,6 +185,58 @@ function compareSeeks() {
     }
 }
 
+/** Pixels with the opacity of levels, or opaque, write their own bytes only. */
+function comparePixels() {
+    const size = 4 * 300 * 216;
+    const guarded = room(size + 16);
+    const numbers = room(300 * 216);
+    const below = room(56);
+    for (const levels of [0, 1, 2, 4294967295]) {
+        bytes(guarded, size + 16).fill(0xa7);
+        call("pixels", BigInt(one), levels, BigInt(guarded + 8));
+        check(bytes(guarded, 8).every((byte) => byte === 0xa7), "bytes before the pixels");
+        check(bytes(guarded + 8 + size, 8).every((byte) => byte === 0xa7), "bytes behind the pixels");
+        call("screen", ...big(one, numbers));
+        call("shown", ...big(one, below));
+        const wanted = picture(one);
+        bytes(numbers, 300 * 216).forEach((colour, k) => {
+            const level = bytes(below, 56)[32 + colour];
+            wanted[4 * k + 3] = levels === 0 ? 255 : 255 - (4 * level + Math.floor(level / 16));
+        });
+        check(Buffer.compare(bytes(guarded + 8, size), wanted) === 0, `pixels with levels ${levels}`);
+    }
+}
+
+/** Packs are counted and sealed, as many as are named and no byte behind them. */
+function compareParity() {
+    const [counts, sealed, fixed] = [room(40), room(PACK * PACKS + 8), room(PACK)];
+    const parity = (at, count) => {
+        bytes(counts, 40).fill(0xa7);
+        call("packs_parity", ...big(at, count, counts + 8));
+        check(bytes(counts, 8).every((byte) => byte === 0xa7) && bytes(counts + 32, 8).every((byte) => byte === 0xa7), "bytes beside the counts");
+        return [0, 8, 16].map((at) => Number(new DataView(memory.buffer, counts + 8, 24).getBigUint64(at, true)));
+    };
+    check(parity(packs, 0).join() === "0,0,0", "no packs have no parity");
+    bytes(sealed, PACK * PACKS).set(bytes(packs, PACK * PACKS));
+    bytes(sealed + PACK * PACKS, 8).fill(0xa7);
+    const idle = Array.from({ length: PACKS }, (_, n) => bytes(packs + PACK * n, PACK).every((byte) => byte % 64 === 0)).filter(Boolean).length;
+    // Packs of noise are codewords once in 2 ** 36 times.
+    check(parity(packs, PACKS).join() === [idle, 0, PACKS - idle].join(), "packs of noise have no parity");
+    call("packs_seal", ...big(sealed, PACKS - 1));
+    check(Buffer.compare(bytes(sealed + PACK * (PACKS - 1), PACK), bytes(packs + PACK * (PACKS - 1), PACK)) === 0, "the pack behind those that are sealed");
+    call("packs_seal", ...big(sealed, PACKS));
+    check(bytes(sealed + PACK * PACKS, 8).every((byte) => byte === 0xa7), "bytes behind the packs");
+    check(parity(sealed, PACKS).reduce((a, b) => a + b) === PACKS && parity(sealed, PACKS)[2] === 0, "packs that are sealed have parity");
+    for (let n = 0; n < PACKS; n++) {
+        const [before, after] = [bytes(packs + PACK * n, PACK), bytes(sealed + PACK * n, PACK)];
+        check([0, 1, 4, 5, 6, 7, 8, 9, 10, 11, 12, 13, 14, 15, 16, 17, 18, 19].every((k) => after[k] === before[k] % 64), `symbols of pack ${n}`);
+        // A wrong symbol is corrected to it: the parity is that of the code.
+        bytes(fixed, PACK).set(after);
+        bytes(fixed, PACK)[n % PACK] ^= 1 + (n % 63);
+        check(parity(fixed, 1)[2] === 1, `pack ${n} with a wrong symbol`);
+    }
+}
+
 /** What is refused changes neither the player nor the marks. */
 function compareRefusals() {
     const [kept, keptMarks] = [bytes(one, PLAYER).slice(), bytes(marks, MARK * MARKS).slice()];
@@ -201,6 +253,8 @@ function compareRefusals() {
 compareMany();
 comparePlanar();
 compareSeeks();
+comparePixels();
+compareParity();
 compareRefusals();
 if (failed === 0) {
     console.log("test_web_calls: calls on many blocks and packs, and seeking, give what single calls give");
