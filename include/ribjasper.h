@@ -19,9 +19,9 @@
 
    Failure. A call that fails writes nothing, except where its comment says so, and leaves its player unchanged.
 
-   Memory. ribjasper_player_open allocates 65,080 bytes with malloc, in one request, if the player is closed. A call
-   whose comment says that it allocates memory frees it before it returns. No other call allocates. A call uses at most
-   16,384 bytes of stack; a call that mends, at most 81,920. */
+   Memory. ribjasper_player_open allocates 65,080 bytes with malloc, in one request, if the player is closed. If the comment
+   of a call says that it allocates memory, the call frees this memory before it returns. No other call allocates. A call
+   uses at most 16,384 bytes of stack; a call that mends, at most 81,920. */
 #ifndef RIBJASPER_H
 #define RIBJASPER_H
 
@@ -148,10 +148,10 @@ typedef struct ribjasper_player {
     bool is_open;
 } ribjasper_player;
 
-/* A closed player as an initializer and as a value: `ribjasper_player player = RIBJASPER_CLOSED;`. A static player needs no
-   initializer, since it is zeros. Where a compiler accepts only constants for it (gcc -pedantic), a static player can be
-   initialized with RIBJASPER_CLOSED_STATIC. In C89 and C++98 the value needs gcc or clang; with other compilers it is an
-   initializer only. RIBJASPER_CLOSED_PLAYER is the older name of the value. */
+/* RIBJASPER_CLOSED is a closed player, as an initializer and as a value: `ribjasper_player player = RIBJASPER_CLOSED;`. A
+   static player needs no initializer, since it is zeros. Where a compiler accepts only constants for it (gcc -pedantic), a
+   static player can be initialized with RIBJASPER_CLOSED_STATIC. In C89 and C++98 the value needs gcc or clang; with other
+   compilers it is an initializer only. RIBJASPER_CLOSED_PLAYER is the older name of the value. */
 #define RIBJASPER_CLOSED_STATIC { { NULL }, false }
 #if defined __cplusplus && __cplusplus >= 201103L
 #define RIBJASPER_CLOSED (ribjasper_player RIBJASPER_CLOSED_STATIC)
@@ -164,10 +164,10 @@ typedef struct ribjasper_player {
 #endif
 #define RIBJASPER_CLOSED_PLAYER RIBJASPER_CLOSED
 
-/* Opens a player of a raw stream without lead-in. A player that is already open keeps its memory and is reset; it is
+/* Opens a player of a raw stream without lead-in. A player that is already open keeps its memory and is reset; this is
    never refused. Allocates memory that ribjasper_player_close frees.
      player: the player
-   Returns RIBJASPER_DONE, or RIBJASPER_REFUSED if the player was closed and memory is exhausted; then it stays closed. */
+   Returns RIBJASPER_DONE, or RIBJASPER_REFUSED if the player was closed and malloc failed; then the player stays closed. */
 RIBJASPER_NODISCARD int32_t ribjasper_player_open(ribjasper_player *player);
 
 /* Closes a player and frees its memory. A closed player stays closed. Close each open player once.
@@ -212,9 +212,10 @@ int32_t ribjasper_player_take(ribjasper_player *player, const uint8_t block[RIBJ
    Returns RIBJASPER_DONE, or RIBJASPER_REFUSED if the player is closed. */
 int32_t ribjasper_player_draw(ribjasper_player *player, const uint8_t pack[24]);
 
-/* The part of the screen that may have changed: the pixels from column `left` to `right` - 1 of rows `top` to `bottom` - 1
-   (none if `left` is 300), and whether colours of the table or levels may have changed (1 or 0). If colours or levels
-   changed, any pixel may look different, although its number is the same. Nothing else changed. */
+/* The part of the screen that may have changed. The pixels are those from column `left` to `right` - 1 of rows `top` to
+   `bottom` - 1, or none if `left` is 300. `colours` and `levels` are 1 if colours of the table or levels may have changed,
+   or 0. If colours or levels changed, any pixel may look different, although its number is the same. Nothing else changed.
+   */
 typedef struct ribjasper_change {
     uint32_t left;
     uint32_t top;
@@ -629,7 +630,8 @@ int32_t ribjasper_convert(const uint8_t *stream, size_t length, uint32_t form, u
 
 /* The result of mending two readings. Each word is counted in one of five numbers: `both` if both readings have its
    codeword; `of_first` or `of_second` if only one has it; `agreed` if no codeword counts and both readings agree on one;
-   `none` if there is no codeword and 24 zeros are written. The five add up to the number of words, which is bytes / 24. */
+   `none` if there is no codeword and 24 zeros are written. The five numbers add up to the number of words, which is bytes /
+   24. */
 typedef struct ribjasper_mended {
     uint64_t bytes;
     uint32_t blocks;
@@ -654,7 +656,7 @@ int32_t ribjasper_mend(const uint8_t *first, size_t first_length, const uint8_t 
                        uint32_t lead_in, uint8_t *packs, size_t room, ribjasper_mended *result);
 
 #define RIBJASPER_READINGS 254   /* maximum number of readings in one call */
-#define RIBJASPER_AGREED 254     /* in place of the number of a reading: two readings agree on the codeword */
+#define RIBJASPER_AGREED 254     /* instead of the number of a reading: two readings agree on the codeword */
 #define RIBJASPER_NO_READING 255 /* there is no codeword */
 
 /* The result of mending any number of readings, numbered from 0. Entries beyond the last reading are 0. The numbers of
@@ -662,16 +664,16 @@ int32_t ribjasper_mend(const uint8_t *first, size_t first_length, const uint8_t 
 typedef struct ribjasper_mended_readings {
     uint64_t bytes;    /* bytes written */
     uint32_t blocks;   /* program blocks */
-    uint32_t agreed;   /* words whose codeword is the one on which two readings agree */
+    uint32_t agreed;   /* words whose codeword is an agreement of two readings */
     uint32_t none;     /* words without a codeword; 24 zeros are written for each */
     uint32_t reserved; /* 0 */
-    uint32_t of_reading[RIBJASPER_READINGS]; /* words whose codeword is that of the reading, and of no earlier reading
-                                                with the same distance */
+    uint32_t of_reading[RIBJASPER_READINGS]; /* words whose codeword comes from this reading; of readings with the
+                                                same codeword and distance, only the first counts */
     uint32_t dropped[RIBJASPER_READINGS];    /* words at which the reading has a codeword that does not count */
 } ribjasper_mended_readings;
 
 /* Mends readings of one stream of raw blocks into packs. The readings follow each other and have equal lengths.
-     readings, length: all readings, and the bytes of all together (ribjasper_mend takes the bytes of each reading)
+     readings, length: all readings, and their total size in bytes (in ribjasper_mend a length is that of one reading)
      count: how many readings, 1 to 254
      lead_in: lead-in blocks of each reading, at most 450,000
      packs, room: the output and its bytes: 24 for each word
@@ -687,15 +689,15 @@ int32_t ribjasper_mend_readings(const uint8_t *readings, size_t length, uint32_t
                                 uint8_t *packs, size_t room, uint8_t *sources, size_t words,
                                 ribjasper_mended_readings *result);
 
-/* Mends readings as the call above does, into a stream of blocks that is as long as each reading, its lead-in included. The
-   symbols of a mended word are those of its codeword. Every other symbol is that of the first reading whose block is not
-   unread, or 0 if all are unread. P and Q of a block come from the first reading with a good Q frame there. If there is
-   none, they come from the first reading that was read there. ribjasper_convert writes the codeword of each mended word
-   from this stream. If there is only one reading, the stream is that reading with its words corrected.
+/* Mends readings as ribjasper_mend_readings does, into a stream of blocks. The stream is as long as each reading, including
+   the lead-in. The symbols of a mended word are those of its codeword. Every other symbol is that of the first reading
+   whose block is not unread, or 0 if all are unread. P and Q of a block come from the first reading with a good Q frame
+   there. If there is none, they come from the first reading that was read there. ribjasper_convert writes the codeword of
+   each mended word from this stream. If there is only one reading, the stream is that reading with its words corrected.
      blocks, room: the output and its bytes, as many as a reading has; it must not overlap the readings
-     sources, words: as above
+     sources, words: as in ribjasper_mend_readings
      result: the counts; result->bytes are the bytes of the stream
-   Returns what the call above returns; RIBJASPER_NO_ROOM if `room` is smaller than a reading. This call allocates
+   Returns the same as ribjasper_mend_readings; RIBJASPER_NO_ROOM if `room` is smaller than a reading. This call allocates
    nothing. */
 RIBJASPER_NODISCARD
 int32_t ribjasper_mend_stream(const uint8_t *readings, size_t length, uint32_t count, uint32_t lead_in,
@@ -709,12 +711,12 @@ typedef struct ribjasper_mend_reported {
     uint32_t lost[RIBJASPER_READINGS];
 } ribjasper_mend_reported;
 
-/* The same as ribjasper_mend_readings, with this report. */
+/* Does the same as ribjasper_mend_readings, and writes this report. */
 RIBJASPER_NODISCARD
 int32_t ribjasper_mend_report(const uint8_t *readings, size_t length, uint32_t count, uint32_t lead_in, uint8_t *packs,
                               size_t room, uint8_t *sources, size_t words, ribjasper_mend_reported *report);
 
-/* The same as ribjasper_mend_stream, with this report. */
+/* Does the same as ribjasper_mend_stream, and writes this report. */
 RIBJASPER_NODISCARD
 int32_t ribjasper_mend_stream_report(const uint8_t *readings, size_t length, uint32_t count, uint32_t lead_in,
                                      uint8_t *blocks, size_t room, uint8_t *sources, size_t words,
@@ -724,11 +726,11 @@ int32_t ribjasper_mend_stream_report(const uint8_t *readings, size_t length, uin
    numbered from 0. */
 typedef struct ribjasper_plan_row {
     uint32_t line;  /* the line of the script with its `show`, from 1 */
-    uint32_t ready; /* its ready time */
-    uint32_t hold;  /* its hold time */
-    uint32_t need;  /* the packs that its change needs, at most 3,076 */
-    uint32_t free;  /* the packs that are free for it */
-    uint32_t first; /* the first pack that is free for it */
+    uint32_t ready; /* the ready time of the picture */
+    uint32_t hold;  /* the hold time of the picture */
+    uint32_t need;  /* how many packs the change of the picture needs, at most 3,076 */
+    uint32_t free;  /* how many packs are free for the change */
+    uint32_t first; /* the first of these free packs */
     uint8_t late;   /* 1 if the change does not fit before the ready time, also an empty change; otherwise 0 */
 } ribjasper_plan_row;
 
@@ -745,10 +747,10 @@ typedef struct ribjasper_planned {
 /* The reasons why there is no plan, in the order in which the program's `author` checks them. (`author` checks the length
    of the script after the lines of the sheet.) */
 #define RIBJASPER_TEXT_TOO_LONG 1   /* the sheet or the script has more than 67,108,864 bytes */
-#define RIBJASPER_SHEET_REFUSED 2   /* a line of the sheet; the number is its reason: 1 unknown-command, 2 second-file,
-    3 misplaced, 4 bad-argument, 5 repeated, 6 no-index, 7 not-audio, 8 number-order, 9 index-order, 10 time-order,
-    11 no-file, 12 no-track */
-#define RIBJASPER_SCRIPT_REFUSED 3  /* a line of the script; the number is its reason: 1 unknown-command,
+#define RIBJASPER_SHEET_REFUSED 2   /* a line of the sheet is refused; the number is the reason: 1 unknown-command,
+    2 second-file, 3 misplaced, 4 bad-argument, 5 repeated, 6 no-index, 7 not-audio, 8 number-order, 9 index-order,
+    10 time-order, 11 no-file, 12 no-track */
+#define RIBJASPER_SCRIPT_REFUSED 3  /* a line of the script is refused; the number is the reason: 1 unknown-command,
     2 bad-argument, 3 out-of-range, 4 time-order, 5 too-many */
 #define RIBJASPER_LENGTH_SHORT 4    /* the audio is too short; the number is how many blocks the index lines need */
 #define RIBJASPER_DISC_TOO_LONG 5   /* the disc is too long; the number is its program blocks */
@@ -756,7 +758,7 @@ typedef struct ribjasper_planned {
 #define RIBJASPER_CD_TEXT_TOO_LONG 7 /* the number is how many packs the CD-TEXT needs; at most 256 are allowed */
 #define RIBJASPER_LEAD_IN_SHORT 8   /* the lead-in is too short; the number is how many blocks it needs */
 
-/* What ribjasper_plan returns, besides RIBJASPER_USAGE, RIBJASPER_NO_ROOM and RIBJASPER_NO_MEMORY. */
+/* The results of ribjasper_plan, besides RIBJASPER_USAGE, RIBJASPER_NO_ROOM and RIBJASPER_NO_MEMORY. */
 #define RIBJASPER_PLANNED 0     /* each picture is on time */
 #define RIBJASPER_NOT_PLANNED 3 /* `result` has the reason, and no row is written */
 #define RIBJASPER_LATE 4        /* pictures are late; their rows have `late` 1 */
@@ -779,24 +781,24 @@ int32_t ribjasper_plan(const uint8_t *sheet, size_t sheet_length, const uint8_t 
 
 /* An index line of a cue sheet, with the data of its track. Times are blocks, 75 a second, below 450,000. */
 typedef struct ribjasper_sheet_row {
-    uint32_t time;    /* its time in the file */
-    uint32_t pregap;  /* the silence before its track */
-    uint32_t postgap; /* the silence after its track */
-    uint8_t track;    /* the number of its track, 1 to 99 */
-    uint8_t index;    /* its number, 0 to 99 */
-    uint8_t control;  /* flags of its track: 8 four channels, 2 copying permitted, 1 pre-emphasis */
-    uint8_t has_isrc; /* 1 if its track has an ISRC, or 0 */
+    uint32_t time;    /* the time of the index in the file */
+    uint32_t pregap;  /* the silence before the track */
+    uint32_t postgap; /* the silence after the track */
+    uint8_t track;    /* the number of the track, 1 to 99 */
+    uint8_t index;    /* the number of the index, 0 to 99 */
+    uint8_t control;  /* flags of the track: 8 four channels, 2 copying permitted, 1 pre-emphasis */
+    uint8_t has_isrc; /* 1 if the track has an ISRC, or 0 */
     uint8_t isrc[12]; /* the ISRC, or zeros */
 } ribjasper_sheet_row;
 
-/* The result of reading a cue sheet. If it is refused, only `line` and `why` are not 0. */
+/* The result of reading a cue sheet. If the sheet is refused, only `line` and `why` are not 0. */
 typedef struct ribjasper_sheet_told {
     uint32_t rows;         /* index lines, at most 9,900 */
     uint32_t tracks;       /* tracks, 1 to 99 */
     uint32_t line;         /* the first refused line, from 1 (the end counts as the line after the last), or 0 */
     uint32_t why;          /* the reason, a number listed at RIBJASPER_SHEET_REFUSED, or 0 */
-    uint8_t has_catalogue; /* 1 if it has a catalogue number, or 0 */
-    uint8_t catalogue[13]; /* its digits in ASCII, or zeros */
+    uint8_t has_catalogue; /* 1 if the sheet has a catalogue number, or 0 */
+    uint8_t catalogue[13]; /* the digits of this number in ASCII, or zeros */
 } ribjasper_sheet_told;
 
 /* Reads a cue sheet: one row for each index line, in order.
@@ -831,7 +833,8 @@ RIBJASPER_NODISCARD int32_t ribjasper_sheet_text(const uint8_t *sheet, size_t le
 
 #define RIBJASPER_NO_TIME 0xFFFFFFFFu /* in place of an absolute time */
 
-/* In place of the kind of a frame (RIBJASPER_Q_PROGRAM, 0, to RIBJASPER_Q_OTHER, 7), if a block has no frame. */
+/* These numbers replace the kind of a frame (RIBJASPER_Q_PROGRAM, 0, to RIBJASPER_Q_OTHER, 7) if a block has no valid
+   frame. */
 #define RIBJASPER_Q_NONE 253      /* a stream of RIBJASPER_PACKS has no Q channel */
 #define RIBJASPER_Q_BAD_FIELD 254 /* the CRC is right, but a field is out of its range */
 #define RIBJASPER_Q_BAD_CHECK 255 /* the CRC is wrong; this includes 96 zero bits */
@@ -870,7 +873,7 @@ RIBJASPER_NODISCARD
 int32_t ribjasper_survey(const uint8_t *stream, size_t length, uint32_t form, uint32_t lead_in, ribjasper_row *rows,
                          size_t room, ribjasper_surveyed *result);
 
-/* Writes the four CD-TEXT packs of a lead-in block: the low six bits of its 96 symbols in order, 18 bytes for each pack.
+/* Writes the four CD-TEXT packs of a lead-in block: the low six bits of its 96 bytes in order, 18 bytes for each pack.
    ribjasper_text_pack_matches reports which of the four have a valid CRC.
      block: the block, 96 bytes
      packs: the output, 72 bytes */
@@ -893,7 +896,7 @@ typedef struct ribjasper_listed {
      form: RIBJASPER_RAW or RIBJASPER_SECTORS
      lead_in: lead-in blocks, at most 450,000
      out, room: the output, and its size in bytes
-     result: the counts, or the pack that is the reason
+     result: the counts, or the missing or invalid pack
    Returns RIBJASPER_CONVERTED. RIBJASPER_TEXT_MISSING, RIBJASPER_TEXT_NO_SIZE or RIBJASPER_TEXT_MALFORMED: the texts are
    refused, only `result` is written. Otherwise nothing is written. RIBJASPER_USAGE: `form` or `lead_in` is out of range.
    RIBJASPER_TORN: the stream is torn or too long. RIBJASPER_NO_ROOM: the output is too small. RIBJASPER_NO_MEMORY: malloc
