@@ -150,8 +150,9 @@ typedef struct ribjasper_player {
 
 /* RIBJASPER_CLOSED is a closed player, as an initializer and as a value: `ribjasper_player player = RIBJASPER_CLOSED;`. A
    static player needs no initializer, since it is zeros. Where a compiler accepts only constants for it (gcc -pedantic), a
-   static player can be initialized with RIBJASPER_CLOSED_STATIC. In C89 and C++98 the value needs gcc or clang; with other
-   compilers it is an initializer only. RIBJASPER_CLOSED_PLAYER is the older name of the value. */
+   static player can be initialized with RIBJASPER_CLOSED_STATIC. In C89 and C++98, only gcc and clang accept
+   RIBJASPER_CLOSED as a value; other compilers accept it only as an initializer. RIBJASPER_CLOSED_PLAYER is the older name
+   of the value. */
 #define RIBJASPER_CLOSED_STATIC { { NULL }, false }
 #if defined __cplusplus && __cplusplus >= 201103L
 #define RIBJASPER_CLOSED (ribjasper_player RIBJASPER_CLOSED_STATIC)
@@ -494,7 +495,7 @@ void ribjasper_text_pack_symbols(const uint8_t pack[18], uint8_t symbols[24]);
    are blocks, 75 a second, below 450,000. */
 typedef struct ribjasper_q_frame {
     uint32_t kind;     /* one of the kinds above */
-    uint32_t time;     /* kind 0: the distance from the start of the music of the track; 1 to 4: time of the lead-in */
+    uint32_t time;     /* kind 0: the distance from the start of the track's music; kinds 1 to 4: the time of the lead-in */
     uint32_t absolute; /* a time from the start of the program area */
     uint8_t control;   /* 0 to 15: 8 four channels, 4 data, 2 copying permitted, 1 pre-emphasis */
     uint8_t mode;      /* 0 to 15 */
@@ -557,8 +558,8 @@ typedef struct ribjasper_tally {
 } ribjasper_tally;
 
 /* Feeds an open player the next block, as ribjasper_player_feed, and adds its packs and its frame to a tally. If the tally
-   began with the player, its numbers of packs and frames are those of the program's command `check` for all blocks so far.
-   Saving, restoring or copying a player does not include the tally: keep a copy of it together with the checkpoint.
+   began with the player, it has the same numbers of packs and frames as the program's command `check` for all blocks so
+   far. Saving, restoring or copying a player does not include the tally: keep a copy of it together with the checkpoint.
      player: the player
      block: 96 bytes
      tally: the counts, which are read and written
@@ -642,8 +643,8 @@ typedef struct ribjasper_mended {
     uint32_t none;
 } ribjasper_mended;
 
-/* Mends two readings of one stream of raw blocks into packs: 24 bytes for each word, 4 B - 7 words of B program blocks (none
-   of fewer than two). The readings may be the same bytes.
+/* Mends two readings of one stream of raw blocks into packs: 24 bytes for each word, 4 B - 7 words of B program blocks
+   (none of fewer than two). The two readings may be the same memory.
      first, first_length, second, second_length: the readings, and the bytes of each
      lead_in: how many blocks at the start of each reading are ignored, at most 450,000
      packs, room: the output, and its size in bytes
@@ -829,7 +830,7 @@ RIBJASPER_NODISCARD int32_t ribjasper_sheet(const uint8_t *sheet, size_t length,
 RIBJASPER_NODISCARD int32_t ribjasper_sheet_text(const uint8_t *sheet, size_t length, uint32_t kind, uint32_t place,
                                                  uint8_t *out, size_t room, uint32_t *bytes);
 
-/* What each block of a stream holds, and what a lead-in holds. */
+/* The contents of each block of a stream, and the texts of a lead-in. */
 
 #define RIBJASPER_NO_TIME 0xFFFFFFFFu /* in place of an absolute time */
 
