@@ -143,14 +143,20 @@ impl Stage for BlockWords {
 
     ghost idle = { Some (record { items = replicate slots_a_block idle_pack }) };
 
+    // The words are gathered where they are given: `gathered` would have them copied.
     #[inline]
+    #[tactic(auto, unfolding(crate::specs::Steps::words_next, crate::specs::Steps::words_give))]
     fn feed(&mut self, block: &[u8; BLOCK_BYTES]) -> Option<BlockOfWords> {
         if self.stays_idle(block) {
             return Some(BlockOfWords::idle());
         }
-        match self.gathered(block) {
-            Some(words) => Some(BlockOfWords::new(words)),
-            None => None,
+        if self.lead_in > 0 {
+            self.lead_in -= 1;
+            return None;
+        }
+        match self.form {
+            Form::Raw | Form::Sector => Some(BlockOfWords::new(self.gather.gather_block(block))),
+            Form::Cooked => Some(BlockOfWords::new(slots(block))),
         }
     }
 
