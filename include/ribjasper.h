@@ -54,10 +54,10 @@ extern "C" {
 /* Returns the version of the linked library, as the same kind of number. */
 uint32_t ribjasper_version(void);
 
-/* The answers of calls. A number has the same meaning in every call that returns an answer. These calls return something
-   else: ribjasper_player_take a count, ribjasper_correct, ribjasper_pack_touches, ribjasper_tile_weight and
-   ribjasper_text_pack_matches a number that their comments explain, and ribjasper_q_decode its own codes. Older names
-   further below have the same numbers. */
+/* The answers of calls. A number has the same meaning in every call that returns an answer. Some calls return something
+   else. ribjasper_player_take returns a count. ribjasper_correct, ribjasper_pack_touches, ribjasper_tile_weight and
+   ribjasper_text_pack_matches return a number that their comments explain. ribjasper_q_decode returns its own codes. Older
+   names further below have the same numbers. */
 typedef enum ribjasper_answer {
     RIBJASPER_ANSWER_REFUSED = -1,       /* a player is closed, a number is out of range, or (open) out of memory */
     RIBJASPER_ANSWER_DONE = 0,           /* done */
@@ -88,7 +88,7 @@ void ribjasper_answer_text(int32_t answer, char text[RIBJASPER_ANSWER_TEXT]);
 #define RIBJASPER_HEIGHT 216   /* height of the screen in pixels, with the border */
 #define RIBJASPER_PIXELS 64800 /* pixels of the screen, row by row from the top, each row from the left */
 #define RIBJASPER_COLOURS 16   /* colours of the table */
-#define RIBJASPER_PICTURE 194400 /* bytes of a picture: red, green and blue of each pixel, 17 times their four bits */
+#define RIBJASPER_PICTURE 194400 /* bytes of a picture: three for each pixel, as in RIBJASPER_RGB */
 #define RIBJASPER_WINDOW_LEFT 6     /* the first column of the window inside the border */
 #define RIBJASPER_WINDOW_TOP 12     /* the first row of the window */
 #define RIBJASPER_WINDOW_WIDTH 288  /* the width of the window in pixels */
@@ -103,7 +103,7 @@ void ribjasper_answer_text(int32_t answer, char text[RIBJASPER_ANSWER_TEXT]);
 #define RIBJASPER_PACKS_A_BLOCK 4       /* packs of a block */
 #define RIBJASPER_BLOCKS_A_SECOND 75    /* blocks in a second */
 #define RIBJASPER_PACKS_A_SECOND 300    /* packs in a second */
-#define RIBJASPER_PACKS_BEHIND 7        /* how many packs the picture of a raw stream is behind its blocks */
+#define RIBJASPER_PACKS_BEHIND 7        /* by how many packs the picture lags behind the blocks of a raw stream */
 #define RIBJASPER_MOST_LEAD_IN 450000   /* maximum number of blocks of a lead-in */
 #define RIBJASPER_MOST_AUDIO 449999     /* maximum number of blocks of the audio of a plan */
 #define RIBJASPER_MOST_BLOCKS 1000000   /* maximum number of blocks of a whole stream */
@@ -139,8 +139,8 @@ uint64_t ribjasper_time_of_packs(uint32_t packs);
 #define RIBJASPER_PACKS 1
 #define RIBJASPER_SECTORS 2
 
-/* A player. A new player is RIBJASPER_CLOSED or memory of zeros, such as a static variable. Never use two byte copies of an
-   open player, and change a player only by these calls. */
+/* A player. A new player is RIBJASPER_CLOSED or memory of zeros, such as a static variable. Never use two copies of the
+   bytes of an open player, and change a player only by these calls. */
 typedef struct ribjasper_player {
     struct {
         void *at;
@@ -245,9 +245,9 @@ int32_t ribjasper_player_feed_all(ribjasper_player *player, const uint8_t *block
    Returns RIBJASPER_DONE, or RIBJASPER_REFUSED if the player is closed. */
 int32_t ribjasper_player_draw_all(ribjasper_player *player, const uint8_t *packs, size_t count, ribjasper_change *change);
 
-/* The counts of a player since it began, or since the checkpoint from which it was restored: all packs (`words`), its form
-   and lead-in, all blocks, and the packs with no codeword near (`bad`). Drawn packs are not counted. `blocks` and `bad`
-   saturate at 4,294,967,295. */
+/* The counts of a player since it began, or since the checkpoint from which it was restored. `words` counts all packs,
+   `blocks` all blocks, and `bad` the packs with no codeword near. `form` and `lead_in` are those of the player. Drawn packs
+   are not counted. `blocks` and `bad` saturate at 4,294,967,295. */
 typedef struct ribjasper_counts {
     uint64_t words;
     uint32_t form;
@@ -282,8 +282,8 @@ int32_t ribjasper_player_screen(const ribjasper_player *player, uint8_t pixels[R
      width, height: the size in pixels
      pixels, room: the output and its size in bytes
      stride: bytes from the start of a row to the next, at least `width`; bytes between rows are left unchanged
-   Returns RIBJASPER_DONE, or RIBJASPER_REFUSED if the player is closed, x + width is above 300, y + height above 216,
-   `stride` below `width`, or if the last row ends beyond `room`. */
+   Returns RIBJASPER_DONE, or RIBJASPER_REFUSED if the player is closed or the rectangle does not fit. It does not fit if x
+   + width is above 300, if y + height is above 216, if `stride` is below `width`, or if the last row ends beyond `room`. */
 RIBJASPER_NODISCARD
 int32_t ribjasper_player_rect(const ribjasper_player *player, uint32_t x, uint32_t y, uint32_t width, uint32_t height,
                               uint8_t *pixels, size_t room, uint32_t stride);
@@ -297,7 +297,7 @@ int32_t ribjasper_player_picture(const ribjasper_player *player, uint8_t bytes[R
 /* The formats of pixels, with the bytes of a pixel in order. The opacity of a pixel whose colour has level L is
    255 - (4 L + L / 16): level 0 is opaque (255), level 63 transparent (0). */
 #define RIBJASPER_INDEXED 0     /* 1 byte: the number of its colour */
-#define RIBJASPER_RGB 1         /* 3 bytes: red, green, blue, each 17 times four bits */
+#define RIBJASPER_RGB 1         /* 3 bytes: red, green, blue; each is 17 times the four bits of the colour */
 #define RIBJASPER_RGBA 2        /* 4 bytes: red, green, blue, 255 */
 #define RIBJASPER_BGRA 3        /* 4 bytes: blue, green, red, 255 */
 #define RIBJASPER_RGBA_LEVELS 4 /* 4 bytes: red, green, blue, opacity */
@@ -311,8 +311,9 @@ int32_t ribjasper_player_picture(const ribjasper_player *player, uint8_t bytes[R
      width, height: the size in pixels
      out, room: the output and its size in bytes
      stride: bytes from the start of a row to the next, at least the bytes of a row; bytes between rows are left unchanged
-   Returns RIBJASPER_DONE, or RIBJASPER_REFUSED if the player is closed, the format is unknown, or the part does not fit:
-   x + width is above 300, y + height above 216, `stride` below the bytes of a row, or the last row ends beyond `room`. */
+   Returns RIBJASPER_DONE, or RIBJASPER_REFUSED if the player is closed, the format is unknown, or the rectangle does not
+   fit. It does not fit if x + width is above 300, if y + height is above 216, if `stride` is below the bytes of a row, or
+   if the last row ends beyond `room`. */
 RIBJASPER_NODISCARD
 int32_t ribjasper_player_pixels(const ribjasper_player *player, uint32_t format, uint32_t x, uint32_t y, uint32_t width,
                                 uint32_t height, uint8_t *out, size_t room, uint32_t stride);
@@ -390,7 +391,7 @@ typedef struct ribjasper_mark {
    k, from 0, is for place (k + 1) * every. So a seek feeds less than `every` blocks if the marks up to there are set.
      player: the player
      form, lead_in: as in ribjasper_player_begin
-     blocks, count: the stream from its start, with the lead-in: blocks of 96 bytes, and their number
+     blocks, count: the blocks of the stream from its start, including the lead-in, 96 bytes each, and their number
      to: the number of blocks, at most `count`
      marks, marks_count: the marks, which may be none
      every: the blocks from one mark to the next, at least 1
@@ -402,7 +403,7 @@ int32_t ribjasper_player_seek(ribjasper_player *player, uint32_t form, uint32_t 
 /* Seeks in a list of packs, such as a .cdg file: puts an open player into the state after ribjasper_player_begin and
    drawing the first `to` packs. Marks are as in ribjasper_player_seek.
      player: the player; it continues as a player of a raw stream without lead-in
-     packs, count: the packs from the first, 24 bytes each, and their number
+     packs, count: the packs from the first one on, 24 bytes each, and their number
      to: the number of packs, at most `count`
      marks, marks_count: the marks, which may be none
      every: the packs from one mark to the next, at least 1
@@ -411,19 +412,19 @@ RIBJASPER_NODISCARD
 int32_t ribjasper_player_seek_packs(ribjasper_player *player, const uint8_t *packs, size_t count, uint64_t to,
                                     ribjasper_mark *marks, size_t marks_count, uint32_t every);
 
-/* What the instruction of a pack can change, if it is not a tile. The memory consists of tiles: rows of twelve pixels and
-   columns of six. The screen shows each tile moved left and up by the offsets. The outermost tiles of the screen are under
-   the border. */
+/* The results of ribjasper_pack_touches for instructions that do not draw one tile. The memory consists of tiles: rows of
+   twelve pixels and columns of six. The screen shows each tile moved left and up by the offsets. The outermost tiles of the
+   screen are under the border. */
 #define RIBJASPER_TOUCHES_NOTHING 900
 #define RIBJASPER_TOUCHES_ALL 901     /* the whole memory, and the offsets */
 #define RIBJASPER_TOUCHES_BORDER 902
 #define RIBJASPER_TOUCHES_COLOURS 903 /* colours of the table */
 #define RIBJASPER_TOUCHES_LEVELS 904
 
-/* Reports what the instruction of a pack can change, for every screen. Nothing else changes.
+/* Reports what the instruction of a pack can change on any screen. Nothing else changes.
      pack: 24 bytes
-   Returns no answer of the list above but a number: 50 times the row plus the column of a tile of the memory, 0 to 899, or
-   one of the numbers above. */
+   Returns a number that is not an answer of the list above. It is 0 to 899 for a tile of the memory: 50 times its row plus
+   its column. Otherwise it is one of the numbers above. */
 int32_t ribjasper_pack_touches(const uint8_t pack[24]);
 
 /* Writes what may change on the screen if a pack is drawn. The pixels of a tile at row r and column c are
@@ -436,17 +437,17 @@ int32_t ribjasper_pack_touches(const uint8_t pack[24]);
 RIBJASPER_NODISCARD
 int32_t ribjasper_pack_change(const uint8_t pack[24], uint8_t across, uint8_t down, ribjasper_change *change);
 
-/* Returns the smallest number of packs that draw a tile over any earlier content, 1 to 4, or -1 if a number is above 15.
-   (A tile of one colour needs no pack if it shows this colour already.) Only the colours of the tile matter, not their
-   places. The result is no answer of the list above.
+/* Returns the smallest number of packs that draw a tile over any earlier content, 1 to 4, or -1 if a number is above 15. (A
+   tile of one colour needs no pack if it shows this colour already.) Only the colours of the tile matter, not their places.
+   The result is not an answer of the list above.
      pixels: the numbers of the colours of the tile, row by row */
 int32_t ribjasper_tile_weight(const uint8_t pixels[72]);
 
 /* Corrects a word: writes the codeword near it. The low six bits of the bytes are its symbols.
      word: 24 bytes
      out: the codeword, 24 bytes
-   Returns no answer of the list above but the number of wrong symbols, 0 to 2, or -1 if no codeword is near; then nothing is
-   written. */
+   Returns the number of wrong symbols, 0 to 2, or -1 if no codeword is near; then nothing is written. The result is not an
+   answer of the list above. */
 int32_t ribjasper_correct(const uint8_t word[24], uint8_t out[24]);
 
 /* How many packs have valid parity. `invalid` also counts packs with a wrong symbol. The three numbers add up to the
@@ -471,8 +472,8 @@ void ribjasper_packs_parity(const uint8_t *packs, size_t count, ribjasper_parity
      count: their number */
 void ribjasper_packs_seal(uint8_t *packs, size_t count);
 
-/* Returns 1 if the last two bytes of a CD-TEXT pack are the CRC of the others, or 0. The result is no answer of the list
-   above.
+/* Returns 1 if the last two bytes of a CD-TEXT pack are the CRC of the others, or 0. The result is not an answer of the
+   list above.
      pack: 18 bytes */
 int32_t ribjasper_text_pack_matches(const uint8_t pack[18]);
 
@@ -483,10 +484,10 @@ void ribjasper_text_pack_symbols(const uint8_t pack[18], uint8_t symbols[24]);
 
 /* The kinds of a frame of the Q channel. */
 #define RIBJASPER_Q_PROGRAM 0   /* the position: track, index, time, absolute */
-#define RIBJASPER_Q_TRACK 1     /* the table of contents: a track and where its music begins (absolute) */
+#define RIBJASPER_Q_TRACK 1     /* the table of contents: a track and the start of its music (absolute) */
 #define RIBJASPER_Q_FIRST 2     /* the first track, and the disc's type (disc: 0 CD-DA or CD-ROM, 16 CD-i, 32 XA) */
 #define RIBJASPER_Q_LAST 3      /* the last track */
-#define RIBJASPER_Q_LEAD_OUT 4  /* where the lead-out begins (absolute) */
+#define RIBJASPER_Q_LEAD_OUT 4  /* the start of the lead-out (absolute) */
 #define RIBJASPER_Q_CATALOGUE 5 /* the catalogue number, thirteen digits in text, and frame */
 #define RIBJASPER_Q_ISRC 6      /* the recording code of the track, twelve characters in text, and frame */
 #define RIBJASPER_Q_OTHER 7     /* bits without fields: mode, and bytes 1 to 9 in text */
@@ -496,7 +497,7 @@ void ribjasper_text_pack_symbols(const uint8_t pack[18], uint8_t symbols[24]);
 typedef struct ribjasper_q_frame {
     uint32_t kind;     /* one of the kinds above */
     uint32_t time;     /* kind 0: the distance from the start of the track's music; kinds 1 to 4: the time of the lead-in */
-    uint32_t absolute; /* a time from the start of the program area */
+    uint32_t absolute; /* the time from the start of the program area */
     uint8_t control;   /* 0 to 15: 8 four channels, 4 data, 2 copying permitted, 1 pre-emphasis */
     uint8_t mode;      /* 0 to 15 */
     uint8_t track;     /* 1 to 99 */
@@ -514,7 +515,7 @@ typedef struct ribjasper_q_frame {
      frame: the output
      bit: if a field is refused, its first bit, 0 to 95
    Returns RIBJASPER_DONE; RIBJASPER_BAD_CHECK if the last sixteen bits are not the CRC of the others; or
-   RIBJASPER_BAD_FIELD if a field is out of range: then only `bit` is written, for the first such field. */
+   RIBJASPER_BAD_FIELD if a field is out of range. In the last case only `bit` is written, for the first such field. */
 RIBJASPER_NODISCARD int32_t ribjasper_q_decode(const uint8_t bytes[12], ribjasper_q_frame *frame, uint8_t *bit);
 
 /* Writes the twelve bytes of a frame of the Q channel.
@@ -523,23 +524,24 @@ RIBJASPER_NODISCARD int32_t ribjasper_q_decode(const uint8_t bytes[12], ribjaspe
    Returns RIBJASPER_DONE, or RIBJASPER_REFUSED if a field is out of range. */
 RIBJASPER_NODISCARD int32_t ribjasper_q_encode(const ribjasper_q_frame *frame, uint8_t bytes[12]);
 
-/* Writes the planar form of a raw block: twelve bytes for each channel from P to W, the first bit the highest. Channel Q is
-   bytes 12 to 23, as ribjasper_q_decode reads them.
+/* Converts a raw block to the planar form: twelve bytes for each channel from P to W, and in each byte the highest bit
+   comes first. Channel Q is bytes 12 to 23, as ribjasper_q_decode reads them.
      block: 96 bytes
      planar: the output, 96 bytes */
 void ribjasper_block_to_planar(const uint8_t block[RIBJASPER_BLOCK], uint8_t planar[RIBJASPER_BLOCK]);
 
-/* Writes the raw block of a planar form.
+/* Converts a block from the planar form to the raw form.
      planar: 96 bytes
      block: the output, 96 bytes */
 void ribjasper_block_from_planar(const uint8_t planar[RIBJASPER_BLOCK], uint8_t block[RIBJASPER_BLOCK]);
 
-/* Writes the planar forms of many raw blocks, as many as both lists hold. The rest of the output is left unchanged.
+/* Converts many raw blocks to the planar form, as many as both lists hold. The rest of the output is left unchanged.
      blocks, count: raw blocks of 96 bytes, and their number
      planar, room: the output, and how many blocks it has room for */
 void ribjasper_blocks_to_planar(const uint8_t *blocks, size_t count, uint8_t *planar, size_t room);
 
-/* Writes the raw blocks of many planar forms, as many as both lists hold. The rest of the output is left unchanged.
+/* Converts many blocks from the planar form to the raw form, as many as both lists hold. The rest of the output is left
+   unchanged.
      planar, count: planar blocks of 96 bytes, and their number
      blocks, room: the output, and how many blocks it has room for */
 void ribjasper_blocks_from_planar(const uint8_t *planar, size_t count, uint8_t *blocks, size_t room);
@@ -579,19 +581,19 @@ typedef struct ribjasper_converted {
 #define RIBJASPER_CONVERTED 0 /* done */
 #define RIBJASPER_DAMAGED 1   /* done, but packs are bad */
 #define RIBJASPER_USAGE 2     /* the form is above 2 or `lead_in` above 450,000 */
-#define RIBJASPER_TORN 3      /* the stream is not whole units, or more than 1,000,000 of them */
+#define RIBJASPER_TORN 3      /* the stream does not consist of whole units, or has more than 1,000,000 of them */
 #define RIBJASPER_NO_ROOM 6   /* the output is smaller than the packs */
 #define RIBJASPER_NO_MEMORY 7 /* out of memory, only from calls that allocate */
 
-/* Writes the packs of a stream, with their damage corrected: 24 bytes for each pack, 4 B - 7 packs of B program blocks (none
-   of fewer than two), or 4 B packs if the form is RIBJASPER_PACKS (see there for .cdg files without parity).
+/* Writes the packs of a stream, with their damage corrected, 24 bytes for each pack. B program blocks have 4 B - 7 packs
+   (none if B is below 2). In the form RIBJASPER_PACKS they have 4 B packs (see there for .cdg files without parity).
      stream, length: the stream, and its length in bytes
      form: RIBJASPER_RAW, RIBJASPER_PACKS or RIBJASPER_SECTORS
      lead_in: how many blocks at the start are ignored, at most 450,000
      packs, room: the output, and its size in bytes
      result: the counts
-   Returns RIBJASPER_CONVERTED or RIBJASPER_DAMAGED; otherwise the first that applies of RIBJASPER_USAGE, RIBJASPER_TORN and
-   RIBJASPER_NO_ROOM. */
+   Returns RIBJASPER_CONVERTED or RIBJASPER_DAMAGED. Otherwise it returns the first of these that applies: RIBJASPER_USAGE,
+   RIBJASPER_TORN, RIBJASPER_NO_ROOM. */
 RIBJASPER_NODISCARD
 int32_t ribjasper_convert(const uint8_t *stream, size_t length, uint32_t form, uint32_t lead_in, uint8_t *packs,
                           size_t room, ribjasper_converted *result);
@@ -643,8 +645,8 @@ typedef struct ribjasper_mended {
     uint32_t none;
 } ribjasper_mended;
 
-/* Mends two readings of one stream of raw blocks into packs: 24 bytes for each word, 4 B - 7 words of B program blocks
-   (none of fewer than two). The two readings may be the same memory.
+/* Mends two readings of one stream of raw blocks into packs, 24 bytes for each word. B program blocks have 4 B - 7 words
+   (none if B is below 2). The two readings may be the same memory.
      first, first_length, second, second_length: the readings, and the bytes of each
      lead_in: how many blocks at the start of each reading are ignored, at most 450,000
      packs, room: the output, and its size in bytes
