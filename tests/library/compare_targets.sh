@@ -101,7 +101,7 @@ run_program() {
         (cd crates/rows/data && $run "$rows" $(cat ../args)) >"$work/told" || true
         cmp "$work/told" crates/rows/stdout && echo "compare_targets: $name: all rows pass" || complain "$name: rows differ"
     else
-        echo "compare_targets: the rows of $name are skipped, there is no $3"
+        echo "compare_targets: the rows of $name are skipped, there is no $3 (CRATE=rows tools/build/build_target.sh program TARGET)"
     fi
     tests/program/try_refusals.py "$work/program" >"$work/told" 2>&1 || { cat "$work/told" >&2; complain "$name: refusals differ"; }
     tests/program/try_formats.py "$work/program" $5 >"$work/told" 2>&1 || { cat "$work/told" >&2; complain "$name: formats differ"; }

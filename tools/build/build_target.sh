@@ -107,7 +107,8 @@ program() {
     case $target in
         *-windows-gnu)
             translate "$module" "$target" "$work/program.o" --rename open=windows_open --rename read=windows_read \
-                --rename write=windows_write --rename close=windows_close --rename __sysv_signal=windows_signal
+                --rename write=windows_write --rename close=windows_close --rename __sysv_signal=windows_signal \
+                --rename __xpg_strerror_r=windows_error_text
             "$compiler" $strict -c tools/build/program_windows.c -o "$work/system.o"
             "$compiler" -static -s -Wl,--no-insert-timestamp -mconsole -o "$made/$crate.exe" \
                 "$work/program.o" "$work/system.o" -lshell32

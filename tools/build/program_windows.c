@@ -31,6 +31,7 @@ ptrdiff_t windows_read(int file, void *to, size_t count);
 ptrdiff_t windows_write(int file, const void *from, size_t count);
 int windows_close(int file);
 void *windows_signal(int number, void *handler);
+int windows_error_text(int error, char *to, size_t room);
 
 static size_t count;
 static char **words;
@@ -191,4 +192,10 @@ void *windows_signal(int number, void *handler)
 {
     (void)number, (void)handler;
     return NULL;
+}
+
+/* Writes the text of an error number, shortened to the room. */
+int windows_error_text(int error, char *to, size_t room)
+{
+    return strerror_s(to, room, error);
 }

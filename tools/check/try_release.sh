@@ -9,7 +9,7 @@ top=$PWD
 [ -f dist/SHA256SUMS ] || { echo "try_release: there is no dist/ (make dist)" >&2; exit 1; }
 (cd dist && sha256sum --quiet -c SHA256SUMS)
 work=$(mktemp -d)
-trap 'umount "$work"/*/proc 2>/dev/null; rm -rf "$work"' EXIT
+trap 'umount "$work"/*/proc 2>/dev/null || true; rm -rf "$work"' EXIT
 failed=0
 
 # The first result: a publisher's disc and a look at it, an archivist's answers. EXAMPLES has the two texts.
