@@ -1,12 +1,14 @@
 // The page of the studio in a Chromium without a window: a text is timed by taps, edited, undone, saved and made. What was
 // found is printed as JSON.
 //
-//     node --experimental-websocket desk/tests/studio_page.mjs CHROMIUM ADDRESS FOLDER
+//     node --experimental-websocket desk/tests/studio_page.mjs CHROMIUM ADDRESS FOLDER [times]
+//
+// With `times` it makes edits of a long song, and measures how long each takes until its picture stands on the page.
 import { join } from "node:path";
 import { writeFileSync } from "node:fs";
 import { Browser, wait } from "../../tests/peers/browser.mjs";
 
-const [chromium, address, folder] = process.argv.slice(2);
+const [chromium, address, folder, mode] = process.argv.slice(2);
 const FIRST = 1.2, STEP = 0.9, LINES = 12;
 const browser = await Browser.start(chromium, folder);
 const found = { targets: Array.from({ length: LINES }, (_, number) => FIRST + STEP * number) };
@@ -27,22 +29,82 @@ async function visit(url) {
     await browser.until("document.body && document.body.dataset.ready === 'yes'");
 }
 
-/** Takes a time of the clock at which the song was at a second. */
-const clock = () => browser.value("[Date.now(), document.getElementById('sound').currentTime]");
+const position = () => browser.value("document.getElementById('sound').currentTime");
+/** Notes where the sound is, all the time. */
+const listen = () => browser.value(`(() => { globalThis.heard = []; const sound = document.getElementById("sound");
+    setInterval(() => { if (!sound.paused) heard.push([performance.now(), sound.currentTime]); }, 15);
+    globalThis.pressed = [];
+    document.addEventListener("keydown", (event) => { if (event.key === " ") pressed.push(event.timeStamp); }, true); })()`);
+const now = () => performance.timeOrigin + performance.now();
+
+/** Taps near some seconds of the song, and gives where the sound was when the browser got each key: the middle of what was
+ * noted around it. */
+async function taps(targets, rate) {
+    const [began, at] = await browser.value("[performance.timeOrigin + performance.now(), document.getElementById('sound').currentTime]");
+    await browser.value("pressed.length = 0");
+    for (const target of targets) {
+        await wait(began + 1000 * (target - at) / rate - now());
+        await key(" ");
+    }
+    await wait(500);
+    await settled();
+    await key("p");
+    const [heard, pressed] = await browser.value("[heard, pressed]");
+    return pressed.map((when) => {
+        const offsets = heard.filter(([time]) => Math.abs(time - when) < 700).map(([time, second]) => second - rate * time / 1000);
+        return offsets.sort((one, other) => one - other)[offsets.length >> 1] + rate * when / 1000;
+    });
+}
 
 async function tapped() {
     await browser.value("document.querySelector('input[name=unit][value=line]').click()");
     await browser.value("document.activeElement.blur()");
     await key(" ");
-    await browser.until("document.getElementById('sound').currentTime > 0.3");
-    const [began, at] = await clock();
-    for (const target of found.targets) {
-        await wait(began + 1000 * (target - at) - Date.now());
-        await key(" ");
+    while (await position() < 0.3) {
+        await wait(20);
     }
-    await settled();
-    await key("p");
+    found.expected = await taps(found.targets, 1);
     return (await state()).lines.map((line) => line.words[0].start);
+}
+
+/** Goes back to a line while the song plays at half its speed, and taps its words again; then all of that is undone. */
+async function again() {
+    const before = JSON.stringify((await state()).lines), count = (await state()).undo;
+    await browser.value("document.querySelector('input[name=speed][value=\"0.5\"]').click()");
+    await browser.value("document.querySelector('input[name=unit][value=word]').click()");
+    await browser.value("document.querySelectorAll('#lines button')[8].click()");
+    await browser.value("document.activeElement.blur()");
+    await key("Backspace", { code: "Backspace", windowsVirtualKeyCode: 8 });
+    found.back = await browser.value("[studio.line, document.getElementById('sound').currentTime]");
+    await key(" ");
+    await browser.until("!document.getElementById('sound').paused && document.getElementById('sound').currentTime > studio.state.lines[7].words[0].start - 0.8");
+    const first = found.targets[7];
+    found.words = await taps([first, first + 0.2, first + 0.4, first + 0.6, first + 0.8], 0.5);
+    found.tapped = (await state()).lines[7].words.map((word) => word.start);
+    await browser.photograph("studio-2-words");
+    for (let undone = (await state()).undo; undone > count; undone -= 1) {
+        await control("z");
+    }
+    await planned();
+    found.again = JSON.stringify((await state()).lines) === before;
+    await browser.value("document.querySelector('input[name=speed][value=\"1\"]').click()");
+    await browser.value("document.querySelector('input[name=unit][value=line]').click()");
+}
+
+/** How long edits of a song take until they are seen, in milliseconds: a word moves, a line has other words. */
+async function times() {
+    await visit(address);
+    await browser.until("document.body.dataset.planned === '0'");
+    await browser.value("document.getElementById('sound').currentTime = 120; studio.times.length = 0");
+    for (let round = 0; round < 6; round += 1) {
+        await browser.value(`document.querySelectorAll('#lines button')[${20 + round}].click(); document.activeElement.blur()`);
+        await key(".", { code: "Period", windowsVirtualKeyCode: 190 });
+        await planned();
+        await set("words", `The other words of round ${round}`);
+        await planned();
+    }
+    found.times = await browser.value("studio.times");
+    found.lines = (await state()).lines.length;
 }
 
 /** The names and roles of what can be used: an empty list if all have a name. */
@@ -71,9 +133,12 @@ async function main() {
     await browser.look(1280, 1000, "light");
     await browser.photograph("studio-1-text");
     found.begun = (await state()).untimed.length;
+    await listen();
     found.starts = await tapped();
     await planned();
     await browser.photograph("studio-2-tapped");
+
+    await again();
 
     // An edit, its pictures, and what undo and redo make of it.
     const lines = JSON.stringify((await state()).lines);
@@ -146,7 +211,7 @@ async function main() {
 }
 
 try {
-    await main();
+    await (mode === "times" ? times() : main());
 } catch (error) {
     found.failed = String(error?.stack ?? error);
     found.told = await browser.value("document.body.innerText").catch(() => "");

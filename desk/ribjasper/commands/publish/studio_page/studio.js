@@ -1,7 +1,8 @@
 // The page of the studio: it asks the desk for each edit, and shows what the desk answers.
 import { Screen } from "./screen.js";
 import {
-  STEP, firstTarget, isOwnKey, lateText, lineAt, marked, nextTarget, pressedAt, secondsOf, span, spelled, tapsIn, unmarked,
+  STEP, SoundClock, firstTarget, isOwnKey, lateText, lineAt, marked, nextTarget, secondsOf, span, spelled, tappedAt, tapsIn,
+  unmarked,
 } from "./times.js";
 import { Wave } from "./wave.js";
 
@@ -297,6 +298,14 @@ function loop() {
 
 // Timing
 
+const clock = new SoundClock();
+
+/** Where the sound was when a key was pressed. */
+function pressedAt(stamp) {
+  clock.add(performance.now(), sound.currentTime, sound.playbackRate);
+  return tappedAt(clock, stamp, Number($("late").value) || 0);
+}
+
 const unit = () => document.querySelector("input[name=unit]:checked").value;
 
 /** Sets the time of what is next, as it was when the key was pressed. */
@@ -307,7 +316,7 @@ function tap(stamp) {
     return;
   }
   if (app.isDone) return;
-  const at = pressedAt(sound.currentTime, performance.now(), stamp, sound.playbackRate, Number($("late").value) || 0);
+  const at = pressedAt(stamp);
   const line = lineNow();
   edit(unit() === "line" ? { do: "tap", line: line.key, at } : { do: "tap", line: line.key, word: app.word, at });
   app.tapped = { key: line.key, word: unit() === "line" ? 0 : app.word };
@@ -332,7 +341,7 @@ function back() {
 /** The line that was tapped last ends now. */
 function stopLine(stamp) {
   if (!app.tapped || sound.paused) return;
-  const at = pressedAt(sound.currentTime, performance.now(), stamp, sound.playbackRate, Number($("late").value) || 0);
+  const at = pressedAt(stamp);
   const line = app.state.lines[placeOf(app.tapped.key)];
   app.sent.then(() => edit({ do: "end", line: line.key, word: Math.min(app.tapped.word, line.words.length - 1), at }));
 }
@@ -482,6 +491,7 @@ function wire() {
   for (const button of document.getElementsByName("unit")) button.addEventListener("change", renderTarget);
   $("taps").addEventListener("change", renderTarget);
   for (const name of ["play", "pause"]) sound.addEventListener(name, () => { $("play").textContent = sound.paused ? "Play" : "Pause"; renderTarget(); });
+  for (const name of ["seeking", "playing", "pause", "waiting"]) sound.addEventListener(name, () => clock.clear());
   sound.addEventListener("seeked", () => { drawScreen(true); app.wave.show(sound.currentTime); });
   $("close").addEventListener("click", () => ask("close", {}).then(() => { tell("The studio is closed. Its journal keeps every edit."); sound.pause(); }));
   wireLine();
@@ -491,6 +501,7 @@ function wire() {
 /** What changes while time goes on. */
 function tick() {
   const now = sound.currentTime;
+  if (!sound.paused) clock.add(performance.now(), now, sound.playbackRate);
   if (app.until !== null && now >= app.until) {
     sound.pause();
     app.until = null;

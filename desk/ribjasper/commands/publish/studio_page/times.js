@@ -65,10 +65,40 @@ export function span(line) {
   return timed.length ? { start: timed[0].start, end: timed[timed.length - 1].end } : null;
 }
 
-/** When a key was pressed, in seconds of the sound, which played on until now. */
-export function pressedAt(current, nowStamp, eventStamp, rate, lateness) {
-  const since = Math.min(500, Math.max(0, nowStamp - eventStamp)) + lateness;
-  return Math.max(0, Math.round(100 * (current - rate * since / 1000)) / 100);
+// So many of the last samples of the sound's clock are kept; one that is off by more seconds is a jump of the sound.
+const SAMPLES = 30, LEAST_SAMPLES = 5, JUMP = 0.06;
+
+/** The clock of the sound. Browsers report where the sound is in steps, and late if the machine is busy; so the position
+ * follows from many reports since the sound plays without a break. */
+export class SoundClock {
+  #offsets = [];
+  #rate = 1;
+
+  /** Forgets what was before a jump of the sound. */
+  clear() {
+    this.#offsets = [];
+  }
+
+  /** The sound is at `current` seconds at a time in milliseconds. */
+  add(now, current, rate) {
+    if (rate !== this.#rate) this.clear();
+    this.#rate = rate;
+    this.#offsets.push(current - rate * now / 1000);
+    if (this.#offsets.length > SAMPLES) this.#offsets.shift();
+  }
+
+  /** Where the sound was at a time, in seconds. */
+  at(stamp) {
+    const count = this.#offsets.length, last = this.#offsets[count - 1];
+    const middle = [...this.#offsets].sort((one, other) => one - other)[count >> 1];
+    const offset = count < LEAST_SAMPLES || Math.abs(last - middle) > JUMP ? last : middle;
+    return offset + this.#rate * stamp / 1000;
+  }
+}
+
+/** The time that a tap sets: hundredths of a second, as LRC has them. */
+export function tappedAt(clock, stamp, lateness) {
+  return Math.max(0, Math.round(100 * clock.at(stamp - lateness)) / 100);
 }
 
 /** What is said of a line that is late. */
