@@ -119,7 +119,8 @@ def pieces(word: list[Syllable], font: Font) -> list[list[Syllable]]:
     parts: list[list[Syllable]] = []
     first = 0
     while first < len(letters):
-        rest = letters[first:]
+        # A letter is at least a pixel wide.
+        rest = letters[first : first + ROOM + 1]
         texts = ["".join(one.text for _, one in rest[:count]) for count in range(1, len(rest) + 1)]
         count = max(1, bisect.bisect(texts, False, key=lambda text: font.width(text.strip(), font.size) > ROOM))
         # Between two syllables, if that leaves at least half a row.
@@ -199,8 +200,8 @@ def filled(words: list[list[Syllable]], font: Font, room: float) -> list[list[li
     rows: list[list[list[Syllable]]] = []
     while words:
         # More words are wider, so the first number of them that has no room is looked for by halves.
-        count = len(words)
-        if not fits(words, font, room):
+        count = min(len(words), ROOM)
+        if not fits(words[:count], font, room):
             count = bisect.bisect_left(range(2, count), True, key=lambda most: not fits(words[:most], font, room)) + 1
         rows.append(words[:count])
         words = words[count:]

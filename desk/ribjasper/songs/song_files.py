@@ -11,7 +11,7 @@ from .document import Document, apply, beside, document_of, pictures_in
 from .encodings import UTF_8, Guess, decodes, encoding_of, shown_name
 from .kar import read_kar
 from .lrc import read_lrc
-from .songs import Song
+from .songs import MOST_MESSAGES, Song, first_of_many
 from .srt import TIMES, read_srt
 from .ultrastar import read_ultrastar
 from .vtt import read_vtt
@@ -21,8 +21,9 @@ NOTES = re.compile(r"^[:*]\s*-?\d+\s+\d+\s+-?\d+", re.MULTILINE)
 STRETCH = re.compile("^" + TIMES.pattern, re.MULTILINE)
 PICTURE = re.compile(r"\[(?:image|picture):([^\]\n\0]+)\]", re.IGNORECASE)
 WEB_VTT = re.compile(r"\ufeff?WEBVTT(\s|$)")
-# The seconds that the longest disc has.
+# The seconds that the longest disc has; the letters that a line may have, and the lines that a song may have.
 LONGEST_SONG = 99 * 60
+MOST_LETTERS, MOST_LINES = 2_000, 10_000
 
 
 def encoding_for(content: bytes, song: Song, asked: str | None) -> str:
@@ -98,8 +99,9 @@ def song_of(path: Path, content: bytes, toml: bytes | None, encoding: str | None
         if is_lrc and toml is not None:
             apply(song, text, toml, beside(path))
     put_in_order(song)
+    song.told = first_of_many(song.told, MOST_MESSAGES, f"{path}: there are {{}} more notes like these")
     if song.faults:
-        raise Refusal(path, *song.faults)
+        raise Refusal(path, *first_of_many(song.faults, MOST_MESSAGES, "there are {} more faults"))
     return song, is_lrc
 
 
@@ -133,7 +135,12 @@ def decoded_texts(texts: list[bytes], song: Song, encoding: str | None) -> list[
 def put_in_order(song: Song) -> None:
     """Lines in the order of their times; those whose words go back, or that no disc is long enough for, are faults."""
     song.lines.sort(key=lambda line: line.start)
+    if len(song.lines) > MOST_LINES:
+        song.faults = [f"there are {len(song.lines):,} lines that are sung, and {MOST_LINES:,} are the most"]
+        return
     for line in song.lines:
+        if len(line.text) > MOST_LETTERS:
+            song.fault(line.number, f"it has {len(line.text):,} letters, and {MOST_LETTERS:,} are the most")
         starts = [syllable.start for syllable in line.syllables]
         if starts != sorted(starts):
             song.fault(line.number, f"the times of its words go back: {line.text}")

@@ -24,7 +24,7 @@ from .pages import (
     Draw, GOES, Group, Light, Page, Part, Placed, Show, Step, TOLD_REST, groups_of, laid_out, still_page, texts_of,
 )  # fmt: skip
 from .setting import ROOM, Setter, filled, fits, spelled_with, unbroken_words, wrapped
-from .songs import BOTH, FIRST, Line, Song, Syllable, spelled
+from .songs import BOTH, FIRST, MOST_MESSAGES, Line, Song, Syllable, first_of_many, shortened, spelled
 from .timeline import FOREVER, Arranger, Due, Picture, Task, Timeline, Told, blocks_for, dues_of, grouped, paired
 
 BLOCKS = BLOCKS_A_SECOND
@@ -32,10 +32,14 @@ BLOCKS = BLOCKS_A_SECOND
 # have room behind the pause, and so have two more.
 BEGIN = times.PAUSE + 4
 THROUGH_PAUSE = f"show 00:00:20 {clock(BEGIN)}"
+# The blocks of audio that the longest disc has behind its pause.
+LONGEST_AUDIO = 449_999 - times.PAUSE
 # A line stays this long when it is sung; a title and a legend stand so long at least, and are gone so long before the
 # first word; a last page comes where it can stand so long.
 STAYS, TITLE_STANDS, BEFORE_FIRST = BLOCKS // 5, 2 * BLOCKS, 3 * BLOCKS
 LAST_STANDS = 3 * BLOCKS
+# More letters of a title than a page has room for.
+LONGEST_TITLE = 1_000
 # Losses and numbers of colours that are tried until a title needs few enough packs, and the loss of a background.
 TITLE_LOSSES = ((PLAIN, 16), (12.0, 16), (30.0, 12), (60.0, 8), (120.0, 4))
 BACKGROUND_LOSS = 30.0
@@ -136,7 +140,7 @@ def count_of(number: int, what: str) -> str:
     return f"{number} {what}{'s' * (number != 1)}"
 
 
-def plan_of(lines: list[str], length: int = 400_000) -> Plan:
+def plan_of(lines: list[str], length: int = LONGEST_AUDIO) -> Plan:
     return plan(ONE_TRACK, "".join(f"{line}\n" for line in lines).encode(), length)
 
 
@@ -204,6 +208,7 @@ def page_of_texts(lines: list[Text], empty: Raster, font: Font, style: Style, vo
     """A page with some texts, wrapped, in letters small enough for them; if the smallest are too large, the last rows are
     left out."""
     most = HEIGHT // TILE_HEIGHT - 2
+    lines = [(text[:LONGEST_TITLE], voice, lit) for text, voice, lit in lines]
     for size in range(font.size, 9, -1):
         smaller = font if size == font.size else font.sized(size, font.is_plain)
         rows = [
@@ -497,7 +502,7 @@ class Maker:
 
     def last_page(self) -> list[Group]:
         """A page that ends the song with its title, where its audio leaves time for it."""
-        texts = [text for text in (self.song.title, self.song.performer) if text]
+        texts = [text[:LONGEST_TITLE] for text in (self.song.title, self.song.performer) if text]
         sung = max(line.stays for line in self.song.lines)
         end, begin = self.wishes.end, times.nearest_block(sung + GOES)
         if (
@@ -604,6 +609,13 @@ class Maker:
         for _ in range(ROUNDS):
             pictures, told = self.arranged(lead, stays, is_paired)
             pictures = within(pictures, self.wishes.end, told)
+            # A script has one more, which is held through the pause.
+            if len(pictures) >= MOST_PICTURES:
+                raise Refusal(
+                    self.song.path,
+                    f"needs {len(pictures):,} pictures, and a script has {MOST_PICTURES:,} at most: use fewer word times, no "
+                    "--sweep, or two songs",
+                )
             lines = self.script(pictures, self.wishes.end)
             found = plan_of(lines)
             if not found.late():
@@ -747,9 +759,9 @@ def end_with_sound(song: Song, end: int) -> None:
             what = f"at {line.written} is sung until {spelled(line.end)}, and the sound ends at {spelled(seconds)}"
         else:
             continue
-        causes.append(f"line {line.number} {what}: {line.text}")
+        causes.append(f"line {line.number} {what}: {shortened(line.text)}")
     if causes:
-        raise Refusal(song.path, *causes)
+        raise Refusal(song.path, *first_of_many(causes, MOST_MESSAGES, "there are {} more lines behind the end"))
     last = seconds - STAYS / BLOCKS
     for line in song.lines:
         line.until = None if line.until is None else min(line.until, max(line.start, last))

@@ -9,6 +9,8 @@ from pathlib import Path
 LONGEST_WORD = 3.0
 SLOWEST_LETTERS, SHORTEST_SWEEP = 12.0, 1.0
 LONGEST_LINE = 10.0
+# Letters of a message about a line, and how many messages a song may have.
+LONGEST_MESSAGE, MOST_MESSAGES = 300, 100
 # The voices: up to four singers, and all of them together.
 FIRST, SECOND, THIRD, FOURTH, BOTH = range(5)
 SINGERS = 4
@@ -108,11 +110,11 @@ class Song:
 
     def tell(self, number: int, what: str) -> None:
         """A note on a line that is not as one would expect, and is used all the same."""
-        self.told.append(f"{self.path}: line {number} {what}")
+        self.told.append(f"{self.path}: line {number} {shortened(what)}")
 
     def fault(self, number: int, what: str) -> None:
         """Something that keeps the song from being used."""
-        self.faults.append(f"line {number}: {what}")
+        self.faults.append(f"line {number}: {shortened(what)}")
 
     def voice_of(self, name: str, number: int) -> int:
         """The voice of a singer, in the order in which they come; one with two names is that of both."""
@@ -142,6 +144,19 @@ class Song:
         for insert in self.inserts:
             insert.after += seconds
             insert.start = None if insert.start is None else insert.start + seconds
+
+
+def shortened(text: str) -> str:
+    """A text for a message; a long one without its middle."""
+    return (
+        text if len(text) <= LONGEST_MESSAGE else f"{text[: LONGEST_MESSAGE // 2]} .. {text[-LONGEST_MESSAGE // 2 :]}"
+    )
+
+
+def first_of_many(messages: list[str], most: int, rest: str) -> list[str]:
+    """The first messages, and how many more there are."""
+    more = len(messages) - most
+    return messages if more <= 0 else [*messages[:most], rest.format(more)]
 
 
 def letters_in(text: str) -> int:
