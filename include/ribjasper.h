@@ -8,8 +8,8 @@
 
    Threads. Any thread may call. A call with a const player only reads the player, so any number of threads may make such
    calls on one player at the same time. A call with a player that is not const must be the only call on that player at that
-   time; ribjasper_player_copy changes only its second player. Calls without a player share nothing. Do not call from a
-   signal handler. A forked process has its own copies of all players; if the parent had more than one thread, the child
+   time. ribjasper_player_copy changes only its second player. Calls without a player share nothing. Do not call from a
+   signal handler. A forked process has its own copies of all players. If the parent had more than one thread, the child
    must not make calls that allocate or free memory.
 
    Pointers. A pointer must point to as many bytes or structs as its type or its comment says. With a count or length of 0
@@ -183,9 +183,9 @@ void ribjasper_player_close(ribjasper_player *player);
 RIBJASPER_NODISCARD int32_t ribjasper_player_begin(ribjasper_player *player, uint32_t form, uint32_t lead_in);
 
 /* Feeds an open player the next block of its stream and draws the packs that are complete with it. Each pack is corrected
-   to the codeword near it; a pack with no codeword near draws nothing. The symbols of a pack of a raw stream lie in three
-   blocks, so the last seven packs (RIBJASPER_PACKS_BEHIND) are not drawn yet: the picture is 23 milliseconds behind. In the
-   form RIBJASPER_PACKS every pack is drawn at once. A player continues for as long as it is fed.
+   to the codeword near it; a pack with no codeword near draws nothing. In a raw stream the symbols of a pack are spread
+   over three blocks. So the last seven packs (RIBJASPER_PACKS_BEHIND) are not drawn yet, and the picture is 23 milliseconds
+   behind. In the form RIBJASPER_PACKS every pack is drawn at once. A player continues for as long as it is fed.
      player: the player
      block: 96 bytes
    Returns RIBJASPER_DONE, or RIBJASPER_REFUSED if the player is closed. */
@@ -226,9 +226,9 @@ typedef struct ribjasper_change {
     uint8_t levels;
 } ribjasper_change;
 
-/* Feeds an open player many blocks, as ribjasper_player_feed does one, and writes which part of the screen may have changed.
-   This is the smallest rectangle around the tiles that were drawn, the window if the memory was cleared or scrolled, and the
-   whole screen if the border was set. One call is faster than a call for each block.
+/* Feeds an open player many blocks, as ribjasper_player_feed does one, and writes which part of the screen may have
+   changed. This is the smallest rectangle around the tiles that were drawn. It is the window if the memory was cleared or
+   scrolled, and the whole screen if the border was set. One call is faster than a call for each block.
      player: the player
      blocks: the blocks, 96 bytes each, one after another
      count: their number
@@ -353,8 +353,8 @@ int32_t ribjasper_player_offsets(const ribjasper_player *player, uint8_t *across
 #define RIBJASPER_CHECKPOINT 65045 /* bytes of the file */
 #define RIBJASPER_NO_CHECKPOINT 3  /* what ribjasper_player_load returns if the bytes are no checkpoint */
 
-/* Writes the checkpoint of a player of a raw stream: the number of blocks, the number of bad words, the last seven slots,
-   and the state of the screen. Drawn packs are not counted. Allocates 65,056 bytes.
+/* Writes the checkpoint of a player of a raw stream. It contains the number of blocks, the number of bad words, the last
+   seven slots, and the state of the screen. Drawn packs are not counted. Allocates 65,056 bytes.
      player: the player
      file: the output, 65,045 bytes
    Returns RIBJASPER_DONE; RIBJASPER_REFUSED if the player is closed, its form is RIBJASPER_PACKS, or more than 1,000,000
@@ -524,8 +524,8 @@ RIBJASPER_NODISCARD int32_t ribjasper_q_decode(const uint8_t bytes[12], ribjaspe
    Returns RIBJASPER_DONE, or RIBJASPER_REFUSED if a field is out of range. */
 RIBJASPER_NODISCARD int32_t ribjasper_q_encode(const ribjasper_q_frame *frame, uint8_t bytes[12]);
 
-/* Converts a raw block to the planar form: twelve bytes for each channel from P to W, and in each byte the highest bit
-   comes first. Channel Q is bytes 12 to 23, as ribjasper_q_decode reads them.
+/* Converts a raw block to the planar form: twelve bytes for each channel from P to W. In each byte the highest bit comes
+   first. Channel Q is bytes 12 to 23, as ribjasper_q_decode reads them.
      block: 96 bytes
      planar: the output, 96 bytes */
 void ribjasper_block_to_planar(const uint8_t block[RIBJASPER_BLOCK], uint8_t planar[RIBJASPER_BLOCK]);
@@ -608,10 +608,10 @@ int32_t ribjasper_convert(const uint8_t *stream, size_t length, uint32_t form, u
    if it has the idle pack or nothing there.
 
    A reading misses graphics at a word if it has the idle pack there and another reading shows that the word is not idle.
-   This other reading has a codeword with no wrong symbol, or a graphics pack (mode and item 9, a known instruction) with one
-   or two wrong symbols. A reading lacks graphics at each word from which it is quiet up to a word at which it misses
-   graphics, forwards or backwards. A codeword is doubtful if it has a wrong symbol and a mode and item that no disc uses
-   (discs use 8, 9, 10 and 24).
+   This other reading has a codeword with no wrong symbol, or a graphics pack with one or two wrong symbols. A graphics pack
+   has mode and item 9 and a known instruction. A reading lacks graphics at each word from which it is quiet up to a word at
+   which it misses graphics, forwards or backwards. A codeword is doubtful if it has a wrong symbol and a mode and item that
+   no disc uses. Discs use 8, 9, 10 and 24.
 
    Two kinds of codewords do not count. The first is the idle pack of a reading that lacks graphics at the word. The second is
    a doubtful codeword at a word where some reading is quiet.
