@@ -10,7 +10,7 @@ use Rattle.rw_mend.specs.Drops.{AreDropCounts, AreVoices, IsSaid}
 use Rattle.rw_mend.specs.Mender.{HasComeTo, IsHearing}
 use Rattle.rw_mend.specs.Readings.{AreHeldReadings, program_in, programs_in, size_in}
 use Rattle.rw_mend.specs.Rows.{AreFollowed, AreTrails, IsRow}
-use Rattle.rw_mend.specs.Silences.{AreSilences, IsSilence, is_left, no_silence, said_after}
+use Rattle.rw_mend.specs.Silences.{AreSilences, IsCalm, IsSilence, is_left, no_silence, said_after}
 use Rattle.rw_mend.specs.Voices.{is_quiet_voice}
 use Rattle.rw_mend.specs.Words.{HoldsWord}
 use Rattle.rw_mend.specs.declared.cover.Trail.{Trail}
@@ -80,7 +80,7 @@ row_taken readings m voices is = record {
 }
 
 pub at_word : (readings : Readings) (n : ℕ) (mender : Mender) (trails : List Trail) (same_from : List ℕ)
-    (given : GivenRow) (silences : List Silence) (said : List Voice) (dropped : List ℕ)
+    (given : GivenRow) (silences : List Silence) (calm : ℕ) (said : List Voice) (dropped : List ℕ)
     → IsHearing readings n mender → n < mender.words
     → length trails ≡ length mender.trails → length same_from ≡ length mender.same_from
     → AreTrails (programs_in readings) n trails → AreFollowed readings ((n + 7) / 4 + 1) same_from
@@ -89,6 +89,7 @@ pub at_word : (readings : Readings) (n : ℕ) (mender : Mender) (trails : List T
     → length silences ≡ length mender.silences → length said ≡ length mender.said
     → length dropped ≡ length mender.dropped
     → AreSilences mender.words (programs_in readings) (n + 1) silences
+    → IsCalm (programs_in readings) (n + 1) calm
     → ((r : ℕ) → r < readings.count → voice_of_reading said r
     ≡ said_after (list_any is_quiet_voice (take readings.count given.voices)) (get_or silences r no_silence)
     (voice_of_reading (take readings.count given.voices) r))
@@ -102,12 +103,14 @@ pub at_word : (readings : Readings) (n : ℕ) (mender : Mender) (trails : List T
       same_from = same_from;
       given = given;
       silences = silences;
+      calm = calm;
       said = said;
       dropped = dropped;
     })
-at_word readings n mender trails same_from given silences said dropped is within trails_size same_size
+at_word readings n mender trails same_from given silences calm said dropped is within trails_size same_size
     trails_are
-    same_are row_is row_size silences_size said_size dropped_size silences_are each counted kept_behind =
+    same_are row_is row_size silences_size said_size dropped_size silences_are calm_is each counted
+    kept_behind =
     let programs : List (List ℕ) = programs_in readings in
     let row : List Voice = take readings.count given.voices in
     let rows : IsRow programs n row = row_taken readings n given.voices row_is in
@@ -126,6 +129,7 @@ at_word readings n mender trails same_from given silences said dropped is within
         trails = λ some. subst (λ k. AreTrails programs k trails) (omega arith) trails_are;
         same = subst (λ k. AreFollowed readings k same_from) (omega arith) same_are;
         silences = silences_are;
+        calm = calm_is;
         dropped = record {
           each =
               λ r lt.

@@ -15,6 +15,7 @@ pub mod Losing
 pub mod Missing
 pub mod Once
 pub mod Pairs
+pub mod Quiet
 pub mod Picking
 pub mod Reading
 pub mod Reordered

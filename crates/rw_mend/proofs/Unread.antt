@@ -121,7 +121,7 @@ blank_word program n all =
     ∙ no_symbol program n i all within
     ∙ sym (get_or-replicate 24 i 0 0 within))
 
-unread_zero : (program : List ℕ) (n : ℕ) → (reading_at program n).coverage ≡ Unread
+pub unread_zero : (program : List ℕ) (n : ℕ) → (reading_at program n).coverage ≡ Unread
     → word_of (symbols_of program) n ≡ replicate 24 0
 unread_zero program n is =
     let blocks : List (List ℕ) = blocks_under program n in

@@ -6,7 +6,7 @@ use Rattle.rw_mend.specs.Choice.{voice_of_reading}
 use Rattle.rw_mend.specs.Drops.{AreDropCounts, IsSaid}
 use Rattle.rw_mend.specs.Readings.{AreHeldReadings, programs_in, size_in}
 use Rattle.rw_mend.specs.Rows.{AreFollowed, AreTrails}
-use Rattle.rw_mend.specs.Silences.{AreSilences}
+use Rattle.rw_mend.specs.Silences.{AreSilences, IsCalm}
 use Rattle.rw_mend.specs.declared.readings.Readings.{Readings}
 use Rattle.rw_mend.specs.declared.mender.Mender.{Mender}
 
@@ -23,6 +23,7 @@ pub record IsHearing (readings : Readings) (n : ℕ) (mender : Mender) : Type 0 
   pub trails : 0 < n → AreTrails (programs_in readings) (n - 1) mender.trails
   pub same : AreFollowed readings ((n + 6) / 4 + 1) mender.same_from
   pub silences : AreSilences mender.words (programs_in readings) n mender.silences
+  pub calm : IsCalm (programs_in readings) n mender.calm
   pub dropped : AreDropCounts mender.words (programs_in readings) n mender.dropped
 
 -- It has come to word n: the voices of its readings are said, and it can go on to the next.

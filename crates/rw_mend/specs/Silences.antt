@@ -1,6 +1,6 @@
 -- What is known of the silence of a reading while its words are come to.
 use Rattle.std.specs.Prelude.{◌≡◌, ℕ, ◌-◌, ◌<◌, ◌≤◌, ◌&&◌, ◌||◌, Bool, true, false, MatchBool, if◌then◌else◌, List, length, slice_index_or}
-use Rattle.rw_mend.specs.Drops.{Lacks, Misses}
+use Rattle.rw_mend.specs.Drops.{HasGraphics, Lacks, Misses}
 use Rattle.rw_mend.specs.Voices.{is_doubtful_voice, is_idle_voice, is_quiet_voice}
 use Rattle.rw_mend.specs.Words.{given_at}
 use Rattle.rw_mend.specs.declared.silences.Silence.{Silence}
@@ -31,6 +31,10 @@ no_silence = record { quiet = false; lacks = false }
 pub record AreSilences (words : ℕ) (programs : List (List ℕ)) (n : ℕ) (silences : List Silence) : Type 0 where
   pub each : (r : ℕ) → r < length programs
       → IsSilence words programs r n (slice_index_or silences r no_silence)
+
+-- From word n up to another no reading gives graphics.
+pub record IsCalm (programs : List (List ℕ)) (n end : ℕ) : Type 0 where
+  pub none : (m : ℕ) → n ≤ m → m < end → ¬ HasGraphics programs m
 
 -- whether what a reading gives counts for nothing: the idle pack where it lacks graphics, or a doubtful codeword where some
 -- reading is quiet

@@ -6,7 +6,7 @@ ghost use Rattle.rw_mend.specs.Choice.{voice_of_reading};
 ghost use Rattle.rw_mend.specs.Mender.{HasComeTo, IsHearing};
 ghost use Rattle.rw_mend.specs.Readings.{AreHeldReadings, programs_in, size_in};
 ghost use Rattle.rw_mend.specs.Rows.{AreFollowed, AreTrails, IsRow};
-ghost use Rattle.rw_mend.specs.Silences.{AreSilences, is_left, no_silence, said_after};
+ghost use Rattle.rw_mend.specs.Silences.{AreSilences, IsCalm, is_left, no_silence, said_after};
 ghost use Rattle.rw_mend.specs.Voices.{is_quiet_voice};
 ghost use Rattle.rw_mend.specs.Words.{HoldsWord};
 
@@ -14,7 +14,7 @@ use crate::Voice;
 use crate::choice::MOST_READINGS;
 use crate::cover::Trail;
 use crate::readings::Readings;
-use crate::rows::{GivenRow, count_left, hear_all, say_all};
+use crate::rows::{GivenRow, count_left, hear_all, is_any_quiet, say_all};
 use crate::silences::{Silence, advance_all};
 use raw_subcode::{BLOCK_BYTES, SLOTS_A_BLOCK};
 use rw_interleave::PACKS_KEPT_BACK;
@@ -32,6 +32,8 @@ pub(crate) struct Mender {
     // What the readings give for the word by themselves.
     given: GivenRow,
     silences: [Silence; MOST_READINGS],
+    // From the word that follows up to this one no reading gives graphics.
+    calm: usize,
     said: [Voice; MOST_READINGS],
     // At how many words what a reading gives counts for nothing.
     dropped: [u32; MOST_READINGS],
@@ -51,6 +53,7 @@ impl Mender {
             same_from: [BLOCKS_OF_FIRST; MOST_READINGS],
             given: GivenRow::new(),
             silences: [Silence::new(); MOST_READINGS],
+            calm: 0,
             said: [Voice::Silent; MOST_READINGS],
             dropped: [0; MOST_READINGS],
         }
@@ -83,7 +86,9 @@ impl Mender {
             self.words,
             n,
             &self.given,
+            &self.trails,
             &mut self.silences,
+            &mut self.calm,
             &mut self.said,
             &mut self.dropped,
         );
@@ -114,7 +119,9 @@ fn say_next(
     words: usize,
     n: usize,
     given: &GivenRow,
+    trails: &[Trail],
     silences: &mut [Silence],
+    calm: &mut usize,
     said: &mut [Voice],
     dropped: &mut [u32],
 )
@@ -122,15 +129,19 @@ fn say_next(
     requires held { (m : ℕ) → m < words → HoldsWord m (size_in readings.now) }
     requires within { n < words }
     requires row { IsRow (programs_in readings.now) n given.now.voices }
+    requires trails_size { readings.now.count ≤ length trails.now }
+    requires trails { AreTrails (programs_in readings.now) n trails.now }
     requires silences_size { length silences.old ≡ 254 }
     requires said_size { length said.old ≡ 254 }
     requires dropped_size { length dropped.old ≡ 254 }
     requires before { AreSilences words (programs_in readings.now) n silences.old }
+    requires calm { IsCalm (programs_in readings.now) n calm.old }
     requires few { (r : ℕ) → r < readings.now.count → slice_index_or dropped.old r 0 < 4000000 }
     ensures silences_size { length silences.new ≡ length silences.old }
     ensures said_size { length said.new ≡ length said.old }
     ensures dropped_size { length dropped.new ≡ length dropped.old }
     ensures silences { AreSilences words (programs_in readings.now) (n + 1) silences.new }
+    ensures calm { IsCalm (programs_in readings.now) (n + 1) calm.new }
     ensures row_size { length (take readings.now.count given.now.voices) ≡ readings.now.count }
     ensures said { (r : ℕ) → r < readings.now.count → voice_of_reading said.new r
         ≡ said_after (list_any is_quiet_voice (take readings.now.count given.now.voices))
@@ -145,7 +156,8 @@ fn say_next(
         → slice_index_or dropped.new r 0 ≡ slice_index_or dropped.old r 0 }
 {
     let row = given.voices(readings.count);
-    advance_all(readings, words, n, row, silences);
-    say_all(row, silences, said);
-    count_left(row, silences, dropped);
+    advance_all(readings, words, n, row, trails, silences, calm);
+    let some_quiet = is_any_quiet(row);
+    say_all(some_quiet, row, silences, said);
+    count_left(some_quiet, row, silences, dropped);
 }

@@ -188,7 +188,8 @@ pub(crate) fn heard(other: &Voice, program: &[u8], n: usize, trail: &Trail) -> V
 }
 
 /// What each reading says at a word, beside what all give.
-pub(crate) fn say_all(row: &[Voice], silences: &[Silence], said: &mut [Voice])
+pub(crate) fn say_all(some_quiet: bool, row: &[Voice], silences: &[Silence], said: &mut [Voice])
+    requires some { some_quiet ≡ list_any is_quiet_voice row.now }
     requires silences { length row.now ≤ length silences.now }
     requires said { length row.now ≤ length said.old }
     ensures size { length said.new ≡ length said.old }
@@ -196,7 +197,6 @@ pub(crate) fn say_all(row: &[Voice], silences: &[Silence], said: &mut [Voice])
         → voice_of_reading said.new r ≡ said_after (list_any is_quiet_voice row.now)
         (slice_index_or silences.now r no_silence) (voice_of_reading row.now r) }
 {
-    let some_quiet = is_any_quiet(row);
     for r in 0..row.len() {
         said[r] = say(some_quiet, silences[r], row[r]);
     }
@@ -222,7 +222,8 @@ fn is_left(some_quiet: bool, silence: Silence, given: &Voice) -> bool
 }
 
 /// Counts for each reading that what it gives counts for nothing, where it does.
-pub(crate) fn count_left(row: &[Voice], silences: &[Silence], counts: &mut [u32])
+pub(crate) fn count_left(some_quiet: bool, row: &[Voice], silences: &[Silence], counts: &mut [u32])
+    requires some { some_quiet ≡ list_any is_quiet_voice row.now }
     requires silences { length row.now ≤ length silences.now }
     requires counts { length row.now ≤ length counts.old }
     requires few { (r : ℕ) → r < length row.now → slice_index_or counts.old r 0 < 4000000 }
@@ -234,7 +235,6 @@ pub(crate) fn count_left(row: &[Voice], silences: &[Silence], counts: &mut [u32]
     ensures others { (r : ℕ) → length row.now ≤ r
         → slice_index_or counts.new r 0 ≡ slice_index_or counts.old r 0 }
 {
-    let some_quiet = is_any_quiet(row);
     for r in 0..row.len() {
         if is_left(some_quiet, silences[r], &row[r]) {
             counts[r] += 1;
@@ -242,8 +242,8 @@ pub(crate) fn count_left(row: &[Voice], silences: &[Silence], counts: &mut [u32]
     }
 }
 
-// Whether some reading is quiet.
-fn is_any_quiet(row: &[Voice]) -> bool
+/// Whether some reading is quiet.
+pub(crate) fn is_any_quiet(row: &[Voice]) -> bool
     ensures { result ≡ list_any is_quiet_voice row.now }
 {
     row.iter().any(|voice| voice.is_quiet())
@@ -260,8 +260,8 @@ fn reading(program: &[u8], n: usize, trail: &Trail) -> WordReading
     }
 }
 
-// The symbols of word n.
-fn word_at(program: &[u8], n: usize) -> Word
+/// The symbols of word n.
+pub(crate) fn word_at(program: &[u8], n: usize) -> Word
     requires { symbols_a_slot * (n + 8) ≤ length program.now }
     ensures { result ≡ word_of (symbols_of program.now) n }
 {

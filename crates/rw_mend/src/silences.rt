@@ -1,18 +1,19 @@
 // Where readings are quiet, and whether they lack graphics there.
-ghost use Rattle.std.specs.Prelude.{◌≡◌, ◌<◌, ◌≤◌, ◌+◌, List, ℕ, MatchBool, length, slice_index_or};
-ghost use Rattle.rw_mend.specs.Choice.{voice_of_reading};
+ghost use Rattle.std.specs.Prelude.{◌≡◌, ◌<◌, ◌≤◌, ◌+◌, ◌^◌, List, ℕ, true, MatchBool, length, slice_index_or};
+ghost use Rattle.std.specs.List.{list_any};
 ghost use Rattle.rw_mend.specs.Drops.{HasGraphics, Misses};
-ghost use Rattle.rw_mend.specs.Readings.{AreHeldReadings, programs_in, size_in};
-ghost use Rattle.rw_mend.specs.Rows.{IsRow};
-ghost use Rattle.rw_mend.specs.Silences.{AreSilences, IsSilence, WillMiss};
-ghost use Rattle.rw_mend.specs.Voices.{voice_of};
+ghost use Rattle.rw_mend.specs.Readings.{AreHeldReadings, program_in, programs_in, size_in};
+ghost use Rattle.rw_mend.specs.Rows.{AreTrails, IsRow};
+ghost use Rattle.rw_mend.specs.Silences.{AreSilences, IsCalm, IsSilence, WillMiss};
+ghost use Rattle.rw_mend.specs.Trails.{IsTrail};
+ghost use Rattle.rw_mend.specs.Voices.{is_graphics_voice, is_quiet_voice, voice_of};
 ghost use Rattle.rw_mend.specs.Words.{HoldsWord, given_at, reading_at};
 
-use crate::Voice;
 use crate::cover::Trail;
 use crate::readings::Readings;
-use crate::rows::heard;
-use rw_code::Pack;
+use crate::rows::word_at;
+use crate::voices::MOST_WRONG;
+use crate::{Coverage, Voice, WordReading, hear};
 
 /// Whether a reading is quiet at the last word that was come to, and whether it then lacks graphics there.
 #[derive(Clone, Copy)]
@@ -43,117 +44,238 @@ impl Silence {
     /// Comes to word n from the word before it. A reading that goes on to be quiet goes on to lack graphics, or to have
     /// them; one that falls silent is looked at to the end of its silence.
     #[inline]
-    fn advance(&mut self, readings: &Readings, words: usize, r: usize, n: usize, given: &Voice)
+    fn advance(
+        &mut self,
+        readings: &Readings,
+        words: usize,
+        r: usize,
+        n: usize,
+        row: &[Voice],
+        given: &Voice,
+        trail: &Trail,
+        calm: &mut usize,
+    )
         requires readings { AreHeldReadings readings.now }
         requires reading { r < readings.now.count }
         requires held { (m : ℕ) → m < words → HoldsWord m (size_in readings.now) }
         requires within { n < words }
+        requires row { IsRow (programs_in readings.now) n row.now }
+        requires count { length row.now ≡ readings.now.count }
         requires given { given.now ≡ given_at (programs_in readings.now) r n }
+        requires trail { IsTrail (program_in readings.now r) n trail.now }
         requires before { IsSilence words (programs_in readings.now) r n self.old }
-        ensures { IsSilence words (programs_in readings.now) r (n + 1) self.new }
+        requires calm { IsCalm (programs_in readings.now) n calm.old }
+        ensures silence { IsSilence words (programs_in readings.now) r (n + 1) self.new }
+        ensures calm { IsCalm (programs_in readings.now) n calm.new }
     {
         if !given.is_quiet() {
             self.quiet = false;
             self.lacks = false;
         } else if !self.quiet {
-            self.lacks = will_miss(readings, words, r, n);
+            self.lacks = will_miss(readings, words, r, n, row, trail, calm);
             self.quiet = true;
         }
     }
 }
 
-/// Comes to word n from the word before it.
+/// Comes to word n from the word before it, with a word up to which no reading gives graphics.
 pub(crate) fn advance_all(
     readings: &Readings,
     words: usize,
     n: usize,
     row: &[Voice],
+    trails: &[Trail],
     silences: &mut [Silence],
+    calm: &mut usize,
 )
     requires readings { AreHeldReadings readings.now }
     requires held { (m : ℕ) → m < words → HoldsWord m (size_in readings.now) }
     requires within { n < words }
     requires row { IsRow (programs_in readings.now) n row.now }
     requires count { length row.now ≡ readings.now.count }
+    requires trails_size { readings.now.count ≤ length trails.now }
+    requires trails { AreTrails (programs_in readings.now) n trails.now }
     requires size { readings.now.count ≤ length silences.old }
     requires before { AreSilences words (programs_in readings.now) n silences.old }
+    requires calm { IsCalm (programs_in readings.now) n calm.old }
     ensures size { length silences.new ≡ length silences.old }
     ensures silences { AreSilences words (programs_in readings.now) (n + 1) silences.new }
+    ensures calm { IsCalm (programs_in readings.now) (n + 1) calm.new }
 {
     for r in 0..row.len() {
-        silences[r].advance(readings, words, r, n, &row[r]);
+        silences[r].advance(readings, words, r, n, row, &row[r], &trails[r], calm);
     }
 }
 
 // Whether reading r is quiet from word n to one at which it misses graphics. It is a function of its own so that words
 // at which no silence begins do not pay for its variables.
 #[inline(never)]
-fn will_miss(readings: &Readings, words: usize, r: usize, n: usize) -> bool
+fn will_miss(
+    readings: &Readings,
+    words: usize,
+    r: usize,
+    n: usize,
+    row: &[Voice],
+    trail: &Trail,
+    calm: &mut usize,
+) -> bool
     requires readings { AreHeldReadings readings.now }
     requires reading { r < readings.now.count }
     requires held { (m : ℕ) → m < words → HoldsWord m (size_in readings.now) }
-    ensures { MatchBool result (WillMiss words (programs_in readings.now) r n)
+    requires within { n < words }
+    requires row { IsRow (programs_in readings.now) n row.now }
+    requires count { length row.now ≡ readings.now.count }
+    requires quiet { is_quiet_voice (given_at (programs_in readings.now) r n) ≡ true }
+    requires trail { IsTrail (program_in readings.now r) n trail.now }
+    requires calm { IsCalm (programs_in readings.now) n calm.old }
+    ensures will { MatchBool result (WillMiss words (programs_in readings.now) r n)
         (¬ WillMiss words (programs_in readings.now) r n) }
+    ensures calm { IsCalm (programs_in readings.now) n calm.new }
 {
-    for m in n..words {
-        let voice = hear_at(readings, r, m);
-        if !voice.is_quiet() {
+    if misses_here(row, r, n, calm) {
+        return true;
+    }
+    let program = readings.program(r);
+    let mut trail = *trail;
+    for m in n + 1..words {
+        trail.advance(program, m);
+        if !is_quiet_at(program, m, &trail) {
             return false;
         }
-        if misses_at(readings, r, m, &voice) {
+        if misses_at(readings, r, m, program, &trail, calm) {
             return true;
         }
     }
     false
 }
 
-// Whether reading r, which gives this for word m, misses graphics there.
-#[inline]
-fn misses_at(readings: &Readings, r: usize, m: usize, given: &Voice) -> bool
-    requires readings { AreHeldReadings readings.now }
-    requires within { HoldsWord m (size_in readings.now) }
-    requires given { given.now ≡ given_at (programs_in readings.now) r m }
-    ensures { MatchBool result (Misses (programs_in readings.now) r m)
-        (¬ Misses (programs_in readings.now) r m) }
+// Whether reading r misses graphics at word n, to which all have come.
+fn misses_here(row: &[Voice], r: usize, n: usize, calm: &mut usize) -> bool
+    requires reading { r < length row.now }
+    requires number { n < 2 ^ 63 }
+    ensures told { (programs : List (List ℕ)) → length programs ≡ length row.now → IsRow programs n row.now
+        → MatchBool result (Misses programs r n) (¬ Misses programs r n) }
+    ensures calm { (programs : List (List ℕ)) → length programs ≡ length row.now → IsRow programs n row.now
+        → IsCalm programs n calm.old → IsCalm programs n calm.new }
 {
-    if !given.is_idle() {
+    if !has_graphics_here(row, n, calm) {
         return false;
     }
-    has_graphics_at(readings, m)
+    row[r].is_idle()
 }
 
-// Whether some reading gives graphics at word m.
-fn has_graphics_at(readings: &Readings, m: usize) -> bool
+// Whether reading r, which is quiet at word m, misses graphics there.
+#[inline]
+fn misses_at(
+    readings: &Readings,
+    r: usize,
+    m: usize,
+    program: &[u8],
+    trail: &Trail,
+    calm: &mut usize,
+) -> bool
+    requires readings { AreHeldReadings readings.now }
+    requires reading { r < readings.now.count }
+    requires program { program.now ≡ program_in readings.now r }
+    requires size { length program.now ≡ size_in readings.now }
+    requires within { HoldsWord m (length program.now) }
+    requires trail { IsTrail program.now m trail.now }
+    requires quiet { is_quiet_voice (given_at (programs_in readings.now) r m) ≡ true }
+    requires calm { IsCalm (programs_in readings.now) m calm.old }
+    ensures told { MatchBool result (Misses (programs_in readings.now) r m)
+        (¬ Misses (programs_in readings.now) r m) }
+    ensures calm { (n : ℕ) → IsCalm (programs_in readings.now) n calm.old
+        → IsCalm (programs_in readings.now) n calm.new }
+{
+    if trail.coverage(m) == Coverage::Unread {
+        return false;
+    }
+    has_graphics_at(readings, m, calm)
+}
+
+// Whether some reading gives graphics at word n, to which all have come.
+fn has_graphics_here(row: &[Voice], n: usize, calm: &mut usize) -> bool
+    requires { n < 2 ^ 63 }
+    ensures told { (programs : List (List ℕ)) → length programs ≡ length row.now → IsRow programs n row.now
+        → MatchBool result (HasGraphics programs n) (¬ HasGraphics programs n) }
+    ensures calm { (programs : List (List ℕ)) → length programs ≡ length row.now → IsRow programs n row.now
+        → IsCalm programs n calm.old → IsCalm programs n calm.new }
+{
+    if is_any_graphics(row) {
+        return true;
+    }
+    *calm = (*calm).max(n + 1);
+    false
+}
+
+fn is_any_graphics(row: &[Voice]) -> bool
+    ensures { result ≡ list_any is_graphics_voice row.now }
+{
+    row.iter().any(|voice| voice.is_graphics())
+}
+
+// Whether some reading gives graphics at word m, which lies ahead. None does up to a word that it keeps.
+fn has_graphics_at(readings: &Readings, m: usize, calm: &mut usize) -> bool
+    requires readings { AreHeldReadings readings.now }
+    requires within { HoldsWord m (size_in readings.now) }
+    requires calm { IsCalm (programs_in readings.now) m calm.old }
+    ensures told { MatchBool result (HasGraphics (programs_in readings.now) m)
+        (¬ HasGraphics (programs_in readings.now) m) }
+    ensures calm { (n : ℕ) → IsCalm (programs_in readings.now) n calm.old
+        → IsCalm (programs_in readings.now) n calm.new }
+{
+    if m < *calm {
+        return false;
+    }
+    if is_any_graphics_at(readings, m) {
+        return true;
+    }
+    if m == *calm {
+        *calm = m + 1;
+    }
+    false
+}
+
+fn is_any_graphics_at(readings: &Readings, m: usize) -> bool
     requires readings { AreHeldReadings readings.now }
     requires within { HoldsWord m (size_in readings.now) }
     ensures { MatchBool result (HasGraphics (programs_in readings.now) m)
         (¬ HasGraphics (programs_in readings.now) m) }
 {
     for s in 0..readings.count {
-        if hear_at(readings, s, m).is_graphics() {
+        if is_graphics_at(readings.program(s), m) {
             return true;
         }
     }
     false
 }
 
-// What reading r gives for word m.
-fn hear_at(readings: &Readings, r: usize, m: usize) -> Voice
-    requires readings { AreHeldReadings readings.now }
-    requires reading { r < readings.now.count }
-    requires within { HoldsWord m (size_in readings.now) }
-    ensures { result ≡ given_at (programs_in readings.now) r m }
+// Whether a reading gives graphics at word m: few words of a silence have more symbols than the idle pack may be read with.
+#[inline]
+fn is_graphics_at(program: &[u8], m: usize) -> bool
+    requires { HoldsWord m (length program.now) }
+    ensures { result ≡ is_graphics_voice (voice_of (reading_at program.now m)) }
 {
-    hear_in(readings.program(r), m)
+    let word = word_at(program, m);
+    if word.weight() <= MOST_WRONG {
+        return false;
+    }
+    hear(&WordReading {
+        word,
+        coverage: Coverage::Whole,
+    })
+    .is_graphics()
 }
 
-fn hear_in(program: &[u8], m: usize) -> Voice
-    requires { HoldsWord m (length program.now) }
-    ensures { result ≡ voice_of (reading_at program.now m) }
+// Whether a reading is quiet at word m: it is not decoded.
+#[inline]
+fn is_quiet_at(program: &[u8], m: usize, trail: &Trail) -> bool
+    requires within { HoldsWord m (length program.now) }
+    requires trail { IsTrail program.now m trail.now }
+    ensures { result ≡ is_quiet_voice (voice_of (reading_at program.now m)) }
 {
-    let idle = Voice::Near {
-        pack: Pack::idle(),
-        doubts: 0,
-    };
-    heard(&idle, program, m, &Trail::at(program, m))
+    if trail.is_blank(m) {
+        return true;
+    }
+    word_at(program, m).weight() <= MOST_WRONG
 }

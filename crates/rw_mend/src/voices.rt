@@ -6,6 +6,7 @@ ghost use Rattle.rw_code.specs.Packs.{idle_pack};
 ghost use Rattle.rw_mend.specs.declared.voices.WordReading.{WordReading};
 ghost use Rattle.rw_mend.specs.Voices.{GivesNear, doubts_of, has_used_mode, instructions, is_doubtful_voice, is_graphics_pack, is_graphics_voice, is_idle_pack, is_idle_voice, is_quiet_voice, voice_of};
 
+use crate::choice::is_same;
 use rw_code::{Fixed, Pack, Word, correct, words_have_24_symbols};
 use rw_merge::differing;
 
@@ -48,8 +49,8 @@ pub enum Voice {
     },
 }
 
-// The most wrong symbols of a word that is near a codeword.
-const MOST_WRONG: u8 = 2;
+/// The most wrong symbols of a word that is near a codeword.
+pub(crate) const MOST_WRONG: u8 = 2;
 
 // More than stands against any other codeword.
 const IDLE_DOUBTS: u8 = 3;
@@ -147,7 +148,7 @@ fn doubts(coverage: Coverage, fixed: &Fixed) -> u8
 fn is_idle_pack(pack: &Pack) -> bool
     ensures { result ≡ is_idle_pack pack.now }
 {
-    pack.word().weight() == 0
+    is_same(pack, &Pack::idle())
 }
 
 impl Voice {
@@ -189,7 +190,7 @@ impl Voice {
     {
         match self {
             Voice::Near { pack, doubts } => {
-                !is_idle_pack(pack) && (!(*doubts == 0) && !has_used_mode(pack))
+                !(*doubts == 0) && !is_idle_pack(pack) && !has_used_mode(pack)
             }
             _ => false,
         }

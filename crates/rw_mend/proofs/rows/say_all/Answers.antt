@@ -29,6 +29,6 @@ loop-r-preserved c =
           ∙ c.loop-r.invariant.each k lt)
           (get_or-set_same said r new Silent long ∙ c.say.ensures
           ∙ ap (λ b. said_after b (get_or silences r no_silence) c.index-row-r.result)
-          c.is_any_quiet-some_quiet.ensures
+          c.requires.some
           ∙ ap (λ v. said_after some (get_or silences r no_silence) v) here);
     }

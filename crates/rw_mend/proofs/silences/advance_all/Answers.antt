@@ -2,9 +2,11 @@ use Rattle.std.proofs.Common.{◌<◌, ◌+◌, length, get_or, sym, ◌∙◌, 
 use Rattle.std.proofs.Math.ListN.{set, length-set}
 use Rattle.std.proofs.lemmas.List.{get_or_default, get_or-set_other, get_or-set_same}
 use Rattle.rw_mend.specs.Readings.{programs_in}
+use Rattle.rw_mend.specs.Rows.{no_trail}
 use Rattle.rw_mend.specs.Silences.{IsSilence, no_silence}
+use Rattle.rw_mend.specs.Trails.{IsTrail}
 use Rattle.rw_mend.specs.declared.voices.Voice.TheVariants.{Silent}
-use Rattle.rw_mend.proofs.Reading.{count_is}
+use Rattle.rw_mend.proofs.Reading.{count_is, program_at}
 use Rattle.rw_mend.proofs.silences.advance_all.Goals as goal
 
 pub advance-requires-clause-given : goal.advance-requires-clause-given
@@ -20,6 +22,14 @@ advance-requires-clause-before c =
     (sym (c.loop-r.invariant.later c.loop-r.r (omega arith)))
     (c.requires.before.each c.loop-r.r
     (omega (arith, c.loop-r-test.true, c.requires.count, count_is c.args.readings.now)))
+
+pub advance-requires-clause-trail : goal.advance-requires-clause-trail
+advance-requires-clause-trail c =
+    let readings = c.args.readings.now in
+    let r = c.loop-r.r in
+    let among : r < readings.count = omega (arith, c.loop-r-test.true, c.requires.count) in
+    subst (λ p. IsTrail p c.args.n (get_or c.args.trails.now r no_trail)) (program_at readings r among)
+    (c.requires.trails.each r (omega (arith, among, count_is readings)))
 
 pub loop-r-preserved : goal.loop-r-preserved
 loop-r-preserved c =
@@ -37,11 +47,12 @@ loop-r-preserved c =
           (λ k lt. subst (IsSilence c.args.words programs k (c.args.n + 1))
           (sym (get_or-set_other silences r k new no_silence (λ e. omega (arith, e, lt)))) (is.done k lt))
           (subst (IsSilence c.args.words programs r (c.args.n + 1))
-          (sym (get_or-set_same silences r new no_silence long)) c.advance.ensures);
+          (sym (get_or-set_same silences r new no_silence long)) c.advance.ensures.silence);
       later =
           λ k lt.
           get_or-set_other silences r k new no_silence (λ e. omega (arith, e, lt))
           ∙ is.later k (omega (arith, lt));
+      calm = c.advance.ensures.calm;
     }
 
 pub returns-clause-silences : goal.returns-clause-silences
@@ -50,4 +61,9 @@ returns-clause-silences c = record {
       λ r lt.
       c.loop-r.invariant.done r
       (omega (arith, lt, c.loop-r-test.false, c.requires.count, count_is c.args.readings.now));
+}
+
+pub returns-clause-calm : goal.returns-clause-calm
+returns-clause-calm c = record {
+  none = λ m from to. c.loop-r.invariant.calm.none m (omega (arith, from)) to;
 }

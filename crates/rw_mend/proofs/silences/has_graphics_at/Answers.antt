@@ -1,33 +1,22 @@
-use Rattle.std.proofs.Common.{rules, ◌≡◌, true, false, ap, sym, ◌∙◌, arith, below_more}
-use Rattle.std.proofs.lemmas.Bool.{false≢true}
+use Rattle.std.proofs.Common.{rules, ◌≡◌, false, sym, subst, inl, inr, arith}
+use Rattle.std.proofs.lemmas.Bool.{cases_eq}
+use Rattle.rw_mend.specs.Drops.{HasGraphics}
 use Rattle.rw_mend.specs.Readings.{programs_in}
-use Rattle.rw_mend.specs.Voices.{is_graphics_voice}
-use Rattle.rw_mend.specs.Words.{given_at}
-use Rattle.rw_mend.proofs.Reading.{count_is}
+use Rattle.rw_mend.proofs.Missing.{match_not}
 use Rattle.rw_mend.proofs.silences.has_graphics_at.Goals as goal
 
-pub returns-then-is_graphics : goal.returns-then-is_graphics
-returns-then-is_graphics c =
-    let holds : c.is_graphics.result ≡ true = search rules in
+pub returns-then-m-calm-2-clause-calm : goal.returns-then-m-calm-2-clause-calm
+returns-then-m-calm-2-clause-calm c n is =
+    let programs = programs_in c.args.readings.now in
+    let fails : c.is_any_graphics_at.result ≡ false = search rules in
+    let none : ¬ HasGraphics programs c.args.m =
+    match_not c.is_any_graphics_at.result (HasGraphics programs c.args.m) fails
+    c.is_any_graphics_at.ensures in
     record {
-      reading = c.loop-s.s;
-      within = omega (arith, c.loop-s-test.true, count_is c.args.readings.now);
-      graphics = ap is_graphics_voice (sym c.hear_at.ensures) ∙ sym c.is_graphics.ensures ∙ holds;
+      none =
+          λ k from to.
+          elim (cases_eq k c.args.m) [
+            | inl same ↦ subst (λ j. ¬ HasGraphics programs j) (sym same) none
+            | inr differs ↦ is.none k from (omega (arith, to, differs, c.if-m-calm-2.true))
+          ];
     }
-
-pub loop-s-preserved : goal.loop-s-preserved
-loop-s-preserved c =
-    let fails : c.is_graphics.result ≡ false = search rules in
-    record {
-      none = below_more
-          (λ k. is_graphics_voice (given_at (programs_in c.args.readings.now) k c.args.m) ≡ false) c.loop-s.s
-          c.loop-s.invariant.none
-          (ap is_graphics_voice (sym c.hear_at.ensures) ∙ sym c.is_graphics.ensures ∙ fails);
-    }
-
-pub returns : goal.returns
-returns c graphics =
-    false≢true
-    (sym (c.loop-s.invariant.none graphics.reading
-    (omega (arith, graphics.within, c.loop-s-test.false, count_is c.args.readings.now)))
-    ∙ graphics.graphics)

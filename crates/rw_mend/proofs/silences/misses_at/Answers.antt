@@ -1,24 +1,44 @@
-use Rattle.std.proofs.Common.{rules, ◌≡◌, true, false, ap, sym, ◌∙◌}
+use Rattle.std.proofs.Common.{rules, ◌≡◌, ◌≢◌, true, ap, sym, ◌∙◌}
 use Rattle.std.proofs.lemmas.Bool.{false≢true}
 use Rattle.rw_mend.specs.Drops.{HasGraphics, Misses}
 use Rattle.rw_mend.specs.Readings.{programs_in}
-use Rattle.rw_mend.specs.Voices.{is_idle_voice}
-use Rattle.rw_mend.specs.Words.{given_at}
+use Rattle.rw_mend.specs.Voices.{is_idle_voice, is_quiet_voice, voice_of}
+use Rattle.rw_mend.specs.Words.{given_at, reading_at}
+use Rattle.rw_mend.specs.declared.voices.Coverage.TheVariants.{Unread}
 use Rattle.rw_mend.proofs.Missing.{match_other}
+use Rattle.rw_mend.proofs.Quiet.{read_idle, unread_not_idle}
+use Rattle.rw_mend.proofs.Reading.{program_at}
+use Rattle.rw_mend.proofs.Unread.{reading-coverage}
 use Rattle.rw_mend.proofs.silences.misses_at.Goals as goal
 
-pub returns-then-not-is_idle : goal.returns-then-not-is_idle
-returns-then-not-is_idle c misses =
-    let fails : c.is_idle.result ≡ false = search rules in
+pub returns-then-eq-clause-told : goal.returns-then-eq-clause-told
+returns-then-eq-clause-told c misses =
+    let program = c.args.program.now in
+    let m = c.args.m in
+    let is = c.requires.program ∙ sym (program_at c.args.readings.now c.args.r c.requires.reading) in
+    let unread : c.coverage.result ≡ Unread = search rules in
     false≢true
-    (sym fails ∙ c.is_idle.ensures ∙ ap is_idle_voice c.requires.given ∙ misses.idle)
+    (sym (unread_not_idle (reading_at program m)
+    (reading-coverage program m ∙ sym (c.coverage.ensures program c.requires.trail) ∙ unread))
+    ∙ ap (λ p. is_idle_voice (voice_of (reading_at p m))) is
+    ∙ misses.idle)
 
-pub returns : goal.returns
-returns c =
+pub returns-clause-told : goal.returns-clause-told
+returns-clause-told c =
     let programs = programs_in c.args.readings.now in
-    let holds : c.is_idle.result ≡ true = search rules in
-    let idle : is_idle_voice (given_at programs c.args.r c.args.m) ≡ true =
-    ap is_idle_voice (sym c.requires.given) ∙ sym c.is_idle.ensures ∙ holds in
-    match_other c.has_graphics_at.result (HasGraphics programs c.args.m) (Misses programs c.args.r c.args.m)
+    let program = c.args.program.now in
+    let r = c.args.r in
+    let m = c.args.m in
+    let is = c.requires.program ∙ sym (program_at c.args.readings.now r c.requires.reading) in
+    let some : c.coverage.result ≢ Unread = search rules in
+    let is_read : (reading_at program m).coverage ≢ Unread =
+    λ unread.
+    some (c.coverage.ensures program c.requires.trail ∙ sym (reading-coverage program m) ∙ unread) in
+    let idle : is_idle_voice (given_at programs r m) ≡ true =
+    ap (λ p. is_idle_voice (voice_of (reading_at p m))) (sym is)
+    ∙ read_idle (reading_at program m) is_read
+    ∙ ap (λ p. is_quiet_voice (voice_of (reading_at p m))) is
+    ∙ c.requires.quiet in
+    match_other c.has_graphics_at.result (HasGraphics programs m) (Misses programs r m)
     (λ graphics. record { idle = idle; graphics = graphics }) (λ misses. misses.graphics)
-    c.has_graphics_at.ensures
+    c.has_graphics_at.ensures.told

@@ -26,9 +26,11 @@ say_next-requires-clause-few c r lt =
 pub returns-clause-at : goal.returns-clause-at
 returns-clause-at c =
     at_word c.args.readings.now c.args.n c.args.self.now c.hear_all.new.trails c.hear_all.new.same_from
-    c.hear_all.new.row c.say_next.new.silences c.say_next.new.said c.say_next.new.dropped c.requires.hearing
+    c.hear_all.new.row c.say_next.new.silences c.say_next.new.calm c.say_next.new.said c.say_next.new.dropped
+    c.requires.hearing
     c.requires.within c.hear_all.ensures.trails_size c.hear_all.ensures.same_size c.hear_all.ensures.trails
     c.hear_all.ensures.same c.hear_all.ensures.row c.say_next.ensures.row_size
     c.say_next.ensures.silences_size
     c.say_next.ensures.said_size c.say_next.ensures.dropped_size c.say_next.ensures.silences
+    c.say_next.ensures.calm
     c.say_next.ensures.said c.say_next.ensures.dropped c.say_next.ensures.others

@@ -17,5 +17,6 @@ returns c = record {
   same = none_followed c.args.readings.now c.requires.readings;
   silences = none_silent c.saturating_sub.result c.args.readings.now c.new-3.result c.requires.readings
       (λ r. c.new-3.ensures c.saturating_sub.result r (programs_in c.args.readings.now));
+  calm = record { none = λ m from to. absurd (omega (arith, to)) };
   dropped = zero_dropped c.args.readings.now c.saturating_sub.result c.requires.readings;
 }

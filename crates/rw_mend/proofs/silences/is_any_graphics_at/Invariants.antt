@@ -2,7 +2,7 @@ use Rattle.std.proofs.Common.{◌≡◌, ℕ, ◌<◌, false}
 use Rattle.rw_mend.specs.Readings.{programs_in}
 use Rattle.rw_mend.specs.Voices.{is_graphics_voice}
 use Rattle.rw_mend.specs.Words.{given_at}
-use Rattle.rw_mend.proofs.silences.has_graphics_at.Given as goal
+use Rattle.rw_mend.proofs.silences.is_any_graphics_at.Given as goal
 
 abbrev pub invariant-loop-s : goal.invariant-loop-s
 invariant-loop-s l = record {
