@@ -1,20 +1,20 @@
 """`lyrics`: that each script is in time, that its letters can be read, and that words are lit when they are sung."""
-import argparse
 import unittest
 from pathlib import Path
 from typing import Any, Iterator
+from unittest import mock
 
 from fixtures import (
     PAUSE, ROOMY_LEAD_IN as LEAD_IN, SONG, TOP, FolderTest, Ran, Screen, Word, author_files as author, desk,
     needs_font, needs_pillow, needs_plan, needs_program, screen, write_wav,
 )  # fmt: skip
+from random_songs import bits
 from ribjasper.drawing.colours import Colour, contrast
 from ribjasper.common.library import HEIGHT, PACK, RAW, WIDTH, Player, convert
-from ribjasper.commands.publish.lyrics import add_parser
-from ribjasper.songs.wishes import wishes_of
+from ribjasper.commands.publish import lyrics
 from ribjasper.songs.pages import DotOut, Placed
-from ribjasper.songs.song_files import read_song
-from ribjasper.songs.song_script import Maker, best
+from ribjasper.songs.song_script import Made, Maker, Wishes, best
+from ribjasper.songs.songs import Song
 from ribjasper.drawing.styles import read_style, shipped
 from ribjasper.songs.timeline import EARLY, blocks_for
 from ribjasper.common.times import blocks, clock
@@ -97,14 +97,17 @@ class StylesTest(FolderTest):
 
 class ScriptTest(FolderTest):
     def made(self, song: Path, *words: Word, status: int = 0) -> tuple[Ran, Path, Maker]:
-        """Runs the command; and makes the pages once more, to know where each word stands."""
-        script = self.folder / "a.script"
-        ran = desk("lyrics", song, "-o", script, *words)
+        """Runs the command and keeps the pages that it made, to know where each word stands."""
+        script, kept = self.folder / "a.script", list[Made]()
+
+        def keep(song: Song, wishes: Wishes) -> Made:
+            kept.append(best(song, wishes))
+            return kept[-1]
+
+        with mock.patch.object(lyrics, "best", keep):
+            ran = desk("lyrics", song, "-o", script, *words)
         self.assertEqual(ran.status, status, ran.told)
-        top = argparse.ArgumentParser()
-        add_parser(top.add_subparsers())
-        arguments = top.parse_args(["lyrics", str(song), "-o", str(script), *map(str, words)])
-        return ran, script, best(read_song(song), wishes_of(arguments, None)).maker
+        return ran, script, kept[-1].maker
 
     def stream(self, script: Path) -> Path:
         """A disc that ends three seconds after the last picture."""
@@ -418,19 +421,19 @@ class ReadableTest(ScriptTest):
 
     def shown(self, pixels: bytes, maker: Maker, slot: int) -> set[tuple[int, int]]:
         """The pixels in a place of the page that are not of the ground."""
-        top = maker.style.top(slot)
+        area, top = self.area(pixels, maker, slot), maker.style.top(slot)
+        return {(at % 288, top + at // 288) for at, pixel in enumerate(area) if pixel}
+
+    @staticmethod
+    def area(pixels: bytes, maker: Maker, slot: int) -> bytes:
+        """The pixels in a place of the page, row by row."""
+        top = maker.style.top(slot) + 12
         rows = range(top, top + 12 * maker.style.slot_rows)
-        return {(x, y) for y in rows for x in range(288) if pixels[WIDTH * (y + 12) + x + 6]}
+        return b"".join(pixels[WIDTH * y + 6 : WIDTH * y + 294] for y in rows)
 
     def check_clear(self, script: Path, maker: Maker) -> None:
         """That the pixels that stand in a place of the page are of one line at each block."""
-        inks = {
-            slot: [
-                {(x, placed.top + y) for y, row in enumerate(self.letters(placed)) for x in range(288) if row[x]}
-                for placed in some
-            ]
-            for slot, some in self.slots(maker).items()
-        }
+        inks = {slot: [self.ink(placed, maker) for placed in some] for slot, some in self.slots(maker).items()}
         seen, before = set(), b""
         for block, pixels in self.screens(script):
             if block > PAUSE + 75 * 40:
@@ -439,14 +442,31 @@ class ReadableTest(ScriptTest):
                 continue
             before = pixels
             for slot, lines in inks.items():
-                shown = self.shown(pixels, maker, slot)
+                shown = bits([self.area(pixels, maker, slot)])
                 # A tile that takes two packs may show other pixels between them.
-                fits = [
-                    number for number, ink in enumerate(lines) if len({(x // 6, y // 12) for x, y in shown - ink}) <= 1
-                ]
+                fits = [number for number, ink in enumerate(lines) if self.is_in_a_tile(shown & ~ink)]
                 self.assertTrue(fits, (block, slot))
                 seen |= {(slot, fits[0])} if shown else set()
         self.assertEqual(len(seen), sum(len(lines) for lines in inks.values()))
+
+    def ink(self, placed: Placed, maker: Maker) -> int:
+        """One bit for each pixel of letters in a place of the page."""
+        area = bytearray(288 * 12 * maker.style.slot_rows)
+        start = 288 * (placed.top - maker.style.top(placed.slot))
+        rows = b"".join(self.letters(placed))
+        area[start : start + len(rows)] = rows
+        return bits([bytes(area)])
+
+    @staticmethod
+    def is_in_a_tile(marks: int) -> bool:
+        """Whether the pixels of a place are those of one tile at most."""
+        tiles = set[tuple[int, int]]()
+        while marks and len(tiles) < 2:
+            # One bit a byte, counted from the last pixel.
+            at = (marks.bit_length() - 1) // 8
+            tiles.add((at % 288 // 6, at // 288 // 12))
+            marks ^= 1 << 8 * at
+        return len(tiles) < 2
 
     def test_a_row_is_cleared_before_another_is_drawn_over_it(self) -> None:
         ran, script, maker = self.made(self.write("a.lrc", QUICK), "--no-rests")
@@ -584,7 +604,7 @@ class ReadableTest(ScriptTest):
         text = "[00:20.00]<00:20.00>La <00:21.00>la <00:22.00>\n"
         _, script, maker = self.made(self.write("a.lrc", text), "--lead", "4")
         placed = next(placed for page in maker.pages for placed in page.placed if placed.letters)
-        stands = [block for block, pixels in self.screens(script) if self.shown(pixels, maker, placed.slot)]
+        stands = [block for block, pixels in self.screens(script) if any(self.area(pixels, maker, placed.slot))]
         self.assertIn(min(stands), range(PAUSE + 75 * 15, PAUSE + 75 * 16))
 
     def test_a_last_page(self) -> None:

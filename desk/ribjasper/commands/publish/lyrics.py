@@ -17,7 +17,7 @@ def add_parser(commands: Commands) -> None:
         "lyrics",
         help="make a picture script of a song",
         description="Makes a picture script of lyrics with times: LRC with times of lines or of words, ASS with \\k "
-        "times, UltraStar, SubRip or karaoke MIDI. Words light up when they are sung, and the next lines are drawn while "
+        "times, UltraStar, SubRip, WebVTT or karaoke MIDI. Words light up when they are sung, and the next lines are drawn while "
         "the last are still sung. Nothing of the script is late; what cannot be shown at its time is reported with its "
         "line.",
     )
