@@ -1,8 +1,10 @@
 -- Files of checkpoints, and what is none.
-use Rattle.std.proofs.Common.{◌≡◌, ℕ, List, [], ◌∷◌, ◌++◌, subst, sym}
+use Rattle.std.proofs.Common.{◌≡◌, ◌<◌, ◌^◌, ℕ, List, [], ◌∷◌, ◌++◌, subst, sym, arith}
 use Rattle.std.specs.List.{AllByRecursion}
-use Rattle.cdg_checkpoint.specs.Checkpoint.{file_of}
-use Rattle.cdg_checkpoint.specs.Table.{IsBadAt, IsCheckpointFile, IsPartInRange, Part}
+use Rattle.cdg_checkpoint.specs.Checkpoint.{Checkpoint, file_of}
+use Rattle.cdg_checkpoint.specs.Table.{IsBadAt, IsCheckpointFile, IsPartInRange, LeadIn, Part, Program, ToCome, number}
+use Rattle.disc_time.specs.Counts.{most_lead_in}
+use Rattle.raw_subcode.specs.Sizes.{most_units}
 use Rattle.live_player.specs.Saving.{checkpoint_of}
 use Rattle.live_player.specs.declared.live.LivePlayer.{LivePlayer}
 
@@ -24,3 +26,35 @@ pub is_none : (file : List ℕ) (byte : ℕ) (live : LivePlayer) → file ≡ fi
     → IsBadAt file byte
     → ¬ IsCheckpointFile (file_of (checkpoint_of live))
 is_none file byte live same bad is = not_both file byte bad (subst IsCheckpointFile (sym same) is)
+
+-- the file of a player with too long a lead-in is no checkpoint's
+pub long_lead_in : (live : LivePlayer) (count : ℕ) → live.lead_in ≡ count → count < 2 ^ 32
+    → ((c : Checkpoint) → c.to_come < 2 ^ 32 → number (file_of c) ToCome 0 ≡ c.to_come)
+    → ((c : Checkpoint) → c.lead_in < 2 ^ 32 → number (file_of c) LeadIn 0 ≡ c.lead_in)
+    → most_lead_in < count → ¬ IsCheckpointFile (file_of (checkpoint_of live))
+long_lead_in live count same fits to_come lead_in long =
+    let c : Checkpoint = checkpoint_of live in
+    λ is. omega (
+      arith,
+      same,
+      long,
+      to_come c (omega (arith, same, fits)),
+      lead_in c (omega (arith, same, fits)),
+      is.ranges.1.1.0 0 (omega arith),
+    )
+
+-- nor is that of one that has come too far
+pub many_blocks : (live : LivePlayer) (count : ℕ) → live.blocks ≡ count → count < 2 ^ 32
+    → ((c : Checkpoint) → c.lead_in < 2 ^ 32 → number (file_of c) LeadIn 0 ≡ c.lead_in)
+    → ((c : Checkpoint) → c.program < 2 ^ 32 → number (file_of c) Program 0 ≡ c.program)
+    → most_units < count → ¬ IsCheckpointFile (file_of (checkpoint_of live))
+many_blocks live count same fits lead_in program far =
+    let c : Checkpoint = checkpoint_of live in
+    λ is. omega (
+      arith,
+      same,
+      far,
+      lead_in c (omega (arith, same, fits)),
+      program c (omega (arith, same, fits)),
+      (is.ranges.1.1.1.0 0 (omega arith)).0,
+    )
