@@ -521,6 +521,9 @@ REACHED = {"link": "target", "dangling": "nowhere", "link-to-input": "in-0"}
 
 
 def may_appear(call: Made, name: str) -> bool:
+    # An export without -o has the name of the lyrics.
+    if call.words[0] == "studio" and not call.outputs:
+        return name in (RECORD, *(f"{read}{ending}" for read in call.reads for ending in (".srt", ".ass", ".txt")))
     # A folder of outputs has a record of them.
     if name.rsplit("/", 1)[-1] == RECORD:
         return bool(call.outputs)

@@ -287,5 +287,18 @@ class PairsTest(FolderTest):
         self.assertEqual((self.folder / "out.cdg").stat().st_size, PACK * 300 * (8 + int(found)))
 
 
+@needs_plan
+@needs_program
+@needs_pillow
+@needs_font
+class EndingTest(FolderTest):
+    def test_a_changed_sound_without_an_ending(self) -> None:
+        song = self.write("a.lrc", "[00:06.00]One\n[00:08.00]two\n")
+        write_wav(self.folder / "sound", 44_100 * 12)
+        for words in ((), ("--zip",)):
+            ran = desk("pair", song, "--audio", self.folder / "sound", "--intro", "2", *words, "-o", self.folder / "b")
+            self.assertEqual((ran.status, "--mp3 writes it as MP3" in ran.told), (3, True), ran.told)
+
+
 if __name__ == "__main__":
     unittest.main()

@@ -14,9 +14,21 @@ import unittest
 from pathlib import Path
 from typing import Any, Iterator, NamedTuple
 
-from fixtures import DESK, FolderTest, desk, needs_font, needs_pillow, needs_plan, needs_program, write_wav
+from fixtures import (
+    DESK,
+    FolderTest,
+    desk,
+    needs_ffmpeg,
+    needs_font,
+    needs_pillow,
+    needs_plan,
+    needs_program,
+    write_wav,
+)
 
-from ribjasper.commands.publish.studio import Page
+from test_document import Dice, needs_mido
+
+from ribjasper.commands.publish.studio import Page, make_film
 from ribjasper.common.failures import Refusal
 from ribjasper.common.serving import MOST_SENT, Server
 from ribjasper.common.web import web
@@ -29,6 +41,16 @@ from ribjasper.songs.studio import Studio, files_of
 
 TEXT = "One two\nthree four\n"
 LRC = "[ti:A]\r\n[00:06.00]<00:06.00>One <00:06.50>two <00:07.00>\r\n[00:08.00]Three\r\n[00:11.00]\r\n"
+FORMATS = {
+    "l.lrc": LRC,
+    "s.srt": "1\n00:00:05,000 --> 00:00:07,250\nOne two\n\n2\n00:00:08,000 --> 00:00:10,500\nthree\nfour\n",
+    "v.vtt": "WEBVTT\n\n00:05.000 --> 00:07.250\n<v Ann>One <00:06.000>two\n\n00:08.000 --> 00:10.500\n<v Bob>three\n",
+    "a.ass": "[Script Info]\nTitle: T\n\n[Events]\n"
+    "Format: Layer, Start, End, Style, Name, MarginL, MarginR, MarginV, Effect, Text\n"
+    "Dialogue: 0,0:00:05.00,0:00:07.00,Default,Ann,0,0,0,,{\\k50}One {\\k70}two\n"
+    "Dialogue: 0,0:00:08.00,0:00:10.00,Default,Bob,0,0,0,,{\\k90}three\n",
+    "u.txt": "#TITLE:T\n#ARTIST:A\n#BPM:240\n#GAP:5000\n: 0 8 0 One\n: 10 7 0  two\n- 20\n: 40 9 0 three\nE\n",
+}
 needs_web = unittest.skipUnless(web(), "lib/web is not built (make web)")
 
 
@@ -317,6 +339,67 @@ class FilesTest(StudioTest):
 
 
 class PicturesTest(StudioTest):
+    @needs_plan
+    @needs_program
+    @needs_pillow
+    @needs_font
+    def test_every_format_is_saved_without_loss(self) -> None:
+        """A song that is opened and saved without edits gives the same script, whatever kind of file it was."""
+        for name, text in FORMATS.items():
+            with self.subTest(name=name):
+                self.check_kept(self.song(name, text))
+
+    @needs_mido
+    @needs_plan
+    @needs_program
+    @needs_pillow
+    @needs_font
+    def test_karaoke_midi_is_saved_without_loss(self) -> None:
+        song = self.song("k.kar", "", 60)
+        Dice(3).kar(song)
+        self.check_kept(song)
+
+    def check_kept(self, song: Path) -> None:
+        """What the studio saves gives the same script as the song, which stays as it was."""
+        content = song.read_bytes()
+        studio = self.studio(song)
+        studio.save()
+        studio.close()
+        scripts = []
+        for one in (song, song.with_suffix(".lrc")):
+            out = self.folder / f"{one.name}.script"
+            self.assertEqual(desk("lyrics", one, "-o", out).status, 0)
+            scripts.append(out.read_text().partition("\n")[2])
+        self.assertEqual(*scripts)
+        self.assertEqual(song.read_bytes(), content)
+
+    @needs_ffmpeg
+    @needs_plan
+    @needs_program
+    @needs_pillow
+    @needs_font
+    def test_a_film_from_the_page(self) -> None:
+        studio = self.studio(self.song())
+        studio.begin_job("film", lambda job: make_film(studio, job))
+        with self.assertRaisesRegex(Refusal, "film is still being made"):
+            studio.begin_job("pair", studio.make_pair)
+        while not studio.job.is_over:
+            self.assertLess(studio.job.done, 1)
+            time.sleep(0.02)
+        self.assertEqual(studio.job.error, "")
+        words = [
+            "ffprobe",
+            "-v",
+            "error",
+            "-show_entries",
+            "format=duration",
+            "-of",
+            "csv=p=0",
+            str(self.folder / "a.mp4"),
+        ]
+        shown = subprocess.run(words, capture_output=True, text=True).stdout
+        self.assertAlmostEqual(float(shown), 14.0, delta=0.1)
+
     @needs_plan
     @needs_program
     @needs_pillow

@@ -55,6 +55,10 @@ def convert(sound: Path, song: Song, out: str, ending: str) -> None:
         ".aif": "aiff",
         ".wav": "wav",
     }
+    if ending not in forms:
+        raise Refusal(
+            song.path, f"a changed sound cannot be written with the ending '{ending}'; --mp3 writes it as MP3"
+        )
     audio.run_ffmpeg(sound, ["-y", "-i", os.fspath(sound), "-vn", "-f", forms[ending], out])
 
 
