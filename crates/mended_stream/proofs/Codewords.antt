@@ -3,92 +3,97 @@ use Rattle.std.proofs.Common.{◌≡◌, ◌≢◌, ℕ, zero, suc, ◌+◌, ◌
 use Rattle.std.specs.declared.option.Option.{Option}
 use Rattle.std.proofs.lemmas.List.{get_or_append_left, get_or-append-add}
 use Rattle.rw_code.specs.Codeword.{IsCodeword}
-use Rattle.rw_mend.specs.Choice.{AreAgreed, IsMendedBy, IsMending, IsOf, voice_of_reading}
-use Rattle.rw_mend.specs.Drops.{AreVoices, IsSaid}
+use Rattle.rw_mend.specs.Choice.{AreAgreed, IsMendedBy, IsMending, IsOf, candidate_of_reading}
+use Rattle.rw_mend.specs.Drops.{AreCandidates, IsSaid}
 use Rattle.rw_mend.specs.Streams.{AreMended, mended_bytes, mended_text}
 use Rattle.rw_mend.specs.Tallies.{source_byte}
 use Rattle.rw_mend.specs.declared.choice.Mended.{Mended}
 use Rattle.rw_mend.specs.declared.choice.WordSource.{WordSource}
 use Rattle.rw_mend.specs.declared.choice.WordSource.TheVariants.{Reading, Agreed}
-use Rattle.rw_mend.specs.declared.voices.Voice.{Voice}
-use Rattle.rw_mend.specs.declared.voices.Voice.TheVariants.{Silent, Lost, Near}
+use Rattle.rw_mend.specs.declared.candidates.Candidate.{Candidate}
+use Rattle.rw_mend.specs.declared.candidates.Candidate.TheVariants.{Silent, Lost, Near}
 use Rattle.rw_mend.proofs.Givens.{given_codeword}
 
--- a voice that is a codeword is near it
-near_of : (voice : Voice) (codeword : List ℕ) → IsOf codeword voice
-    → (doubts : ℕ) × (voice ≡ Near codeword doubts)
+-- a candidate that is a codeword is near it
+near_of : (candidate : Candidate) (codeword : List ℕ) → IsOf codeword candidate
+    → (doubts : ℕ) × (candidate ≡ Near codeword doubts)
 near_of Silent codeword is = absurd is
 near_of (Lost word) codeword is = absurd is
 near_of (Near pack doubts) codeword is = (doubts, ap (λ p. Near p doubts) is)
 
-said_codeword : (words : ℕ) (programs : List (List ℕ)) (n r : ℕ) (voice : Voice) (codeword : List ℕ)
-    → IsSaid words programs n r voice → IsOf codeword voice → IsCodeword codeword
-said_codeword words programs n r voice codeword (inl (dropped, silent)) is =
-    let near = near_of voice codeword is in
+said_codeword : (words : ℕ) (programs : List (List ℕ)) (n r : ℕ) (candidate : Candidate) (codeword : List ℕ)
+    → IsSaid words programs n r candidate → IsOf codeword candidate → IsCodeword codeword
+said_codeword words programs n r candidate codeword (inl (dropped, silent)) is =
+    let near = near_of candidate codeword is in
     absurd (subst (IsOf codeword) silent is)
-said_codeword words programs n r voice codeword (inr (kept, given)) is =
-    let near = near_of voice codeword is in
+said_codeword words programs n r candidate codeword (inr (kept, given)) is =
+    let near = near_of candidate codeword is in
     given_codeword programs r n codeword near.0 (sym given ∙ near.1)
 
-agreed_codeword : (one other : Voice) (codeword : List ℕ) → AreAgreed one other codeword → IsCodeword codeword
+agreed_codeword : (one other : Candidate) (codeword : List ℕ) → AreAgreed one other codeword
+    → IsCodeword codeword
 agreed_codeword Silent other codeword is = absurd is
 agreed_codeword (Near pack doubts) other codeword is = absurd is
 agreed_codeword (Lost first) Silent codeword is = absurd is
 agreed_codeword (Lost first) (Near pack doubts) codeword is = absurd is
 agreed_codeword (Lost first) (Lost second) codeword is = is.is_codeword
 
-by_codeword : (words : ℕ) (programs : List (List ℕ)) (n : ℕ) (voices : List Voice) (source : WordSource)
-    (codeword : List ℕ) → AreVoices words programs n voices → IsMendedBy source voices codeword
+by_codeword : (words : ℕ) (programs : List (List ℕ)) (n : ℕ) (candidates : List Candidate)
+    (source : WordSource)
+    (codeword : List ℕ) → AreCandidates words programs n candidates → IsMendedBy source candidates codeword
     → IsCodeword codeword
-by_codeword words programs n voices (Reading r) codeword are by =
-    said_codeword words programs n r (voice_of_reading voices r) codeword
+by_codeword words programs n candidates (Reading r) codeword are by =
+    said_codeword words programs n r (candidate_of_reading candidates r) codeword
     (are.each r (omega (arith, by.0.within, are.count))) by.1
-by_codeword words programs n voices Agreed codeword are by =
-    agreed_codeword (voice_of_reading voices by.1.one) (voice_of_reading voices by.1.other) codeword
+by_codeword words programs n candidates Agreed codeword are by =
+    agreed_codeword (candidate_of_reading candidates by.1.one) (candidate_of_reading candidates by.1.other)
+    codeword
     by.1.agreed.agreed
 
 -- the codeword of a word that is mended
-pub own_codeword : (words : ℕ) (programs : List (List ℕ)) (said : List (List Voice))
+pub own_codeword : (words : ℕ) (programs : List (List ℕ)) (said : List (List Candidate))
     (found : List (Option Mended)) (n : ℕ) (own : Mended) → AreMended words programs said found → n < words
     → get_or found n None ≡ Some own → IsCodeword own.pack
 own_codeword words programs said found n own are within is =
-    by_codeword words programs n (get_or said n []) own.source own.pack (are.voices n within)
+    by_codeword words programs n (get_or said n []) own.source own.pack (are.candidates n within)
     (subst (IsMending (get_or said n [])) is (are.each n within))
 
-source_of : (source : WordSource) (voices : List Voice) (codeword : List ℕ) (mended : Mended)
-    → mended.source ≡ source → length voices ≤ 254
-    → IsMendedBy source voices codeword → source_byte (Some mended) ≢ 255
-source_of (Reading r) voices codeword mended is few by same =
+source_of : (source : WordSource) (candidates : List Candidate) (codeword : List ℕ) (mended : Mended)
+    → mended.source ≡ source → length candidates ≤ 254
+    → IsMendedBy source candidates codeword → source_byte (Some mended) ≢ 255
+source_of (Reading r) candidates codeword mended is few by same =
     let number : r ≡ 255 =
     sym (ap (λ s. source_byte (Some (record { pack = mended.pack; source = s }))) is) ∙ same in
     omega (arith, number, by.0.within, few)
-source_of Agreed voices codeword mended is few by same =
+source_of Agreed candidates codeword mended is few by same =
     let number : 254 ≡ 255 =
     sym (ap (λ s. source_byte (Some (record { pack = mended.pack; source = s }))) is) ∙ same in
     omega (arith, number)
 
 -- and its source is not told as none
-pub own_source : (words : ℕ) (programs : List (List ℕ)) (said : List (List Voice))
+pub own_source : (words : ℕ) (programs : List (List ℕ)) (said : List (List Candidate))
     (found : List (Option Mended)) (n : ℕ) (own : Mended) → AreMended words programs said found → n < words
     → length programs ≤ 254 → get_or found n None ≡ Some own → source_byte (get_or found n None) ≢ 255
 own_source words programs said found n own are within few is same =
     source_of own.source (get_or said n []) own.pack own refl
-    (omega (arith, (are.voices n within).count, few))
+    (omega (arith, (are.candidates n within).count, few))
     (subst (IsMending (get_or said n [])) is (are.each n within)) (ap source_byte (sym is) ∙ same)
 
 -- ---- The text of words.
 
-bytes_long : (words : ℕ) (programs : List (List ℕ)) (n : ℕ) (voices : List Voice) (found : Option Mended)
-    → AreVoices words programs n voices → IsMending voices found → length (mended_bytes found) ≡ 24
-bytes_long words programs n voices None are is = refl
-bytes_long words programs n voices (Some own) are is =
-    (by_codeword words programs n voices own.source own.pack are is).is_word.size
+bytes_long : (words : ℕ) (programs : List (List ℕ)) (n : ℕ) (candidates : List Candidate)
+    (found : Option Mended)
+    → AreCandidates words programs n candidates → IsMending candidates found
+    → length (mended_bytes found) ≡ 24
+bytes_long words programs n candidates None are is = refl
+bytes_long words programs n candidates (Some own) are is =
+    (by_codeword words programs n candidates own.source own.pack are is).is_word.size
 
-pub own_long : (words : ℕ) (programs : List (List ℕ)) (said : List (List Voice))
+pub own_long : (words : ℕ) (programs : List (List ℕ)) (said : List (List Candidate))
     (found : List (Option Mended)) (n : ℕ) → AreMended words programs said found → n < words
     → length (mended_bytes (get_or found n None)) ≡ 24
 own_long words programs said found n are within =
-    bytes_long words programs n (get_or said n []) (get_or found n None) (are.voices n within)
+    bytes_long words programs n (get_or said n []) (get_or found n None) (are.candidates n within)
     (are.each n within)
 
 pub text_at : (found : List (Option Mended)) (n i : ℕ)

@@ -18,7 +18,7 @@ use Rattle.rw_interleave.proofs.Places.{swapped-lt}
 use Rattle.rw_interleave.proofs.Ranges.{map_range}
 use Rattle.rw_mend.specs.Streams.{AreMended}
 use Rattle.rw_mend.specs.declared.choice.Mended.{Mended}
-use Rattle.rw_mend.specs.declared.voices.Voice.{Voice}
+use Rattle.rw_mend.specs.declared.candidates.Candidate.{Candidate}
 use Rattle.mended_stream.specs.Chosen.{read_byte}
 use Rattle.mended_stream.specs.Laws.{AreFoundAgain, read_word}
 use Rattle.mended_stream.specs.Stream.{IsMendedStream}
@@ -126,7 +126,7 @@ only_itself codeword found is finds =
       is_near = omega (arith, differences_self codeword);
     }))
 
-pub found_again : (words lead_in : ℕ) (readings programs : List (List ℕ)) (said : List (List Voice))
+pub found_again : (words lead_in : ℕ) (readings programs : List (List ℕ)) (said : List (List Candidate))
     (found : List (Option Mended)) (stream : List ℕ) (recovered : List (Option (List ℕ)))
     → AreMended words programs said found → IsMendedStream lead_in readings found stream
     → length stream % 96 ≡ 0 → IsRecovered Raw (program_symbols Raw stream lead_in) recovered

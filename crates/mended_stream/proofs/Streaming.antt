@@ -13,7 +13,7 @@ use Rattle.rw_mend.specs.Tallies.{source_byte}
 use Rattle.rw_mend.specs.Words.{program_of}
 use Rattle.rw_mend.specs.declared.choice.Mended.{Mended}
 use Rattle.rw_mend.specs.declared.tallies.Tallies.{Tallies}
-use Rattle.rw_mend.specs.declared.voices.Voice.{Voice}
+use Rattle.rw_mend.specs.declared.candidates.Candidate.{Candidate}
 use Rattle.mended_stream.specs.Chosen.{framed_byte, read_byte}
 use Rattle.mended_stream.specs.Stream.{AreReportedIntoStream, IsMendedByte}
 use Rattle.mended_stream.specs.Symbols.{AreBytes, IsByte, IsMendedAt, stream_place}
@@ -27,7 +27,7 @@ some_found None other = absurd (other refl)
 some_found (Some own) other = (own, refl)
 
 -- a byte by the sources and the text of words is a byte by what is found for them
-mended_byte : (lead_in : ℕ) (readings programs : List (List ℕ)) (said : List (List Voice))
+mended_byte : (lead_in : ℕ) (readings programs : List (List ℕ)) (said : List (List Candidate))
     (found : List (Option Mended)) (words : Words) (text : List ℕ) (p byte : ℕ)
     → AreMended (length found) programs said found → length programs ≤ 254
     → words.count ≡ length found → words.lead_in ≡ lead_in

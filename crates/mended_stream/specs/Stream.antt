@@ -11,7 +11,7 @@ use Rattle.rw_mend.specs.Streams.{AreMended}
 use Rattle.rw_mend.specs.Tallies.{AreTallies, source_byte}
 use Rattle.rw_mend.specs.declared.choice.Mended.{Mended}
 use Rattle.rw_mend.specs.declared.tallies.Tallies.{Tallies}
-use Rattle.rw_mend.specs.declared.voices.Voice.{Voice}
+use Rattle.rw_mend.specs.declared.candidates.Candidate.{Candidate}
 use Rattle.mended_stream.specs.Chosen.{framed_byte, read_byte}
 use Rattle.mended_stream.specs.Symbols.{stream_place}
 
@@ -45,7 +45,7 @@ pub record IsMendedStream (lead_in : ℕ) (readings : List (List ℕ)) (found : 
 -- at the front of another. What is behind them stays.
 pub record AreMendedIntoStream (count lead_in : ℕ) (readings old new old_sources new_sources : List ℕ)
     (tallies : Tallies) : Type 0 where
-  pub said : List (List Voice)
+  pub said : List (List Candidate)
   pub found : List (Option Mended)
   pub mended : AreMended (words_in_each count lead_in readings) (programs_of count lead_in readings) said
       found

@@ -9,7 +9,7 @@ ghost use Rattle.rw_interleave.specs.Stream.{IsRecovered};
 ghost use Rattle.rw_mend.specs.Streams.{AreMended};
 ghost use Rattle.rw_mend.specs.Words.{block_at};
 ghost use Rattle.rw_mend.specs.declared.choice.Mended.{Mended};
-ghost use Rattle.rw_mend.specs.declared.voices.Voice.{Voice};
+ghost use Rattle.rw_mend.specs.declared.candidates.Candidate.{Candidate};
 ghost use Rattle.mended_stream.specs.Chosen.{blocks_at, first_framed};
 ghost use Rattle.mended_stream.specs.Laws.{AreAsLong, AreFoundAgain, read_word};
 ghost use Rattle.mended_stream.specs.Stream.{IsMendedPlace, IsMendedStream};
@@ -17,7 +17,7 @@ ghost use Rattle.mended_stream.specs.Stream.{IsMendedPlace, IsMendedStream};
 /// A law: a word of a mended stream is the codeword into which it was mended, without a wrong symbol; or, where it was
 /// not mended, it has the symbols that were first read.
 pub fn each_word_stands_in_the_stream()
-    ensures mended { (words lead_in n : ℕ) (readings programs : List (List ℕ)) (said : List (List Voice))
+    ensures mended { (words lead_in n : ℕ) (readings programs : List (List ℕ)) (said : List (List Candidate))
         (found : List (Option Mended)) (stream : List ℕ) (own : Mended) → AreMended words programs said found
         → IsMendedStream lead_in readings found stream → length stream % block_bytes ≡ 0 → n < length found
         → slice_index_or found n None ≡ Some own
@@ -31,7 +31,7 @@ pub fn each_word_stands_in_the_stream()
 /// A law: what is recovered from a mended stream is the codeword of each word that was mended, and of each other word
 /// what is found for the symbols that were first read.
 pub fn mended_packs_are_recovered()
-    ensures { (words lead_in : ℕ) (readings programs : List (List ℕ)) (said : List (List Voice))
+    ensures { (words lead_in : ℕ) (readings programs : List (List ℕ)) (said : List (List Candidate))
         (found : List (Option Mended)) (stream : List ℕ) (recovered : List (Option (List ℕ)))
         → AreMended words programs said found → IsMendedStream lead_in readings found stream
         → length stream % block_bytes ≡ 0

@@ -5,13 +5,13 @@ use Rattle.rw_mend.specs.Choice.{IsAgreedAlone, IsPairAgreed}
 use Rattle.rw_mend.specs.Agreements.{ArePairAgreements, DiffersSomewhere, IsAloneBefore, IsEarlier}
 use Rattle.rw_mend.specs.declared.agreements.Agreements.{Agreements}
 use Rattle.rw_mend.specs.declared.agreements.Agreements.TheVariants.{Nothing, Alone, Several}
-use Rattle.rw_mend.specs.declared.voices.Voice.{Voice}
+use Rattle.rw_mend.specs.declared.candidates.Candidate.{Candidate}
 
-moved : (voices : List Voice) (i j one other : ℕ) (codeword : List ℕ) → i ≡ one → j ≡ other
-    → IsPairAgreed voices i j codeword
-    → IsPairAgreed voices one other codeword
-moved voices i j one other codeword is is' agreed =
-    subst₂ (λ (a b : ℕ). IsPairAgreed voices a b codeword) is is' agreed
+moved : (candidates : List Candidate) (i j one other : ℕ) (codeword : List ℕ) → i ≡ one → j ≡ other
+    → IsPairAgreed candidates i j codeword
+    → IsPairAgreed candidates one other codeword
+moved candidates i j one other codeword is is' agreed =
+    subst₂ (λ (a b : ℕ). IsPairAgreed candidates a b codeword) is is' agreed
 
 -- a pair that is earlier than the next is earlier than this one, or is it
 earlier : (one other i j : ℕ) → IsEarlier (one + 1) other i j
@@ -24,16 +24,16 @@ earlier one other i j (inr (same, lt)) =
     ]
 
 -- the pair agrees on nothing
-pub none_more : (voices : List Voice) (one other : ℕ) (found : Agreements)
-    → ((codeword : List ℕ) → ¬ IsPairAgreed voices one other codeword)
-    → ArePairAgreements voices one other found → ArePairAgreements voices (one + 1) other found
-none_more voices one other Nothing none are =
+pub none_more : (candidates : List Candidate) (one other : ℕ) (found : Agreements)
+    → ((codeword : List ℕ) → ¬ IsPairAgreed candidates one other codeword)
+    → ArePairAgreements candidates one other found → ArePairAgreements candidates (one + 1) other found
+none_more candidates one other Nothing none are =
     λ i j codeword before agreed.
     elim (earlier one other i j before) [
       | inl sooner ↦ are i j codeword sooner agreed
-      | inr same ↦ none codeword (moved voices i j one other codeword same.0 same.1 agreed)
+      | inr same ↦ none codeword (moved candidates i j one other codeword same.0 same.1 agreed)
     ]
-none_more voices one other (Alone pack) none are = record {
+none_more candidates one other (Alone pack) none are = record {
   first = are.first;
   second = are.second;
   is = are.is;
@@ -41,16 +41,17 @@ none_more voices one other (Alone pack) none are = record {
       λ i j another before agreed.
       elim (earlier one other i j before) [
         | inl sooner ↦ are.alone i j another sooner agreed
-        | inr same ↦ absurd (none another (moved voices i j one other another same.0 same.1 agreed))
+        | inr same ↦ absurd (none another (moved candidates i j one other another same.0 same.1 agreed))
       ];
 }
-none_more voices one other Several none are = are
+none_more candidates one other Several none are = are
 
 -- the pair agrees on the first codeword
-pub first_more : (voices : List Voice) (one other : ℕ) (pack : List ℕ) → IsPairAgreed voices one other pack
-    → ((another : List ℕ) → IsPairAgreed voices one other another → another ≡ pack)
-    → ArePairAgreements voices one other Nothing → IsAloneBefore voices (one + 1) other pack
-first_more voices one other pack is only none = record {
+pub first_more : (candidates : List Candidate) (one other : ℕ) (pack : List ℕ)
+    → IsPairAgreed candidates one other pack
+    → ((another : List ℕ) → IsPairAgreed candidates one other another → another ≡ pack)
+    → ArePairAgreements candidates one other Nothing → IsAloneBefore candidates (one + 1) other pack
+first_more candidates one other pack is only none = record {
   first = one;
   second = other;
   is = is;
@@ -58,15 +59,15 @@ first_more voices one other pack is only none = record {
       λ i j another before agreed.
       elim (earlier one other i j before) [
         | inl sooner ↦ absurd (none i j another sooner agreed)
-        | inr same ↦ only another (moved voices i j one other another same.0 same.1 agreed)
+        | inr same ↦ only another (moved candidates i j one other another same.0 same.1 agreed)
       ];
 }
 
 -- on the same
-pub same_more : (voices : List Voice) (one other : ℕ) (pack own : List ℕ)
-    → ((another : List ℕ) → IsPairAgreed voices one other another → another ≡ pack) → own ≡ pack
-    → IsAloneBefore voices one other own → IsAloneBefore voices (one + 1) other own
-same_more voices one other pack own only same_pack are = record {
+pub same_more : (candidates : List Candidate) (one other : ℕ) (pack own : List ℕ)
+    → ((another : List ℕ) → IsPairAgreed candidates one other another → another ≡ pack) → own ≡ pack
+    → IsAloneBefore candidates one other own → IsAloneBefore candidates (one + 1) other own
+same_more candidates one other pack own only same_pack are = record {
   first = are.first;
   second = are.second;
   is = are.is;
@@ -75,15 +76,15 @@ same_more voices one other pack own only same_pack are = record {
       elim (earlier one other i j before) [
         | inl sooner ↦ are.alone i j another sooner agreed
         | inr same ↦
-            only another (moved voices i j one other another same.0 same.1 agreed) ∙ sym same_pack
+            only another (moved candidates i j one other another same.0 same.1 agreed) ∙ sym same_pack
       ];
 }
 
 -- on another
-pub other_more : (voices : List Voice) (one other : ℕ) (pack own : List ℕ)
-    → IsPairAgreed voices one other pack
-    → own ≢ pack → IsAloneBefore voices one other own → DiffersSomewhere voices
-other_more voices one other pack own is differ are = record {
+pub other_more : (candidates : List Candidate) (one other : ℕ) (pack own : List ℕ)
+    → IsPairAgreed candidates one other pack
+    → own ≢ pack → IsAloneBefore candidates one other own → DiffersSomewhere candidates
+other_more candidates one other pack own is differ are = record {
   i = are.first;
   j = are.second;
   one = own;
@@ -104,36 +105,39 @@ later j i k lt (inl less) =
     ]
 later j i k lt (inr (same, none)) = absurd (omega (arith, none))
 
-pub row_done : (voices : List Voice) (j : ℕ) (found : Agreements) → ArePairAgreements voices j j found
-    → ArePairAgreements voices 0 (j + 1) found
-row_done voices j Nothing are =
+pub row_done : (candidates : List Candidate) (j : ℕ) (found : Agreements)
+    → ArePairAgreements candidates j j found
+    → ArePairAgreements candidates 0 (j + 1) found
+row_done candidates j Nothing are =
     λ i k codeword before agreed. are i k codeword (later j i k agreed.before before) agreed
-row_done voices j (Alone pack) are = record {
+row_done candidates j (Alone pack) are = record {
   first = are.first;
   second = are.second;
   is = are.is;
   alone = λ i k another before agreed. are.alone i k another (later j i k agreed.before before) agreed;
 }
-row_done voices j Several are = are
+row_done candidates j Several are = are
 
-pub nothing_before : (voices : List Voice) → ArePairAgreements voices 0 0 Nothing
-nothing_before voices i j codeword (inl lt) agreed = omega (arith, lt)
-nothing_before voices i j codeword (inr (same, lt)) agreed = omega (arith, lt)
+pub nothing_before : (candidates : List Candidate) → ArePairAgreements candidates 0 0 Nothing
+nothing_before candidates i j codeword (inl lt) agreed = omega (arith, lt)
+nothing_before candidates i j codeword (inr (same, lt)) agreed = omega (arith, lt)
 
 -- all pairs are looked at
-pub alone_is : (voices : List Voice) (pack : List ℕ) → ArePairAgreements voices 0 (length voices) (Alone pack)
-    → IsAgreedAlone voices pack
-alone_is voices pack are = record {
+pub alone_is : (candidates : List Candidate) (pack : List ℕ)
+    → ArePairAgreements candidates 0 (length candidates) (Alone pack)
+    → IsAgreedAlone candidates pack
+alone_is candidates pack are = record {
   one = are.first;
   other = are.second;
   agreed = are.is;
   alone = λ i j another agreed. are.alone i j another (inl agreed.within) agreed;
 }
 
-pub not_alone : (voices : List Voice) (found : Agreements) → ArePairAgreements voices 0 (length voices) found
-    → ((pack : List ℕ) → found ≢ Alone pack) → (codeword : List ℕ) → ¬ IsAgreedAlone voices codeword
-not_alone voices Nothing are other codeword is =
+pub not_alone : (candidates : List Candidate) (found : Agreements)
+    → ArePairAgreements candidates 0 (length candidates) found
+    → ((pack : List ℕ) → found ≢ Alone pack) → (codeword : List ℕ) → ¬ IsAgreedAlone candidates codeword
+not_alone candidates Nothing are other codeword is =
     are is.one is.other codeword (inl is.agreed.within) is.agreed
-not_alone voices (Alone pack) are other codeword is = other pack refl
-not_alone voices Several are other codeword is =
+not_alone candidates (Alone pack) are other codeword is = other pack refl
+not_alone candidates Several are other codeword is =
     are.differ (is.alone are.i are.j are.one are.one_is ∙ sym (is.alone are.k are.l are.other are.other_is))

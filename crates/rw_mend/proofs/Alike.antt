@@ -7,11 +7,11 @@ use Rattle.std.proofs.lemmas.List.FromFn.{get_or-map-range_with_len, length-map-
 use Rattle.raw_subcode.specs.Channels.{symbols_of}
 use Rattle.rw_interleave.specs.Interleave.{place, word_of}
 use Rattle.rw_interleave.proofs.Places.{swapped-lt}
-use Rattle.rw_mend.specs.Trails.{AreSameFrom, IsTrail}
-use Rattle.rw_mend.specs.Voices.{voice_of}
+use Rattle.rw_mend.specs.Histories.{AreSameFrom, IsHistory}
+use Rattle.rw_mend.specs.Candidates.{candidate_of}
 use Rattle.rw_mend.specs.Words.{block_at, blocks_under, coverage_of, is_blank_block, is_unread_block, reading_at}
-use Rattle.rw_mend.specs.declared.cover.Trail.{Trail}
-use Rattle.rw_mend.specs.declared.voices.WordReading.{WordReading}
+use Rattle.rw_mend.specs.declared.cover.BlockHistory.{BlockHistory}
+use Rattle.rw_mend.specs.declared.candidates.WordReading.{WordReading}
 use Rattle.rw_mend.proofs.Unread.{in_block}
 
 -- lists of as many values of two functions that are the same wherever they are taken
@@ -74,15 +74,15 @@ unfolding reading_at
 same_reading first program n same =
     ap₂ read_as (same_word first program n same) (same_blocks first program n same)
 
-pub same_voice : (first program : List ℕ) (n from : ℕ) → AreSameFrom first program ((n + 7) / 4 + 1) from
-    → from ≤ n / 4 → voice_of (reading_at first n) ≡ voice_of (reading_at program n)
-same_voice first program n from is low =
-    sym (ap voice_of (same_reading first program n (same_under first program n from is low)))
+pub same_candidate : (first program : List ℕ) (n from : ℕ) → AreSameFrom first program ((n + 7) / 4 + 1) from
+    → from ≤ n / 4 → candidate_of (reading_at first n) ≡ candidate_of (reading_at program n)
+same_candidate first program n from is low =
+    sym (ap candidate_of (same_reading first program n (same_under first program n from is low)))
 
-pub same_trail : (first program : List ℕ) (n from : ℕ) (trail : Trail)
-    → AreSameFrom first program ((n + 7) / 4 + 1) from → from ≤ n / 4 → IsTrail first n trail
-    → IsTrail program n trail
-same_trail first program n from trail is low was =
+pub same_history : (first program : List ℕ) (n from : ℕ) (history : BlockHistory)
+    → AreSameFrom first program ((n + 7) / 4 + 1) from → from ≤ n / 4 → IsHistory first n history
+    → IsHistory program n history
+same_history first program n from history is low was =
     let same = same_under first program n from is low in
     let one : block_at first (n / 4) ≡ block_at program (n / 4) =
     sym (same (n / 4) (omega arith) (omega arith)) in

@@ -9,29 +9,30 @@ use Rattle.std.proofs.lemmas.List.{ext_get_or, get_or-map, get_or_default, lengt
 use Rattle.std.proofs.lemmas.List.Folds.{list_any_at}
 use Rattle.std.proofs.lemmas.List.Sums.{list_all-from_AllPass}
 use Rattle.rw_code.specs.Codeword.{differences}
-use Rattle.rw_mend.specs.Choice.{IsFirstBest, IsMending, IsMendedBy, is_best, stands, voice_of_reading}
+use Rattle.rw_mend.specs.Choice.{IsFirstBest, IsMending, IsMendedBy, is_best, stands, candidate_of_reading}
 use Rattle.rw_mend.specs.Drops.{IsDropped, IsSaid}
 use Rattle.rw_mend.specs.Laws.{AllGive, AreEnough}
 use Rattle.rw_mend.specs.Streams.{AreMended, mended_bytes, mended_text}
-use Rattle.rw_mend.specs.Voices.{is_idle_voice, is_idle_pack, is_quiet_voice}
+use Rattle.rw_mend.specs.Candidates.{is_idle_candidate, is_idle_pack, is_quiet_candidate}
 use Rattle.rw_mend.specs.Words.{given_at}
 use Rattle.rw_mend.specs.declared.choice.Mended.{Mended}
 use Rattle.rw_mend.specs.declared.choice.WordSource.{WordSource}
 use Rattle.rw_mend.specs.declared.choice.WordSource.TheVariants.{Reading, Agreed}
-use Rattle.rw_mend.specs.declared.voices.Voice.{Voice}
-use Rattle.rw_mend.specs.declared.voices.Voice.TheVariants.{Silent, Lost, Near}
+use Rattle.rw_mend.specs.declared.candidates.Candidate.{Candidate}
+use Rattle.rw_mend.specs.declared.candidates.Candidate.TheVariants.{Silent, Lost, Near}
 use Rattle.rw_mend.proofs.Clean.{both_hold, first_holds, has_first, is_of_near, least, less, pack_of, same_test, second_holds, test_same}
 use Rattle.rw_mend.proofs.Kept.{doubtful_are, flat_joined, graphics_are, said_kept}
 use Rattle.rw_mend.proofs.Missing.{some_passes}
 use Rattle.rw_mend.proofs.Once.{best_counts, not_agreed}
 use Rattle.rw_mend.proofs.Same.{same_is}
 
--- whether so many symbols stand against a voice
-has_doubts : ℕ → Voice → Bool
+-- whether so many symbols stand against a candidate
+has_doubts : ℕ → Candidate → Bool
 has_doubts d (Near pack doubts) = doubts == d
-has_doubts d voice = false
+has_doubts d candidate = false
 
-has_is : (d : ℕ) (voice : Voice) → has_doubts d voice ≡ true → (pack : List ℕ) × (voice ≡ Near pack d)
+has_is : (d : ℕ) (candidate : Candidate) → has_doubts d candidate ≡ true
+    → (pack : List ℕ) × (candidate ≡ Near pack d)
 unfolding has_doubts
 has_is d Silent is = absurd (false≢true is)
 has_is d (Lost word) is = absurd (false≢true is)
@@ -41,12 +42,12 @@ has_own : (pack : List ℕ) (d : ℕ) → has_doubts d (Near pack d) ≡ true
 unfolding has_doubts
 has_own pack d = test_same d d refl
 
-stands_alone : (voices : List Voice) (pack : List ℕ) (d : ℕ) (voice : Voice)
-    → ((other : List ℕ) (more : ℕ) → voice ≡ Near other more → (other ≡ pack) × (d ≤ more))
-    → stands voices pack d voice ≡ true
-stands_alone voices pack d Silent only = refl
-stands_alone voices pack d (Lost word) only = refl
-stands_alone voices pack d (Near other more) only =
+stands_alone : (candidates : List Candidate) (pack : List ℕ) (d : ℕ) (candidate : Candidate)
+    → ((other : List ℕ) (more : ℕ) → candidate ≡ Near other more → (other ≡ pack) × (d ≤ more))
+    → stands candidates pack d candidate ≡ true
+stands_alone candidates pack d Silent only = refl
+stands_alone candidates pack d (Lost word) only = refl
+stands_alone candidates pack d (Near other more) only =
     let is = only other more refl in
     elim (cases_eq d more) [
       | inl same ↦
@@ -55,88 +56,94 @@ stands_alone voices pack d (Near other more) only =
       | inr differs ↦ first_holds (nat_lt d more) _ (less d more (omega (arith, is.1, differs)))
     ]
 
-fewest : (voices : List Voice) (d s : ℕ) (other : List ℕ) (more : ℕ) → s < length voices
-    → voice_of_reading voices s ≡ Near other more
-    → ((j : ℕ) → j < d → list_any (has_doubts j) voices ≡ false) → d ≤ more
-fewest voices d s other more lt is none =
+fewest : (candidates : List Candidate) (d s : ℕ) (other : List ℕ) (more : ℕ) → s < length candidates
+    → candidate_of_reading candidates s ≡ Near other more
+    → ((j : ℕ) → j < d → list_any (has_doubts j) candidates ≡ false) → d ≤ more
+fewest candidates d s other more lt is none =
     elim (leb_tells d more) [
       | inl fits ↦ fits.1
       | inr fewer ↦
           absurd (false≢true (sym (none more fewer.1)
-          ∙ list_any_at (has_doubts more) voices s Silent lt (ap (has_doubts more) is ∙ has_own other more)))
+          ∙ list_any_at (has_doubts more) candidates s Silent lt
+          (ap (has_doubts more) is ∙ has_own other more)))
     ]
 
-has_best : (voices : List Voice) (r : ℕ) (codeword : List ℕ) (doubts : ℕ) → r < length voices
-    → voice_of_reading voices r ≡ Near codeword doubts
-    → ((s : ℕ) (other : List ℕ) (more : ℕ) → s < length voices → voice_of_reading voices s ≡ Near other more
+has_best : (candidates : List Candidate) (r : ℕ) (codeword : List ℕ) (doubts : ℕ) → r < length candidates
+    → candidate_of_reading candidates r ≡ Near codeword doubts
+    → ((s : ℕ) (other : List ℕ) (more : ℕ) → s < length candidates
+    → candidate_of_reading candidates s ≡ Near other more
     → other ≡ codeword)
-    → (k : ℕ) × (k < length voices) × (is_best voices (voice_of_reading voices k) ≡ true)
-has_best voices r codeword doubts within is only =
-    let some : (d : ℕ) → Bool = λ (d : ℕ). list_any (has_doubts d) voices in
+    → (k : ℕ) × (k < length candidates) × (is_best candidates (candidate_of_reading candidates k) ≡ true)
+has_best candidates r codeword doubts within is only =
+    let some : (d : ℕ) → Bool = λ (d : ℕ). list_any (has_doubts d) candidates in
     let here : some doubts ≡ true =
-    list_any_at (has_doubts doubts) voices r Silent within
+    list_any_at (has_doubts doubts) candidates r Silent within
     (ap (has_doubts doubts) is ∙ has_own codeword doubts) in
     elim (least some (suc doubts)) [
       | inr none ↦ absurd (false≢true (sym (none doubts (omega arith)) ∙ here))
       | inl found ↦
-          let at = some_passes (has_doubts found.0) voices Silent found.2 in
-          let near = has_is found.0 (voice_of_reading voices at.0) at.2 in
+          let at = some_passes (has_doubts found.0) candidates Silent found.2 in
+          let near = has_is found.0 (candidate_of_reading candidates at.0) at.2 in
           let own : near.0 ≡ codeword = only at.0 near.0 found.0 at.1 near.1 in (
             at.0,
             at.1,
-            ap (is_best voices) near.1
-                ∙ list_all-from_AllPass (stands voices near.0 found.0) voices (λ s d lt.
-                stands_alone voices near.0 found.0 (get_or voices s d) (λ other more there.
-                let voice_is : voice_of_reading voices s ≡ Near other more =
-                get_or_default voices s Silent d lt ∙ there in (
-                  only s other more lt voice_is ∙ sym own,
-                  fewest voices found.0 s other more lt voice_is found.3,
+            ap (is_best candidates) near.1
+                ∙ list_all-from_AllPass (stands candidates near.0 found.0) candidates (λ s d lt.
+                stands_alone candidates near.0 found.0 (get_or candidates s d) (λ other more there.
+                let candidate_is : candidate_of_reading candidates s ≡ Near other more =
+                get_or_default candidates s Silent d lt ∙ there in (
+                  only s other more lt candidate_is ∙ sym own,
+                  fewest candidates found.0 s other more lt candidate_is found.3,
                 ))),
           )
     ]
 
-of_source : (voices : List Voice) (codeword : List ℕ) (source : WordSource) (found : List ℕ) (r : ℕ)
-    → IsFirstBest voices r
-    → ((s : ℕ) (other : List ℕ) (more : ℕ) → s < length voices → voice_of_reading voices s ≡ Near other more
+of_source : (candidates : List Candidate) (codeword : List ℕ) (source : WordSource) (found : List ℕ) (r : ℕ)
+    → IsFirstBest candidates r
+    → ((s : ℕ) (other : List ℕ) (more : ℕ) → s < length candidates
+    → candidate_of_reading candidates s ≡ Near other more
     → other ≡ codeword)
-    → IsMendedBy source voices found → found ≡ codeword
-of_source voices codeword (Reading k) found r first only by =
-    let near = best_counts voices k by.0 in
-    sym (pack_of (voice_of_reading voices k) near.0 found near.1 near.2 by.1)
+    → IsMendedBy source candidates found → found ≡ codeword
+of_source candidates codeword (Reading k) found r first only by =
+    let near = best_counts candidates k by.0 in
+    sym (pack_of (candidate_of_reading candidates k) near.0 found near.1 near.2 by.1)
     ∙ only k near.0 near.1 by.0.within near.2
-of_source voices codeword Agreed found r first only by = absurd (not_agreed voices r found first by)
+of_source candidates codeword Agreed found r first only by = absurd (not_agreed candidates r found first by)
 
 -- a codeword that counts comes out where no other counts
-pub mended_alone : (voices : List Voice) (codeword : List ℕ) (r : ℕ) (doubts : ℕ) (found : Option Mended)
-    → r < length voices
-    → voice_of_reading voices r ≡ Near codeword doubts
-    → ((s : ℕ) (other : List ℕ) (more : ℕ) → s < length voices → voice_of_reading voices s ≡ Near other more
+pub mended_alone : (candidates : List Candidate) (codeword : List ℕ) (r : ℕ) (doubts : ℕ)
+    (found : Option Mended)
+    → r < length candidates
+    → candidate_of_reading candidates r ≡ Near codeword doubts
+    → ((s : ℕ) (other : List ℕ) (more : ℕ) → s < length candidates
+    → candidate_of_reading candidates s ≡ Near other more
     → other ≡ codeword)
-    → IsMending voices found → mended_bytes found ≡ codeword
-mended_alone voices codeword r doubts None within is only none =
-    let best = has_best voices r codeword doubts within is only in
-    let first = has_first voices best.0 best.1 best.2 in
-    let near = best_counts voices first.0 first.1 in
+    → IsMending candidates found → mended_bytes found ≡ codeword
+mended_alone candidates codeword r doubts None within is only none =
+    let best = has_best candidates r codeword doubts within is only in
+    let first = has_first candidates best.0 best.1 best.2 in
+    let near = best_counts candidates first.0 first.1 in
     absurd
     (none (Reading first.0) near.0
-    (first.1, is_of_near (voice_of_reading voices first.0) near.0 near.1 near.2))
-mended_alone voices codeword r doubts (Some mended) within is only by =
-    let best = has_best voices r codeword doubts within is only in
-    let first = has_first voices best.0 best.1 best.2 in
-    of_source voices codeword mended.source mended.pack first.0 first.1 only by
+    (first.1, is_of_near (candidate_of_reading candidates first.0) near.0 near.1 near.2))
+mended_alone candidates codeword r doubts (Some mended) within is only by =
+    let best = has_best candidates r codeword doubts within is only in
+    let first = has_first candidates best.0 best.1 best.2 in
+    of_source candidates codeword mended.source mended.pack first.0 first.1 only by
 
 -- ---- Whole streams.
 
 pub one_near : (pack other : List ℕ) (d e : ℕ) → Near pack d ≡ Near other e → pack ≡ other
 one_near pack other d e same = cc
 
-pub counted : (words : ℕ) (programs : List (List ℕ)) (n s : ℕ) (voice : Voice) (pack : List ℕ) (doubts : ℕ)
-    → IsSaid words programs n s voice → voice ≡ Near pack doubts
+pub counted : (words : ℕ) (programs : List (List ℕ)) (n s : ℕ) (candidate : Candidate) (pack : List ℕ)
+    (doubts : ℕ)
+    → IsSaid words programs n s candidate → candidate ≡ Near pack doubts
     → (¬ IsDropped words programs s n) × (given_at programs s n ≡ Near pack doubts)
-counted words programs n s voice pack doubts (inl (dropped, silent)) is = cc
-counted words programs n s voice pack doubts (inr (kept, given)) is = (kept, sym given ∙ is)
+counted words programs n s candidate pack doubts (inl (dropped, silent)) is = cc
+counted words programs n s candidate pack doubts (inr (kept, given)) is = (kept, sym given ∙ is)
 
-pub enough_text : (words : ℕ) (programs packs : List (List ℕ)) (said : List (List Voice))
+pub enough_text : (words : ℕ) (programs packs : List (List ℕ)) (said : List (List Candidate))
     (found : List (Option Mended)) → AreEnough words programs packs → AreMended words programs said found
     → mended_text found ≡ concat packs
 enough_text words programs packs said found is mended =
@@ -144,20 +151,20 @@ enough_text words programs packs said found is mended =
     ext_get_or [] (map mended_bytes found) packs
     (length-map found mended_bytes ∙ mended.count ∙ sym is.count) (λ n lt.
     let within : n < words = omega (arith, lt, length-map found mended_bytes, mended.count) in
-    let voices : List Voice = get_or said n [] in
-    let are = mended.voices n within in
+    let candidates : List Candidate = get_or said n [] in
+    let are = mended.candidates n within in
     let r : ℕ = is.reading n in
-    let here : voice_of_reading voices r ≡ Near (get_or packs n []) (is.doubts n) =
-    said_kept words programs n r (voice_of_reading voices r) (are.each r (is.within n within))
+    let here : candidate_of_reading candidates r ≡ Near (get_or packs n []) (is.doubts n) =
+    said_kept words programs n r (candidate_of_reading candidates r) (are.each r (is.within n within))
     (is.counts n within)
     ∙ is.gives n within in
     get_or-map mended_bytes found n None [] (omega (arith, within, mended.count))
-    ∙ mended_alone voices (get_or packs n []) r (is.doubts n) (get_or found n None)
+    ∙ mended_alone candidates (get_or packs n []) r (is.doubts n) (get_or found n None)
     (omega (arith, is.within n within, are.count)) here
     (λ s other more inside there.
     let reading : s < length programs = omega (arith, inside, are.count) in
     let given =
-    counted words programs n s (voice_of_reading voices s) other more (are.each s reading) there in
+    counted words programs n s (candidate_of_reading candidates s) other more (are.each s reading) there in
     is.alone n s other more within reading given.0 given.1)
     (mended.each n within)) in
     flat_joined mended_bytes found ∙ ap concat same
@@ -175,14 +182,14 @@ none_drops words programs packs r n is here within (inl lacking) =
     let same : busy.0 ≡ get_or packs m [] =
     one_near busy.0 (get_or packs m []) busy.1 (is.doubts m s) (sym busy.2 ∙ there) in
     let idle : is_idle_pack (get_or packs m []) ≡ true =
-    ap is_idle_voice (sym (is.gives m r lt within)) ∙ misses.idle in
+    ap is_idle_candidate (sym (is.gives m r lt within)) ∙ misses.idle in
     false≢true (sym busy.3 ∙ ap is_idle_pack same ∙ idle)
 none_drops words programs packs r n is here within (inr doubted) =
     let odd = doubtful_are (given_at programs r n) doubted.doubtful in
     let same : odd.0 ≡ get_or packs n [] =
     one_near odd.0 (get_or packs n []) odd.1 (is.doubts n r) (sym odd.2 ∙ is.gives n r here within) in
     let idle : is_idle_pack (get_or packs n []) ≡ true =
-    ap is_quiet_voice (sym (is.gives n doubted.reading here doubted.within)) ∙ doubted.quiet in
+    ap is_quiet_candidate (sym (is.gives n doubted.reading here doubted.within)) ∙ doubted.quiet in
     false≢true (sym odd.3 ∙ ap is_idle_pack same ∙ idle)
 
 pub all_enough : (words : ℕ) (programs packs : List (List ℕ)) → AllGive words programs packs

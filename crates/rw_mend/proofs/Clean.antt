@@ -8,13 +8,13 @@ use Rattle.std.proofs.lemmas.List.{get_or_default}
 use Rattle.std.proofs.lemmas.List.Folds.{list_any_at}
 use Rattle.std.proofs.lemmas.List.Sums.{AllPass-from_list_all, list_all-from_AllPass}
 use Rattle.rw_code.specs.Codeword.{differences}
-use Rattle.rw_mend.specs.Choice.{IsFirstBest, IsMending, IsMendedBy, IsOf, is_best, is_near, stands, voice_of_reading}
+use Rattle.rw_mend.specs.Choice.{IsFirstBest, IsMending, IsMendedBy, IsOf, is_best, is_near, stands, candidate_of_reading}
 use Rattle.rw_mend.specs.Streams.{mended_bytes}
 use Rattle.rw_mend.specs.declared.choice.Mended.{Mended}
 use Rattle.rw_mend.specs.declared.choice.WordSource.{WordSource}
 use Rattle.rw_mend.specs.declared.choice.WordSource.TheVariants.{Reading, Agreed}
-use Rattle.rw_mend.specs.declared.voices.Voice.{Voice}
-use Rattle.rw_mend.specs.declared.voices.Voice.TheVariants.{Silent, Lost, Near}
+use Rattle.rw_mend.specs.declared.candidates.Candidate.{Candidate}
+use Rattle.rw_mend.specs.declared.candidates.Candidate.TheVariants.{Silent, Lost, Near}
 use Rattle.rw_mend.proofs.Missing.{told}
 use Rattle.rw_mend.proofs.Same.{same_is}
 
@@ -72,14 +72,15 @@ least p (suc n) =
           ]
     ]
 
--- ---- The voices of a word.
+-- ---- The candidates of a word.
 
--- a clean codeword stands beside a voice that is no other clean one
-stands_clean : (voices : List Voice) (codeword : List ℕ) (voice : Voice)
-    → ((other : List ℕ) → voice ≡ Near other 0 → other ≡ codeword) → stands voices codeword 0 voice ≡ true
-stands_clean voices codeword Silent only = refl
-stands_clean voices codeword (Lost word) only = refl
-stands_clean voices codeword (Near other more) only =
+-- a clean codeword stands beside a candidate that is no other clean one
+stands_clean : (candidates : List Candidate) (codeword : List ℕ) (candidate : Candidate)
+    → ((other : List ℕ) → candidate ≡ Near other 0 → other ≡ codeword)
+    → stands candidates codeword 0 candidate ≡ true
+stands_clean candidates codeword Silent only = refl
+stands_clean candidates codeword (Lost word) only = refl
+stands_clean candidates codeword (Near other more) only =
     elim (cases_eq more 0) [
       | inl none ↦
           let same : other ≡ codeword = only other (ap (Near other) none) in
@@ -88,82 +89,85 @@ stands_clean voices codeword (Near other more) only =
       | inr some ↦ first_holds (nat_lt 0 more) _ (less 0 more (omega (arith, some)))
     ]
 
-clean_is_best : (voices : List Voice) (codeword : List ℕ)
-    → ((s : ℕ) (other : List ℕ) → s < length voices → voice_of_reading voices s ≡ Near other 0
+clean_is_best : (candidates : List Candidate) (codeword : List ℕ)
+    → ((s : ℕ) (other : List ℕ) → s < length candidates → candidate_of_reading candidates s ≡ Near other 0
     → other ≡ codeword)
-    → is_best voices (Near codeword 0) ≡ true
-clean_is_best voices codeword only =
-    list_all-from_AllPass (stands voices codeword 0) voices (λ s d lt.
-    stands_clean voices codeword (get_or voices s d) (λ other is.
-    only s other lt (get_or_default voices s Silent d lt ∙ is)))
+    → is_best candidates (Near codeword 0) ≡ true
+clean_is_best candidates codeword only =
+    list_all-from_AllPass (stands candidates codeword 0) candidates (λ s d lt.
+    stands_clean candidates codeword (get_or candidates s d) (λ other is.
+    only s other lt (get_or_default candidates s Silent d lt ∙ is)))
 
 -- what is best is a codeword
-pub best_is_near : (voices : List Voice) (voice : Voice) → is_best voices voice ≡ true
-    → (pack : List ℕ) × (doubts : ℕ) × (voice ≡ Near pack doubts)
-best_is_near voices Silent is = absurd (false≢true is)
-best_is_near voices (Lost word) is = absurd (false≢true is)
-best_is_near voices (Near pack doubts) is = (pack, doubts, refl)
+pub best_is_near : (candidates : List Candidate) (candidate : Candidate) → is_best candidates candidate ≡ true
+    → (pack : List ℕ) × (doubts : ℕ) × (candidate ≡ Near pack doubts)
+best_is_near candidates Silent is = absurd (false≢true is)
+best_is_near candidates (Lost word) is = absurd (false≢true is)
+best_is_near candidates (Near pack doubts) is = (pack, doubts, refl)
 
 -- and where a clean codeword is among them, a clean one
-best_is_clean : (voices : List Voice) (pack : List ℕ) (doubts r : ℕ) (codeword : List ℕ)
-    → is_best voices (Near pack doubts) ≡ true → r < length voices
-    → voice_of_reading voices r ≡ Near codeword 0 → doubts ≡ 0
-best_is_clean voices pack doubts r codeword best within is =
-    let stands_here : stands voices pack doubts (voice_of_reading voices r) ≡ true =
-    AllPass-from_list_all (stands voices pack doubts) voices best r Silent within in
-    let beside : stands voices pack doubts (Near codeword 0) ≡ true =
-    ap (stands voices pack doubts) (sym is) ∙ stands_here in
+best_is_clean : (candidates : List Candidate) (pack : List ℕ) (doubts r : ℕ) (codeword : List ℕ)
+    → is_best candidates (Near pack doubts) ≡ true → r < length candidates
+    → candidate_of_reading candidates r ≡ Near codeword 0 → doubts ≡ 0
+best_is_clean candidates pack doubts r codeword best within is =
+    let stands_here : stands candidates pack doubts (candidate_of_reading candidates r) ≡ true =
+    AllPass-from_list_all (stands candidates pack doubts) candidates best r Silent within in
+    let beside : stands candidates pack doubts (Near codeword 0) ≡ true =
+    ap (stands candidates pack doubts) (sym is) ∙ stands_here in
     same_test doubts 0
     (first_of_both (doubts == 0) _
     (second_of (nat_lt doubts 0) _ beside (not_less doubts 0 (omega arith))))
 
-pub has_first : (voices : List Voice) (r : ℕ) → r < length voices
-    → is_best voices (voice_of_reading voices r) ≡ true → (k : ℕ) × IsFirstBest voices k
-has_first voices r within best =
-    elim (least (λ k. is_best voices (voice_of_reading voices k)) (length voices)) [
+pub has_first : (candidates : List Candidate) (r : ℕ) → r < length candidates
+    → is_best candidates (candidate_of_reading candidates r) ≡ true → (k : ℕ) × IsFirstBest candidates k
+has_first candidates r within best =
+    elim (least (λ k. is_best candidates (candidate_of_reading candidates k)) (length candidates)) [
       | inl found ↦ (found.0, record { within = found.1; best = found.2; first = found.3 })
       | inr none ↦ absurd (false≢true (sym (none r within) ∙ best))
     ]
 
-pub is_of_near : (voice : Voice) (pack : List ℕ) (doubts : ℕ) → voice ≡ Near pack doubts → IsOf pack voice
-is_of_near voice pack doubts is = subst (IsOf pack) (sym is) refl
+pub is_of_near : (candidate : Candidate) (pack : List ℕ) (doubts : ℕ) → candidate ≡ Near pack doubts
+    → IsOf pack candidate
+is_of_near candidate pack doubts is = subst (IsOf pack) (sym is) refl
 
-pub pack_of : (voice : Voice) (pack codeword : List ℕ) (doubts : ℕ) → voice ≡ Near pack doubts
-    → IsOf codeword voice
+pub pack_of : (candidate : Candidate) (pack codeword : List ℕ) (doubts : ℕ) → candidate ≡ Near pack doubts
+    → IsOf codeword candidate
     → pack ≡ codeword
-pack_of voice pack codeword doubts is of = subst (IsOf codeword) is of
+pack_of candidate pack codeword doubts is of = subst (IsOf codeword) is of
 
-mended_is : (voices : List Voice) (r : ℕ) (codeword : List ℕ) (source : WordSource) (found : List ℕ)
-    → r < length voices
-    → voice_of_reading voices r ≡ Near codeword 0
-    → ((s : ℕ) (other : List ℕ) → s < length voices → voice_of_reading voices s ≡ Near other 0
+mended_is : (candidates : List Candidate) (r : ℕ) (codeword : List ℕ) (source : WordSource) (found : List ℕ)
+    → r < length candidates
+    → candidate_of_reading candidates r ≡ Near codeword 0
+    → ((s : ℕ) (other : List ℕ) → s < length candidates → candidate_of_reading candidates s ≡ Near other 0
     → other ≡ codeword)
-    → IsMendedBy source voices found → found ≡ codeword
-mended_is voices r codeword (Reading k) found within is only by =
+    → IsMendedBy source candidates found → found ≡ codeword
+mended_is candidates r codeword (Reading k) found within is only by =
     let first = by.0 in
-    let voice : Voice = voice_of_reading voices k in
-    let near = best_is_near voices voice first.best in
-    let best : is_best voices (Near near.0 near.1) ≡ true = ap (is_best voices) (sym near.2) ∙ first.best in
-    let clean : near.1 ≡ 0 = best_is_clean voices near.0 near.1 r codeword best within is in
-    sym (pack_of voice near.0 found near.1 near.2 by.1)
+    let candidate : Candidate = candidate_of_reading candidates k in
+    let near = best_is_near candidates candidate first.best in
+    let best : is_best candidates (Near near.0 near.1) ≡ true =
+    ap (is_best candidates) (sym near.2) ∙ first.best in
+    let clean : near.1 ≡ 0 = best_is_clean candidates near.0 near.1 r codeword best within is in
+    sym (pack_of candidate near.0 found near.1 near.2 by.1)
     ∙ only k near.0 first.within (near.2 ∙ ap (Near near.0) clean)
-mended_is voices r codeword Agreed found within is only by =
+mended_is candidates r codeword Agreed found within is only by =
     absurd (false≢true
-    (sym by.0 ∙ list_any_at is_near voices r Silent within (ap is_near is)))
+    (sym by.0 ∙ list_any_at is_near candidates r Silent within (ap is_near is)))
 
 -- a clean codeword comes out, unless another one is said
-pub clean_wins : (voices : List Voice) (r : ℕ) (codeword : List ℕ) (found : Option Mended) → r < length voices
-    → voice_of_reading voices r ≡ Near codeword 0
-    → ((s : ℕ) (other : List ℕ) → s < length voices → voice_of_reading voices s ≡ Near other 0
+pub clean_wins : (candidates : List Candidate) (r : ℕ) (codeword : List ℕ) (found : Option Mended)
+    → r < length candidates
+    → candidate_of_reading candidates r ≡ Near codeword 0
+    → ((s : ℕ) (other : List ℕ) → s < length candidates → candidate_of_reading candidates s ≡ Near other 0
     → other ≡ codeword)
-    → IsMending voices found → mended_bytes found ≡ codeword
-clean_wins voices r codeword None within is only none =
-    let best : is_best voices (voice_of_reading voices r) ≡ true =
-    ap (is_best voices) is ∙ clean_is_best voices codeword only in
-    let first = has_first voices r within best in
-    let near = best_is_near voices (voice_of_reading voices first.0) first.1.best in
+    → IsMending candidates found → mended_bytes found ≡ codeword
+clean_wins candidates r codeword None within is only none =
+    let best : is_best candidates (candidate_of_reading candidates r) ≡ true =
+    ap (is_best candidates) is ∙ clean_is_best candidates codeword only in
+    let first = has_first candidates r within best in
+    let near = best_is_near candidates (candidate_of_reading candidates first.0) first.1.best in
     absurd
     (none (Reading first.0) near.0
-    (first.1, is_of_near (voice_of_reading voices first.0) near.0 near.1 near.2))
-clean_wins voices r codeword (Some mended) within is only by =
-    mended_is voices r codeword mended.source mended.pack within is only by
+    (first.1, is_of_near (candidate_of_reading candidates first.0) near.0 near.1 near.2))
+clean_wins candidates r codeword (Some mended) within is only by =
+    mended_is candidates r codeword mended.source mended.pack within is only by

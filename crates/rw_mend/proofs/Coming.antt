@@ -5,21 +5,21 @@ use Rattle.std.specs.List.{list_any}
 use Rattle.std.proofs.lemmas.Bool.Decides.{leb_tells}
 use Rattle.std.proofs.lemmas.List.{get_or-replicate, get_or-take, get_or_past, length-replicate}
 use Rattle.rw_interleave.specs.Interleave.{whole_packs}
-use Rattle.rw_mend.specs.Choice.{voice_of_reading}
-use Rattle.rw_mend.specs.Drops.{AreDropCounts, AreVoices, IsSaid}
-use Rattle.rw_mend.specs.Mender.{HasComeTo, IsHearing}
+use Rattle.rw_mend.specs.Choice.{candidate_of_reading}
+use Rattle.rw_mend.specs.Drops.{AreDropCounts, AreCandidates, IsSaid}
+use Rattle.rw_mend.specs.Mender.{HasComeTo, IsDecoding}
 use Rattle.rw_mend.specs.Readings.{AreHeldReadings, program_in, programs_in, size_in}
-use Rattle.rw_mend.specs.Rows.{AreFollowed, AreTrails, IsRow}
+use Rattle.rw_mend.specs.Rows.{AreFollowed, AreHistories, IsRow}
 use Rattle.rw_mend.specs.Silences.{AreSilences, IsCalm, IsSilence, is_left, no_silence, said_after}
-use Rattle.rw_mend.specs.Voices.{is_quiet_voice}
+use Rattle.rw_mend.specs.Candidates.{is_quiet_candidate}
 use Rattle.rw_mend.specs.Words.{HoldsWord}
-use Rattle.rw_mend.specs.declared.cover.Trail.{Trail}
+use Rattle.rw_mend.specs.declared.cover.BlockHistory.{BlockHistory}
 use Rattle.rw_mend.specs.declared.mender.Mender.{Mender}
 use Rattle.rw_mend.specs.declared.readings.Readings.{Readings}
 use Rattle.rw_mend.specs.declared.rows.GivenRow.{GivenRow}
 use Rattle.rw_mend.specs.declared.silences.Silence.{Silence}
-use Rattle.rw_mend.specs.declared.voices.Voice.{Voice}
-use Rattle.rw_mend.specs.declared.voices.Voice.TheVariants.{Silent}
+use Rattle.rw_mend.specs.declared.candidates.Candidate.{Candidate}
+use Rattle.rw_mend.specs.declared.candidates.Candidate.TheVariants.{Silent}
 use Rattle.rw_mend.proofs.Alike.{followed_anew}
 use Rattle.rw_mend.proofs.Missing.{dropped_more, left_is, none_dropped, said_is}
 use Rattle.rw_mend.proofs.Reading.{count_is}
@@ -70,36 +70,39 @@ pub held_words : (readings : Readings) (words m : ℕ) → words ≡ whole_packs
     → HoldsWord m (size_in readings)
 held_words readings words m is lt = omega (arith, is, lt)
 
-pub row_taken : (readings : Readings) (m : ℕ) (voices : List Voice)
-    → IsRow (programs_in readings) m voices
-    → IsRow (programs_in readings) m (take readings.count voices)
-row_taken readings m voices is = record {
+pub row_taken : (readings : Readings) (m : ℕ) (candidates : List Candidate)
+    → IsRow (programs_in readings) m candidates
+    → IsRow (programs_in readings) m (take readings.count candidates)
+row_taken readings m candidates is = record {
   each =
       λ r lt.
-      get_or-take readings.count voices r Silent (omega (arith, lt, count_is readings)) ∙ is.each r lt;
+      get_or-take readings.count candidates r Silent (omega (arith, lt, count_is readings)) ∙ is.each r lt;
 }
 
-pub at_word : (readings : Readings) (n : ℕ) (mender : Mender) (trails : List Trail) (same_from : List ℕ)
-    (given : GivenRow) (silences : List Silence) (calm : ℕ) (said : List Voice) (dropped : List ℕ)
-    → IsHearing readings n mender → n < mender.words
-    → length trails ≡ length mender.trails → length same_from ≡ length mender.same_from
-    → AreTrails (programs_in readings) n trails → AreFollowed readings ((n + 7) / 4 + 1) same_from
-    → IsRow (programs_in readings) n given.voices
-    → length (take readings.count given.voices) ≡ readings.count
+pub at_word : (readings : Readings) (n : ℕ) (mender : Mender) (histories : List BlockHistory)
+    (same_from : List ℕ)
+    (given : GivenRow) (silences : List Silence) (calm : ℕ) (said : List Candidate) (dropped : List ℕ)
+    → IsDecoding readings n mender → n < mender.words
+    → length histories ≡ length mender.histories → length same_from ≡ length mender.same_from
+    → AreHistories (programs_in readings) n histories → AreFollowed readings ((n + 7) / 4 + 1) same_from
+    → IsRow (programs_in readings) n given.candidates
+    → length (take readings.count given.candidates) ≡ readings.count
     → length silences ≡ length mender.silences → length said ≡ length mender.said
     → length dropped ≡ length mender.dropped
     → AreSilences mender.words (programs_in readings) (n + 1) silences
     → IsCalm (programs_in readings) (n + 1) calm
-    → ((r : ℕ) → r < readings.count → voice_of_reading said r
-    ≡ said_after (list_any is_quiet_voice (take readings.count given.voices)) (get_or silences r no_silence)
-    (voice_of_reading (take readings.count given.voices) r))
+    → ((r : ℕ) → r < readings.count → candidate_of_reading said r
+    ≡ said_after (list_any is_quiet_candidate (take readings.count given.candidates))
+    (get_or silences r no_silence)
+    (candidate_of_reading (take readings.count given.candidates) r))
     → ((r : ℕ) → r < readings.count → get_or dropped r 0 ≡ get_or mender.dropped r 0
-    + (if is_left (list_any is_quiet_voice (take readings.count given.voices)) (get_or silences r no_silence)
-    (voice_of_reading (take readings.count given.voices) r) then 1 else 0))
+    + (if is_left (list_any is_quiet_candidate (take readings.count given.candidates))
+    (get_or silences r no_silence)
+    (candidate_of_reading (take readings.count given.candidates) r) then 1 else 0))
     → ((r : ℕ) → readings.count ≤ r → get_or dropped r 0 ≡ get_or mender.dropped r 0)
     → HasComeTo readings n (record {
       words = mender.words;
-      trails = trails;
+      histories = histories;
       same_from = same_from;
       given = given;
       silences = silences;
@@ -107,26 +110,27 @@ pub at_word : (readings : Readings) (n : ℕ) (mender : Mender) (trails : List T
       said = said;
       dropped = dropped;
     })
-at_word readings n mender trails same_from given silences calm said dropped is within trails_size same_size
-    trails_are
+at_word readings n mender histories same_from given silences calm said dropped is within histories_size
+    same_size
+    histories_are
     same_are row_is row_size silences_size said_size dropped_size silences_are calm_is each counted
     kept_behind =
     let programs : List (List ℕ) = programs_in readings in
-    let row : List Voice = take readings.count given.voices in
-    let rows : IsRow programs n row = row_taken readings n given.voices row_is in
+    let row : List Candidate = take readings.count given.candidates in
+    let rows : IsRow programs n row = row_taken readings n given.candidates row_is in
     let size : length row ≡ length programs =
     row_size ∙ sym (count_is readings) in
     record {
-      hearing = record {
+      decoding = record {
         are = is.are;
         words = is.words;
         few = is.few;
-        trails_kept = trails_size ∙ is.trails_kept;
+        histories_kept = histories_size ∙ is.histories_kept;
         same_kept = same_size ∙ is.same_kept;
         silences_kept = silences_size ∙ is.silences_kept;
         said_kept = said_size ∙ is.said_kept;
         dropped_kept = dropped_size ∙ is.dropped_kept;
-        trails = λ some. subst (λ k. AreTrails programs k trails) (omega arith) trails_are;
+        histories = λ some. subst (λ k. AreHistories programs k histories) (omega arith) histories_are;
         same = subst (λ k. AreFollowed readings k same_from) (omega arith) same_are;
         silences = silences_are;
         calm = calm_is;
@@ -134,8 +138,10 @@ at_word readings n mender trails same_from given silences calm said dropped is w
           each =
               λ r lt.
               dropped_more mender.words programs r n (get_or mender.dropped r 0) (get_or dropped r 0)
-              (is_left (list_any is_quiet_voice row) (get_or silences r no_silence) (voice_of_reading row r))
-              (left_is mender.words programs r n row (get_or silences r no_silence) (voice_of_reading row r)
+              (is_left (list_any is_quiet_candidate row) (get_or silences r no_silence)
+              (candidate_of_reading row r))
+              (left_is mender.words programs r n row (get_or silences r no_silence)
+              (candidate_of_reading row r)
               size rows (silences_are.each r lt) (rows.each r lt))
               (counted r (omega (arith, lt, count_is readings))) (is.dropped.each r lt);
           others =
@@ -146,20 +152,20 @@ at_word readings n mender trails same_from given silences calm said dropped is w
       said =
           λ r lt.
           let among : r < length programs = omega (arith, lt, count_is readings) in
-          said_is mender.words programs r n row (get_or silences r no_silence) (voice_of_reading row r)
-          (voice_of_reading said r) size rows (silences_are.each r among) (rows.each r among) (each r lt);
+          said_is mender.words programs r n row (get_or silences r no_silence) (candidate_of_reading row r)
+          (candidate_of_reading said r) size rows (silences_are.each r among) (rows.each r among) (each r lt);
     }
 
--- what is said at a word is the voices of it
-pub voices_are : (readings : Readings) (n : ℕ) (mender : Mender) (voices : List Voice)
-    → HasComeTo readings n mender → voices ≡ take readings.count mender.said
-    → length voices ≡ readings.count → AreVoices mender.words (programs_in readings) n voices
-voices_are readings n mender voices is taken size = record {
+-- what is said at a word is the candidates of it
+pub candidates_are : (readings : Readings) (n : ℕ) (mender : Mender) (candidates : List Candidate)
+    → HasComeTo readings n mender → candidates ≡ take readings.count mender.said
+    → length candidates ≡ readings.count → AreCandidates mender.words (programs_in readings) n candidates
+candidates_are readings n mender candidates is taken size = record {
   count = size ∙ sym (count_is readings);
   each =
       λ r lt.
       let among : r < readings.count = omega (arith, lt, count_is readings) in
       subst (IsSaid mender.words (programs_in readings) n r)
-      (sym (ap (λ l. voice_of_reading l r) taken ∙ get_or-take readings.count mender.said r Silent among))
+      (sym (ap (λ l. candidate_of_reading l r) taken ∙ get_or-take readings.count mender.said r Silent among))
       (is.said r among);
 }

@@ -16,13 +16,13 @@ use Rattle.rw_interleave.specs.Interleave.{word_of, whole_packs}
 use Rattle.rw_interleave.specs.Stream.{IsRecovered}
 use Rattle.rw_interleave.specs.Texts.{cdg_bytes, entry_bytes}
 use Rattle.rw_merge.proofs.Slots.{program_is}
-use Rattle.rw_mend.specs.Choice.{IsMending, IsMendedBy, voice_of_reading}
-use Rattle.rw_mend.specs.Drops.{AreVoices, IsDropped}
-use Rattle.rw_mend.specs.Laws.{CountsAlone, IsAgreedWord, IsCleanBeside, given_text, voice_bytes}
+use Rattle.rw_mend.specs.Choice.{IsMending, IsMendedBy, candidate_of_reading}
+use Rattle.rw_mend.specs.Drops.{AreCandidates, IsDropped}
+use Rattle.rw_mend.specs.Laws.{CountsAlone, IsAgreedWord, IsCleanBeside, given_text, candidate_bytes}
 use Rattle.rw_mend.specs.Many.{AreAllMendedInto, programs_of, words_in_each}
 use Rattle.rw_mend.specs.Streams.{AreMended, IsMendedInto, is_mended_by, mended_bytes, mended_text, way_by, way_of, ways_of}
 use Rattle.rw_mend.specs.Tallies.{source_byte}
-use Rattle.rw_mend.specs.Voices.{is_idle_pack, is_idle_voice, voice_of}
+use Rattle.rw_mend.specs.Candidates.{is_idle_pack, is_idle_candidate, candidate_of}
 use Rattle.rw_mend.specs.Words.{given_at, program_of, reading_at}
 use Rattle.rw_mend.specs.declared.choice.Mended.{Mended}
 use Rattle.rw_mend.specs.declared.choice.WordSource.{WordSource}
@@ -30,9 +30,9 @@ use Rattle.rw_mend.specs.declared.choice.WordSource.TheVariants.{Reading, Agreed
 use Rattle.rw_mend.specs.declared.streams.MendCounts.{MendCounts}
 use Rattle.rw_mend.specs.declared.tallies.Tallies.{Tallies}
 use Rattle.rw_mend.specs.declared.ways.Way.TheVariants.{Together}
-use Rattle.rw_mend.specs.declared.voices.WordReading.{WordReading}
-use Rattle.rw_mend.specs.declared.voices.Voice.{Voice}
-use Rattle.rw_mend.specs.declared.voices.Voice.TheVariants.{Silent, Lost, Near}
+use Rattle.rw_mend.specs.declared.candidates.WordReading.{WordReading}
+use Rattle.rw_mend.specs.declared.candidates.Candidate.{Candidate}
+use Rattle.rw_mend.specs.declared.candidates.Candidate.TheVariants.{Silent, Lost, Near}
 use Rattle.rw_mend.proofs.Alone.{counted, mended_alone}
 use Rattle.rw_mend.proofs.Clean.{pack_of}
 use Rattle.rw_mend.proofs.Damaged.{IsOrIdle, near_given, unread_or_not, written}
@@ -44,22 +44,23 @@ use Rattle.rw_mend.proofs.Once.{best_counts}
 
 -- ---- A reading by itself.
 
-bytes_given : (voice : Voice) (codeword : List ℕ) → IsOrIdle voice codeword → voice_bytes voice ≡ codeword
-bytes_given voice codeword (inl (doubts, is)) = ap voice_bytes is
-bytes_given voice codeword (inr (silent, idle)) = ap voice_bytes silent ∙ sym idle
+bytes_given : (candidate : Candidate) (codeword : List ℕ) → IsOrIdle candidate codeword
+    → candidate_bytes candidate ≡ codeword
+bytes_given candidate codeword (inl (doubts, is)) = ap candidate_bytes is
+bytes_given candidate codeword (inr (silent, idle)) = ap candidate_bytes silent ∙ sym idle
 
 -- what is written of a word by itself
 pub written_is : (program : List ℕ) (n : ℕ) (found : Option (List ℕ))
     → IsFinding (word_of (symbols_of program) n) found
-    → voice_bytes (voice_of (reading_at program n)) ≡ entry_bytes found
+    → candidate_bytes (candidate_of (reading_at program n)) ≡ entry_bytes found
 written_is program n (Some codeword) reads =
-    bytes_given (voice_of (reading_at program n)) codeword (near_given program n codeword reads)
+    bytes_given (candidate_of (reading_at program n)) codeword (near_given program n codeword reads)
 written_is program n None none =
     let reading : WordReading = reading_at program n in
     elim (unread_or_not reading.coverage) [
-      | inl unread ↦ ap voice_bytes (sym (silent_is reading unread))
+      | inl unread ↦ ap candidate_bytes (sym (silent_is reading unread))
       | inr read ↦
-          ap voice_bytes
+          ap candidate_bytes
           (sym (lost_is reading read (is_word program n) (λ codeword reads.
           none codeword (subst (λ w. Reads w codeword) (reading-word program n) reads))))
     ]
@@ -71,7 +72,7 @@ pub given_converted : (lead_in r : ℕ) (programs : List (List ℕ)) (bytes : Li
     → given_text (whole_packs (length bytes / 96 - lead_in)) programs r ≡ cdg_bytes found
 given_converted lead_in r programs bytes found whole program is =
     let words : ℕ = whole_packs (length bytes / 96 - lead_in) in
-    let given : ℕ → List ℕ = λ (n : ℕ). voice_bytes (given_at programs r n) in
+    let given : ℕ → List ℕ = λ (n : ℕ). candidate_bytes (given_at programs r n) in
     let rest : List ℕ = drop (96 * lead_in) bytes in
     let symbols : program_symbols Raw bytes lead_in ≡ symbols_of rest =
     program_is lead_in (length bytes / 96) bytes (omega (arith, whole))
@@ -86,14 +87,15 @@ given_converted lead_in r programs bytes found whole program is =
     (length-map-range_with_len given 0 words ∙ sym (length-map found entry_bytes ∙ count)) (λ n lt.
     let within : n < words = omega (arith, lt, length-map-range_with_len given 0 words) in
     get_or-map-range_with_len given 0 words n n [] within (omega arith)
-    ∙ ap (λ p. voice_bytes (voice_of (reading_at p n))) program
+    ∙ ap (λ p. candidate_bytes (candidate_of (reading_at p n))) program
     ∙ written_is rest n (get_or found n None) (is'.each n (omega (arith, within, blocks)))
     ∙ sym (get_or-map entry_bytes found n None [] (omega (arith, within, count)))) in
     flat_joined given (below words) ∙ ap concat same ∙ sym (flat_joined entry_bytes found)
 
 -- ---- A reading that alone counts.
 
-near_bytes : (voice : Voice) → is_idle_voice voice ≡ true → is_idle_pack (voice_bytes voice) ≡ true
+near_bytes : (candidate : Candidate) → is_idle_candidate candidate ≡ true
+    → is_idle_pack (candidate_bytes candidate) ≡ true
 near_bytes Silent is = absurd (false≢true is)
 near_bytes (Lost word) is = absurd (false≢true is)
 near_bytes (Near pack doubts) is = is
@@ -106,76 +108,81 @@ never_dropped words programs r n is here (inl lacking) =
     let misses = lacking.lacks.misses in
     let s : ℕ = misses.graphics.reading in
     let busy = graphics_are (given_at programs s m) misses.graphics.graphics in
-    let idle : is_idle_pack (voice_bytes (given_at programs r m)) ≡ true =
+    let idle : is_idle_pack (candidate_bytes (given_at programs r m)) ≡ true =
     near_bytes (given_at programs r m) misses.idle in
     let counts : ¬ IsDropped words programs s m =
     λ (dropped : IsDropped words programs s m).
     elim dropped [
-      | inl left ↦ false≢true (sym busy.3 ∙ ap is_idle_voice (sym busy.2) ∙ left.idle)
+      | inl left ↦ false≢true (sym busy.3 ∙ ap is_idle_candidate (sym busy.2) ∙ left.idle)
       | inr doubted ↦ graphics_are_sure (given_at programs s m) misses.graphics.graphics doubted.doubtful
     ] in
-    let same : busy.0 ≡ voice_bytes (given_at programs r m) =
+    let same : busy.0 ≡ candidate_bytes (given_at programs r m) =
     elim (cases_eq s r) [
-      | inl own ↦ ap voice_bytes (sym busy.2) ∙ ap (λ k. voice_bytes (given_at programs k m)) own
+      | inl own ↦ ap candidate_bytes (sym busy.2) ∙ ap (λ k. candidate_bytes (given_at programs k m)) own
       | inr other ↦ is.others m s busy.0 busy.1 lt misses.graphics.within other counts busy.2
     ] in
     false≢true (sym busy.3 ∙ ap is_idle_pack same ∙ idle)
 never_dropped words programs r n is here (inr doubted) = is.sure n here doubted
 
 -- whatever codeword is said is that of the reading
-said_alone : (words : ℕ) (programs : List (List ℕ)) (r n s : ℕ) (voices : List Voice) (codeword : List ℕ)
-    (doubts : ℕ) → CountsAlone words programs r → n < words → AreVoices words programs n voices
-    → s < length programs → voice_of_reading voices s ≡ Near codeword doubts
-    → codeword ≡ voice_bytes (given_at programs r n)
-said_alone words programs r n s voices codeword doubts is lt are within near =
+said_alone : (words : ℕ) (programs : List (List ℕ)) (r n s : ℕ) (candidates : List Candidate)
+    (codeword : List ℕ)
+    (doubts : ℕ) → CountsAlone words programs r → n < words → AreCandidates words programs n candidates
+    → s < length programs → candidate_of_reading candidates s ≡ Near codeword doubts
+    → codeword ≡ candidate_bytes (given_at programs r n)
+said_alone words programs r n s candidates codeword doubts is lt are within near =
     let given =
-    counted words programs n s (voice_of_reading voices s) codeword doubts (are.each s within) near in
+    counted words programs n s (candidate_of_reading candidates s) codeword doubts (are.each s within) near in
     elim (cases_eq s r) [
-      | inl own ↦ ap voice_bytes (sym given.1) ∙ ap (λ k. voice_bytes (given_at programs k n)) own
+      | inl own ↦ ap candidate_bytes (sym given.1) ∙ ap (λ k. candidate_bytes (given_at programs k n)) own
       | inr other ↦ is.others n s codeword doubts lt within other given.0 given.1
     ]
 
-found_alone : (voices : List Voice) (codeword : List ℕ) (mended : Mended) (source : WordSource)
+found_alone : (candidates : List Candidate) (codeword : List ℕ) (mended : Mended) (source : WordSource)
     → source ≡ mended.source
-    → ((s : ℕ) (other : List ℕ) (more : ℕ) → s < length voices → voice_of_reading voices s ≡ Near other more
+    → ((s : ℕ) (other : List ℕ) (more : ℕ) → s < length candidates
+    → candidate_of_reading candidates s ≡ Near other more
     → other ≡ codeword)
-    → ¬ IsAgreedWord (Some mended) → IsMendedBy source voices mended.pack → mended.pack ≡ codeword
-found_alone voices codeword mended (Reading k) is only apart by =
-    let near = best_counts voices k by.0 in
-    sym (pack_of (voice_of_reading voices k) near.0 mended.pack near.1 near.2 by.1)
+    → ¬ IsAgreedWord (Some mended) → IsMendedBy source candidates mended.pack → mended.pack ≡ codeword
+found_alone candidates codeword mended (Reading k) is only apart by =
+    let near = best_counts candidates k by.0 in
+    sym (pack_of (candidate_of_reading candidates k) near.0 mended.pack near.1 near.2 by.1)
     ∙ only k near.0 near.1 by.0.within near.2
-found_alone voices codeword mended Agreed is only apart by = absurd (apart (sym is))
+found_alone candidates codeword mended Agreed is only apart by = absurd (apart (sym is))
 
--- what comes out where some voice is silent or lost, and none is another codeword than is written of it
-found_beside : (voices : List Voice) (own : Voice) (r : ℕ) (found : Option Mended) → r < length voices
-    → voice_of_reading voices r ≡ own
-    → ((s : ℕ) (other : List ℕ) (more : ℕ) → s < length voices → voice_of_reading voices s ≡ Near other more
-    → other ≡ voice_bytes own)
-    → ¬ IsAgreedWord found → IsMending voices found → mended_bytes found ≡ voice_bytes own
-found_beside voices (Near pack doubts) r found within is only apart mending =
-    mended_alone voices pack r doubts found within is only mending
-found_beside voices Silent r None within is only apart none = refl
-found_beside voices (Lost word) r None within is only apart none = refl
-found_beside voices Silent r (Some mended) within is only apart by =
-    found_alone voices (voice_bytes Silent) mended mended.source refl only apart by
-found_beside voices (Lost word) r (Some mended) within is only apart by =
-    found_alone voices (voice_bytes (Lost word)) mended mended.source refl only apart by
+-- what comes out where some candidate is silent or lost, and none is another codeword than is written of it
+found_beside : (candidates : List Candidate) (own : Candidate) (r : ℕ) (found : Option Mended)
+    → r < length candidates
+    → candidate_of_reading candidates r ≡ own
+    → ((s : ℕ) (other : List ℕ) (more : ℕ) → s < length candidates
+    → candidate_of_reading candidates s ≡ Near other more
+    → other ≡ candidate_bytes own)
+    → ¬ IsAgreedWord found → IsMending candidates found → mended_bytes found ≡ candidate_bytes own
+found_beside candidates (Near pack doubts) r found within is only apart mending =
+    mended_alone candidates pack r doubts found within is only mending
+found_beside candidates Silent r None within is only apart none = refl
+found_beside candidates (Lost word) r None within is only apart none = refl
+found_beside candidates Silent r (Some mended) within is only apart by =
+    found_alone candidates (candidate_bytes Silent) mended mended.source refl only apart by
+found_beside candidates (Lost word) r (Some mended) within is only apart by =
+    found_alone candidates (candidate_bytes (Lost word)) mended mended.source refl only apart by
 
-pub word_alone : (words : ℕ) (programs : List (List ℕ)) (r n : ℕ) (said : List (List Voice))
+pub word_alone : (words : ℕ) (programs : List (List ℕ)) (r n : ℕ) (said : List (List Candidate))
     (found : List (Option Mended)) → CountsAlone words programs r → AreMended words programs said found
     → n < words → ¬ IsAgreedWord (get_or found n None)
-    → mended_bytes (get_or found n None) ≡ voice_bytes (given_at programs r n)
+    → mended_bytes (get_or found n None) ≡ candidate_bytes (given_at programs r n)
 word_alone words programs r n said found is mended lt apart =
-    let voices : List Voice = get_or said n [] in
-    let are = mended.voices n lt in
-    found_beside voices (given_at programs r n) r (get_or found n None) (omega (arith, is.within, are.count))
-    (said_kept words programs n r (voice_of_reading voices r) (are.each r is.within)
+    let candidates : List Candidate = get_or said n [] in
+    let are = mended.candidates n lt in
+    found_beside candidates (given_at programs r n) r (get_or found n None)
+    (omega (arith, is.within, are.count))
+    (said_kept words programs n r (candidate_of_reading candidates r) (are.each r is.within)
     (never_dropped words programs r n is lt))
     (λ s other more inside near.
-    said_alone words programs r n s voices other more is lt are (omega (arith, inside, are.count)) near)
+    said_alone words programs r n s candidates other more is lt are (omega (arith, inside, are.count)) near)
     apart (mended.each n lt)
 
-pub text_alone : (words : ℕ) (programs : List (List ℕ)) (r : ℕ) (said : List (List Voice))
+pub text_alone : (words : ℕ) (programs : List (List ℕ)) (r : ℕ) (said : List (List Candidate))
     (found : List (Option Mended)) → CountsAlone words programs r → AreMended words programs said found
     → ((n : ℕ) → n < words → ¬ IsAgreedWord (get_or found n None))
     → mended_text found ≡ given_text words programs r
@@ -209,23 +216,24 @@ not_agreed_byte words found size none n lt is =
     (none_counted (λ (f : Option Mended). source_byte f == 254) found n None none (omega (arith, lt, size)))
     ∙ agreed_byte (get_or found n None) is)
 
-agreed_way : (voices : List Voice) (found : Option Mended) → IsAgreedWord found
-    → is_mended_by Together (way_of voices found) ≡ true
-agreed_way voices None is = absurd is
-agreed_way voices (Some mended) is =
-    ap (λ s. is_mended_by Together (Some (way_by s voices mended.pack))) is
+agreed_way : (candidates : List Candidate) (found : Option Mended) → IsAgreedWord found
+    → is_mended_by Together (way_of candidates found) ≡ true
+agreed_way candidates None is = absurd is
+agreed_way candidates (Some mended) is =
+    ap (λ s. is_mended_by Together (Some (way_by s candidates mended.pack))) is
 
-pub ways_at : (said : List (List Voice)) (found : List (Option Mended)) (n : ℕ) → n < length said
+pub ways_at : (said : List (List Candidate)) (found : List (Option Mended)) (n : ℕ) → n < length said
     → n < length found → (n < length (ways_of said found))
     × (get_or (ways_of said found) n None ≡ way_of (get_or said n []) (get_or found n None))
 ways_at [] found n lt lt' = absurd (omega (arith, lt))
-ways_at (voices ∷ said) [] n lt lt' = absurd (omega (arith, lt'))
-ways_at (voices ∷ said) (f ∷ found) zero lt lt' = (omega arith, refl)
-ways_at (voices ∷ said) (f ∷ found) (suc n) lt lt' =
+ways_at (candidates ∷ said) [] n lt lt' = absurd (omega (arith, lt'))
+ways_at (candidates ∷ said) (f ∷ found) zero lt lt' = (omega arith, refl)
+ways_at (candidates ∷ said) (f ∷ found) (suc n) lt lt' =
     let rest = ways_at said found n (omega (arith, lt)) (omega (arith, lt')) in
     (omega (arith, rest.0), rest.1)
 
-not_agreed_way : (words : ℕ) (said : List (List Voice)) (found : List (Option Mended)) → length said ≡ words
+not_agreed_way : (words : ℕ) (said : List (List Candidate)) (found : List (Option Mended))
+    → length said ≡ words
     → length found ≡ words → count_by (is_mended_by Together) (ways_of said found) ≡ 0
     → (n : ℕ) → n < words → ¬ IsAgreedWord (get_or found n None)
 not_agreed_way words said found said_size size none n lt is =

@@ -14,23 +14,23 @@ use Rattle.rw_interleave.specs.Stream.{IsDamaged}
 use Rattle.rw_interleave.proofs.Recovery.{differences-turned}
 use Rattle.rw_merge.specs.Readings.{IsDamagedTwice}
 use Rattle.rw_merge.proofs.Slots.{program_is}
-use Rattle.rw_mend.specs.Choice.{AreAgreed, IsMending, IsMendedBy, voice_of_reading}
+use Rattle.rw_mend.specs.Choice.{AreAgreed, IsMending, IsMendedBy, candidate_of_reading}
 use Rattle.rw_mend.specs.Drops.{IsDropped}
 use Rattle.rw_mend.specs.Laws.{AreDamagedReadings}
 use Rattle.rw_mend.specs.Many.{AreAllMendedInto, words_in_each}
 use Rattle.rw_mend.specs.Streams.{AreMended, IsMendedInto, mended_bytes, mended_text}
-use Rattle.rw_mend.specs.Voices.{doubts_of, is_idle_pack, is_idle_voice, is_quiet_voice, voice_of}
+use Rattle.rw_mend.specs.Candidates.{doubts_of, is_idle_pack, is_idle_candidate, is_quiet_candidate, candidate_of}
 use Rattle.rw_mend.specs.Words.{given_at, program_of, reading_at}
 use Rattle.rw_mend.specs.declared.streams.MendCounts.{MendCounts}
 use Rattle.rw_mend.specs.declared.tallies.Tallies.{Tallies}
 use Rattle.rw_mend.specs.declared.choice.Mended.{Mended}
 use Rattle.rw_mend.specs.declared.choice.WordSource.{WordSource}
 use Rattle.rw_mend.specs.declared.choice.WordSource.TheVariants.{Reading, Agreed}
-use Rattle.rw_mend.specs.declared.voices.Coverage.{Coverage}
-use Rattle.rw_mend.specs.declared.voices.Coverage.TheVariants.{Whole, Partly, Unread}
-use Rattle.rw_mend.specs.declared.voices.WordReading.{WordReading}
-use Rattle.rw_mend.specs.declared.voices.Voice.{Voice}
-use Rattle.rw_mend.specs.declared.voices.Voice.TheVariants.{Silent, Near}
+use Rattle.rw_mend.specs.declared.candidates.Coverage.{Coverage}
+use Rattle.rw_mend.specs.declared.candidates.Coverage.TheVariants.{Whole, Partly, Unread}
+use Rattle.rw_mend.specs.declared.candidates.WordReading.{WordReading}
+use Rattle.rw_mend.specs.declared.candidates.Candidate.{Candidate}
+use Rattle.rw_mend.specs.declared.candidates.Candidate.TheVariants.{Silent, Near}
 use Rattle.rw_mend.proofs.Alone.{mended_alone, one_near}
 use Rattle.rw_mend.proofs.Clean.{pack_of}
 use Rattle.rw_mend.proofs.Givens.{is_word, reading-word}
@@ -40,10 +40,10 @@ use Rattle.rw_mend.proofs.Kept.{doubtful_are, flat_joined, graphics_are, idle_is
 use Rattle.rw_mend.proofs.Once.{best_counts}
 use Rattle.rw_mend.proofs.Unread.{idle_where_unread}
 
--- A voice is this codeword; or it is silent, and the codeword is the idle pack.
-abbrev pub IsOrIdle : Voice → List ℕ → Type 0
-IsOrIdle voice codeword = ((doubts : ℕ) × (voice ≡ Near codeword doubts))
-    ⊎ ((voice ≡ Silent) × (codeword ≡ replicate 24 0))
+-- A candidate is this codeword; or it is silent, and the codeword is the idle pack.
+abbrev pub IsOrIdle : Candidate → List ℕ → Type 0
+IsOrIdle candidate codeword = ((doubts : ℕ) × (candidate ≡ Near codeword doubts))
+    ⊎ ((candidate ≡ Silent) × (codeword ≡ replicate 24 0))
 
 pub unread_or_not : (coverage : Coverage) → (coverage ≡ Unread) ⊎ (coverage ≢ Unread)
 unread_or_not Whole = inr (λ e. (cc))
@@ -52,7 +52,8 @@ unread_or_not Unread = inl refl
 
 -- what a reading of a word gives that is near a codeword
 pub near_given : (program : List ℕ) (n : ℕ) (codeword : List ℕ)
-    → Reads (word_of (symbols_of program) n) codeword → IsOrIdle (voice_of (reading_at program n)) codeword
+    → Reads (word_of (symbols_of program) n) codeword
+    → IsOrIdle (candidate_of (reading_at program n)) codeword
 near_given program n codeword reads =
     let reading : WordReading = reading_at program n in
     let there : Reads reading.word codeword =
@@ -65,45 +66,47 @@ near_given program n codeword reads =
           inl (doubts, sym (near_is reading codeword doubts read (is_word program n) there refl))
     ]
 
--- ---- The voices of a word.
+-- ---- The candidates of a word.
 
-other_codeword : (voice : Voice) (codeword other : List ℕ) (more : ℕ) → IsOrIdle voice codeword
-    → voice ≡ Near other more → other ≡ codeword
-other_codeword voice codeword other more (inl (doubts, is)) near =
+other_codeword : (candidate : Candidate) (codeword other : List ℕ) (more : ℕ) → IsOrIdle candidate codeword
+    → candidate ≡ Near other more → other ≡ codeword
+other_codeword candidate codeword other more (inl (doubts, is)) near =
     one_near other codeword more doubts (sym near ∙ is)
-other_codeword voice codeword other more (inr (silent, idle)) near = cc
+other_codeword candidate codeword other more (inr (silent, idle)) near = cc
 
-not_lost : (one other : Voice) (codeword another : List ℕ) → IsOrIdle one codeword
+not_lost : (one other : Candidate) (codeword another : List ℕ) → IsOrIdle one codeword
     → ¬ AreAgreed one other another
 not_lost one other codeword another (inl (doubts, is)) agreed =
     subst (λ v. AreAgreed v other another) is agreed
 not_lost one other codeword another (inr (silent, idle)) agreed =
     subst (λ v. AreAgreed v other another) silent agreed
 
-mended_idle : (voices : List Voice) (codeword : List ℕ) (source : WordSource) (found : List ℕ)
-    → ((r : ℕ) → r < length voices → IsOrIdle (voice_of_reading voices r) codeword)
-    → IsMendedBy source voices found → found ≡ codeword
-mended_idle voices codeword (Reading k) found each by =
-    let near = best_counts voices k by.0 in
-    sym (pack_of (voice_of_reading voices k) near.0 found near.1 near.2 by.1)
-    ∙ other_codeword (voice_of_reading voices k) codeword near.0 near.1 (each k by.0.within) near.2
-mended_idle voices codeword Agreed found each by =
+mended_idle : (candidates : List Candidate) (codeword : List ℕ) (source : WordSource) (found : List ℕ)
+    → ((r : ℕ) → r < length candidates → IsOrIdle (candidate_of_reading candidates r) codeword)
+    → IsMendedBy source candidates found → found ≡ codeword
+mended_idle candidates codeword (Reading k) found each by =
+    let near = best_counts candidates k by.0 in
+    sym (pack_of (candidate_of_reading candidates k) near.0 found near.1 near.2 by.1)
+    ∙ other_codeword (candidate_of_reading candidates k) codeword near.0 near.1 (each k by.0.within) near.2
+mended_idle candidates codeword Agreed found each by =
     let pair = by.1.agreed in
     absurd
-    (not_lost (voice_of_reading voices by.1.one) (voice_of_reading voices by.1.other) codeword found
+    (not_lost (candidate_of_reading candidates by.1.one) (candidate_of_reading candidates by.1.other) codeword
+    found
     (each by.1.one (omega (arith, pair.before, pair.within))) pair.agreed)
 
-mended_same : (voices : List Voice) (codeword : List ℕ) (found : Option Mended)
-    → 0 < length voices → IsOrIdle (voice_of_reading voices 0) codeword
-    → ((r : ℕ) → r < length voices → IsOrIdle (voice_of_reading voices r) codeword)
-    → IsMending voices found → mended_bytes found ≡ codeword
-mended_same voices codeword found some (inl (doubts, is)) each mended =
-    mended_alone voices codeword 0 doubts found some is
-    (λ s other more lt near. other_codeword (voice_of_reading voices s) codeword other more (each s lt) near)
+mended_same : (candidates : List Candidate) (codeword : List ℕ) (found : Option Mended)
+    → 0 < length candidates → IsOrIdle (candidate_of_reading candidates 0) codeword
+    → ((r : ℕ) → r < length candidates → IsOrIdle (candidate_of_reading candidates r) codeword)
+    → IsMending candidates found → mended_bytes found ≡ codeword
+mended_same candidates codeword found some (inl (doubts, is)) each mended =
+    mended_alone candidates codeword 0 doubts found some is
+    (λ s other more lt near.
+    other_codeword (candidate_of_reading candidates s) codeword other more (each s lt) near)
     mended
-mended_same voices codeword None some (inr (silent, idle)) each mended = sym idle
-mended_same voices codeword (Some mended) some (inr (silent, idle)) each by =
-    mended_idle voices codeword mended.source mended.pack each by
+mended_same candidates codeword None some (inr (silent, idle)) each mended = sym idle
+mended_same candidates codeword (Some mended) some (inr (silent, idle)) each by =
+    mended_idle candidates codeword mended.source mended.pack each by
 
 -- ---- Whole streams.
 
@@ -112,16 +115,18 @@ abbrev pub EachGives : ℕ → List (List ℕ) → List (List ℕ) → Type 0
 EachGives words programs packs = (n r : ℕ) → n < words → r < length programs
     → IsOrIdle (given_at programs r n) (get_or packs n [])
 
-idle_pack_of : (voice : Voice) (codeword : List ℕ) → IsOrIdle voice codeword → is_idle_voice voice ≡ true
+idle_pack_of : (candidate : Candidate) (codeword : List ℕ) → IsOrIdle candidate codeword
+    → is_idle_candidate candidate ≡ true
     → is_idle_pack codeword ≡ true
-idle_pack_of voice codeword (inl (doubts, is)) idle = ap is_idle_voice (sym is) ∙ idle
-idle_pack_of voice codeword (inr (silent, zeros)) idle =
-    absurd (false≢true (ap is_idle_voice (sym silent) ∙ idle))
+idle_pack_of candidate codeword (inl (doubts, is)) idle = ap is_idle_candidate (sym is) ∙ idle
+idle_pack_of candidate codeword (inr (silent, zeros)) idle =
+    absurd (false≢true (ap is_idle_candidate (sym silent) ∙ idle))
 
-quiet_pack_of : (voice : Voice) (codeword : List ℕ) → IsOrIdle voice codeword → is_quiet_voice voice ≡ true
+quiet_pack_of : (candidate : Candidate) (codeword : List ℕ) → IsOrIdle candidate codeword
+    → is_quiet_candidate candidate ≡ true
     → is_idle_pack codeword ≡ true
-quiet_pack_of voice codeword (inl (doubts, is)) quiet = ap is_quiet_voice (sym is) ∙ quiet
-quiet_pack_of voice codeword (inr (silent, zeros)) quiet = ap is_idle_pack zeros ∙ idle_is
+quiet_pack_of candidate codeword (inl (doubts, is)) quiet = ap is_quiet_candidate (sym is) ∙ quiet
+quiet_pack_of candidate codeword (inr (silent, zeros)) quiet = ap is_idle_pack zeros ∙ idle_is
 
 none_dropped : (words : ℕ) (programs packs : List (List ℕ)) (r n : ℕ) → EachGives words programs packs
     → n < words → r < length programs → ¬ IsDropped words programs r n
@@ -146,7 +151,7 @@ none_dropped words programs packs r n each here within (inr doubted) =
     ∙ quiet_pack_of (given_at programs doubted.reading n) (get_or packs n [])
     (each n doubted.reading here doubted.within) doubted.quiet)
 
-each_text : (words : ℕ) (programs packs : List (List ℕ)) (said : List (List Voice))
+each_text : (words : ℕ) (programs packs : List (List ℕ)) (said : List (List Candidate))
     (found : List (Option Mended)) → 0 < length programs → length packs ≡ words
     → EachGives words programs packs → AreMended words programs said found → mended_text found ≡ concat packs
 each_text words programs packs said found some count each mended =
@@ -154,19 +159,19 @@ each_text words programs packs said found some count each mended =
     ext_get_or [] (map mended_bytes found) packs
     (length-map found mended_bytes ∙ mended.count ∙ sym count) (λ n lt.
     let within : n < words = omega (arith, lt, length-map found mended_bytes, mended.count) in
-    let voices : List Voice = get_or said n [] in
-    let are = mended.voices n within in
+    let candidates : List Candidate = get_or said n [] in
+    let are = mended.candidates n within in
     let pack : List ℕ = get_or packs n [] in
-    let all : (r : ℕ) → r < length voices → IsOrIdle (voice_of_reading voices r) pack =
+    let all : (r : ℕ) → r < length candidates → IsOrIdle (candidate_of_reading candidates r) pack =
     λ r inside.
     let reading : r < length programs = omega (arith, inside, are.count) in
     subst (λ v. IsOrIdle v pack)
-    (sym (said_kept words programs n r (voice_of_reading voices r) (are.each r reading)
+    (sym (said_kept words programs n r (candidate_of_reading candidates r) (are.each r reading)
     (none_dropped words programs packs r n each within reading)))
     (each n r within reading) in
-    let first : 0 < length voices = omega (arith, some, are.count) in
+    let first : 0 < length candidates = omega (arith, some, are.count) in
     get_or-map mended_bytes found n None [] (omega (arith, within, mended.count))
-    ∙ mended_same voices pack (get_or found n None) first (all 0 first) all (mended.each n within)) in
+    ∙ mended_same candidates pack (get_or found n None) first (all 0 first) all (mended.each n within)) in
     flat_joined mended_bytes found ∙ ap concat same
 
 -- ---- Damage.
@@ -209,12 +214,12 @@ all_give lead_in blocks packs readings is n r lt within =
     get_or-map (program_of lead_in) readings r [] [] inside in
     let codeword : IsCodeword (get_or packs n []) =
     is.carries.codewords n [] (omega (arith, lt, is.carries.count)) in
-    subst (λ p. IsOrIdle (voice_of (reading_at p n)) (get_or packs n [])) (sym program)
+    subst (λ p. IsOrIdle (candidate_of (reading_at p n)) (get_or packs n [])) (sym program)
     (near_given (program_of lead_in bytes) n (get_or packs n [])
     (damaged_reads lead_in blocks n packs is.symbols bytes (is.sizes r [] inside) lt (is.carries.words n lt)
     codeword is.carries.size (is.damage r [] inside)))
 
-pub damaged_text : (lead_in blocks : ℕ) (packs readings : List (List ℕ)) (said : List (List Voice))
+pub damaged_text : (lead_in blocks : ℕ) (packs readings : List (List ℕ)) (said : List (List Candidate))
     (found : List (Option Mended)) → AreDamagedReadings lead_in blocks packs readings
     → AreMended (whole_packs blocks) (map (program_of lead_in) readings) said found
     → mended_text found ≡ concat packs

@@ -8,8 +8,8 @@ use Rattle.std.proofs.lemmas.List.Sorted.{IsPermutation-swap}
 use Rattle.std.proofs.lemmas.List.Sums.{sum_by-cons}
 use Rattle.rw_interleave.specs.Interleave.{whole_packs}
 use Rattle.rw_interleave.proofs.Recovery.{differences-same}
-use Rattle.rw_mend.specs.Choice.{IsMending, is_of, voice_of_reading, votes}
-use Rattle.rw_mend.specs.Drops.{AreVoices}
+use Rattle.rw_mend.specs.Choice.{IsMending, is_of, candidate_of_reading, votes}
+use Rattle.rw_mend.specs.Drops.{AreCandidates}
 use Rattle.rw_mend.specs.Laws.{AreExchanged}
 use Rattle.rw_mend.specs.Streams.{AreMended, IsMendedInto, is_mended_by, is_way, mended_text, way_by, way_of, ways_of}
 use Rattle.rw_mend.specs.Words.{program_of}
@@ -17,14 +17,14 @@ use Rattle.rw_mend.specs.declared.choice.Mended.{Mended}
 use Rattle.rw_mend.specs.declared.choice.WordSource.{WordSource}
 use Rattle.rw_mend.specs.declared.choice.WordSource.TheVariants.{Reading, Agreed}
 use Rattle.rw_mend.specs.declared.streams.MendCounts.{MendCounts}
-use Rattle.rw_mend.specs.declared.voices.Voice.{Voice}
-use Rattle.rw_mend.specs.declared.voices.Voice.TheVariants.{Near}
+use Rattle.rw_mend.specs.declared.candidates.Candidate.{Candidate}
+use Rattle.rw_mend.specs.declared.candidates.Candidate.TheVariants.{Near}
 use Rattle.rw_mend.specs.declared.ways.Way.{Way}
 use Rattle.rw_mend.specs.declared.ways.Way.TheVariants.{Both, First, Second, Together}
 use Rattle.rw_mend.proofs.Clean.{pack_of}
 use Rattle.rw_mend.proofs.Converted.{ways_at}
 use Rattle.rw_mend.proofs.Damaged.{written}
-use Rattle.rw_mend.proofs.Reordered.{AreCodewords, AreSameVoices, IsSameWord, count_mapped, reordered_text, said_codewords, same_word, says, says_same, voices_are, votes_same}
+use Rattle.rw_mend.proofs.Reordered.{AreCodewords, AreSameCandidates, IsSameWord, count_mapped, reordered_text, said_codewords, same_word, says, says_same, candidates_are, votes_same}
 use Rattle.rw_mend.proofs.Running.{ways_length}
 
 -- ---- The way of a word.
@@ -88,20 +88,20 @@ two_votes : (pack : List ℕ) (d e : ℕ) → votes (Near pack d ∷ Near pack e
 two_votes pack d e =
     let own : (n : ℕ) → (if is_of pack (Near pack n) then 1 else 0) ≡ 1 =
     λ (n : ℕ). ap (λ m. if m == 0 then 1 else 0) (differences-same pack) in
-    let f : Voice → ℕ = λ (voice : Voice). if is_of pack voice then 1 else 0 in
+    let f : Candidate → ℕ = λ (candidate : Candidate). if is_of pack candidate then 1 else 0 in
     sum_by-cons f (Near pack d) (Near pack e ∷ [])
     ∙ ap₂ (λ a b. a + b) (own d) (sum_by-cons f (Near pack e) [] ∙ ap (λ a. a + 0) (own e))
 
-both_votes : (a b : Voice) (pack : List ℕ) (d : ℕ) → a ≡ Near pack d → b ≡ Near pack d
+both_votes : (a b : Candidate) (pack : List ℕ) (d : ℕ) → a ≡ Near pack d → b ≡ Near pack d
     → votes (a ∷ b ∷ []) pack ≡ 2
 both_votes a b pack d one other =
-    subst₂ (λ (x y : Voice). votes (x ∷ y ∷ []) pack ≡ 2) (sym one) (sym other) (two_votes pack d d)
+    subst₂ (λ (x y : Candidate). votes (x ∷ y ∷ []) pack ≡ 2) (sym one) (sym other) (two_votes pack d d)
 
 two_is : (n : ℕ) → n ≡ 2 → (n == 2) ≡ true
 two_is n is = ap (λ m. m == 2) is
 
-other_of : (a b : Voice) (r k : ℕ) (pack : List ℕ) (d : ℕ) → r < 2 → k < 2
-    → voice_of_reading (a ∷ b ∷ []) r ≡ Near pack d → voice_of_reading (b ∷ a ∷ []) k ≡ Near pack d
+other_of : (a b : Candidate) (r k : ℕ) (pack : List ℕ) (d : ℕ) → r < 2 → k < 2
+    → candidate_of_reading (a ∷ b ∷ []) r ≡ Near pack d → candidate_of_reading (b ∷ a ∷ []) k ≡ Near pack d
     → (votes (a ∷ b ∷ []) pack == 2) ≡ false → IsOther r k
 other_of a b zero zero pack d lt lt' one other not =
     absurd (false≢true (sym not ∙ two_is (votes (a ∷ b ∷ []) pack) (both_votes a b pack d one other)))
@@ -116,14 +116,15 @@ other_of a b (suc (suc r)) k pack d lt lt' one other not = absurd (omega (arith,
 exchange : {X : Type 0} (a b : X) → IsPermutation (a ∷ b ∷ []) (b ∷ a ∷ [])
 exchange a b = IsPermutation-swap (a ∷ b ∷ []) (b ∷ a ∷ []) 0 1 (omega arith) (omega arith) refl
 
-source_turned : (a b : Voice) (source source' : WordSource) (pack pack' : List ℕ) → pack ≡ pack'
+source_turned : (a b : Candidate) (source source' : WordSource) (pack pack' : List ℕ) → pack ≡ pack'
     → IsMending (a ∷ b ∷ []) (Some (record { pack = pack; source = source }))
-    → AreSameVoices (a ∷ b ∷ []) (b ∷ a ∷ []) source source'
+    → AreSameCandidates (a ∷ b ∷ []) (b ∷ a ∷ []) source source'
     → way_by source' (b ∷ a ∷ []) pack' ≡ turned_way (way_by source (a ∷ b ∷ []) pack)
 source_turned a b (Reading r) (Reading k) pack pack' equal by same =
-    let vs : List Voice = a ∷ b ∷ [] in
-    let ws : List Voice = b ∷ a ∷ [] in
-    let own : same.pack ≡ pack = pack_of (voice_of_reading vs r) same.pack pack same.doubts same.one by.1 in
+    let vs : List Candidate = a ∷ b ∷ [] in
+    let ws : List Candidate = b ∷ a ∷ [] in
+    let own : same.pack ≡ pack =
+    pack_of (candidate_of_reading vs r) same.pack pack same.doubts same.one by.1 in
     let count : votes ws pack' ≡ votes vs pack =
     sym (votes_same vs ws pack (exchange a b) ∙ ap (votes ws) equal) in
     ap (λ (n : ℕ). way_if (n == 2) k) count
@@ -134,7 +135,7 @@ source_turned a b (Reading r) Agreed pack pack' equal by same = absurd same
 source_turned a b Agreed (Reading k) pack pack' equal by same = absurd same
 source_turned a b Agreed Agreed pack pack' equal by same = refl
 
-word_turned : (a b : Voice) (found found' : Option Mended) → IsMending (a ∷ b ∷ []) found
+word_turned : (a b : Candidate) (found found' : Option Mended) → IsMending (a ∷ b ∷ []) found
     → IsSameWord (a ∷ b ∷ []) (b ∷ a ∷ []) found found'
     → way_of (b ∷ a ∷ []) found' ≡ turned (way_of (a ∷ b ∷ []) found)
 word_turned a b None None is same = refl
@@ -145,19 +146,19 @@ word_turned a b (Some one) (Some other) is same =
 
 -- ---- All words of two readings.
 
-said_turned : (words : ℕ) (p q : List ℕ) (n : ℕ) (vs ws : List Voice) (found found' : Option Mended)
-    → AreVoices words (p ∷ q ∷ []) n vs → AreVoices words (q ∷ p ∷ []) n ws → IsMending vs found
+said_turned : (words : ℕ) (p q : List ℕ) (n : ℕ) (vs ws : List Candidate) (found found' : Option Mended)
+    → AreCandidates words (p ∷ q ∷ []) n vs → AreCandidates words (q ∷ p ∷ []) n ws → IsMending vs found
     → IsMending ws found' → way_of ws found' ≡ turned (way_of vs found)
 said_turned words p q n vs ws found found' are are' is is' =
     let programs : List (List ℕ) = p ∷ q ∷ [] in
     let others : List (List ℕ) = q ∷ p ∷ [] in
-    let a : Voice = says words programs n p in
-    let b : Voice = says words programs n q in
+    let a : Candidate = says words programs n p in
+    let b : Candidate = says words programs n q in
     let moved : IsPermutation programs others = exchange p q in
-    let one : vs ≡ a ∷ b ∷ [] = voices_are words programs n vs are in
+    let one : vs ≡ a ∷ b ∷ [] = candidates_are words programs n vs are in
     let other : ws ≡ b ∷ a ∷ [] =
-    voices_are words others n ws are'
-    ∙ ap₂ (λ (x y : Voice). x ∷ y ∷ []) (says_same words programs others n moved q)
+    candidates_are words others n ws are'
+    ∙ ap₂ (λ (x y : Candidate). x ∷ y ∷ []) (says_same words programs others n moved q)
     (says_same words programs others n moved p) in
     let mending : IsMending (a ∷ b ∷ []) found = subst (λ l. IsMending l found) one is in
     let mending' : IsMending (b ∷ a ∷ []) found' = subst (λ l. IsMending l found') other is' in
@@ -165,7 +166,7 @@ said_turned words p q n vs ws found found' are are' is is' =
     subst AreCodewords one (said_codewords words programs n vs are) in
     let codewords' : AreCodewords (b ∷ a ∷ []) =
     subst AreCodewords other (said_codewords words others n ws are') in
-    subst₂ (λ (v w : List Voice). way_of w found' ≡ turned (way_of v found)) (sym one) (sym other)
+    subst₂ (λ (v w : List Candidate). way_of w found' ≡ turned (way_of v found)) (sym one) (sym other)
     (word_turned a b found found' mending
     (same_word (a ∷ b ∷ []) (b ∷ a ∷ []) found found' (exchange a b) codewords codewords' mending mending'))
 
@@ -204,7 +205,7 @@ exchanged_two lead_in first second old new old' new' counts counts' same done do
     (ways_at done'.said done'.found n (omega (arith, within, mended'.said_count))
     (omega (arith, within, mended'.count))).1
     ∙ said_turned words p q n (get_or done.said n []) (get_or done'.said n []) (get_or done.found n None)
-    (get_or done'.found n None) (done.mended.voices n within) (mended'.voices n within)
+    (get_or done'.found n None) (done.mended.candidates n within) (mended'.candidates n within)
     (done.mended.each n within) (mended'.each n within)
     ∙ ap turned (sym (ways_at done.said done.found n (omega (arith, within, done.mended.said_count))
     (omega (arith, within, done.mended.count))).1) in

@@ -8,12 +8,12 @@ use Rattle.rw_code.specs.Finding.{IsFinding, finding}
 use Rattle.rw_code.proofs.Finding.{finding_is}
 use Rattle.rw_interleave.specs.Interleave.{word_of}
 use Rattle.rw_interleave.proofs.Recovery.{form_words}
-use Rattle.rw_mend.specs.Voices.{voice_covered, voice_found, voice_of}
+use Rattle.rw_mend.specs.Candidates.{candidate_covered, candidate_found, candidate_of}
 use Rattle.rw_mend.specs.Words.{given_at, reading_at}
-use Rattle.rw_mend.specs.declared.voices.Coverage.{Coverage}
-use Rattle.rw_mend.specs.declared.voices.Coverage.TheVariants.{Whole, Partly, Unread}
-use Rattle.rw_mend.specs.declared.voices.WordReading.{WordReading}
-use Rattle.rw_mend.specs.declared.voices.Voice.TheVariants.{Near}
+use Rattle.rw_mend.specs.declared.candidates.Coverage.{Coverage}
+use Rattle.rw_mend.specs.declared.candidates.Coverage.TheVariants.{Whole, Partly, Unread}
+use Rattle.rw_mend.specs.declared.candidates.WordReading.{WordReading}
+use Rattle.rw_mend.specs.declared.candidates.Candidate.TheVariants.{Near}
 
 pub small_symbols : (bytes : List ℕ) (p : ℕ) → get_or (symbols_of bytes) p 0 < 64
 small_symbols [] p = omega arith
@@ -30,26 +30,28 @@ is_word program n =
     (form_words Raw (symbols_of program) n (small_symbols program))
 
 found_codeword : (reading : WordReading) (found : Option (List ℕ)) (pack : List ℕ) (doubts : ℕ)
-    → IsFinding reading.word found → voice_found reading found ≡ Near pack doubts → IsCodeword pack
+    → IsFinding reading.word found → candidate_found reading found ≡ Near pack doubts → IsCodeword pack
 found_codeword reading (Some codeword) pack doubts is same =
     let equal : codeword ≡ pack = cc in
     subst IsCodeword equal is.is_codeword
 found_codeword reading None pack doubts is same = cc
 
 covered_codeword : (coverage : Coverage) (reading : WordReading) (pack : List ℕ) (doubts : ℕ)
-    → IsWord reading.word → voice_covered coverage reading ≡ Near pack doubts → IsCodeword pack
+    → IsWord reading.word → candidate_covered coverage reading ≡ Near pack doubts → IsCodeword pack
 covered_codeword Unread reading pack doubts word same = cc
 covered_codeword Whole reading pack doubts word same =
     found_codeword reading (finding reading.word) pack doubts (finding_is reading.word word) same
 covered_codeword Partly reading pack doubts word same =
     found_codeword reading (finding reading.word) pack doubts (finding_is reading.word word) same
 
-voice_codeword : (reading : WordReading) (pack : List ℕ) (doubts : ℕ) → IsWord reading.word
-    → voice_of reading ≡ Near pack doubts → IsCodeword pack
-unfolding voice_of
-voice_codeword reading pack doubts word same = covered_codeword reading.coverage reading pack doubts word same
+candidate_codeword : (reading : WordReading) (pack : List ℕ) (doubts : ℕ) → IsWord reading.word
+    → candidate_of reading ≡ Near pack doubts → IsCodeword pack
+unfolding candidate_of
+candidate_codeword reading pack doubts word same =
+    covered_codeword reading.coverage reading pack doubts word same
 
 pub given_codeword : (programs : List (List ℕ)) (r n : ℕ) (pack : List ℕ) (doubts : ℕ)
     → given_at programs r n ≡ Near pack doubts → IsCodeword pack
 given_codeword programs r n pack doubts same =
-    voice_codeword (reading_at (get_or programs r []) n) pack doubts (is_word (get_or programs r []) n) same
+    candidate_codeword (reading_at (get_or programs r []) n) pack doubts (is_word (get_or programs r []) n)
+    same

@@ -5,7 +5,7 @@ use Rattle.std.proofs.Math.Nat.{mul-div-le, mul-le-mul_left, mul-le-mul_right}
 use Rattle.std.proofs.lemmas.List.{drop-drop, ext_get_or, get_or-map, length-map, take-append-drop, take_all}
 use Rattle.bit_lists.specs.Counting.{parts}
 use Rattle.rw_interleave.specs.Interleave.{whole_packs}
-use Rattle.rw_mend.specs.Drops.{AreDropCounts, AreVoices}
+use Rattle.rw_mend.specs.Drops.{AreDropCounts, AreCandidates}
 use Rattle.rw_mend.specs.Many.{AreAllReported, words_in_each}
 use Rattle.rw_mend.specs.Readings.{program_in, programs_in, size_in}
 use Rattle.rw_mend.specs.Steps.{AreReported, IsMendedTo}
@@ -119,10 +119,10 @@ many_mended readings count lead_in bytes old new old_sources new_sources tallies
         mended = record {
           said_count = done.said_count ∙ words;
           count = done.count ∙ words;
-          voices =
+          candidates =
               λ n lt.
-              subst₂ (λ w p. AreVoices w p n (get_or done.said n [])) words programs
-              (done.voices n (omega (arith, lt, words)));
+              subst₂ (λ w p. AreCandidates w p n (get_or done.said n [])) words programs
+              (done.candidates n (omega (arith, lt, words)));
           each = λ n lt. done.each n (omega (arith, lt, words));
         };
         tallies_are = done.has_it.0.tallies_are;

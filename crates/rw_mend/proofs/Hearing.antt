@@ -5,42 +5,42 @@ use Rattle.rw_code.proofs.Differing.{differences_self}
 use Rattle.rw_code.proofs.Errors.{idle_near}
 use Rattle.rw_code.specs.Finding.{finding}
 use Rattle.rw_code.proofs.Finding.{only_finding}
-use Rattle.rw_mend.specs.Voices.{doubts_of, voice_covered, voice_found, voice_of}
-use Rattle.rw_mend.specs.declared.voices.Coverage.{Coverage}
-use Rattle.rw_mend.specs.declared.voices.Coverage.TheVariants.{Whole, Partly, Unread}
-use Rattle.rw_mend.specs.declared.voices.WordReading.{WordReading}
-use Rattle.rw_mend.specs.declared.voices.Voice.TheVariants.{Silent, Lost, Near}
+use Rattle.rw_mend.specs.Candidates.{doubts_of, candidate_covered, candidate_found, candidate_of}
+use Rattle.rw_mend.specs.declared.candidates.Coverage.{Coverage}
+use Rattle.rw_mend.specs.declared.candidates.Coverage.TheVariants.{Whole, Partly, Unread}
+use Rattle.rw_mend.specs.declared.candidates.WordReading.{WordReading}
+use Rattle.rw_mend.specs.declared.candidates.Candidate.TheVariants.{Silent, Lost, Near}
 
 unread_silent : (coverage : Coverage) (reading : WordReading) → coverage ≡ Unread
-    → Silent ≡ voice_covered coverage reading
+    → Silent ≡ candidate_covered coverage reading
 unread_silent Whole reading is = cc
 unread_silent Partly reading is = cc
 unread_silent Unread reading is = refl
 
 read_found : (coverage : Coverage) (reading : WordReading) → coverage ≢ Unread
-    → voice_found reading (finding reading.word) ≡ voice_covered coverage reading
+    → candidate_found reading (finding reading.word) ≡ candidate_covered coverage reading
 read_found Whole reading is_read = refl
 read_found Partly reading is_read = refl
 read_found Unread reading is_read = absurd (is_read refl)
 
-pub silent_is : (reading : WordReading) → reading.coverage ≡ Unread → Silent ≡ voice_of reading
-unfolding voice_of
+pub silent_is : (reading : WordReading) → reading.coverage ≡ Unread → Silent ≡ candidate_of reading
+unfolding candidate_of
 silent_is reading is = unread_silent reading.coverage reading is
 
 pub near_is : (reading : WordReading) (codeword : List ℕ) (doubts : ℕ) → reading.coverage ≢ Unread
     → IsWord reading.word → Reads reading.word codeword
-    → doubts ≡ doubts_of reading.coverage reading.word codeword → Near codeword doubts ≡ voice_of reading
-unfolding voice_of
+    → doubts ≡ doubts_of reading.coverage reading.word codeword → Near codeword doubts ≡ candidate_of reading
+unfolding candidate_of
 near_is reading codeword doubts is_read word reads doubts_are =
     ap (Near codeword) doubts_are
-    ∙ ap (voice_found reading) (only_finding reading.word word (Some codeword) reads)
+    ∙ ap (candidate_found reading) (only_finding reading.word word (Some codeword) reads)
     ∙ read_found reading.coverage reading is_read
 
 pub lost_is : (reading : WordReading) → reading.coverage ≢ Unread → IsWord reading.word
-    → ((codeword : List ℕ) → ¬ Reads reading.word codeword) → Lost reading.word ≡ voice_of reading
-unfolding voice_of
+    → ((codeword : List ℕ) → ¬ Reads reading.word codeword) → Lost reading.word ≡ candidate_of reading
+unfolding candidate_of
 lost_is reading is_read word none =
-    ap (voice_found reading) (only_finding reading.word word None none)
+    ap (candidate_found reading) (only_finding reading.word word None none)
     ∙ read_found reading.coverage reading is_read
 
 -- ---- A word without symbols.
@@ -58,14 +58,14 @@ idle_word reading is =
     ((idle_near zeros zeros 0 refl (sym (differences_self zeros)) (omega arith)).0.is_codeword.is_word)
 
 pub whole_idle : (reading : WordReading) → reading.coverage ≡ Whole → reading.word ≡ replicate 24 0
-    → Near (replicate 24 0) 0 ≡ voice_of reading
+    → Near (replicate 24 0) 0 ≡ candidate_of reading
 whole_idle reading whole is =
     let zeros : List ℕ = replicate 24 0 in
     near_is reading zeros 0 (λ unread. (cc)) (idle_word reading is) (idle_reads reading is)
     (sym (ap₂ (λ c w. doubts_of c w zeros) whole is ∙ differences_self zeros))
 
 pub partly_idle : (reading : WordReading) → reading.coverage ≡ Partly → reading.word ≡ replicate 24 0
-    → Near (replicate 24 0) 3 ≡ voice_of reading
+    → Near (replicate 24 0) 3 ≡ candidate_of reading
 partly_idle reading partly is =
     let zeros : List ℕ = replicate 24 0 in
     near_is reading zeros 3 (λ unread. (cc)) (idle_word reading is) (idle_reads reading is)

@@ -10,15 +10,15 @@ use Rattle.bit_lists.specs.Counting.{below}
 use Rattle.rw_code.specs.Codeword.{IsCodeword, differences}
 use Rattle.rw_code.specs.Packs.{idle_pack}
 use Rattle.rw_code.proofs.Differing.{differences_none, differences_self}
-use Rattle.rw_mend.specs.Choice.{IsMending, voice_of_reading}
-use Rattle.rw_mend.specs.Drops.{AreVoices, HasGraphics, IsDropped, IsLacking, IsSaid}
-use Rattle.rw_mend.specs.Laws.{IsCleanBeside, voice_bytes, given_text}
+use Rattle.rw_mend.specs.Choice.{IsMending, candidate_of_reading}
+use Rattle.rw_mend.specs.Drops.{AreCandidates, HasGraphics, IsDropped, IsLacking, IsSaid}
+use Rattle.rw_mend.specs.Laws.{IsCleanBeside, candidate_bytes, given_text}
 use Rattle.rw_mend.specs.Streams.{AreMended, mended_bytes, mended_text}
-use Rattle.rw_mend.specs.Voices.{has_used_mode, is_doubtful_voice, is_graphics_pack, is_graphics_voice, is_idle_voice, is_idle_pack, is_quiet_voice}
+use Rattle.rw_mend.specs.Candidates.{has_used_mode, is_doubtful_candidate, is_graphics_pack, is_graphics_candidate, is_idle_candidate, is_idle_pack, is_quiet_candidate}
 use Rattle.rw_mend.specs.Words.{given_at}
 use Rattle.rw_mend.specs.declared.choice.Mended.{Mended}
-use Rattle.rw_mend.specs.declared.voices.Voice.{Voice}
-use Rattle.rw_mend.specs.declared.voices.Voice.TheVariants.{Silent, Lost, Near}
+use Rattle.rw_mend.specs.declared.candidates.Candidate.{Candidate}
+use Rattle.rw_mend.specs.declared.candidates.Candidate.TheVariants.{Silent, Lost, Near}
 use Rattle.rw_mend.proofs.Clean.{both_hold, clean_wins, first_holds, second_holds}
 use Rattle.rw_mend.proofs.Givens.{given_codeword}
 use Rattle.rw_mend.proofs.Missing.{idle_is_quiet, told}
@@ -41,8 +41,8 @@ second_of true b is fails = absurd (false≢true (sym fails))
 second_of false b is fails = is
 
 -- graphics are a codeword that is not idle
-pub graphics_are : (voice : Voice) → is_graphics_voice voice ≡ true
-    → (pack : List ℕ) × (doubts : ℕ) × (voice ≡ Near pack doubts) × (is_idle_pack pack ≡ false)
+pub graphics_are : (candidate : Candidate) → is_graphics_candidate candidate ≡ true
+    → (pack : List ℕ) × (doubts : ℕ) × (candidate ≡ Near pack doubts) × (is_idle_pack pack ≡ false)
 graphics_are Silent is = absurd (false≢true is)
 graphics_are (Lost word) is = absurd (false≢true is)
 graphics_are (Near pack doubts) is =
@@ -50,8 +50,8 @@ graphics_are (Near pack doubts) is =
     (pack, doubts, refl, not_true (is_idle_pack pack) tests.0)
 
 -- and so is a doubtful codeword
-pub doubtful_are : (voice : Voice) → is_doubtful_voice voice ≡ true
-    → (pack : List ℕ) × (doubts : ℕ) × (voice ≡ Near pack doubts) × (is_idle_pack pack ≡ false)
+pub doubtful_are : (candidate : Candidate) → is_doubtful_candidate candidate ≡ true
+    → (pack : List ℕ) × (doubts : ℕ) × (candidate ≡ Near pack doubts) × (is_idle_pack pack ≡ false)
 doubtful_are Silent is = absurd (false≢true is)
 doubtful_are (Lost word) is = absurd (false≢true is)
 doubtful_are (Near pack doubts) is =
@@ -59,7 +59,8 @@ doubtful_are (Near pack doubts) is =
     (pack, doubts, refl, not_true (is_idle_pack pack) tests.0)
 
 -- graphics are never doubtful
-pub graphics_are_sure : (voice : Voice) → is_graphics_voice voice ≡ true → ¬ (is_doubtful_voice voice ≡ true)
+pub graphics_are_sure : (candidate : Candidate) → is_graphics_candidate candidate ≡ true
+    → ¬ (is_doubtful_candidate candidate ≡ true)
 graphics_are_sure Silent is doubtful = false≢true is
 graphics_are_sure (Lost word) is doubtful = false≢true is
 graphics_are_sure (Near pack doubts) is doubtful =
@@ -75,26 +76,26 @@ graphics_are_sure (Near pack doubts) is doubtful =
     false≢true
     (sym unused ∙ second_holds (get_or pack 0 0 == 8) _ (first_holds (get_or pack 0 0 == 9) _ mode.0))
 
-pub clean_graphics : (pack : List ℕ) → is_idle_pack pack ≡ false → is_graphics_voice (Near pack 0) ≡ true
+pub clean_graphics : (pack : List ℕ) → is_idle_pack pack ≡ false → is_graphics_candidate (Near pack 0) ≡ true
 clean_graphics pack other =
     both_hold (not (is_idle_pack pack)) ((0 == 0) || is_graphics_pack pack) (ap not other) refl
 
-pub clean_sure : (pack : List ℕ) → ¬ (is_doubtful_voice (Near pack 0) ≡ true)
+pub clean_sure : (pack : List ℕ) → ¬ (is_doubtful_candidate (Near pack 0) ≡ true)
 clean_sure pack is =
     false≢true ((both_of (not (is_idle_pack pack)) (not (0 == 0) && not (has_used_mode pack)) is).1)
 
 -- ---- What is said.
 
-said_cases : (words : ℕ) (programs : List (List ℕ)) (n r : ℕ) (voice : Voice) (pack : List ℕ)
-    → IsSaid words programs n r voice → voice ≡ Near pack 0
+said_cases : (words : ℕ) (programs : List (List ℕ)) (n r : ℕ) (candidate : Candidate) (pack : List ℕ)
+    → IsSaid words programs n r candidate → candidate ≡ Near pack 0
     → (¬ IsDropped words programs r n) × (given_at programs r n ≡ Near pack 0)
-said_cases words programs n r voice pack (inl (dropped, silent)) is = cc
-said_cases words programs n r voice pack (inr (kept, given)) is = (kept, sym given ∙ is)
+said_cases words programs n r candidate pack (inl (dropped, silent)) is = cc
+said_cases words programs n r candidate pack (inr (kept, given)) is = (kept, sym given ∙ is)
 
-pub said_kept : (words : ℕ) (programs : List (List ℕ)) (n r : ℕ) (voice : Voice)
-    → IsSaid words programs n r voice → ¬ IsDropped words programs r n → voice ≡ given_at programs r n
-said_kept words programs n r voice (inl (dropped, silent)) kept = absurd (kept dropped)
-said_kept words programs n r voice (inr (kept', given)) kept = given
+pub said_kept : (words : ℕ) (programs : List (List ℕ)) (n r : ℕ) (candidate : Candidate)
+    → IsSaid words programs n r candidate → ¬ IsDropped words programs r n → candidate ≡ given_at programs r n
+said_kept words programs n r candidate (inl (dropped, silent)) kept = absurd (kept dropped)
+said_kept words programs n r candidate (inr (kept', given)) kept = given
 
 -- nothing of the clean reading counts for nothing
 clean_kept : (words : ℕ) (programs : List (List ℕ)) (r n : ℕ) → IsCleanBeside words programs r → n < words
@@ -103,12 +104,12 @@ clean_kept words programs r n is lt (inl lacking) =
     let m : ℕ = lacking.lacks.word in
     let misses = lacking.lacks.misses in
     let idle : is_idle_pack (is.codeword m) ≡ true =
-    ap is_idle_voice (sym (is.clean m lacking.lacks.within)) ∙ misses.idle in
+    ap is_idle_candidate (sym (is.clean m lacking.lacks.within)) ∙ misses.idle in
     false≢true
     (sym (is.quiet m misses.graphics.reading lacking.lacks.within misses.graphics.within idle)
     ∙ misses.graphics.graphics)
 clean_kept words programs r n is lt (inr doubted) =
-    clean_sure (is.codeword n) (ap is_doubtful_voice (sym (is.clean n lt)) ∙ doubted.doubtful)
+    clean_sure (is.codeword n) (ap is_doubtful_candidate (sym (is.clean n lt)) ∙ doubted.doubtful)
 
 pub zeros_are : (pack : List ℕ) → IsCodeword pack → is_idle_pack pack ≡ true → pack ≡ idle_pack
 zeros_are pack codeword is =
@@ -119,11 +120,11 @@ zeros_are pack codeword is =
 
 -- a reading that gives the idle pack where another gives graphics lacks them there
 pub lacking_here : (words : ℕ) (programs : List (List ℕ)) (r n : ℕ) → n < words
-    → is_idle_voice (given_at programs r n) ≡ true → HasGraphics programs n → IsLacking words programs r n
+    → is_idle_candidate (given_at programs r n) ≡ true → HasGraphics programs n → IsLacking words programs r n
 lacking_here words programs r n lt idle graphics =
-    let quiet : (k : ℕ) → n ≡ k → is_quiet_voice (given_at programs r k) ≡ true =
+    let quiet : (k : ℕ) → n ≡ k → is_quiet_candidate (given_at programs r k) ≡ true =
     λ (k : ℕ) (same : n ≡ k).
-    subst (λ j. is_quiet_voice (given_at programs r j) ≡ true) same
+    subst (λ j. is_quiet_candidate (given_at programs r j) ≡ true) same
     (idle_is_quiet (given_at programs r n) idle) in
     record {
       idle = idle;
@@ -141,11 +142,12 @@ lacking_here words programs r n lt idle graphics =
     }
 
 -- another clean codeword that is said is the same
-only_clean : (words : ℕ) (programs : List (List ℕ)) (r n s : ℕ) (voice : Voice) (other : List ℕ)
-    (is : IsCleanBeside words programs r) → n < words → s < length programs → IsSaid words programs n s voice
-    → voice ≡ Near other 0 → other ≡ is.codeword n
-only_clean words programs r n s voice other is lt within said near =
-    let given = said_cases words programs n s voice other said near in
+only_clean : (words : ℕ) (programs : List (List ℕ)) (r n s : ℕ) (candidate : Candidate) (other : List ℕ)
+    (is : IsCleanBeside words programs r) → n < words → s < length programs
+    → IsSaid words programs n s candidate
+    → candidate ≡ Near other 0 → other ≡ is.codeword n
+only_clean words programs r n s candidate other is lt within said near =
+    let given = said_cases words programs n s candidate other said near in
     elim (is.others n s other lt within given.1) [
       | inl same ↦ same
       | inr zeros ↦
@@ -158,29 +160,31 @@ only_clean words programs r n s voice other is lt within said near =
             | inr busy ↦
                 absurd
                 (given.0 (inl (lacking_here words programs s n lt
-                (ap is_idle_voice given.1 ∙ ap is_idle_pack zeros ∙ idle_is) (record {
+                (ap is_idle_candidate given.1 ∙ ap is_idle_pack zeros ∙ idle_is) (record {
                   reading = r;
                   within = is.within;
-                  graphics = ap is_graphics_voice (is.clean n lt) ∙ clean_graphics (is.codeword n) busy;
+                  graphics = ap is_graphics_candidate (is.clean n lt) ∙ clean_graphics (is.codeword n) busy;
                 }))))
           ]
     ]
 
 -- ---- Whole streams.
 
-clean_word : (words : ℕ) (programs : List (List ℕ)) (r n : ℕ) (voices : List Voice) (found : Option Mended)
-    (is : IsCleanBeside words programs r) → n < words → AreVoices words programs n voices
-    → IsMending voices found → mended_bytes found ≡ voice_bytes (given_at programs r n)
-clean_word words programs r n voices found is lt said mended =
-    let here : voice_of_reading voices r ≡ Near (is.codeword n) 0 =
-    said_kept words programs n r (voice_of_reading voices r) (said.each r is.within)
+clean_word : (words : ℕ) (programs : List (List ℕ)) (r n : ℕ) (candidates : List Candidate)
+    (found : Option Mended)
+    (is : IsCleanBeside words programs r) → n < words → AreCandidates words programs n candidates
+    → IsMending candidates found → mended_bytes found ≡ candidate_bytes (given_at programs r n)
+clean_word words programs r n candidates found is lt said mended =
+    let here : candidate_of_reading candidates r ≡ Near (is.codeword n) 0 =
+    said_kept words programs n r (candidate_of_reading candidates r) (said.each r is.within)
     (clean_kept words programs r n is lt) ∙ is.clean n lt in
-    clean_wins voices r (is.codeword n) found (omega (arith, is.within, said.count)) here
+    clean_wins candidates r (is.codeword n) found (omega (arith, is.within, said.count)) here
     (λ s other inside near.
     let within : s < length programs = omega (arith, inside, said.count) in
-    only_clean words programs r n s (voice_of_reading voices s) other is lt within (said.each s within) near)
+    only_clean words programs r n s (candidate_of_reading candidates s) other is lt within
+    (said.each s within) near)
     mended
-    ∙ ap voice_bytes (sym (is.clean n lt))
+    ∙ ap candidate_bytes (sym (is.clean n lt))
 
 pub flat_joined : {X : Type 0} (f : X → List ℕ) (xs : List X) → flat_map f xs ≡ concat (map f xs)
 flat_joined f [] = refl
@@ -189,10 +193,10 @@ flat_joined f (x ∷ xs) = ap (λ l. f x ++ l) (flat_joined f xs)
 -- a list of texts, one for each word
 pub each_text : (words : ℕ) (programs : List (List ℕ)) (r : ℕ) (found : List (Option Mended))
     → length found ≡ words
-    → ((n : ℕ) → n < words → mended_bytes (get_or found n None) ≡ voice_bytes (given_at programs r n))
+    → ((n : ℕ) → n < words → mended_bytes (get_or found n None) ≡ candidate_bytes (given_at programs r n))
     → mended_text found ≡ given_text words programs r
 each_text words programs r found size each =
-    let given : ℕ → List ℕ = λ (n : ℕ). voice_bytes (given_at programs r n) in
+    let given : ℕ → List ℕ = λ (n : ℕ). candidate_bytes (given_at programs r n) in
     let same : map mended_bytes found ≡ map given (below words) =
     ext_get_or [] (map mended_bytes found) (map given (below words))
     (length-map found mended_bytes ∙ size ∙ sym (length-map-range_with_len given 0 words)) (λ n lt.
@@ -202,10 +206,10 @@ each_text words programs r found size each =
     ∙ sym (get_or-map-range_with_len given 0 words n n [] within (omega arith))) in
     flat_joined mended_bytes found ∙ ap concat same ∙ sym (flat_joined given (below words))
 
-pub clean_text : (words : ℕ) (programs : List (List ℕ)) (r : ℕ) (said : List (List Voice))
+pub clean_text : (words : ℕ) (programs : List (List ℕ)) (r : ℕ) (said : List (List Candidate))
     (found : List (Option Mended)) → IsCleanBeside words programs r → AreMended words programs said found
     → mended_text found ≡ given_text words programs r
 clean_text words programs r said found is mended =
     each_text words programs r found mended.count (λ n lt.
-    clean_word words programs r n (get_or said n []) (get_or found n None) is lt (mended.voices n lt)
+    clean_word words programs r n (get_or said n []) (get_or found n None) is lt (mended.candidates n lt)
     (mended.each n lt))

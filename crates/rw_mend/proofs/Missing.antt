@@ -9,15 +9,15 @@ use Rattle.std.proofs.Math.Seq.{get_or-append_seam}
 use Rattle.std.proofs.lemmas.List.Sums.{count_by-le-length}
 use Rattle.std.proofs.lemmas.List.Folds.{list_any_at}
 use Rattle.rw_mend.proofs.Counting.{count_push}
-use Rattle.rw_mend.specs.Choice.{voice_of_reading}
+use Rattle.rw_mend.specs.Choice.{candidate_of_reading}
 use Rattle.rw_mend.specs.Drops.{IsDropCount, IsDropped, IsSaid, Lacks}
 use Rattle.rw_mend.specs.Rows.{IsRow}
 use Rattle.rw_mend.specs.Silences.{IsSilence, WillMiss, is_left, said_after}
-use Rattle.rw_mend.specs.Voices.{is_doubtful_voice, is_idle_voice, is_quiet_voice}
+use Rattle.rw_mend.specs.Candidates.{is_doubtful_candidate, is_idle_candidate, is_quiet_candidate}
 use Rattle.rw_mend.specs.Words.{given_at}
 use Rattle.rw_mend.specs.declared.silences.Silence.{Silence}
-use Rattle.rw_mend.specs.declared.voices.Voice.{Voice}
-use Rattle.rw_mend.specs.declared.voices.Voice.TheVariants.{Silent, Lost, Near}
+use Rattle.rw_mend.specs.declared.candidates.Candidate.{Candidate}
+use Rattle.rw_mend.specs.declared.candidates.Candidate.TheVariants.{Silent, Lost, Near}
 
 -- a Boolean is one or the other
 pub told : (b : Bool) → (b ≡ true) ⊎ (b ≡ false)
@@ -81,13 +81,14 @@ neither_of false b is = (refl, is)
 
 -- ---- A silence.
 
-pub idle_is_quiet : (voice : Voice) → is_idle_voice voice ≡ true → is_quiet_voice voice ≡ true
+pub idle_is_quiet : (candidate : Candidate) → is_idle_candidate candidate ≡ true
+    → is_quiet_candidate candidate ≡ true
 idle_is_quiet Silent is = refl
 idle_is_quiet (Lost word) is = is
 idle_is_quiet (Near pack doubts) is = is
 
 lacks_on : (words : ℕ) (programs : List (List ℕ)) (r n : ℕ)
-    → is_quiet_voice (given_at programs r (n + 1)) ≡ true
+    → is_quiet_candidate (given_at programs r (n + 1)) ≡ true
     → Lacks words programs r n → Lacks words programs r (n + 1)
 lacks_on words programs r n here was = record {
   word = was.word;
@@ -98,14 +99,15 @@ lacks_on words programs r n here was = record {
         | inl after ↦ was.quiet k lt (inl (omega (arith, after.0), after.1))
         | inr before ↦
             elim (cases_eq k (n + 1)) [
-              | inl same ↦ subst (λ j. is_quiet_voice (given_at programs r j) ≡ true) (sym same) here
+              | inl same ↦ subst (λ j. is_quiet_candidate (given_at programs r j) ≡ true) (sym same) here
               | inr differs ↦ was.quiet k lt (inr (before.0, omega (arith, before.1, differs)))
             ]
       ];
   misses = was.misses;
 }
 
-lacks_back : (words : ℕ) (programs : List (List ℕ)) (r n : ℕ) → is_quiet_voice (given_at programs r n) ≡ true
+lacks_back : (words : ℕ) (programs : List (List ℕ)) (r n : ℕ)
+    → is_quiet_candidate (given_at programs r n) ≡ true
     → Lacks words programs r (n + 1) → Lacks words programs r n
 lacks_back words programs r n here was = record {
   word = was.word;
@@ -115,7 +117,7 @@ lacks_back words programs r n here was = record {
       elim between [
         | inl after ↦
             elim (cases_eq k n) [
-              | inl same ↦ subst (λ j. is_quiet_voice (given_at programs r j) ≡ true) (sym same) here
+              | inl same ↦ subst (λ j. is_quiet_candidate (given_at programs r j) ≡ true) (sym same) here
               | inr differs ↦ was.quiet k lt (inl (omega (arith, after.0, differs), after.1))
             ]
         | inr before ↦ was.quiet k lt (inr (before.0, omega (arith, before.1)))
@@ -140,7 +142,7 @@ will_lacks words programs r n will = record {
 }
 
 lacks_will : (words : ℕ) (programs : List (List ℕ)) (r n : ℕ) → n < words
-    → (0 < n → is_quiet_voice (given_at programs r (n - 1)) ≡ false)
+    → (0 < n → is_quiet_candidate (given_at programs r (n - 1)) ≡ false)
     → Lacks words programs r n → WillMiss words programs r n
 lacks_will words programs r n lt begins lacks =
     elim (leb_tells n lacks.word) [
@@ -159,16 +161,16 @@ lacks_will words programs r n lt begins lacks =
     ]
 
 silence_of : (words : ℕ) (programs : List (List ℕ)) (r n : ℕ) (silence : Silence)
-    → (silence.quiet ≡ true → is_quiet_voice (given_at programs r n) ≡ true)
-    → (silence.quiet ≡ false → is_quiet_voice (given_at programs r n) ≡ false)
+    → (silence.quiet ≡ true → is_quiet_candidate (given_at programs r n) ≡ true)
+    → (silence.quiet ≡ false → is_quiet_candidate (given_at programs r n) ≡ false)
     → (silence.quiet ≡ true → MatchBool silence.lacks (Lacks words programs r n) (¬ Lacks words programs r n))
     → IsSilence words programs r (n + 1) silence
 silence_of words programs r n silence quiet loud lacks =
     let same : n ≡ n + 1 - 1 = omega arith in
     record {
       some = λ is. omega arith;
-      quiet = λ is. subst (λ k. is_quiet_voice (given_at programs r k) ≡ true) same (quiet is);
-      loud = λ is some. subst (λ k. is_quiet_voice (given_at programs r k) ≡ false) same (loud is);
+      quiet = λ is. subst (λ k. is_quiet_candidate (given_at programs r k) ≡ true) same (quiet is);
+      loud = λ is some. subst (λ k. is_quiet_candidate (given_at programs r k) ≡ false) same (loud is);
       lacks =
           λ is.
           subst (λ k. MatchBool silence.lacks (Lacks words programs r k) (¬ Lacks words programs r k)) same
@@ -177,14 +179,14 @@ silence_of words programs r n silence quiet loud lacks =
 
 pub loud_silence : (words : ℕ) (programs : List (List ℕ)) (r n : ℕ) (silence : Silence)
     → silence.quiet ≡ false
-    → is_quiet_voice (given_at programs r n) ≡ false → IsSilence words programs r (n + 1) silence
+    → is_quiet_candidate (given_at programs r n) ≡ false → IsSilence words programs r (n + 1) silence
 loud_silence words programs r n silence is loud =
     silence_of words programs r n silence (λ quiet. absurd (false≢true (sym is ∙ quiet))) (λ quiet. loud)
     (λ quiet. absurd (false≢true (sym is ∙ quiet)))
 
 pub new_silence : (words : ℕ) (programs : List (List ℕ)) (r n : ℕ) (was silence : Silence) → n < words
     → IsSilence words programs r n was → was.quiet ≡ false → silence.quiet ≡ true
-    → is_quiet_voice (given_at programs r n) ≡ true
+    → is_quiet_candidate (given_at programs r n) ≡ true
     → MatchBool silence.lacks (WillMiss words programs r n) (¬ WillMiss words programs r n)
     → IsSilence words programs r (n + 1) silence
 new_silence words programs r n was silence lt before loud is quiet will =
@@ -195,12 +197,12 @@ new_silence words programs r n was silence lt before loud is quiet will =
 
 pub same_silence : (words : ℕ) (programs : List (List ℕ)) (r n : ℕ) (silence : Silence)
     → IsSilence words programs r n silence → silence.quiet ≡ true
-    → is_quiet_voice (given_at programs r n) ≡ true → IsSilence words programs r (n + 1) silence
+    → is_quiet_candidate (given_at programs r n) ≡ true → IsSilence words programs r (n + 1) silence
 same_silence words programs r n silence before is quiet =
     let m : ℕ = n - 1 in
     let next : m + 1 ≡ n = omega (arith, before.some is) in
-    let here : is_quiet_voice (given_at programs r (m + 1)) ≡ true =
-    subst (λ k. is_quiet_voice (given_at programs r k) ≡ true) (sym next) quiet in
+    let here : is_quiet_candidate (given_at programs r (m + 1)) ≡ true =
+    subst (λ k. is_quiet_candidate (given_at programs r k) ≡ true) (sym next) quiet in
     silence_of words programs r n silence (λ now. quiet) (λ now. absurd (false≢true (sym now ∙ is)))
     (λ now.
     subst (λ k. MatchBool silence.lacks (Lacks words programs r k) (¬ Lacks words programs r k)) next
@@ -211,12 +213,12 @@ same_silence words programs r n silence before is quiet =
 
 -- a reading that gives the idle pack is quiet, and its silence tells whether it lacks graphics
 idle_lacks : (words : ℕ) (programs : List (List ℕ)) (r n : ℕ) (silence : Silence)
-    → IsSilence words programs r (n + 1) silence → is_idle_voice (given_at programs r n) ≡ true
+    → IsSilence words programs r (n + 1) silence → is_idle_candidate (given_at programs r n) ≡ true
     → MatchBool silence.lacks (Lacks words programs r n) (¬ Lacks words programs r n)
 idle_lacks words programs r n silence is idle =
     let same : n + 1 - 1 ≡ n = omega arith in
-    let quiet : is_quiet_voice (given_at programs r (n + 1 - 1)) ≡ true =
-    subst (λ k. is_quiet_voice (given_at programs r k) ≡ true) (sym same)
+    let quiet : is_quiet_candidate (given_at programs r (n + 1 - 1)) ≡ true =
+    subst (λ k. is_quiet_candidate (given_at programs r k) ≡ true) (sym same)
     (idle_is_quiet (given_at programs r n) idle) in
     elim (told silence.quiet) [
       | inl now ↦
@@ -226,22 +228,22 @@ idle_lacks words programs r n silence is idle =
     ]
 
 -- whether what a reading gives counts for nothing
-pub left_is : (words : ℕ) (programs : List (List ℕ)) (r n : ℕ) (row : List Voice) (silence : Silence)
-    (given : Voice) → length row ≡ length programs → IsRow programs n row
+pub left_is : (words : ℕ) (programs : List (List ℕ)) (r n : ℕ) (row : List Candidate) (silence : Silence)
+    (given : Candidate) → length row ≡ length programs → IsRow programs n row
     → IsSilence words programs r (n + 1) silence → given ≡ given_at programs r n
-    → MatchBool (is_left (list_any is_quiet_voice row) silence given) (IsDropped words programs r n)
+    → MatchBool (is_left (list_any is_quiet_candidate row) silence given) (IsDropped words programs r n)
     (¬ IsDropped words programs r n)
 left_is words programs r n row silence given size rows is given_is =
-    let some : Bool = list_any is_quiet_voice row in
-    let lacking : Bool = silence.lacks && is_idle_voice given in
-    let doubted : Bool = some && is_doubtful_voice given in
+    let some : Bool = list_any is_quiet_candidate row in
+    let lacking : Bool = silence.lacks && is_idle_candidate given in
+    let doubted : Bool = some && is_doubtful_candidate given in
     decided (is_left some silence given) (IsDropped words programs r n)
     (λ left.
     elim (either_of lacking doubted left) [
       | inl lacks ↦
-          let parts = both_of silence.lacks (is_idle_voice given) lacks in
-          let idle : is_idle_voice (given_at programs r n) ≡ true =
-          ap is_idle_voice (sym given_is) ∙ parts.1 in
+          let parts = both_of silence.lacks (is_idle_candidate given) lacks in
+          let idle : is_idle_candidate (given_at programs r n) ≡ true =
+          ap is_idle_candidate (sym given_is) ∙ parts.1 in
           inl (record {
             idle = idle;
             lacks =
@@ -249,47 +251,47 @@ left_is words programs r n row silence given size rows is given_is =
                 (idle_lacks words programs r n silence is idle);
           })
       | inr doubts ↦
-          let parts = both_of some (is_doubtful_voice given) doubts in
-          let found = some_passes is_quiet_voice row Silent parts.0 in
+          let parts = both_of some (is_doubtful_candidate given) doubts in
+          let found = some_passes is_quiet_candidate row Silent parts.0 in
           let within : found.0 < length programs = omega (arith, size, found.1) in
           inr (record {
-            doubtful = ap is_doubtful_voice (sym given_is) ∙ parts.1;
+            doubtful = ap is_doubtful_candidate (sym given_is) ∙ parts.1;
             reading = found.0;
             within = within;
-            quiet = ap is_quiet_voice (sym (rows.each found.0 within)) ∙ found.2;
+            quiet = ap is_quiet_candidate (sym (rows.each found.0 within)) ∙ found.2;
           })
     ])
     (λ stays dropped.
     let parts = neither_of lacking doubted stays in
     elim dropped [
       | inl lacking_is ↦
-          false≢true (sym parts.0 ∙ both silence.lacks (is_idle_voice given)
+          false≢true (sym parts.0 ∙ both silence.lacks (is_idle_candidate given)
           (match_has silence.lacks (Lacks words programs r n) lacking_is.lacks
           (idle_lacks words programs r n silence is lacking_is.idle))
-          (ap is_idle_voice given_is ∙ lacking_is.idle))
+          (ap is_idle_candidate given_is ∙ lacking_is.idle))
       | inr doubted_is ↦
           let s : ℕ = doubted_is.reading in
           let within : s < length row = omega (arith, size, doubted_is.within) in
-          let quiet : is_quiet_voice (voice_of_reading row s) ≡ true =
-          ap is_quiet_voice (rows.each s doubted_is.within) ∙ doubted_is.quiet in
-          false≢true (sym parts.1 ∙ both some (is_doubtful_voice given)
-          (list_any_at is_quiet_voice row s Silent within quiet)
-          (ap is_doubtful_voice given_is ∙ doubted_is.doubtful))
+          let quiet : is_quiet_candidate (candidate_of_reading row s) ≡ true =
+          ap is_quiet_candidate (rows.each s doubted_is.within) ∙ doubted_is.quiet in
+          false≢true (sym parts.1 ∙ both some (is_doubtful_candidate given)
+          (list_any_at is_quiet_candidate row s Silent within quiet)
+          (ap is_doubtful_candidate given_is ∙ doubted_is.doubtful))
     ])
 
-said_by_case : (words : ℕ) (programs : List (List ℕ)) (r n : ℕ) (given said : Voice) (b : Bool)
+said_by_case : (words : ℕ) (programs : List (List ℕ)) (r n : ℕ) (given said : Candidate) (b : Bool)
     → MatchBool b (IsDropped words programs r n) (¬ IsDropped words programs r n)
     → given ≡ given_at programs r n → said ≡ (if b then Silent else given) → IsSaid words programs n r said
 said_by_case words programs r n given said true is given_is is_said = inl (is, is_said)
 said_by_case words programs r n given said false is given_is is_said = inr (is, is_said ∙ given_is)
 
 -- what is said by a reading
-pub said_is : (words : ℕ) (programs : List (List ℕ)) (r n : ℕ) (row : List Voice) (silence : Silence)
-    (given said : Voice) → length row ≡ length programs → IsRow programs n row
+pub said_is : (words : ℕ) (programs : List (List ℕ)) (r n : ℕ) (row : List Candidate) (silence : Silence)
+    (given said : Candidate) → length row ≡ length programs → IsRow programs n row
     → IsSilence words programs r (n + 1) silence → given ≡ given_at programs r n
-    → said ≡ said_after (list_any is_quiet_voice row) silence given → IsSaid words programs n r said
+    → said ≡ said_after (list_any is_quiet_candidate row) silence given → IsSaid words programs n r said
 said_is words programs r n row silence given said size rows is given_is is_said =
-    said_by_case words programs r n given said (is_left (list_any is_quiet_voice row) silence given)
+    said_by_case words programs r n given said (is_left (list_any is_quiet_candidate row) silence given)
     (left_is words programs r n row silence given size rows is given_is) given_is is_said
 
 -- one mark more

@@ -3,7 +3,7 @@ use Rattle.std.proofs.Common.{◌≡◌, ℕ, ◌-◌, ◌*◌, ◌/◌, ◌%◌
 use Rattle.std.proofs.lemmas.List.{drop_min, take_all}
 use Rattle.bit_lists.specs.Counting.{below}
 use Rattle.rw_interleave.specs.Interleave.{whole_packs}
-use Rattle.rw_mend.specs.Drops.{AreVoices}
+use Rattle.rw_mend.specs.Drops.{AreCandidates}
 use Rattle.rw_mend.specs.Readings.{program_in, programs_in, size_in}
 use Rattle.rw_mend.specs.Steps.{AreCounted, IsMendedTo}
 use Rattle.rw_mend.specs.Streams.{IsMendedInto, mended_text}
@@ -56,9 +56,9 @@ two_mended readings lead_in old new counts two start same whole done =
       mended = record {
         said_count = done.said_count ∙ words;
         count = done.count ∙ words;
-        voices =
-            λ n lt. subst₂ (λ w p. AreVoices w p n (get_or done.said n [])) words programs
-            (done.voices n (omega (arith, lt, words)));
+        candidates =
+            λ n lt. subst₂ (λ w p. AreCandidates w p n (get_or done.said n [])) words programs
+            (done.candidates n (omega (arith, lt, words)));
         each = λ n lt. done.each n (omega (arith, lt, words));
       };
       counts_are = done.has_it;

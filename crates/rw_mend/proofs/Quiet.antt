@@ -15,13 +15,13 @@ use Rattle.rw_code.proofs.Finding.{finding_is}
 use Rattle.rw_interleave.specs.Interleave.{word_of}
 use Rattle.rw_mend.specs.Drops.{HasGraphics, Misses}
 use Rattle.rw_mend.specs.Rows.{IsRow}
-use Rattle.rw_mend.specs.Voices.{doubts_of, is_graphics_pack, is_graphics_voice, is_idle_pack, is_idle_voice, is_quiet_voice, voice_covered, voice_found, voice_of}
+use Rattle.rw_mend.specs.Candidates.{doubts_of, is_graphics_pack, is_graphics_candidate, is_idle_pack, is_idle_candidate, is_quiet_candidate, candidate_covered, candidate_found, candidate_of}
 use Rattle.rw_mend.specs.Words.{given_at, reading_at}
-use Rattle.rw_mend.specs.declared.voices.Coverage.{Coverage}
-use Rattle.rw_mend.specs.declared.voices.Coverage.TheVariants.{Whole, Partly, Unread}
-use Rattle.rw_mend.specs.declared.voices.WordReading.{WordReading}
-use Rattle.rw_mend.specs.declared.voices.Voice.{Voice}
-use Rattle.rw_mend.specs.declared.voices.Voice.TheVariants.{Silent, Lost, Near}
+use Rattle.rw_mend.specs.declared.candidates.Coverage.{Coverage}
+use Rattle.rw_mend.specs.declared.candidates.Coverage.TheVariants.{Whole, Partly, Unread}
+use Rattle.rw_mend.specs.declared.candidates.WordReading.{WordReading}
+use Rattle.rw_mend.specs.declared.candidates.Candidate.{Candidate}
+use Rattle.rw_mend.specs.declared.candidates.Candidate.TheVariants.{Silent, Lost, Near}
 use Rattle.rw_mend.proofs.Givens.{is_word, reading-word}
 use Rattle.rw_mend.proofs.Hearing.{near_is, silent_is}
 use Rattle.rw_mend.proofs.Missing.{some_passes}
@@ -39,13 +39,13 @@ idle_is = ap (λ n. n == 0) (differences_self (replicate 24 0))
 -- ---- Quiet words.
 
 near_quiet : (reading : WordReading) → IsWord reading.word → differences reading.word (replicate 24 0) ≤ 2
-    → is_quiet_voice (voice_of reading) ≡ true
+    → is_quiet_candidate (candidate_of reading) ≡ true
 near_quiet reading word few =
     let zeros : List ℕ = replicate 24 0 in
     elim (unread_or reading.coverage) [
-      | inl unread ↦ ap is_quiet_voice (sym (silent_is reading unread))
+      | inl unread ↦ ap is_quiet_candidate (sym (silent_is reading unread))
       | inr is_read ↦
-          ap is_quiet_voice
+          ap is_quiet_candidate
           (sym (near_is reading zeros (doubts_of reading.coverage reading.word zeros) is_read
           word (idle_near reading.word zeros (differences reading.word zeros) refl refl few).0 refl))
           ∙ idle_is
@@ -53,7 +53,7 @@ near_quiet reading word few =
 
 found_loud : (reading : WordReading) (found : Option (List ℕ)) → IsWord reading.word
     → IsFinding reading.word found → 2 < differences reading.word (replicate 24 0)
-    → is_quiet_voice (voice_found reading found) ≡ false
+    → is_quiet_candidate (candidate_found reading found) ≡ false
 found_loud reading None word is many = refl
 found_loud reading (Some codeword) word is many =
     let zeros : List ℕ = replicate 24 0 in
@@ -66,7 +66,7 @@ found_loud reading (Some codeword) word is many =
 
 covered_loud : (coverage : Coverage) (reading : WordReading) → coverage ≢ Unread → IsWord reading.word
     → 2 < differences reading.word (replicate 24 0)
-    → is_quiet_voice (voice_covered coverage reading) ≡ false
+    → is_quiet_candidate (candidate_covered coverage reading) ≡ false
 covered_loud Unread reading is_read word many = absurd (is_read refl)
 covered_loud Whole reading is_read word many =
     found_loud reading (finding reading.word) word (finding_is reading.word word) many
@@ -74,8 +74,8 @@ covered_loud Partly reading is_read word many =
     found_loud reading (finding reading.word) word (finding_is reading.word word) many
 
 far_loud : (reading : WordReading) → reading.coverage ≢ Unread → IsWord reading.word
-    → 2 < differences reading.word (replicate 24 0) → is_quiet_voice (voice_of reading) ≡ false
-unfolding voice_of
+    → 2 < differences reading.word (replicate 24 0) → is_quiet_candidate (candidate_of reading) ≡ false
+unfolding candidate_of
 far_loud reading is_read word many = covered_loud reading.coverage reading is_read word many
 
 -- a word with symbols was read
@@ -94,7 +94,7 @@ far_read program n many unread =
 pub quiet_by_weight : (program : List ℕ) (n weight : ℕ) (b : Bool)
     → weight ≡ differences (word_of (symbols_of program) n) (replicate 24 0)
     → ((b ≡ true) × (weight ≤ 2)) ⊎ ((b ≡ false) × (2 < weight))
-    → b ≡ is_quiet_voice (voice_of (reading_at program n))
+    → b ≡ is_quiet_candidate (candidate_of (reading_at program n))
 quiet_by_weight program n weight b is which =
     let reading = reading_at program n in
     let zeros : List ℕ = replicate 24 0 in
@@ -110,7 +110,7 @@ quiet_by_weight program n weight b is which =
 
 -- a word without symbols is quiet
 pub blank_quiet : (program : List ℕ) (n : ℕ) → word_of (symbols_of program) n ≡ replicate 24 0
-    → is_quiet_voice (voice_of (reading_at program n)) ≡ true
+    → is_quiet_candidate (candidate_of (reading_at program n)) ≡ true
 blank_quiet program n blank =
     let zeros : List ℕ = replicate 24 0 in
     near_quiet (reading_at program n) (is_word program n)
@@ -119,30 +119,32 @@ blank_quiet program n blank =
 -- ---- Idle words.
 
 found_idle : (reading : WordReading) (found : Option (List ℕ))
-    → is_idle_voice (voice_found reading found) ≡ is_quiet_voice (voice_found reading found)
+    → is_idle_candidate (candidate_found reading found) ≡ is_quiet_candidate (candidate_found reading found)
 found_idle reading None = refl
 found_idle reading (Some codeword) = refl
 
 covered_idle : (coverage : Coverage) (reading : WordReading) → coverage ≢ Unread
-    → is_idle_voice (voice_covered coverage reading) ≡ is_quiet_voice (voice_covered coverage reading)
+    → is_idle_candidate (candidate_covered coverage reading)
+    ≡ is_quiet_candidate (candidate_covered coverage reading)
 covered_idle Unread reading is_read = absurd (is_read refl)
 covered_idle Whole reading is_read = found_idle reading (finding reading.word)
 covered_idle Partly reading is_read = found_idle reading (finding reading.word)
 
 -- a quiet word that was read is idle
 pub read_idle : (reading : WordReading) → reading.coverage ≢ Unread
-    → is_idle_voice (voice_of reading) ≡ is_quiet_voice (voice_of reading)
-unfolding voice_of
+    → is_idle_candidate (candidate_of reading) ≡ is_quiet_candidate (candidate_of reading)
+unfolding candidate_of
 read_idle reading is_read = covered_idle reading.coverage reading is_read
 
 -- and one that was not read is not
 pub unread_not_idle : (reading : WordReading) → reading.coverage ≡ Unread
-    → is_idle_voice (voice_of reading) ≡ false
-unread_not_idle reading unread = ap is_idle_voice (sym (silent_is reading unread))
+    → is_idle_candidate (candidate_of reading) ≡ false
+unread_not_idle reading unread = ap is_idle_candidate (sym (silent_is reading unread))
 
 -- ---- Graphics.
 
-quiet_not_graphics : (voice : Voice) → is_quiet_voice voice ≡ true → is_graphics_voice voice ≡ false
+quiet_not_graphics : (candidate : Candidate) → is_quiet_candidate candidate ≡ true
+    → is_graphics_candidate candidate ≡ false
 quiet_not_graphics Silent is = refl
 quiet_not_graphics (Lost word) is = refl
 quiet_not_graphics (Near pack doubts) is =
@@ -155,67 +157,69 @@ near_alike true graphics doubts = refl
 near_alike false graphics doubts = refl
 
 doubts_alike : (coverage : Coverage) (word codeword : List ℕ)
-    → is_graphics_voice (Near codeword (differences word codeword))
-    ≡ is_graphics_voice (Near codeword (doubts_of coverage word codeword))
+    → is_graphics_candidate (Near codeword (differences word codeword))
+    ≡ is_graphics_candidate (Near codeword (doubts_of coverage word codeword))
 doubts_alike Whole word codeword = refl
 doubts_alike Unread word codeword = refl
 doubts_alike Partly word codeword =
     sym (near_alike (is_idle_pack codeword) (is_graphics_pack codeword) (differences word codeword))
 
 found_alike : (coverage : Coverage) (word : List ℕ) (found : Option (List ℕ))
-    → is_graphics_voice (voice_found (record { word = word; coverage = Whole }) found)
-    ≡ is_graphics_voice (voice_found (record { word = word; coverage = coverage }) found)
+    → is_graphics_candidate (candidate_found (record { word = word; coverage = Whole }) found)
+    ≡ is_graphics_candidate (candidate_found (record { word = word; coverage = coverage }) found)
 found_alike coverage word None = refl
 found_alike coverage word (Some codeword) = doubts_alike coverage word codeword
 
 covered_alike : (coverage : Coverage) (word : List ℕ) → coverage ≢ Unread
-    → is_graphics_voice (voice_of (record { word = word; coverage = Whole }))
-    ≡ is_graphics_voice (voice_of (record { word = word; coverage = coverage }))
-unfolding voice_of
+    → is_graphics_candidate (candidate_of (record { word = word; coverage = Whole }))
+    ≡ is_graphics_candidate (candidate_of (record { word = word; coverage = coverage }))
+unfolding candidate_of
 covered_alike Unread word is_read = absurd (is_read refl)
 covered_alike Whole word is_read = refl
 covered_alike Partly word is_read = found_alike Partly word (finding word)
 
 -- A word with two symbols at most is no graphics.
 pub light_no_graphics : (program : List ℕ) (n : ℕ) (word : List ℕ) → word ≡ word_of (symbols_of program) n
-    → differences word (replicate 24 0) ≤ 2 → false ≡ is_graphics_voice (voice_of (reading_at program n))
+    → differences word (replicate 24 0) ≤ 2
+    → false ≡ is_graphics_candidate (candidate_of (reading_at program n))
 light_no_graphics program n word is few =
     let reading = reading_at program n in
     let same : word ≡ reading.word = is ∙ sym (reading-word program n) in
-    sym (quiet_not_graphics (voice_of reading)
+    sym (quiet_not_graphics (candidate_of reading)
     (near_quiet reading (is_word program n) (subst (λ w. differences w (replicate 24 0) ≤ 2) same few)))
 
 -- Of another word it does not matter how much of it was read.
 pub heavy_graphics : (program : List ℕ) (n : ℕ) (word : List ℕ) → word ≡ word_of (symbols_of program) n
     → 2 < differences word (replicate 24 0)
-    → is_graphics_voice (voice_of (record { word = word; coverage = Whole }))
-    ≡ is_graphics_voice (voice_of (reading_at program n))
+    → is_graphics_candidate (candidate_of (record { word = word; coverage = Whole }))
+    ≡ is_graphics_candidate (candidate_of (reading_at program n))
 heavy_graphics program n word is many =
     let reading = reading_at program n in
     let same : word ≡ reading.word = is ∙ sym (reading-word program n) in
-    ap (λ w. is_graphics_voice (voice_of (record { word = w; coverage = Whole }))) same
+    ap (λ w. is_graphics_candidate (candidate_of (record { word = w; coverage = Whole }))) same
     ∙ covered_alike reading.coverage reading.word
     (far_read program n (subst (λ w. 2 < differences w (replicate 24 0)) same many))
 
 -- Some reading gives graphics where one of a row does.
-pub row_graphics : (programs : List (List ℕ)) (n : ℕ) (row : List Voice) (b : Bool)
-    → length programs ≡ length row → IsRow programs n row → b ≡ list_any is_graphics_voice row
+pub row_graphics : (programs : List (List ℕ)) (n : ℕ) (row : List Candidate) (b : Bool)
+    → length programs ≡ length row → IsRow programs n row → b ≡ list_any is_graphics_candidate row
     → MatchBool b (HasGraphics programs n) (¬ HasGraphics programs n)
 row_graphics programs n row true size rows is =
-    let some = some_passes is_graphics_voice row Silent (sym is) in
+    let some = some_passes is_graphics_candidate row Silent (sym is) in
     let within : some.0 < length programs = omega (arith, size, some.1) in
     record {
       reading = some.0;
       within = within;
-      graphics = ap is_graphics_voice (sym (rows.each some.0 within)) ∙ some.2;
+      graphics = ap is_graphics_candidate (sym (rows.each some.0 within)) ∙ some.2;
     }
 row_graphics programs n row false size rows is = λ has.
-    false≢true (is ∙ list_any_at is_graphics_voice row has.reading Silent (omega (arith, size, has.within))
-    (ap is_graphics_voice (rows.each has.reading has.within) ∙ has.graphics))
+    false≢true
+    (is ∙ list_any_at is_graphics_candidate row has.reading Silent (omega (arith, size, has.within))
+    (ap is_graphics_candidate (rows.each has.reading has.within) ∙ has.graphics))
 
 -- where some reading gives graphics, one misses them that is idle
 pub idle_misses : (programs : List (List ℕ)) (r n : ℕ) (b : Bool) → HasGraphics programs n
-    → b ≡ is_idle_voice (given_at programs r n)
+    → b ≡ is_idle_candidate (given_at programs r n)
     → MatchBool b (Misses programs r n) (¬ Misses programs r n)
 idle_misses programs r n true graphics is = record { idle = sym is; graphics = graphics }
 idle_misses programs r n false graphics is = λ misses. false≢true (is ∙ misses.idle)

@@ -16,20 +16,20 @@ use Rattle.rw_code.specs.Codeword.{IsCodeword, differences}
 use Rattle.rw_code.proofs.Differing.{differences_none}
 use Rattle.rw_interleave.specs.Interleave.{whole_packs}
 use Rattle.rw_merge.specs.Agreement.{IsAgreed, equally_wrong}
-use Rattle.rw_mend.specs.Choice.{AreAgreed, IsAgreedAlone, IsFirstBest, IsMending, IsMendedBy, IsPairAgreed, is_best, is_near, is_of, stands, voice_of_reading, votes}
-use Rattle.rw_mend.specs.Drops.{AreVoices, HasGraphics, IsBetween, IsDoubted, IsDropCount, IsDropped, IsLacking, IsSaid}
+use Rattle.rw_mend.specs.Choice.{AreAgreed, IsAgreedAlone, IsFirstBest, IsMending, IsMendedBy, IsPairAgreed, is_best, is_near, is_of, stands, candidate_of_reading, votes}
+use Rattle.rw_mend.specs.Drops.{AreCandidates, HasGraphics, IsBetween, IsDoubted, IsDropCount, IsDropped, IsLacking, IsSaid}
 use Rattle.rw_mend.specs.Laws.{IsSameFind, IsSameSource}
 use Rattle.rw_mend.specs.Many.{AreAllMendedInto, programs_of, words_in_each}
 use Rattle.rw_mend.specs.Streams.{AreMended, mended_bytes, mended_text}
 use Rattle.rw_mend.specs.Tallies.{source_byte, source_number}
-use Rattle.rw_mend.specs.Voices.{is_doubtful_voice, is_graphics_voice, is_idle_voice, is_quiet_voice, voice_of}
+use Rattle.rw_mend.specs.Candidates.{is_doubtful_candidate, is_graphics_candidate, is_idle_candidate, is_quiet_candidate, candidate_of}
 use Rattle.rw_mend.specs.Words.{given_at, program_of, reading_at}
 use Rattle.rw_mend.specs.declared.choice.Mended.{Mended}
 use Rattle.rw_mend.specs.declared.choice.WordSource.{WordSource}
 use Rattle.rw_mend.specs.declared.choice.WordSource.TheVariants.{Reading, Agreed}
 use Rattle.rw_mend.specs.declared.tallies.Tallies.{Tallies}
-use Rattle.rw_mend.specs.declared.voices.Voice.{Voice}
-use Rattle.rw_mend.specs.declared.voices.Voice.TheVariants.{Silent, Lost, Near}
+use Rattle.rw_mend.specs.declared.candidates.Candidate.{Candidate}
+use Rattle.rw_mend.specs.declared.candidates.Candidate.TheVariants.{Silent, Lost, Near}
 use Rattle.rw_mend.proofs.Alone.{counted}
 use Rattle.rw_mend.proofs.Clean.{best_is_near, first_holds, has_first, is_of_near, pack_of, same_test, second_holds}
 use Rattle.rw_mend.proofs.Damaged.{written}
@@ -78,31 +78,33 @@ pub between_by : ℕ → ℕ → ℕ → Bool
 between_by n m k = (nat_le n k && nat_le k m) || (nat_le m k && nat_le k n)
 
 abbrev pub busy : List (List ℕ) → ℕ → Bool
-busy programs m = list_any (λ program. is_graphics_voice (voice_of (reading_at program m))) programs
+busy programs m = list_any (λ program. is_graphics_candidate (candidate_of (reading_at program m))) programs
 
 abbrev pub quiet_by : List ℕ → ℕ → ℕ → ℕ → Bool
-quiet_by program n m k = not (between_by n m k) || is_quiet_voice (voice_of (reading_at program k))
+quiet_by program n m k = not (between_by n m k) || is_quiet_candidate (candidate_of (reading_at program k))
 
 abbrev pub lacks_by : ℕ → List (List ℕ) → List ℕ → ℕ → ℕ → Bool
 lacks_by words programs program n m = list_all (quiet_by program n m) (below words)
-    && (is_idle_voice (voice_of (reading_at program m)) && busy programs m)
+    && (is_idle_candidate (candidate_of (reading_at program m)) && busy programs m)
 
 abbrev pub lacking_by : ℕ → List (List ℕ) → ℕ → List ℕ → Bool
-lacking_by words programs n program = is_idle_voice (voice_of (reading_at program n))
+lacking_by words programs n program = is_idle_candidate (candidate_of (reading_at program n))
     && list_any (lacks_by words programs program n) (below words)
 
 abbrev pub some_quiet : List (List ℕ) → ℕ → Bool
-some_quiet programs n = list_any (λ program. is_quiet_voice (voice_of (reading_at program n))) programs
+some_quiet programs n =
+    list_any (λ program. is_quiet_candidate (candidate_of (reading_at program n))) programs
 
 abbrev pub doubted_by : List (List ℕ) → ℕ → List ℕ → Bool
-doubted_by programs n program = is_doubtful_voice (voice_of (reading_at program n)) && some_quiet programs n
+doubted_by programs n program =
+    is_doubtful_candidate (candidate_of (reading_at program n)) && some_quiet programs n
 
 abbrev pub left_out : ℕ → List (List ℕ) → ℕ → List ℕ → Bool
 left_out words programs n program = lacking_by words programs n program || doubted_by programs n program
 
-abbrev pub says : ℕ → List (List ℕ) → ℕ → List ℕ → Voice
+abbrev pub says : ℕ → List (List ℕ) → ℕ → List ℕ → Candidate
 says words programs n program =
-    if left_out words programs n program then Silent else voice_of (reading_at program n)
+    if left_out words programs n program then Silent else candidate_of (reading_at program n)
 
 both : (a b : Bool) → a ≡ true → b ≡ true → (a && b) ≡ true
 both true b is is' = is'
@@ -141,7 +143,7 @@ between_is n m k is =
     ]
 
 quiet_true : (program : List ℕ) (n m k : ℕ)
-    → (IsBetween n m k → is_quiet_voice (voice_of (reading_at program k)) ≡ true)
+    → (IsBetween n m k → is_quiet_candidate (candidate_of (reading_at program k)) ≡ true)
     → quiet_by program n m k ≡ true
 quiet_true program n m k quiet =
     elim (told (between_by n m k)) [
@@ -150,7 +152,7 @@ quiet_true program n m k quiet =
     ]
 
 quiet_is : (program : List ℕ) (n m k : ℕ) → quiet_by program n m k ≡ true → IsBetween n m k
-    → is_quiet_voice (voice_of (reading_at program k)) ≡ true
+    → is_quiet_candidate (candidate_of (reading_at program k)) ≡ true
 quiet_is program n m k is between =
     second_of (not (between_by n m k)) _ is (ap not (between_true n m k between))
 
@@ -159,7 +161,7 @@ at_word words m lt = get_or-range_with_len 0 words m 0 lt ∙ omega arith
 
 any_busy : (programs : List (List ℕ)) (m : ℕ) → HasGraphics programs m → busy programs m ≡ true
 any_busy programs m graphics =
-    list_any_at (λ p. is_graphics_voice (voice_of (reading_at p m))) programs graphics.reading []
+    list_any_at (λ p. is_graphics_candidate (candidate_of (reading_at p m))) programs graphics.reading []
     graphics.within
     graphics.graphics
 
@@ -176,9 +178,10 @@ lacking_true words programs r n lacking =
     ap (quiet_by program n m) here ∙ quiet_true program n m k (lacking.lacks.quiet k within)) in
     let there : lacks_by words programs program n m ≡ true =
     both (list_all (quiet_by program n m) (below words)) _ silence
-    (both (is_idle_voice (voice_of (reading_at program m))) (busy programs m) lacking.lacks.misses.idle
+    (both (is_idle_candidate (candidate_of (reading_at program m))) (busy programs m)
+    lacking.lacks.misses.idle
     (any_busy programs m lacking.lacks.misses.graphics)) in
-    both (is_idle_voice (voice_of (reading_at program n))) _ lacking.idle
+    both (is_idle_candidate (candidate_of (reading_at program n))) _ lacking.idle
     (list_any_at (lacks_by words programs program n) (below words) m 0
     (omega (arith, lacking.lacks.within, size))
     (ap (lacks_by words programs program n) (at_word words m lacking.lacks.within) ∙ there))
@@ -188,7 +191,7 @@ lacking_is : (words : ℕ) (programs : List (List ℕ)) (r n : ℕ)
 lacking_is words programs r n is =
     let program : List ℕ = get_or programs r [] in
     let parts =
-    both_of (is_idle_voice (voice_of (reading_at program n)))
+    both_of (is_idle_candidate (candidate_of (reading_at program n)))
     (list_any (lacks_by words programs program n) (below words)) is in
     let size : length (below words) ≡ words = length-range_with_len 0 words in
     let found = some_passes (lacks_by words programs program n) (below words) 0 parts.1 in
@@ -198,10 +201,11 @@ lacking_is words programs r n is =
     ap (lacks_by words programs program n) (sym (at_word words m within)) ∙ found.2 in
     let tests =
     both_of (list_all (quiet_by program n m) (below words))
-    (is_idle_voice (voice_of (reading_at program m)) && busy programs m) here in
-    let missed = both_of (is_idle_voice (voice_of (reading_at program m))) (busy programs m) tests.1 in
+    (is_idle_candidate (candidate_of (reading_at program m)) && busy programs m) here in
+    let missed =
+    both_of (is_idle_candidate (candidate_of (reading_at program m))) (busy programs m) tests.1 in
     let graphics =
-    some_passes (λ p. is_graphics_voice (voice_of (reading_at p m))) programs [] missed.1 in
+    some_passes (λ p. is_graphics_candidate (candidate_of (reading_at p m))) programs [] missed.1 in
     record {
       idle = parts.0;
       lacks = record {
@@ -224,17 +228,19 @@ lacking_is words programs r n is =
 doubted_true : (programs : List (List ℕ)) (r n : ℕ) → IsDoubted programs r n
     → doubted_by programs n (get_or programs r []) ≡ true
 doubted_true programs r n doubted =
-    both (is_doubtful_voice (voice_of (reading_at (get_or programs r []) n))) (some_quiet programs n)
+    both (is_doubtful_candidate (candidate_of (reading_at (get_or programs r []) n))) (some_quiet programs n)
     doubted.doubtful
-    (list_any_at (λ p. is_quiet_voice (voice_of (reading_at p n))) programs doubted.reading [] doubted.within
+    (list_any_at (λ p. is_quiet_candidate (candidate_of (reading_at p n))) programs doubted.reading []
+    doubted.within
     doubted.quiet)
 
 doubted_is : (programs : List (List ℕ)) (r n : ℕ) → doubted_by programs n (get_or programs r []) ≡ true
     → IsDoubted programs r n
 doubted_is programs r n is =
     let parts =
-    both_of (is_doubtful_voice (voice_of (reading_at (get_or programs r []) n))) (some_quiet programs n) is in
-    let found = some_passes (λ p. is_quiet_voice (voice_of (reading_at p n))) programs [] parts.1 in
+    both_of (is_doubtful_candidate (candidate_of (reading_at (get_or programs r []) n)))
+    (some_quiet programs n) is in
+    let found = some_passes (λ p. is_quiet_candidate (candidate_of (reading_at p n))) programs [] parts.1 in
     record { doubtful = parts.0; reading = found.0; within = found.1; quiet = found.2 }
 
 left_true : (words : ℕ) (programs : List (List ℕ)) (r n : ℕ) → IsDropped words programs r n
@@ -254,24 +260,24 @@ left_dropped words programs r n is =
       | inr doubted ↦ inr (doubted_is programs r n doubted)
     ]
 
-says_is : (words : ℕ) (programs : List (List ℕ)) (n r : ℕ) (voice : Voice)
-    → IsSaid words programs n r voice → voice ≡ says words programs n (get_or programs r [])
-says_is words programs n r voice (inl (dropped, silent)) =
+says_is : (words : ℕ) (programs : List (List ℕ)) (n r : ℕ) (candidate : Candidate)
+    → IsSaid words programs n r candidate → candidate ≡ says words programs n (get_or programs r [])
+says_is words programs n r candidate (inl (dropped, silent)) =
     silent
     ∙ sym (ap (λ b. if b then Silent else given_at programs r n) (left_true words programs r n dropped))
-says_is words programs n r voice (inr (kept, given)) =
+says_is words programs n r candidate (inr (kept, given)) =
     elim (told (left_out words programs n (get_or programs r []))) [
       | inl left ↦ absurd (kept (left_dropped words programs r n left))
       | inr stays ↦ given ∙ sym (ap (λ b. if b then Silent else given_at programs r n) stays)
     ]
 
-pub voices_are : (words : ℕ) (programs : List (List ℕ)) (n : ℕ) (voices : List Voice)
-    → AreVoices words programs n voices → voices ≡ map (says words programs n) programs
-voices_are words programs n voices are =
-    ext_get_or Silent voices (map (says words programs n) programs)
+pub candidates_are : (words : ℕ) (programs : List (List ℕ)) (n : ℕ) (candidates : List Candidate)
+    → AreCandidates words programs n candidates → candidates ≡ map (says words programs n) programs
+candidates_are words programs n candidates are =
+    ext_get_or Silent candidates (map (says words programs n) programs)
     (are.count ∙ sym (length-map programs (says words programs n))) (λ r lt.
     let within : r < length programs = omega (arith, lt, are.count) in
-    says_is words programs n r (voice_of_reading voices r) (are.each r within)
+    says_is words programs n r (candidate_of_reading candidates r) (are.each r within)
     ∙ sym (get_or-map (says words programs n) programs r [] Silent within))
 
 left_same : (words : ℕ) (programs others : List (List ℕ)) (n : ℕ) → IsPermutation programs others
@@ -279,59 +285,64 @@ left_same : (words : ℕ) (programs others : List (List ℕ)) (n : ℕ) → IsPe
 left_same words programs others n is program =
     let graphics : (m : ℕ) → busy others m ≡ busy programs m =
     λ m.
-    sym (list_any-IsPermutation (λ p. is_graphics_voice (voice_of (reading_at p m))) programs others is) in
+    sym (list_any-IsPermutation (λ p. is_graphics_candidate (candidate_of (reading_at p m))) programs others
+    is) in
     let quiet : some_quiet others n ≡ some_quiet programs n =
-    sym (list_any-IsPermutation (λ p. is_quiet_voice (voice_of (reading_at p n))) programs others is) in
+    sym
+    (list_any-IsPermutation (λ p. is_quiet_candidate (candidate_of (reading_at p n))) programs others is) in
     let lacks : list_any (lacks_by words others program n) (below words)
     ≡ list_any (lacks_by words programs program n) (below words) =
     any_same (lacks_by words others program n) (lacks_by words programs program n) (below words) (λ m.
     ap (λ b. list_all (quiet_by program n m) (below words)
-    && (is_idle_voice (voice_of (reading_at program m)) && b)) (graphics m)) in
-    ap₂ (λ a b. (is_idle_voice (voice_of (reading_at program n)) && a)
-    || (is_doubtful_voice (voice_of (reading_at program n)) && b)) lacks quiet
+    && (is_idle_candidate (candidate_of (reading_at program m)) && b)) (graphics m)) in
+    ap₂ (λ a b. (is_idle_candidate (candidate_of (reading_at program n)) && a)
+    || (is_doubtful_candidate (candidate_of (reading_at program n)) && b)) lacks quiet
 
 pub says_same : (words : ℕ) (programs others : List (List ℕ)) (n : ℕ) → IsPermutation programs others
     → (program : List ℕ) → says words others n program ≡ says words programs n program
 says_same words programs others n is program =
-    ap (λ b. if b then Silent else voice_of (reading_at program n))
+    ap (λ b. if b then Silent else candidate_of (reading_at program n))
     (left_same words programs others n is program)
 
-pub said_reordered : (words : ℕ) (programs others : List (List ℕ)) (n : ℕ) (voices voices' : List Voice)
-    → IsPermutation programs others → AreVoices words programs n voices → AreVoices words others n voices'
-    → IsPermutation voices voices'
-said_reordered words programs others n voices voices' is are are' =
-    subst₂ (λ a b. IsPermutation a b) (sym (voices_are words programs n voices are))
+pub said_reordered : (words : ℕ) (programs others : List (List ℕ)) (n : ℕ)
+    (candidates candidates' : List Candidate)
+    → IsPermutation programs others → AreCandidates words programs n candidates
+    → AreCandidates words others n candidates'
+    → IsPermutation candidates candidates'
+said_reordered words programs others n candidates candidates' is are are' =
+    subst₂ (λ a b. IsPermutation a b) (sym (candidates_are words programs n candidates are))
     (map_same (says words programs n) (says words others n) others
     (λ p. sym (says_same words programs others n is p))
-    ∙ sym (voices_are words others n voices' are'))
+    ∙ sym (candidates_are words others n candidates' are'))
     (IsPermutation-map (says words programs n) programs others is)
 
 -- ---- What is best.
 
-pub votes_same : (vs ws : List Voice) (pack : List ℕ) → IsPermutation vs ws → votes vs pack ≡ votes ws pack
+pub votes_same : (vs ws : List Candidate) (pack : List ℕ) → IsPermutation vs ws
+    → votes vs pack ≡ votes ws pack
 votes_same vs ws pack is = count_reordered (is_of pack) vs ws is
 
-stands_same : (vs ws : List Voice) (pack : List ℕ) (d : ℕ) → IsPermutation vs ws → (voice : Voice)
-    → stands vs pack d voice ≡ stands ws pack d voice
+stands_same : (vs ws : List Candidate) (pack : List ℕ) (d : ℕ) → IsPermutation vs ws → (candidate : Candidate)
+    → stands vs pack d candidate ≡ stands ws pack d candidate
 stands_same vs ws pack d is Silent = refl
 stands_same vs ws pack d is (Lost word) = refl
 stands_same vs ws pack d is (Near other more) =
     ap₂ (λ a b. nat_lt d more || ((d == more) && ((differences pack other == 0) || nat_lt a b)))
     (votes_same vs ws other is) (votes_same vs ws pack is)
 
-best_same : (vs ws : List Voice) → IsPermutation vs ws → (voice : Voice)
-    → is_best vs voice ≡ is_best ws voice
+best_same : (vs ws : List Candidate) → IsPermutation vs ws → (candidate : Candidate)
+    → is_best vs candidate ≡ is_best ws candidate
 best_same vs ws is Silent = refl
 best_same vs ws is (Lost word) = refl
 best_same vs ws is (Near pack d) =
     all_same (stands vs pack d) (stands ws pack d) vs (stands_same vs ws pack d is)
     ∙ all_reordered (stands ws pack d) vs ws is
 
-first_best : (vs ws : List Voice) (r : ℕ) → IsPermutation vs ws → IsFirstBest vs r
+first_best : (vs ws : List Candidate) (r : ℕ) → IsPermutation vs ws → IsFirstBest vs r
     → (k : ℕ) × IsFirstBest ws k
 first_best vs ws r is first =
-    let here : is_best ws (voice_of_reading vs r) ≡ true =
-    sym (best_same vs ws is (voice_of_reading vs r)) ∙ first.best in
+    let here : is_best ws (candidate_of_reading vs r) ≡ true =
+    sym (best_same vs ws is (candidate_of_reading vs r)) ∙ first.best in
     let some : list_any (is_best ws) ws ≡ true =
     sym (list_any-IsPermutation (is_best ws) vs ws is)
     ∙ list_any_at (is_best ws) vs r Silent first.within here in
@@ -362,7 +373,7 @@ same_codeword one other codeword codeword' none =
     differences_none one other (codeword.is_word.size ∙ sym codeword'.is_word.size)
     (same_test (differences one other) 0 none)
 
-even : (vs : List Voice) (p q : List ℕ) (d e : ℕ) → IsCodeword p → IsCodeword q
+even : (vs : List Candidate) (p q : List ℕ) (d e : ℕ) → IsCodeword p → IsCodeword q
     → stands vs p d (Near q e) ≡ true → stands vs q e (Near p d) ≡ true → (p ≡ q) × (d ≡ e)
 even vs p q d e codeword codeword' one two =
     elim (fewer d e _ one) [
@@ -386,25 +397,25 @@ even vs p q d e codeword codeword' one two =
           ]
     ]
 
--- the codewords among some voices are codewords
-abbrev pub AreCodewords : List Voice → Type 0
-AreCodewords voices = (r : ℕ) (pack : List ℕ) (doubts : ℕ) → r < length voices
-    → voice_of_reading voices r ≡ Near pack doubts → IsCodeword pack
+-- the codewords among some candidates are codewords
+abbrev pub AreCodewords : List Candidate → Type 0
+AreCodewords candidates = (r : ℕ) (pack : List ℕ) (doubts : ℕ) → r < length candidates
+    → candidate_of_reading candidates r ≡ Near pack doubts → IsCodeword pack
 
--- two voices are the same codeword, with as many symbols against it
-pub record IsSameVoice (vs ws : List Voice) (r k : ℕ) : Type 0 where
+-- two candidates are the same codeword, with as many symbols against it
+pub record IsSameCandidate (vs ws : List Candidate) (r k : ℕ) : Type 0 where
   pub pack : List ℕ
   pub doubts : ℕ
   pub within : r < length vs
   pub within' : k < length ws
-  pub one : voice_of_reading vs r ≡ Near pack doubts
-  pub other : voice_of_reading ws k ≡ Near pack doubts
+  pub one : candidate_of_reading vs r ≡ Near pack doubts
+  pub other : candidate_of_reading ws k ≡ Near pack doubts
 
-same_best : (vs ws : List Voice) (r k : ℕ) → IsPermutation vs ws → AreCodewords vs → AreCodewords ws
-    → IsFirstBest vs r → IsFirstBest ws k → IsSameVoice vs ws r k
+same_best : (vs ws : List Candidate) (r k : ℕ) → IsPermutation vs ws → AreCodewords vs → AreCodewords ws
+    → IsFirstBest vs r → IsFirstBest ws k → IsSameCandidate vs ws r k
 same_best vs ws r k is codewords codewords' first first' =
-    let one = best_is_near vs (voice_of_reading vs r) first.best in
-    let other = best_is_near ws (voice_of_reading ws k) first'.best in
+    let one = best_is_near vs (candidate_of_reading vs r) first.best in
+    let other = best_is_near ws (candidate_of_reading ws k) first'.best in
     let p : List ℕ = one.0 in
     let q : List ℕ = other.0 in
     let d : ℕ = one.1 in
@@ -483,7 +494,7 @@ agreed_other first second codeword is = record {
   few = omega (arith, is.few, differences_other first second, wrong_other first second codeword);
 }
 
-are_agreed_other : (one other : Voice) (codeword : List ℕ) → AreAgreed one other codeword
+are_agreed_other : (one other : Candidate) (codeword : List ℕ) → AreAgreed one other codeword
     → AreAgreed other one codeword
 are_agreed_other (Lost first) (Lost second) codeword is = agreed_other first second codeword is
 are_agreed_other Silent other codeword is = absurd is
@@ -492,10 +503,10 @@ are_agreed_other (Lost first) Silent codeword is = absurd is
 are_agreed_other (Lost first) (Near pack doubts) codeword is = absurd is
 
 -- some two agree on a codeword
-pub record HasPair (voices : List Voice) (codeword : List ℕ) : Type 0 where
+pub record HasPair (candidates : List Candidate) (codeword : List ℕ) : Type 0 where
   pub i : ℕ
   pub j : ℕ
-  pub is : IsPairAgreed voices i j codeword
+  pub is : IsPairAgreed candidates i j codeword
 
 -- where an element stands after an exchange
 abbrev IsMoved : ℕ → ℕ → ℕ → ℕ → Type 0
@@ -528,23 +539,24 @@ moved_within i j m to n (inl (a, b)) lt lt' lt'' = omega (arith, b, lt')
 moved_within i j m to n (inr (inl (a, b, c))) lt lt' lt'' = omega (arith, c, lt)
 moved_within i j m to n (inr (inr (a, b, c))) lt lt' lt'' = omega (arith, c, lt'')
 
-moved_is : (xs : List Voice) (i j m to : ℕ) → i < length xs → j < length xs → IsMoved i j m to
-    → voice_of_reading (swap xs i j) to ≡ voice_of_reading xs m
+moved_is : (xs : List Candidate) (i j m to : ℕ) → i < length xs → j < length xs → IsMoved i j m to
+    → candidate_of_reading (swap xs i j) to ≡ candidate_of_reading xs m
 moved_is xs i j m to lt lt' (inl (a, b)) =
     let parts = swapped_from_swap xs (swap xs i j) i j Silent lt lt' refl in
-    ap (voice_of_reading (swap xs i j)) b ∙ parts.1 ∙ ap (voice_of_reading xs) (sym a)
+    ap (candidate_of_reading (swap xs i j)) b ∙ parts.1 ∙ ap (candidate_of_reading xs) (sym a)
 moved_is xs i j m to lt lt' (inr (inl (a, b, c))) =
     let parts = swapped_from_swap xs (swap xs i j) i j Silent lt lt' refl in
-    ap (voice_of_reading (swap xs i j)) c ∙ parts.0 ∙ ap (voice_of_reading xs) (sym b)
+    ap (candidate_of_reading (swap xs i j)) c ∙ parts.0 ∙ ap (candidate_of_reading xs) (sym b)
 moved_is xs i j m to lt lt' (inr (inr (a, b, c))) =
     let parts = swapped_from_swap xs (swap xs i j) i j Silent lt lt' refl in
-    ap (voice_of_reading (swap xs i j)) c ∙ parts.2 m a b
+    ap (candidate_of_reading (swap xs i j)) c ∙ parts.2 m a b
 
-pair_from : (voices : List Voice) (one other : ℕ) (codeword : List ℕ) → one ≢ other → one < length voices
-    → other < length voices
-    → AreAgreed (voice_of_reading voices one) (voice_of_reading voices other) codeword
-    → HasPair voices codeword
-pair_from voices one other codeword apart lt lt' agreed =
+pair_from : (candidates : List Candidate) (one other : ℕ) (codeword : List ℕ) → one ≢ other
+    → one < length candidates
+    → other < length candidates
+    → AreAgreed (candidate_of_reading candidates one) (candidate_of_reading candidates other) codeword
+    → HasPair candidates codeword
+pair_from candidates one other codeword apart lt lt' agreed =
     elim (leb_tells (suc one) other) [
       | inl sooner ↦
           record {
@@ -560,13 +572,14 @@ pair_from voices one other codeword apart lt lt' agreed =
               before = omega (arith, later.1, apart);
               within = lt;
               agreed =
-                  are_agreed_other (voice_of_reading voices one) (voice_of_reading voices other) codeword
+                  are_agreed_other (candidate_of_reading candidates one)
+                  (candidate_of_reading candidates other) codeword
                   agreed;
             };
           }
     ]
 
-pair_swapped : (codeword : List ℕ) (l : List Voice) (i j : ℕ) → i < length l → j < length l
+pair_swapped : (codeword : List ℕ) (l : List Candidate) (i j : ℕ) → i < length l → j < length l
     → HasPair l codeword → HasPair (swap l i j) codeword
 pair_swapped codeword l i j lt lt' pair =
     let one = moved i j pair.i in
@@ -585,12 +598,12 @@ pair_swapped codeword l i j lt lt' pair =
     (subst₂ (λ a b. AreAgreed a b codeword) (sym (moved_is l i j pair.i one.0 lt lt' one.1))
     (sym (moved_is l i j pair.j other.0 lt lt' other.1)) pair.is.agreed)
 
-pair_reordered : (vs ws : List Voice) (codeword : List ℕ) → IsPermutation vs ws → HasPair vs codeword
+pair_reordered : (vs ws : List Candidate) (codeword : List ℕ) → IsPermutation vs ws → HasPair vs codeword
     → HasPair ws codeword
 pair_reordered vs ws codeword is pair =
     IsPermutation-keeps vs (λ l. HasPair l codeword) pair (pair_swapped codeword) ws is
 
-agreed_reordered : (vs ws : List Voice) (codeword : List ℕ) → IsPermutation vs ws
+agreed_reordered : (vs ws : List Candidate) (codeword : List ℕ) → IsPermutation vs ws
     → IsAgreedAlone vs codeword → IsAgreedAlone ws codeword
 agreed_reordered vs ws codeword is alone =
     let pair = pair_reordered vs ws codeword is
@@ -607,11 +620,11 @@ agreed_reordered vs ws codeword is alone =
 
 -- ---- What is found.
 
-none_near : (vs ws : List Voice) → IsPermutation vs ws → list_any is_near vs ≡ false
+none_near : (vs ws : List Candidate) → IsPermutation vs ws → list_any is_near vs ≡ false
     → list_any is_near ws ≡ false
 none_near vs ws is none = sym (list_any-IsPermutation is_near vs ws is) ∙ none
 
-some_found : (vs ws : List Voice) (source : WordSource) (codeword : List ℕ) → IsPermutation vs ws
+some_found : (vs ws : List Candidate) (source : WordSource) (codeword : List ℕ) → IsPermutation vs ws
     → IsMendedBy source vs codeword
     → (source' : WordSource) × (codeword' : List ℕ) × IsMendedBy source' ws codeword'
 some_found vs ws (Reading r) codeword is by =
@@ -619,30 +632,30 @@ some_found vs ws (Reading r) codeword is by =
     let near = best_counts ws first.0 first.1 in (
       Reading first.0,
       near.0,
-      (first.1, is_of_near (voice_of_reading ws first.0) near.0 near.1 near.2),
+      (first.1, is_of_near (candidate_of_reading ws first.0) near.0 near.1 near.2),
     )
 some_found vs ws Agreed codeword is by =
     (Agreed, codeword, (none_near vs ws is by.0, agreed_reordered vs ws codeword is by.1))
 
--- the sources are the same voice, or two agree in both
-abbrev pub AreSameVoices : List Voice → List Voice → WordSource → WordSource → Type 0
-AreSameVoices vs ws (Reading r) (Reading k) = IsSameVoice vs ws r k
-AreSameVoices vs ws Agreed Agreed = Unit {0}
-AreSameVoices vs ws one other = ⊥
+-- the sources are the same candidate, or two agree in both
+abbrev pub AreSameCandidates : List Candidate → List Candidate → WordSource → WordSource → Type 0
+AreSameCandidates vs ws (Reading r) (Reading k) = IsSameCandidate vs ws r k
+AreSameCandidates vs ws Agreed Agreed = Unit {0}
+AreSameCandidates vs ws one other = ⊥
 
-near_either : (vs ws : List Voice) (r : ℕ) (codeword : List ℕ) → IsPermutation vs ws → IsFirstBest vs r
+near_either : (vs ws : List Candidate) (r : ℕ) (codeword : List ℕ) → IsPermutation vs ws → IsFirstBest vs r
     → ¬ IsMendedBy Agreed ws codeword
 near_either vs ws r codeword is first agreed =
     let there = first_best vs ws r is first in
     not_agreed ws there.0 codeword there.1 agreed
 
-same_source : (vs ws : List Voice) (source source' : WordSource) (codeword codeword' : List ℕ)
+same_source : (vs ws : List Candidate) (source source' : WordSource) (codeword codeword' : List ℕ)
     → IsPermutation vs ws → AreCodewords vs → AreCodewords ws → IsMendedBy source vs codeword
-    → IsMendedBy source' ws codeword' → (codeword ≡ codeword') × AreSameVoices vs ws source source'
+    → IsMendedBy source' ws codeword' → (codeword ≡ codeword') × AreSameCandidates vs ws source source'
 same_source vs ws (Reading r) (Reading k) codeword codeword' is codewords codewords' one other =
     let same = same_best vs ws r k is codewords codewords' one.0 other.0 in (
-      sym (pack_of (voice_of_reading vs r) same.pack codeword same.doubts same.one one.1)
-          ∙ pack_of (voice_of_reading ws k) same.pack codeword' same.doubts same.other other.1,
+      sym (pack_of (candidate_of_reading vs r) same.pack codeword same.doubts same.one one.1)
+          ∙ pack_of (candidate_of_reading ws k) same.pack codeword' same.doubts same.other other.1,
       same,
     )
 same_source vs ws (Reading r) Agreed codeword codeword' is codewords codewords' one other =
@@ -653,13 +666,14 @@ same_source vs ws Agreed Agreed codeword codeword' is codewords codewords' one o
     let there = agreed_reordered vs ws codeword is one.1 in
     (other.1.alone there.one there.other codeword there.agreed, tt)
 
-abbrev pub IsSameWord : List Voice → List Voice → Option Mended → Option Mended → Type 0
+abbrev pub IsSameWord : List Candidate → List Candidate → Option Mended → Option Mended → Type 0
 IsSameWord vs ws (Some one) (Some other) =
-    (one.pack ≡ other.pack) × AreSameVoices vs ws one.source other.source
+    (one.pack ≡ other.pack) × AreSameCandidates vs ws one.source other.source
 IsSameWord vs ws None None = Unit {0}
 IsSameWord vs ws one other = ⊥
 
-pub same_word : (vs ws : List Voice) (found found' : Option Mended) → IsPermutation vs ws → AreCodewords vs
+pub same_word : (vs ws : List Candidate) (found found' : Option Mended) → IsPermutation vs ws
+    → AreCodewords vs
     → AreCodewords ws → IsMending vs found → IsMending ws found' → IsSameWord vs ws found found'
 same_word vs ws None None is codewords codewords' one two = tt
 same_word vs ws None (Some mended) is codewords codewords' one two =
@@ -673,28 +687,28 @@ same_word vs ws (Some mended) (Some another) is codewords codewords' one two =
 
 -- ---- Whole streams.
 
-pub said_codewords : (words : ℕ) (programs : List (List ℕ)) (n : ℕ) (voices : List Voice)
-    → AreVoices words programs n voices → AreCodewords voices
-said_codewords words programs n voices are r pack doubts lt near =
-    let given = counted words programs n r (voice_of_reading voices r) pack doubts
+pub said_codewords : (words : ℕ) (programs : List (List ℕ)) (n : ℕ) (candidates : List Candidate)
+    → AreCandidates words programs n candidates → AreCodewords candidates
+said_codewords words programs n candidates are r pack doubts lt near =
+    let given = counted words programs n r (candidate_of_reading candidates r) pack doubts
     (are.each r (omega (arith, lt, are.count))) near in
     given_codeword programs r n pack doubts given.1
 
-given_same : (words : ℕ) (programs others : List (List ℕ)) (n : ℕ) (vs ws : List Voice)
-    (source source' : WordSource) → AreVoices words programs n vs → AreVoices words others n ws
-    → AreSameVoices vs ws source source' → IsSameSource programs others n source source'
+given_same : (words : ℕ) (programs others : List (List ℕ)) (n : ℕ) (vs ws : List Candidate)
+    (source source' : WordSource) → AreCandidates words programs n vs → AreCandidates words others n ws
+    → AreSameCandidates vs ws source source' → IsSameSource programs others n source source'
 given_same words programs others n vs ws (Reading r) (Reading k) are are' same =
-    let one = counted words programs n r (voice_of_reading vs r) same.pack same.doubts
+    let one = counted words programs n r (candidate_of_reading vs r) same.pack same.doubts
     (are.each r (omega (arith, same.within, are.count))) same.one in
-    let other = counted words others n k (voice_of_reading ws k) same.pack same.doubts
+    let other = counted words others n k (candidate_of_reading ws k) same.pack same.doubts
     (are'.each k (omega (arith, same.within', are'.count))) same.other in
     one.1 ∙ sym other.1
 given_same words programs others n vs ws (Reading r) Agreed are are' same = absurd same
 given_same words programs others n vs ws Agreed (Reading k) are are' same = absurd same
 given_same words programs others n vs ws Agreed Agreed are are' same = tt
 
-same_find : (words : ℕ) (programs others : List (List ℕ)) (n : ℕ) (vs ws : List Voice)
-    (found found' : Option Mended) → AreVoices words programs n vs → AreVoices words others n ws
+same_find : (words : ℕ) (programs others : List (List ℕ)) (n : ℕ) (vs ws : List Candidate)
+    (found found' : Option Mended) → AreCandidates words programs n vs → AreCandidates words others n ws
     → IsSameWord vs ws found found' → IsSameFind programs others n found found'
 same_find words programs others n vs ws None None are are' same = tt
 same_find words programs others n vs ws None (Some mended) are are' same = absurd same
@@ -702,15 +716,15 @@ same_find words programs others n vs ws (Some mended) None are are' same = absur
 same_find words programs others n vs ws (Some one) (Some other) are are' same =
     (same.0, given_same words programs others n vs ws one.source other.source are are' same.1)
 
-pub reordered : (words : ℕ) (programs others : List (List ℕ)) (said said' : List (List Voice))
+pub reordered : (words : ℕ) (programs others : List (List ℕ)) (said said' : List (List Candidate))
     (found found' : List (Option Mended)) → IsPermutation programs others
     → AreMended words programs said found → AreMended words others said' found'
     → (n : ℕ) → n < words → IsSameFind programs others n (get_or found n None) (get_or found' n None)
 reordered words programs others said said' found found' is mended mended' n lt =
-    let vs : List Voice = get_or said n [] in
-    let ws : List Voice = get_or said' n [] in
-    let are = mended.voices n lt in
-    let are' = mended'.voices n lt in
+    let vs : List Candidate = get_or said n [] in
+    let ws : List Candidate = get_or said' n [] in
+    let are = mended.candidates n lt in
+    let are' = mended'.candidates n lt in
     same_find words programs others n vs ws (get_or found n None) (get_or found' n None) are are'
     (same_word vs ws (get_or found n None) (get_or found' n None)
     (said_reordered words programs others n vs ws is are are') (said_codewords words programs n vs are)
@@ -736,7 +750,7 @@ same_map f words found found' d size size' each =
     ∙ each n within
     ∙ sym (get_or-map f found' n None d (omega (arith, within, size'))))
 
-pub reordered_text : (words : ℕ) (programs others : List (List ℕ)) (said said' : List (List Voice))
+pub reordered_text : (words : ℕ) (programs others : List (List ℕ)) (said said' : List (List Candidate))
     (found found' : List (Option Mended)) → IsPermutation programs others
     → AreMended words programs said found → AreMended words others said' found'
     → mended_text found ≡ mended_text found'
@@ -774,14 +788,14 @@ above : ℕ → Option Mended → Bool
 above byte (Some mended) = above_of byte mended.source
 above byte None = 255 == byte
 
-named_source : (vs : List Voice) (source : WordSource) (codeword : List ℕ) (byte : ℕ) → length vs ≤ 254
+named_source : (vs : List Candidate) (source : WordSource) (codeword : List ℕ) (byte : ℕ) → length vs ≤ 254
     → 254 ≤ byte → IsMendedBy source vs codeword → (source_number source == byte) ≡ above_of byte source
 unfolding above_of
 named_source vs (Reading r) codeword byte few high by =
     test_no r byte (λ e. omega (arith, e, few, high, by.0.within))
 named_source vs Agreed codeword byte few high by = refl
 
-named : (vs : List Voice) (found : Option Mended) (byte : ℕ) → length vs ≤ 254 → 254 ≤ byte
+named : (vs : List Candidate) (found : Option Mended) (byte : ℕ) → length vs ≤ 254 → 254 ≤ byte
     → IsMending vs found → (source_byte found == byte) ≡ above byte found
 unfolding above
 named vs None byte few high is = refl
@@ -804,7 +818,7 @@ above_same programs others n byte (Some mended) None same = absurd same
 above_same programs others n byte (Some one) (Some other) same =
     above_source programs others n byte one.source other.source same.1
 
-byte_count : (words byte : ℕ) (programs others : List (List ℕ)) (said said' : List (List Voice))
+byte_count : (words byte : ℕ) (programs others : List (List ℕ)) (said said' : List (List Candidate))
     (found found' : List (Option Mended)) → IsPermutation programs others → length programs ≤ 254
     → 254 ≤ byte → AreMended words programs said found → AreMended words others said' found'
     → count_by (λ f. source_byte f == byte) found ≡ count_by (λ f. source_byte f == byte) found'
@@ -813,11 +827,11 @@ byte_count words byte programs others said said' found found' is few high mended
     same_count (λ (f : Option Mended). source_byte f == byte) words found found' mended.count mended'.count
     (λ n lt.
     named (get_or said n []) (get_or found n None) byte
-    (omega (arith, few, (mended.voices n lt).count)) high (mended.each n lt)
+    (omega (arith, few, (mended.candidates n lt).count)) high (mended.each n lt)
     ∙ above_same programs others n byte (get_or found n None) (get_or found' n None)
     (reordered words programs others said said' found found' is mended mended' n lt)
     ∙ sym (named (get_or said' n []) (get_or found' n None) byte
-    (omega (arith, few, size, (mended'.voices n lt).count)) high (mended'.each n lt)))
+    (omega (arith, few, size, (mended'.candidates n lt).count)) high (mended'.each n lt)))
 
 -- ---- What counts for nothing.
 

@@ -8,7 +8,7 @@ use Rattle.std.proofs.lemmas.List.{get_or_append_left, take-append-le, take_all}
 use Rattle.std.proofs.Math.Seq.{get_or-append_seam}
 use Rattle.std.proofs.lemmas.Slice.{drop-append-drop}
 use Rattle.rw_mend.specs.Choice.{IsMending}
-use Rattle.rw_mend.specs.Drops.{AreVoices}
+use Rattle.rw_mend.specs.Drops.{AreCandidates}
 use Rattle.rw_mend.specs.Readings.{programs_in}
 use Rattle.rw_mend.specs.Steps.{AreCounted, IsMendedTo}
 use Rattle.rw_mend.specs.Streams.{AreCounts, is_mended_by, mended_bytes, mended_text, way_of, ways_of}
@@ -17,7 +17,7 @@ use Rattle.rw_mend.specs.declared.ways.Way.{Way}
 use Rattle.rw_mend.specs.declared.ways.Way.TheVariants.{Both, First, Second, Together}
 use Rattle.rw_mend.specs.declared.choice.Mended.{Mended}
 use Rattle.rw_mend.specs.declared.readings.Readings.{Readings}
-use Rattle.rw_mend.specs.declared.voices.Voice.{Voice}
+use Rattle.rw_mend.specs.declared.candidates.Candidate.{Candidate}
 
 text_more : (found : List (Option Mended)) (f : Option Mended)
     → mended_text (found ++ f ∷ []) ≡ mended_text found ++ mended_bytes f
@@ -31,15 +31,16 @@ at_end xs x d n size = ap (λ m. get_or (xs ++ x ∷ []) m d) (sym size) ∙ get
 
 -- one word more
 pub mended_next : (readings : Readings) (words n : ℕ) (before packs new : List ℕ)
-    (has has' : List (List Voice) → List (Option Mended) → Type 0) (voices : List Voice) (f : Option Mended)
+    (has has' : List (List Candidate) → List (Option Mended) → Type 0) (candidates : List Candidate)
+    (f : Option Mended)
     → IsMendedTo readings words n before packs has
-    → AreVoices words (programs_in readings) n voices → IsMending voices f
+    → AreCandidates words (programs_in readings) n candidates → IsMending candidates f
     → length (mended_bytes f) ≡ 24
     → new ≡ take (24 * n) packs ++ mended_bytes f ++ drop (24 * n + 24) packs
-    → ((said : List (List Voice)) (found : List (Option Mended)) → length said ≡ n → length found ≡ n
-    → has said found → has' (said ++ voices ∷ []) (found ++ f ∷ []))
+    → ((said : List (List Candidate)) (found : List (Option Mended)) → length said ≡ n → length found ≡ n
+    → has said found → has' (said ++ candidates ∷ []) (found ++ f ∷ []))
     → IsMendedTo readings words (n + 1) before new has'
-mended_next readings words n before packs new has has' voices f done said is long new_is more =
+mended_next readings words n before packs new has has' candidates f done said is long new_is more =
     let found = done.found in
     let text = mended_text found in
     let rest = drop (24 * n) before in
@@ -51,29 +52,30 @@ mended_next readings words n before packs new has has' voices f done said is lon
     ap (drop (24 * n + 24)) done.text
     ∙ drop-append-drop (24 * n) before text (24 * n + 24) (omega arith) done.size
     ∙ ap (λ m. drop m before) (omega arith) in
-    let all : List (List Voice) = done.said ++ voices ∷ [] in
+    let all : List (List Candidate) = done.said ++ candidates ∷ [] in
     let all_found : List (Option Mended) = found ++ f ∷ [] in
     let said_before : (k : ℕ) → k < n → get_or done.said k [] ≡ get_or all k [] =
     λ (k : ℕ) (lt : k < n).
-    sym (get_or_append_left done.said (voices ∷ []) [] k (omega (arith, lt, done.said_count))) in
+    sym (get_or_append_left done.said (candidates ∷ []) [] k (omega (arith, lt, done.said_count))) in
     let found_before : (k : ℕ) → k < n → get_or found k None ≡ get_or all_found k None =
     λ (k : ℕ) (lt : k < n). sym (get_or_append_left found (f ∷ []) None k (omega (arith, lt, done.count))) in
-    let said_here = sym (at_end done.said voices [] n done.said_count) in
+    let said_here = sym (at_end done.said candidates [] n done.said_count) in
     let found_here = sym (at_end found f None n done.count) in
     record {
       said = all;
       found = all_found;
-      said_count = length-append done.said (voices ∷ []) ∙ omega (arith, done.said_count);
+      said_count = length-append done.said (candidates ∷ []) ∙ omega (arith, done.said_count);
       count = length-append found (f ∷ []) ∙ omega (arith, done.count);
-      voices =
-          below_more (λ k. AreVoices words (programs_in readings) k (get_or all k [])) n
-          (λ k lt. subst (AreVoices words (programs_in readings) k) (said_before k lt) (done.voices k lt))
-          (subst (AreVoices words (programs_in readings) n) said_here said);
+      candidates =
+          below_more (λ k. AreCandidates words (programs_in readings) k (get_or all k [])) n
+          (λ k lt.
+          subst (AreCandidates words (programs_in readings) k) (said_before k lt) (done.candidates k lt))
+          (subst (AreCandidates words (programs_in readings) n) said_here said);
       each =
           below_more (λ k. IsMending (get_or all k []) (get_or all_found k None)) n
-          (λ k lt. subst₂ (λ (x : List Voice) (y : Option Mended). IsMending x y) (said_before k lt)
+          (λ k lt. subst₂ (λ (x : List Candidate) (y : Option Mended). IsMending x y) (said_before k lt)
           (found_before k lt) (done.each k lt))
-          (subst₂ (λ (x : List Voice) (y : Option Mended). IsMending x y) said_here found_here is);
+          (subst₂ (λ (x : List Candidate) (y : Option Mended). IsMending x y) said_here found_here is);
       size =
           ap length (text_more found f)
           ∙ length-append text (mended_bytes f)
@@ -87,25 +89,25 @@ mended_next readings words n before packs new has has' voices f done said is lon
 
 -- ---- Two readings.
 
-ways_more : (said : List (List Voice)) (found : List (Option Mended)) (voices : List Voice)
+ways_more : (said : List (List Candidate)) (found : List (Option Mended)) (candidates : List Candidate)
     (f : Option Mended)
     → length said ≡ length found
-    → ways_of (said ++ voices ∷ []) (found ++ f ∷ []) ≡ ways_of said found ++ way_of voices f ∷ []
-ways_more [] [] voices f same = refl
-ways_more [] (g ∷ found) voices f same = absurd (omega (arith, same))
-ways_more (v ∷ said) [] voices f same = absurd (omega (arith, same))
-ways_more (v ∷ said) (g ∷ found) voices f same =
-    ap (λ l. way_of v g ∷ l) (ways_more said found voices f (omega (arith, same)))
+    → ways_of (said ++ candidates ∷ []) (found ++ f ∷ []) ≡ ways_of said found ++ way_of candidates f ∷ []
+ways_more [] [] candidates f same = refl
+ways_more [] (g ∷ found) candidates f same = absurd (omega (arith, same))
+ways_more (v ∷ said) [] candidates f same = absurd (omega (arith, same))
+ways_more (v ∷ said) (g ∷ found) candidates f same =
+    ap (λ l. way_of v g ∷ l) (ways_more said found candidates f (omega (arith, same)))
 
-pub counted_more : (counts more : MendCounts) (voices : List Voice) (f : Option Mended) (n : ℕ)
-    → ((all : List (Option Way)) → AreCounts all counts → AreCounts (all ++ way_of voices f ∷ []) more)
-    → (said : List (List Voice)) (found : List (Option Mended)) → length said ≡ n → length found ≡ n
-    → AreCounted counts said found → AreCounted more (said ++ voices ∷ []) (found ++ f ∷ [])
-counted_more counts more voices f n counted said found said_size size are =
-    subst (λ l. AreCounts l more) (sym (ways_more said found voices f (said_size ∙ sym size)))
+pub counted_more : (counts more : MendCounts) (candidates : List Candidate) (f : Option Mended) (n : ℕ)
+    → ((all : List (Option Way)) → AreCounts all counts → AreCounts (all ++ way_of candidates f ∷ []) more)
+    → (said : List (List Candidate)) (found : List (Option Mended)) → length said ≡ n → length found ≡ n
+    → AreCounted counts said found → AreCounted more (said ++ candidates ∷ []) (found ++ f ∷ [])
+counted_more counts more candidates f n counted said found said_size size are =
+    subst (λ l. AreCounts l more) (sym (ways_more said found candidates f (said_size ∙ sym size)))
     (counted (ways_of said found) are)
 
-pub ways_length : (said : List (List Voice)) (found : List (Option Mended)) → length said ≡ length found
+pub ways_length : (said : List (List Candidate)) (found : List (Option Mended)) → length said ≡ length found
     → length (ways_of said found) ≡ length found
 ways_length [] [] same = refl
 ways_length [] (g ∷ found) same = absurd (omega (arith, same))
@@ -135,14 +137,14 @@ are_few readings words n before packs counts done =
     }
 
 pub none_done : (readings : Readings) (words : ℕ) (packs : List ℕ)
-    (has : List (List Voice) → List (Option Mended) → Type 0) → has [] []
+    (has : List (List Candidate) → List (Option Mended) → Type 0) → has [] []
     → IsMendedTo readings words 0 packs packs has
 none_done readings words packs has is = record {
   said = [];
   found = [];
   said_count = refl;
   count = refl;
-  voices = λ k lt. absurd (omega (arith, lt));
+  candidates = λ k lt. absurd (omega (arith, lt));
   each = λ k lt. absurd (omega (arith, lt));
   size = refl;
   text = refl;

@@ -15,7 +15,7 @@ use Rattle.rw_mend.specs.declared.choice.WordSource.{WordSource}
 use Rattle.rw_mend.specs.declared.choice.WordSource.TheVariants.{Reading, Agreed}
 use Rattle.rw_mend.specs.declared.choice.Mended.{Mended}
 use Rattle.rw_mend.specs.declared.tallies.Tallies.{Tallies}
-use Rattle.rw_mend.specs.declared.voices.Voice.{Voice}
+use Rattle.rw_mend.specs.declared.candidates.Candidate.{Candidate}
 use Rattle.rw_mend.proofs.Counting.{count_no, count_yes}
 
 test_yes : (a b : ℕ) → a ≡ b → (a == b) ≡ true
@@ -65,14 +65,14 @@ joined : (text : List ℕ) (byte : ℕ) (rest : List ℕ) → text ++ byte ∷ r
 joined text byte rest = sym (append_assoc text (byte ∷ []) rest)
 
 pub told_more : (before : List ℕ) (words n : ℕ) (sources new : List ℕ) (old more : Tallies)
-    (voices : List Voice) (f : Option Mended) → n < words
+    (candidates : List Candidate) (f : Option Mended) → n < words
     → length new ≡ length sources
     → (n < length sources → new ≡ take n sources ++ source_byte f ∷ drop (n + 1) sources)
     → ((all : List (Option Mended)) → AreTallies all old → AreTallies (all ++ f ∷ []) more)
-    → (said : List (List Voice)) (found : List (Option Mended)) → length said ≡ n → length found ≡ n
+    → (said : List (List Candidate)) (found : List (Option Mended)) → length said ≡ n → length found ≡ n
     → AreTold before words sources old said found
-    → AreTold before words new more (said ++ voices ∷ []) (found ++ f ∷ [])
-told_more before words n sources new old more voices f lt same put counted said found said_size size
+    → AreTold before words new more (said ++ candidates ∷ []) (found ++ f ∷ [])
+told_more before words n sources new old more candidates f lt same put counted said found said_size size
     was = record {
       tallies_are = counted found was.tallies_are;
       size = same ∙ was.size;
@@ -96,7 +96,7 @@ told_more before words n sources new old more voices f lt same put counted said 
 
 -- no tally is higher than the words
 pub tally_few : (before : List ℕ) (words n : ℕ) (sources : List ℕ) (tallies : Tallies)
-    (said : List (List Voice))
+    (said : List (List Candidate))
     (found : List (Option Mended)) → length found ≡ n → AreTold before words sources tallies said found
     → (tallies.agreed ≤ n) × (tallies.none ≤ n) × ((r : ℕ) → r < 254 → get_or tallies.of_reading r 0 ≤ n)
 tally_few before words n sources tallies said found size told =
@@ -134,13 +134,14 @@ with_dropped found old new agreed none reserved reading are = record {
   kept = ap length reading ∙ are.kept;
 }
 
-source_of : (voices : List Voice) (source : WordSource) (codeword : List ℕ) → length voices ≤ 254
-    → IsMendedBy source voices codeword → HasSource source
-source_of voices (Reading r) codeword few is = omega (arith, is.0.within, few)
-source_of voices Agreed codeword few is = tt
+source_of : (candidates : List Candidate) (source : WordSource) (codeword : List ℕ) → length candidates ≤ 254
+    → IsMendedBy source candidates codeword → HasSource source
+source_of candidates (Reading r) codeword few is = omega (arith, is.0.within, few)
+source_of candidates Agreed codeword few is = tt
 
 -- a source that comes of mending can be counted
-pub has_source : (voices : List Voice) (found : Option Mended) → length voices ≤ 254 → IsMending voices found
+pub has_source : (candidates : List Candidate) (found : Option Mended) → length candidates ≤ 254
+    → IsMending candidates found
     → IfSome found (λ mended. HasSource mended.source)
-has_source voices None few is = tt
-has_source voices (Some mended) few is = source_of voices mended.source mended.pack few is
+has_source candidates None few is = tt
+has_source candidates (Some mended) few is = source_of candidates mended.source mended.pack few is

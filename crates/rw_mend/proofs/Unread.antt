@@ -15,7 +15,7 @@ use Rattle.rw_code.proofs.Errors.{idle_near}
 use Rattle.rw_interleave.specs.Interleave.{place, word_of}
 use Rattle.rw_interleave.proofs.Places.{swapped-lt}
 use Rattle.rw_mend.specs.Words.{block_at, blocks_under, coverage_of, is_blank_block, is_unread_block, reading_at}
-use Rattle.rw_mend.specs.declared.voices.Coverage.TheVariants.{Whole, Partly, Unread}
+use Rattle.rw_mend.specs.declared.candidates.Coverage.TheVariants.{Whole, Partly, Unread}
 use Rattle.rw_mend.proofs.Givens.{is_word, reading-word}
 
 pub reading-coverage : (program : List ℕ) (n : ℕ)

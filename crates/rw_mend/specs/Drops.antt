@@ -1,21 +1,21 @@
 -- Which codewords of a reading count for nothing: idle packs where the reading lacks graphics that another reading has, and
 -- doubtful codewords where another reading is quiet.
 use Rattle.std.specs.Prelude.{◌≡◌, ◌⊎◌, ℕ, ◌<◌, ◌≤◌, Bool, true, false, MatchBool, List, length, count_by, slice_index_or}
-use Rattle.rw_mend.specs.Choice.{voice_of_reading}
-use Rattle.rw_mend.specs.Voices.{is_doubtful_voice, is_graphics_voice, is_idle_voice, is_quiet_voice}
+use Rattle.rw_mend.specs.Choice.{candidate_of_reading}
+use Rattle.rw_mend.specs.Candidates.{is_doubtful_candidate, is_graphics_candidate, is_idle_candidate, is_quiet_candidate}
 use Rattle.rw_mend.specs.Words.{given_at}
-use Rattle.rw_mend.specs.declared.voices.Voice.{Voice}
-use Rattle.rw_mend.specs.declared.voices.Voice.TheVariants.{Silent}
+use Rattle.rw_mend.specs.declared.candidates.Candidate.{Candidate}
+use Rattle.rw_mend.specs.declared.candidates.Candidate.TheVariants.{Silent}
 
 -- Some reading gives graphics at word m.
 pub record HasGraphics (programs : List (List ℕ)) (m : ℕ) : Type 0 where
   pub reading : ℕ
   pub within : reading < length programs
-  pub graphics : is_graphics_voice (given_at programs reading m) ≡ true
+  pub graphics : is_graphics_candidate (given_at programs reading m) ≡ true
 
 -- Reading r misses graphics at word m: it gives the idle pack where another gives graphics.
 pub record Misses (programs : List (List ℕ)) (r m : ℕ) : Type 0 where
-  pub idle : is_idle_voice (given_at programs r m) ≡ true
+  pub idle : is_idle_candidate (given_at programs r m) ≡ true
   pub graphics : HasGraphics programs m
 
 -- word k is one of two words, or stands between them
@@ -26,34 +26,35 @@ IsBetween n m k = ((n ≤ k) × (k ≤ m)) ⊎ ((m ≤ k) × (k ≤ n))
 pub record Lacks (words : ℕ) (programs : List (List ℕ)) (r n : ℕ) : Type 0 where
   pub word : ℕ
   pub within : word < words
-  pub quiet : (k : ℕ) → k < words → IsBetween n word k → is_quiet_voice (given_at programs r k) ≡ true
+  pub quiet : (k : ℕ) → k < words → IsBetween n word k → is_quiet_candidate (given_at programs r k) ≡ true
   pub misses : Misses programs r word
 
 -- It gives the idle pack there.
 pub record IsLacking (words : ℕ) (programs : List (List ℕ)) (r n : ℕ) : Type 0 where
-  pub idle : is_idle_voice (given_at programs r n) ≡ true
+  pub idle : is_idle_candidate (given_at programs r n) ≡ true
   pub lacks : Lacks words programs r n
 
 -- Reading r gives a doubtful codeword at word n where some reading is quiet.
 pub record IsDoubted (programs : List (List ℕ)) (r n : ℕ) : Type 0 where
-  pub doubtful : is_doubtful_voice (given_at programs r n) ≡ true
+  pub doubtful : is_doubtful_candidate (given_at programs r n) ≡ true
   pub reading : ℕ
   pub within : reading < length programs
-  pub quiet : is_quiet_voice (given_at programs reading n) ≡ true
+  pub quiet : is_quiet_candidate (given_at programs reading n) ≡ true
 
 -- what reading r gives at word n counts for nothing
 abbrev pub IsDropped : ℕ → List (List ℕ) → ℕ → ℕ → Type 0
 IsDropped words programs r n = IsLacking words programs r n ⊎ IsDoubted programs r n
 
 -- what reading r says at word n: nothing where what it gives counts for nothing, or else what it gives
-abbrev pub IsSaid : ℕ → List (List ℕ) → ℕ → ℕ → Voice → Type 0
-IsSaid words programs n r voice = (IsDropped words programs r n × (voice ≡ Silent))
-    ⊎ ((¬ IsDropped words programs r n) × (voice ≡ given_at programs r n))
+abbrev pub IsSaid : ℕ → List (List ℕ) → ℕ → ℕ → Candidate → Type 0
+IsSaid words programs n r candidate = (IsDropped words programs r n × (candidate ≡ Silent))
+    ⊎ ((¬ IsDropped words programs r n) × (candidate ≡ given_at programs r n))
 
 -- what all readings say at word n
-pub record AreVoices (words : ℕ) (programs : List (List ℕ)) (n : ℕ) (voices : List Voice) : Type 0 where
-  pub count : length voices ≡ length programs
-  pub each : (r : ℕ) → r < length programs → IsSaid words programs n r (voice_of_reading voices r)
+pub record AreCandidates (words : ℕ) (programs : List (List ℕ)) (n : ℕ)
+    (candidates : List Candidate) : Type 0 where
+  pub count : length candidates ≡ length programs
+  pub each : (r : ℕ) → r < length programs → IsSaid words programs n r (candidate_of_reading candidates r)
 
 -- At so many of the first n words what reading r gives counts for nothing: there is a mark for each.
 pub record IsDropCount (words : ℕ) (programs : List (List ℕ)) (r n count : ℕ) : Type 0 where

@@ -10,23 +10,23 @@ use Rattle.rw_interleave.specs.Interleave.{Carries}
 use Rattle.rw_interleave.specs.Stream.{IsDamaged}
 use Rattle.rw_mend.specs.Choice.{AreAgreed}
 use Rattle.rw_mend.specs.Drops.{IsDoubted, IsDropped}
-use Rattle.rw_mend.specs.Voices.{is_graphics_voice, is_idle_pack, is_quiet_voice}
+use Rattle.rw_mend.specs.Candidates.{is_graphics_candidate, is_idle_pack, is_quiet_candidate}
 use Rattle.rw_mend.specs.Words.{given_at}
 use Rattle.rw_mend.specs.declared.choice.Mended.{Mended}
 use Rattle.rw_mend.specs.declared.choice.WordSource.{WordSource}
 use Rattle.rw_mend.specs.declared.choice.WordSource.TheVariants.{Reading, Agreed}
 use Rattle.rw_mend.specs.declared.streams.MendCounts.{MendCounts}
-use Rattle.rw_mend.specs.declared.voices.Voice.{Voice}
-use Rattle.rw_mend.specs.declared.voices.Voice.TheVariants.{Near, Silent}
+use Rattle.rw_mend.specs.declared.candidates.Candidate.{Candidate}
+use Rattle.rw_mend.specs.declared.candidates.Candidate.TheVariants.{Near, Silent}
 
 -- the symbols of the codeword that is given, or zeros
-abbrev pub voice_bytes : Voice → List ℕ
-voice_bytes (Near pack doubts) = pack
-voice_bytes voice = idle_pack
+abbrev pub candidate_bytes : Candidate → List ℕ
+candidate_bytes (Near pack doubts) = pack
+candidate_bytes candidate = idle_pack
 
 -- what reading r gives by itself for each word, as text
 abbrev pub given_text : ℕ → List (List ℕ) → ℕ → List ℕ
-given_text words programs r = flat_map (λ n. voice_bytes (given_at programs r n)) (below words)
+given_text words programs r = flat_map (λ n. candidate_bytes (given_at programs r n)) (below words)
 
 -- Reading r is without a wrong symbol. Whatever another gives without a wrong symbol is the same codeword or the idle pack;
 -- and where reading r gives the idle pack no other gives a graphics pack, also with one or two wrong symbols. So it is with
@@ -38,7 +38,7 @@ pub record IsCleanBeside (words : ℕ) (programs : List (List ℕ)) (r : ℕ) : 
   pub others : (n s : ℕ) (other : List ℕ) → n < words → s < length programs
       → given_at programs s n ≡ Near other 0 → (other ≡ codeword n) ⊎ (other ≡ idle_pack)
   pub quiet : (n s : ℕ) → n < words → s < length programs → is_idle_pack (codeword n) ≡ true
-      → is_graphics_voice (given_at programs s n) ≡ false
+      → is_graphics_candidate (given_at programs s n) ≡ false
 
 -- The same of a reading whose idle stretches may count as unread, as those of a dump without Q do. There no other gives a
 -- codeword that counts and is not idle, and no two agree on one.
@@ -46,13 +46,13 @@ pub record IsErrorFreeBeside (words : ℕ) (programs : List (List ℕ)) (r : ℕ
   pub within : r < length programs
   pub codeword : ℕ → List ℕ
   pub whole : (n : ℕ) → n < words → (given_at programs r n ≡ Near (codeword n) 0)
-      ⊎ ((is_quiet_voice (given_at programs r n) ≡ true) × (codeword n ≡ idle_pack))
+      ⊎ ((is_quiet_candidate (given_at programs r n) ≡ true) × (codeword n ≡ idle_pack))
   pub others : (n s : ℕ) (other : List ℕ) → n < words → s < length programs
       → given_at programs s n ≡ Near other 0 → (other ≡ codeword n) ⊎ (other ≡ idle_pack)
   pub quiet : (n s : ℕ) → n < words → s < length programs → is_idle_pack (codeword n) ≡ true
-      → is_graphics_voice (given_at programs s n) ≡ false
+      → is_graphics_candidate (given_at programs s n) ≡ false
   pub unsure : (n s : ℕ) (other : List ℕ) (more : ℕ) → n < words → s < length programs
-      → is_quiet_voice (given_at programs r n) ≡ true → ¬ IsDropped words programs s n
+      → is_quiet_candidate (given_at programs r n) ≡ true → ¬ IsDropped words programs s n
       → given_at programs s n ≡ Near other more → other ≡ idle_pack
   pub alone : (n s t : ℕ) (codeword : List ℕ) → n < words → given_at programs r n ≡ Silent
       → ¬ AreAgreed (given_at programs s n) (given_at programs t n) codeword
@@ -93,7 +93,7 @@ pub record CountsAlone (words : ℕ) (programs : List (List ℕ)) (r : ℕ) : Ty
   pub within : r < length programs
   pub others : (n s : ℕ) (codeword : List ℕ) (doubts : ℕ) → n < words → s < length programs → s ≢ r
       → ¬ IsDropped words programs s n → given_at programs s n ≡ Near codeword doubts
-      → codeword ≡ voice_bytes (given_at programs r n)
+      → codeword ≡ candidate_bytes (given_at programs r n)
   pub sure : (n : ℕ) → n < words → ¬ IsDoubted programs r n
 
 -- it is a codeword on which two readings agree

@@ -12,6 +12,6 @@ pub mod Silences
 pub mod Steps
 pub mod Streams
 pub mod Tallies
-pub mod Trails
-pub mod Voices
+pub mod Histories
+pub mod Candidates
 pub mod Words

@@ -10,7 +10,7 @@ use Rattle.rw_mend.specs.Tallies.{AreTallies, source_byte}
 use Rattle.rw_mend.specs.Words.{program_of}
 use Rattle.rw_mend.specs.declared.choice.Mended.{Mended}
 use Rattle.rw_mend.specs.declared.tallies.Tallies.{Tallies}
-use Rattle.rw_mend.specs.declared.voices.Voice.{Voice}
+use Rattle.rw_mend.specs.declared.candidates.Candidate.{Candidate}
 
 -- the programs of so many readings that lie one behind another
 abbrev pub programs_of : ℕ → ℕ → List ℕ → List (List ℕ)
@@ -24,7 +24,7 @@ words_in_each count lead_in readings = whole_packs (length readings / count / bl
 -- the bytes that name their sources at the front of another. What is behind them stays.
 pub record AreAllMendedInto (count lead_in : ℕ) (readings old new old_sources new_sources : List ℕ)
     (tallies : Tallies) : Type 0 where
-  pub said : List (List Voice)
+  pub said : List (List Candidate)
   pub found : List (Option Mended)
   pub mended : AreMended (words_in_each count lead_in readings) (programs_of count lead_in readings) said
       found

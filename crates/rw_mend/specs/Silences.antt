@@ -1,25 +1,25 @@
 -- What is known of the silence of a reading while its words are come to.
 use Rattle.std.specs.Prelude.{◌≡◌, ℕ, ◌-◌, ◌<◌, ◌≤◌, ◌&&◌, ◌||◌, Bool, true, false, MatchBool, if◌then◌else◌, List, length, slice_index_or}
 use Rattle.rw_mend.specs.Drops.{HasGraphics, Lacks, Misses}
-use Rattle.rw_mend.specs.Voices.{is_doubtful_voice, is_idle_voice, is_quiet_voice}
+use Rattle.rw_mend.specs.Candidates.{is_doubtful_candidate, is_idle_candidate, is_quiet_candidate}
 use Rattle.rw_mend.specs.Words.{given_at}
 use Rattle.rw_mend.specs.declared.silences.Silence.{Silence}
-use Rattle.rw_mend.specs.declared.voices.Voice.{Voice}
-use Rattle.rw_mend.specs.declared.voices.Voice.TheVariants.{Silent}
+use Rattle.rw_mend.specs.declared.candidates.Candidate.{Candidate}
+use Rattle.rw_mend.specs.declared.candidates.Candidate.TheVariants.{Silent}
 
 -- Reading r is quiet from word n to one at which it misses graphics.
 pub record WillMiss (words : ℕ) (programs : List (List ℕ)) (r n : ℕ) : Type 0 where
   pub word : ℕ
   pub from : n ≤ word
   pub within : word < words
-  pub quiet : (k : ℕ) → n ≤ k → k ≤ word → is_quiet_voice (given_at programs r k) ≡ true
+  pub quiet : (k : ℕ) → n ≤ k → k ≤ word → is_quiet_candidate (given_at programs r k) ≡ true
   pub misses : Misses programs r word
 
 -- Whether reading r is quiet at the last of the first n words, and whether it then lacks graphics there.
 pub record IsSilence (words : ℕ) (programs : List (List ℕ)) (r n : ℕ) (silence : Silence) : Type 0 where
   pub some : silence.quiet ≡ true → 0 < n
-  pub quiet : silence.quiet ≡ true → is_quiet_voice (given_at programs r (n - 1)) ≡ true
-  pub loud : silence.quiet ≡ false → 0 < n → is_quiet_voice (given_at programs r (n - 1)) ≡ false
+  pub quiet : silence.quiet ≡ true → is_quiet_candidate (given_at programs r (n - 1)) ≡ true
+  pub loud : silence.quiet ≡ false → 0 < n → is_quiet_candidate (given_at programs r (n - 1)) ≡ false
   pub lacks : silence.quiet ≡ true
       → MatchBool silence.lacks (Lacks words programs r (n - 1)) (¬ Lacks words programs r (n - 1))
 
@@ -38,10 +38,10 @@ pub record IsCalm (programs : List (List ℕ)) (n end : ℕ) : Type 0 where
 
 -- whether what a reading gives counts for nothing: the idle pack where it lacks graphics, or a doubtful codeword where some
 -- reading is quiet
-abbrev pub is_left : Bool → Silence → Voice → Bool
+abbrev pub is_left : Bool → Silence → Candidate → Bool
 is_left some_quiet silence given =
-    (silence.lacks && is_idle_voice given) || (some_quiet && is_doubtful_voice given)
+    (silence.lacks && is_idle_candidate given) || (some_quiet && is_doubtful_candidate given)
 
 -- what it says then
-abbrev pub said_after : Bool → Silence → Voice → Voice
+abbrev pub said_after : Bool → Silence → Candidate → Candidate
 said_after some_quiet silence given = if is_left some_quiet silence given then Silent else given

@@ -4,22 +4,22 @@ use Rattle.raw_subcode.specs.Sizes.{block_bytes, symbols_a_slot}
 use Rattle.rw_code.specs.Packs.{idle_pack}
 use Rattle.rw_interleave.specs.Interleave.{whole_packs}
 use Rattle.rw_mend.specs.Choice.{IsMending, votes}
-use Rattle.rw_mend.specs.Drops.{AreVoices}
+use Rattle.rw_mend.specs.Drops.{AreCandidates}
 use Rattle.rw_mend.specs.Words.{program_of}
 use Rattle.rw_mend.specs.declared.choice.Mended.{Mended}
 use Rattle.rw_mend.specs.declared.choice.WordSource.{WordSource}
 use Rattle.rw_mend.specs.declared.choice.WordSource.TheVariants.{Reading, Agreed}
 use Rattle.rw_mend.specs.declared.streams.MendCounts.{MendCounts}
-use Rattle.rw_mend.specs.declared.voices.Voice.{Voice}
+use Rattle.rw_mend.specs.declared.candidates.Candidate.{Candidate}
 use Rattle.rw_mend.specs.declared.ways.Way.{Way}
 use Rattle.rw_mend.specs.declared.ways.Way.TheVariants.{Both, First, Second, Together}
 
 -- what the readings say at each word of some programs, and what is found for it
-pub record AreMended (words : ℕ) (programs : List (List ℕ)) (said : List (List Voice))
+pub record AreMended (words : ℕ) (programs : List (List ℕ)) (said : List (List Candidate))
     (found : List (Option Mended)) : Type 0 where
   pub said_count : length said ≡ words
   pub count : length found ≡ words
-  pub voices : (n : ℕ) → n < words → AreVoices words programs n (slice_index_or said n [])
+  pub candidates : (n : ℕ) → n < words → AreCandidates words programs n (slice_index_or said n [])
   pub each : (n : ℕ) → n < words → IsMending (slice_index_or said n []) (slice_index_or found n None)
 
 -- the symbols of a mended codeword, or zeros where there is none
@@ -37,19 +37,19 @@ HasWordRoom blocks text = symbols_a_slot * whole_packs blocks ≤ length text
 
 -- ---- Two readings.
 
--- the way in which a codeword of two readings is mended: both voices are it, or one alone, or both agree on it
-abbrev pub way_by : WordSource → List Voice → List ℕ → Way
-way_by (Reading r) voices codeword = if votes voices codeword == 2 then Both
+-- the way in which a codeword of two readings is mended: both candidates are it, or one alone, or both agree on it
+abbrev pub way_by : WordSource → List Candidate → List ℕ → Way
+way_by (Reading r) candidates codeword = if votes candidates codeword == 2 then Both
     else (if r == 0 then First else Second)
-way_by Agreed voices codeword = Together
+way_by Agreed candidates codeword = Together
 
-abbrev pub way_of : List Voice → Option Mended → Option Way
-way_of voices (Some mended) = Some (way_by mended.source voices mended.pack)
-way_of voices None = None
+abbrev pub way_of : List Candidate → Option Mended → Option Way
+way_of candidates (Some mended) = Some (way_by mended.source candidates mended.pack)
+way_of candidates None = None
 
 -- the ways of all words
-abbrev pub ways_of : List (List Voice) → List (Option Mended) → List (Option Way)
-ways_of (voices ∷ said) (found ∷ rest) = way_of voices found ∷ ways_of said rest
+abbrev pub ways_of : List (List Candidate) → List (Option Mended) → List (Option Way)
+ways_of (candidates ∷ said) (found ∷ rest) = way_of candidates found ∷ ways_of said rest
 ways_of said found = []
 
 -- whether a word is mended in this way
@@ -74,7 +74,7 @@ pub record AreCounts (ways : List (Option Way)) (counts : MendCounts) : Type 0 w
 
 -- The words of both readings are mended, and their text stands at the front of a buffer; what is behind it stays.
 pub record IsMendedInto (lead_in : ℕ) (first second old new : List ℕ) (counts : MendCounts) : Type 0 where
-  pub said : List (List Voice)
+  pub said : List (List Candidate)
   pub found : List (Option Mended)
   pub mended : AreMended (whole_packs (length first / block_bytes - lead_in))
       (program_of lead_in first ∷ program_of lead_in second ∷ []) said found

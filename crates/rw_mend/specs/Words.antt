@@ -4,11 +4,11 @@ use Rattle.std.specs.List.{list_all, list_any, range_with_len}
 use Rattle.raw_subcode.specs.Channels.{symbols_of}
 use Rattle.raw_subcode.specs.Sizes.{block_bytes}
 use Rattle.rw_interleave.specs.Interleave.{word_of}
-use Rattle.rw_mend.specs.Voices.{voice_of}
-use Rattle.rw_mend.specs.declared.voices.Coverage.{Coverage}
-use Rattle.rw_mend.specs.declared.voices.Coverage.TheVariants.{Whole, Partly, Unread}
-use Rattle.rw_mend.specs.declared.voices.WordReading.{WordReading}
-use Rattle.rw_mend.specs.declared.voices.Voice.{Voice}
+use Rattle.rw_mend.specs.Candidates.{candidate_of}
+use Rattle.rw_mend.specs.declared.candidates.Coverage.{Coverage}
+use Rattle.rw_mend.specs.declared.candidates.Coverage.TheVariants.{Whole, Partly, Unread}
+use Rattle.rw_mend.specs.declared.candidates.WordReading.{WordReading}
+use Rattle.rw_mend.specs.declared.candidates.Candidate.{Candidate}
 
 -- the bytes of the program blocks of a raw stream
 abbrev pub program_of : ℕ → List ℕ → List ℕ
@@ -47,5 +47,5 @@ reading_at program n = record {
 }
 
 -- what reading r of some programs gives for word n by itself
-abbrev pub given_at : List (List ℕ) → ℕ → ℕ → Voice
-given_at programs r n = voice_of (reading_at (slice_index_or programs r []) n)
+abbrev pub given_at : List (List ℕ) → ℕ → ℕ → Candidate
+given_at programs r n = candidate_of (reading_at (slice_index_or programs r []) n)

@@ -2,10 +2,10 @@
 ghost use Rattle.std.specs.Prelude.{◌≡◌, ◌+◌, ◌<◌, List, ℕ, length, MatchOption};
 ghost use Rattle.rw_mend.specs.Choice.{AreAgreed, IsAgreedAlone, IsPairAgreed};
 ghost use Rattle.rw_mend.specs.Agreements.{ArePairAgreements};
-ghost use Rattle.rw_mend.specs.declared.voices.Voice.{Voice};
-ghost use Rattle.rw_mend.specs.declared.voices.Voice.TheVariants;
+ghost use Rattle.rw_mend.specs.declared.candidates.Candidate.{Candidate};
+ghost use Rattle.rw_mend.specs.declared.candidates.Candidate.TheVariants;
 
-use crate::Voice;
+use crate::Candidate;
 use crate::choice::is_same;
 use rw_code::{Pack, Word};
 use rw_merge::agree;
@@ -22,15 +22,15 @@ pub(crate) enum Agreements {
 }
 
 /// The codeword on which two of the readings agree that are near none, where all that agree agree on the same.
-pub(crate) fn agreed(voices: &[Voice]) -> Option<Pack>
+pub(crate) fn agreed(candidates: &[Candidate]) -> Option<Pack>
     ensures { MatchOption result
-        ((codeword : List ℕ) → ¬ IsAgreedAlone voices.now codeword)
-        (λ pack. IsAgreedAlone voices.now pack) }
+        ((codeword : List ℕ) → ¬ IsAgreedAlone candidates.now codeword)
+        (λ pack. IsAgreedAlone candidates.now pack) }
 {
     let mut found = Agreements::Nothing;
-    for j in 0..voices.len() {
+    for j in 0..candidates.len() {
         for i in 0..j {
-            found.add(voices, i, j);
+            found.add(candidates, i, j);
         }
     }
     match found {
@@ -41,22 +41,22 @@ pub(crate) fn agreed(voices: &[Voice]) -> Option<Pack>
 
 impl Agreements {
     // Looks at one pair more.
-    fn add(&mut self, voices: &[Voice], i: usize, j: usize)
+    fn add(&mut self, candidates: &[Candidate], i: usize, j: usize)
         requires before { i < j }
-        requires within { j < length voices.now }
-        ensures { ArePairAgreements voices.now i j self.old
-            → ArePairAgreements voices.now (i + 1) j self.new }
+        requires within { j < length candidates.now }
+        ensures { ArePairAgreements candidates.now i j self.old
+            → ArePairAgreements candidates.now (i + 1) j self.new }
     {
-        if let Some(pack) = of_pair(&voices[i], &voices[j]) {
+        if let Some(pack) = of_pair(&candidates[i], &candidates[j]) {
             *self = self.and(&pack);
         }
     }
 
     // With the codeword on which one pair more agrees.
     fn and(&self, pack: &Pack) -> Agreements
-        ensures { (voices : List Voice) (i j : ℕ) → IsPairAgreed voices i j pack.now
-            → ((another : List ℕ) → IsPairAgreed voices i j another → another ≡ pack.now)
-            → ArePairAgreements voices i j self.now → ArePairAgreements voices (i + 1) j result }
+        ensures { (candidates : List Candidate) (i j : ℕ) → IsPairAgreed candidates i j pack.now
+            → ((another : List ℕ) → IsPairAgreed candidates i j another → another ≡ pack.now)
+            → ArePairAgreements candidates i j self.now → ArePairAgreements candidates (i + 1) j result }
     {
         match self {
             Agreements::Nothing => Agreements::Alone { pack: *pack },
@@ -73,26 +73,26 @@ impl Agreements {
 }
 
 // The codeword on which two words agree that were read and are near none.
-fn of_pair(one: &Voice, other: &Voice) -> Option<Pack>
+fn of_pair(one: &Candidate, other: &Candidate) -> Option<Pack>
     ensures { MatchOption result
         ((codeword : List ℕ) → ¬ AreAgreed one.now other.now codeword)
         (λ pack. AreAgreed one.now other.now pack
         × ((another : List ℕ) → AreAgreed one.now other.now another → another ≡ pack)) }
 {
     match one {
-        Voice::Lost { word } => with_word(word, other),
+        Candidate::Lost { word } => with_word(word, other),
         _ => None,
     }
 }
 
-fn with_word(word: &Word, other: &Voice) -> Option<Pack>
+fn with_word(word: &Word, other: &Candidate) -> Option<Pack>
     ensures { MatchOption result
         ((codeword : List ℕ) → ¬ AreAgreed (TheVariants.Lost word.now) other.now codeword)
         (λ pack. AreAgreed (TheVariants.Lost word.now) other.now pack
         × ((another : List ℕ) → AreAgreed (TheVariants.Lost word.now) other.now another → another ≡ pack)) }
 {
     match other {
-        Voice::Lost { word: second } => agree(word, second),
+        Candidate::Lost { word: second } => agree(word, second),
         _ => None,
     }
 }

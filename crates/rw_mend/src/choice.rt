@@ -2,10 +2,10 @@
 ghost use Rattle.std.specs.Prelude.{◌≡◌, ◌≢◌, ◌==◌, ◌≤◌, ◌<◌, true, false, ℕ, length, MatchOption};
 ghost use Rattle.std.specs.List.{list_any};
 ghost use Rattle.rw_code.specs.Codeword.{differences};
-ghost use Rattle.rw_mend.specs.declared.voices.Voice.TheVariants;
+ghost use Rattle.rw_mend.specs.declared.candidates.Candidate.TheVariants;
 ghost use Rattle.rw_mend.specs.Choice.{is_best, is_near, is_of, stands, votes, IsFirstBest, IsMending};
 
-use crate::Voice;
+use crate::Candidate;
 use crate::agreements::agreed;
 use rw_code::Pack;
 
@@ -34,30 +34,30 @@ pub const MOST_READINGS: usize = 254;
 /// as few the one that most readings give; or, where none gives one, the one on which two readings agree. `None` exactly
 /// where there is none.
 #[inline(always)]
-pub fn mend(voices: &[Voice]) -> Option<Mended>
-    requires { length voices.now ≤ 254 }
-    ensures { IsMending voices.now result }
+pub fn mend(candidates: &[Candidate]) -> Option<Mended>
+    requires { length candidates.now ≤ 254 }
+    ensures { IsMending candidates.now result }
 {
-    match first_best(voices) {
-        Some(r) => of_reading(voices, r),
+    match first_best(candidates) {
+        Some(r) => of_reading(candidates, r),
         None => {
-            if has_codeword(voices) {
+            if has_codeword(candidates) {
                 None
             } else {
-                of_two(voices)
+                of_two(candidates)
             }
         }
     }
 }
 
-// The codeword of the reading whose voice is best.
-fn of_reading(voices: &[Voice], r: usize) -> Option<Mended>
-    requires few { length voices.now ≤ 254 }
-    requires best { IsFirstBest voices.now r }
-    ensures { IsMending voices.now result }
+// The codeword of the reading whose candidate is best.
+fn of_reading(candidates: &[Candidate], r: usize) -> Option<Mended>
+    requires few { length candidates.now ≤ 254 }
+    requires best { IsFirstBest candidates.now r }
+    ensures { IsMending candidates.now result }
 {
-    match voices[r] {
-        Voice::Near { pack, .. } => Some(Mended {
+    match candidates[r] {
+        Candidate::Near { pack, .. } => Some(Mended {
             pack,
             source: WordSource::Reading(r as u8),
         }),
@@ -67,12 +67,12 @@ fn of_reading(voices: &[Voice], r: usize) -> Option<Mended>
 
 // The codeword on which two readings agree. It is a function of its own so that other words do not pay for its variables.
 #[inline(never)]
-fn of_two(voices: &[Voice]) -> Option<Mended>
-    requires none { list_any is_near voices.now ≡ false }
-    requires no_best { (r : ℕ) → ¬ IsFirstBest voices.now r }
-    ensures { IsMending voices.now result }
+fn of_two(candidates: &[Candidate]) -> Option<Mended>
+    requires none { list_any is_near candidates.now ≡ false }
+    requires no_best { (r : ℕ) → ¬ IsFirstBest candidates.now r }
+    ensures { IsMending candidates.now result }
 {
-    match agreed(voices) {
+    match agreed(candidates) {
         Some(pack) => Some(Mended {
             pack,
             source: WordSource::Agreed,
@@ -81,66 +81,70 @@ fn of_two(voices: &[Voice]) -> Option<Mended>
     }
 }
 
-// The number of the first reading whose voice is best.
-fn first_best(voices: &[Voice]) -> Option<usize>
-    ensures { MatchOption result ((r : ℕ) → ¬ IsFirstBest voices.now r) (λ r. IsFirstBest voices.now r) }
+// The number of the first reading whose candidate is best.
+fn first_best(candidates: &[Candidate]) -> Option<usize>
+    ensures { MatchOption result ((r : ℕ) → ¬ IsFirstBest candidates.now r)
+        (λ r. IsFirstBest candidates.now r) }
 {
-    for r in 0..voices.len() {
-        if is_best(voices, &voices[r]) {
+    for r in 0..candidates.len() {
+        if is_best(candidates, &candidates[r]) {
             return Some(r);
         }
     }
     None
 }
 
-fn is_best(voices: &[Voice], voice: &Voice) -> bool
-    ensures { result ≡ is_best voices.now voice.now }
+fn is_best(candidates: &[Candidate], candidate: &Candidate) -> bool
+    ensures { result ≡ is_best candidates.now candidate.now }
 {
-    match voice {
-        Voice::Near { pack, doubts } => stands_beside_all(voices, pack, *doubts),
+    match candidate {
+        Candidate::Near { pack, doubts } => stands_beside_all(candidates, pack, *doubts),
         _ => false,
     }
 }
 
-fn stands_beside_all(voices: &[Voice], pack: &Pack, doubts: u8) -> bool
-    ensures { result ≡ is_best voices.now (TheVariants.Near pack.now doubts) }
+fn stands_beside_all(candidates: &[Candidate], pack: &Pack, doubts: u8) -> bool
+    ensures { result ≡ is_best candidates.now (TheVariants.Near pack.now doubts) }
 {
-    voices
+    candidates
         .iter()
-        .all(|voice| stands(voices, pack, doubts, voice))
+        .all(|candidate| stands(candidates, pack, doubts, candidate))
 }
 
-// Whether a codeword stands beside a voice.
-fn stands(voices: &[Voice], pack: &Pack, doubts: u8, voice: &Voice) -> bool
-    ensures { result ≡ stands voices.now pack.now doubts voice.now }
+// Whether a codeword stands beside a candidate.
+fn stands(candidates: &[Candidate], pack: &Pack, doubts: u8, candidate: &Candidate) -> bool
+    ensures { result ≡ stands candidates.now pack.now doubts candidate.now }
 {
-    match voice {
-        Voice::Near {
+    match candidate {
+        Candidate::Near {
             pack: other,
             doubts: more,
         } => {
             doubts < *more
                 || doubts == *more
-                    && (is_same(pack, other) || votes(voices, other) < votes(voices, pack))
+                    && (is_same(pack, other) || votes(candidates, other) < votes(candidates, pack))
         }
         _ => true,
     }
 }
 
-/// How many voices are a codeword.
+/// How many candidates are a codeword.
 #[inline(always)]
-pub(crate) fn votes(voices: &[Voice], pack: &Pack) -> usize
-    ensures { result ≡ votes voices.now pack.now }
+pub(crate) fn votes(candidates: &[Candidate], pack: &Pack) -> usize
+    ensures { result ≡ votes candidates.now pack.now }
 {
-    voices.iter().filter(|voice| is_of(pack, voice)).count()
+    candidates
+        .iter()
+        .filter(|candidate| is_of(pack, candidate))
+        .count()
 }
 
-// Whether a voice is a codeword.
-fn is_of(pack: &Pack, voice: &Voice) -> bool
-    ensures { result ≡ is_of pack.now voice.now }
+// Whether a candidate is a codeword.
+fn is_of(pack: &Pack, candidate: &Candidate) -> bool
+    ensures { result ≡ is_of pack.now candidate.now }
 {
-    match voice {
-        Voice::Near { pack: own, .. } => is_same(own, pack),
+    match candidate {
+        Candidate::Near { pack: own, .. } => is_same(own, pack),
         _ => false,
     }
 }
@@ -157,14 +161,14 @@ pub(crate) fn is_same(one: &Pack, other: &Pack) -> bool
     false
 }
 
-fn has_codeword(voices: &[Voice]) -> bool
-    ensures { result ≡ list_any is_near voices.now }
+fn has_codeword(candidates: &[Candidate]) -> bool
+    ensures { result ≡ list_any is_near candidates.now }
 {
-    voices.iter().any(is_near)
+    candidates.iter().any(is_near)
 }
 
-fn is_near(voice: &Voice) -> bool
-    ensures { result ≡ is_near voice.now }
+fn is_near(candidate: &Candidate) -> bool
+    ensures { result ≡ is_near candidate.now }
 {
-    matches!(voice, Voice::Near { .. })
+    matches!(candidate, Candidate::Near { .. })
 }

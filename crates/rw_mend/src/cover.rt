@@ -2,7 +2,7 @@
 ghost use Rattle.std.specs.Prelude.{true, ◌≡◌, ◌≢◌, ◌==◌, ◌≤◌, ◌<◌, ◌+◌, ◌-◌, ◌*◌, ◌/◌, ◌%◌, ◌^◌, List, ℕ, length, if◌then◌else◌};
 ghost use Rattle.std.specs.List.{list_all};
 ghost use Rattle.rw_mend.specs.Words.{HoldsWord, block_at, blocks_under, coverage_of, is_blank_block, is_unread_block};
-ghost use Rattle.rw_mend.specs.Trails.{IsTrail};
+ghost use Rattle.rw_mend.specs.Histories.{IsHistory};
 ghost use Rattle.raw_subcode.specs.Sizes.{block_bytes};
 
 use crate::Coverage;
@@ -11,7 +11,7 @@ use raw_subcode::BLOCK_BYTES;
 /// Whether the blocks under a word are unread, and whether they are without symbols: two of them, or three where the word
 /// does not begin with its block.
 #[derive(Clone, Copy)]
-pub(crate) struct Trail {
+pub(crate) struct BlockHistory {
     first: bool,
     second: bool,
     third: bool,
@@ -20,10 +20,10 @@ pub(crate) struct Trail {
     third_blank: bool,
 }
 
-impl Trail {
+impl BlockHistory {
     /// Nothing is known yet.
-    pub(crate) fn new() -> Trail {
-        Trail {
+    pub(crate) fn new() -> BlockHistory {
+        BlockHistory {
             first: false,
             second: false,
             third: false,
@@ -34,12 +34,12 @@ impl Trail {
     }
 
     /// Of word n of a program.
-    pub(crate) fn at(program: &[u8], n: usize) -> Trail
+    pub(crate) fn at(program: &[u8], n: usize) -> BlockHistory
         requires { HoldsWord n (length program.now) }
-        ensures { IsTrail program.now n result }
+        ensures { IsHistory program.now n result }
     {
         let b = n / 4;
-        let mut trail = Trail {
+        let mut history = BlockHistory {
             first: is_unread_at(program, b),
             second: is_unread_at(program, b + 1),
             third: false,
@@ -48,17 +48,17 @@ impl Trail {
             third_blank: false,
         };
         if n % 4 != 0 {
-            trail.third = is_unread_at(program, b + 2);
-            trail.third_blank = is_blank_at(program, b + 2);
+            history.third = is_unread_at(program, b + 2);
+            history.third_blank = is_blank_at(program, b + 2);
         }
-        trail
+        history
     }
 
     /// Comes to word n of a program from the word before it.
     pub(crate) fn advance(&mut self, program: &[u8], n: usize)
-        requires before { 0 < n → IsTrail program.now (n - 1) self.old }
+        requires before { 0 < n → IsHistory program.now (n - 1) self.old }
         requires within { HoldsWord n (length program.now) }
-        ensures { IsTrail program.now n self.new }
+        ensures { IsHistory program.now n self.new }
     {
         if n == 0 {
             self.first_blank = is_blank_at(program, 0);
@@ -91,7 +91,7 @@ impl Trail {
     /// How much of word n was read.
     pub(crate) fn coverage(&self, n: usize) -> Coverage
         requires { n < 2 ^ 63 }
-        ensures { (program : List ℕ) → IsTrail program n self.now
+        ensures { (program : List ℕ) → IsHistory program n self.now
             → result ≡ coverage_of (blocks_under program n) }
     {
         let all = self.first && self.second;

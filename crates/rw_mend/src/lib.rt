@@ -2,6 +2,7 @@
 #![tactic(auto)]
 
 mod agreements;
+mod candidates;
 mod choice;
 mod cover;
 mod laws;
@@ -13,9 +14,9 @@ mod rows;
 mod silences;
 mod streams;
 mod tallies;
-mod voices;
 mod ways;
 
+pub use candidates::{Candidate, Coverage, WordReading, decode};
 pub use choice::{MOST_READINGS, Mended, WordSource, mend};
 pub use cover::is_unread_block;
 pub use laws::{
@@ -27,4 +28,3 @@ pub use laws::{
 pub use many::{MendReport, mend_readings, mend_report};
 pub use streams::{MendCounts, mend_streams};
 pub use tallies::{AGREED, NO_READING, Tallies};
-pub use voices::{Coverage, Voice, WordReading, hear};

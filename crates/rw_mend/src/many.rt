@@ -122,12 +122,12 @@ fn mend_all(readings: &Readings, packs: &mut [u8], sources: &mut [u8]) -> MendRe
     let mut lost = [0; MOST_READINGS];
     for n in 0..mender.words() {
         mender.come_to(readings, n);
-        let voices = mender.voices(readings.count);
-        let found = mend(voices);
+        let candidates = mender.candidates(readings.count);
+        let found = mend(candidates);
         put(packs, n, &found);
         put_source(sources, n, &found);
         tallies.add(&found);
-        count_lost(voices, &found, &mut lost);
+        count_lost(candidates, &found, &mut lost);
     }
     tallies.dropped = mender.dropped();
     MendReport { tallies, lost }

@@ -2,19 +2,19 @@
 ghost use Rattle.std.specs.Prelude.{◌≡◌, ◌<◌, ◌≤◌, ◌+◌, ◌-◌, ◌*◌, ◌/◌, if◌then◌else◌, ℕ, length, take, slice_index_or};
 ghost use Rattle.std.specs.List.{list_any};
 ghost use Rattle.raw_subcode.specs.Sizes.{block_bytes, most_units};
-ghost use Rattle.rw_mend.specs.Choice.{voice_of_reading};
-ghost use Rattle.rw_mend.specs.Mender.{HasComeTo, IsHearing};
+ghost use Rattle.rw_mend.specs.Choice.{candidate_of_reading};
+ghost use Rattle.rw_mend.specs.Mender.{HasComeTo, IsDecoding};
 ghost use Rattle.rw_mend.specs.Readings.{AreHeldReadings, programs_in, size_in};
-ghost use Rattle.rw_mend.specs.Rows.{AreFollowed, AreTrails, IsRow};
+ghost use Rattle.rw_mend.specs.Rows.{AreFollowed, AreHistories, IsRow};
 ghost use Rattle.rw_mend.specs.Silences.{AreSilences, IsCalm, is_left, no_silence, said_after};
-ghost use Rattle.rw_mend.specs.Voices.{is_quiet_voice};
+ghost use Rattle.rw_mend.specs.Candidates.{is_quiet_candidate};
 ghost use Rattle.rw_mend.specs.Words.{HoldsWord};
 
-use crate::Voice;
+use crate::Candidate;
 use crate::choice::MOST_READINGS;
-use crate::cover::Trail;
+use crate::cover::BlockHistory;
 use crate::readings::Readings;
-use crate::rows::{GivenRow, count_left, hear_all, is_any_quiet, say_all};
+use crate::rows::{GivenRow, count_left, decode_all, is_any_quiet, say_all};
 use crate::silences::{Silence, advance_all};
 use raw_subcode::{BLOCK_BYTES, SLOTS_A_BLOCK};
 use rw_interleave::PACKS_KEPT_BACK;
@@ -26,7 +26,7 @@ const BLOCKS_OF_FIRST: usize = 2;
 #[derive(Drop)]
 pub(crate) struct Mender {
     words: usize,
-    trails: [Trail; MOST_READINGS],
+    histories: [BlockHistory; MOST_READINGS],
     // For each reading, a block from which on all that were come to are those of the first reading.
     same_from: [usize; MOST_READINGS],
     // What the readings give for the word by themselves.
@@ -34,7 +34,7 @@ pub(crate) struct Mender {
     silences: [Silence; MOST_READINGS],
     // From the word that follows up to this one no reading gives graphics.
     calm: usize,
-    said: [Voice; MOST_READINGS],
+    said: [Candidate; MOST_READINGS],
     // At how many words what a reading gives counts for nothing.
     dropped: [u32; MOST_READINGS],
 }
@@ -44,17 +44,17 @@ impl Mender {
     pub(crate) fn new(readings: &Readings) -> Mender
         requires readings { AreHeldReadings readings.now }
         requires few { size_in readings.now ≤ block_bytes * most_units }
-        ensures { IsHearing readings.now 0 result }
+        ensures { IsDecoding readings.now 0 result }
     {
         let size = readings.first.len() - readings.start;
         Mender {
             words: (SLOTS_A_BLOCK * (size / BLOCK_BYTES)).saturating_sub(PACKS_KEPT_BACK),
-            trails: [Trail::new(); MOST_READINGS],
+            histories: [BlockHistory::new(); MOST_READINGS],
             same_from: [BLOCKS_OF_FIRST; MOST_READINGS],
             given: GivenRow::new(),
             silences: [Silence::new(); MOST_READINGS],
             calm: 0,
-            said: [Voice::Silent; MOST_READINGS],
+            said: [Candidate::Silent; MOST_READINGS],
             dropped: [0; MOST_READINGS],
         }
     }
@@ -70,14 +70,14 @@ impl Mender {
     #[inline(always)]
     pub(crate) fn come_to(&mut self, readings: &Readings, n: usize)
         requires within { n < self.old.words }
-        requires hearing { IsHearing readings.now n self.old }
+        requires decoding { IsDecoding readings.now n self.old }
         ensures at { HasComeTo readings.now n self.new }
         ensures words { self.new.words ≡ self.old.words }
     {
-        hear_all(
+        decode_all(
             readings,
             n,
-            &mut self.trails,
+            &mut self.histories,
             &mut self.same_from,
             &mut self.given,
         );
@@ -86,7 +86,7 @@ impl Mender {
             self.words,
             n,
             &self.given,
-            &self.trails,
+            &self.histories,
             &mut self.silences,
             &mut self.calm,
             &mut self.said,
@@ -96,9 +96,9 @@ impl Mender {
 
     /// What the readings say at the word to which it has come.
     #[inline]
-    pub(crate) fn voices(&self, count: usize) -> &[Voice]
+    pub(crate) fn candidates(&self, count: usize) -> &[Candidate]
         requires { count ≤ 254 }
-        ensures voices { result.now ≡ take count self.now.said }
+        ensures candidates { result.now ≡ take count self.now.said }
         ensures count { length result.now ≡ count }
     {
         &self.said[..count]
@@ -119,18 +119,18 @@ fn say_next(
     words: usize,
     n: usize,
     given: &GivenRow,
-    trails: &[Trail],
+    histories: &[BlockHistory],
     silences: &mut [Silence],
     calm: &mut usize,
-    said: &mut [Voice],
+    said: &mut [Candidate],
     dropped: &mut [u32],
 )
     requires readings { AreHeldReadings readings.now }
     requires held { (m : ℕ) → m < words → HoldsWord m (size_in readings.now) }
     requires within { n < words }
-    requires row { IsRow (programs_in readings.now) n given.now.voices }
-    requires trails_size { readings.now.count ≤ length trails.now }
-    requires trails { AreTrails (programs_in readings.now) n trails.now }
+    requires row { IsRow (programs_in readings.now) n given.now.candidates }
+    requires histories_size { readings.now.count ≤ length histories.now }
+    requires histories { AreHistories (programs_in readings.now) n histories.now }
     requires silences_size { length silences.old ≡ 254 }
     requires said_size { length said.old ≡ 254 }
     requires dropped_size { length dropped.old ≡ 254 }
@@ -142,21 +142,21 @@ fn say_next(
     ensures dropped_size { length dropped.new ≡ length dropped.old }
     ensures silences { AreSilences words (programs_in readings.now) (n + 1) silences.new }
     ensures calm { IsCalm (programs_in readings.now) (n + 1) calm.new }
-    ensures row_size { length (take readings.now.count given.now.voices) ≡ readings.now.count }
-    ensures said { (r : ℕ) → r < readings.now.count → voice_of_reading said.new r
-        ≡ said_after (list_any is_quiet_voice (take readings.now.count given.now.voices))
+    ensures row_size { length (take readings.now.count given.now.candidates) ≡ readings.now.count }
+    ensures said { (r : ℕ) → r < readings.now.count → candidate_of_reading said.new r
+        ≡ said_after (list_any is_quiet_candidate (take readings.now.count given.now.candidates))
         (slice_index_or silences.new r no_silence)
-        (voice_of_reading (take readings.now.count given.now.voices) r) }
+        (candidate_of_reading (take readings.now.count given.now.candidates) r) }
     ensures dropped { (r : ℕ) → r < readings.now.count → slice_index_or dropped.new r 0
         ≡ slice_index_or dropped.old r 0
-        + (if is_left (list_any is_quiet_voice (take readings.now.count given.now.voices))
+        + (if is_left (list_any is_quiet_candidate (take readings.now.count given.now.candidates))
         (slice_index_or silences.new r no_silence)
-        (voice_of_reading (take readings.now.count given.now.voices) r) then 1 else 0) }
+        (candidate_of_reading (take readings.now.count given.now.candidates) r) then 1 else 0) }
     ensures others { (r : ℕ) → readings.now.count ≤ r
         → slice_index_or dropped.new r 0 ≡ slice_index_or dropped.old r 0 }
 {
-    let row = given.voices(readings.count);
-    advance_all(readings, words, n, row, trails, silences, calm);
+    let row = given.candidates(readings.count);
+    advance_all(readings, words, n, row, histories, silences, calm);
     let some_quiet = is_any_quiet(row);
     say_all(some_quiet, row, silences, said);
     count_left(some_quiet, row, silences, dropped);

@@ -1,7 +1,7 @@
 // Readings of one stream in memory, and from which block on one is the same as the first.
 ghost use Rattle.std.specs.Prelude.{◌≡◌, ◌<◌, length, true, ◌≤◌, ◌+◌, ◌*◌, ◌/◌};
 ghost use Rattle.rw_mend.specs.Readings.{AreHeldReadings, program_in, size_in};
-ghost use Rattle.rw_mend.specs.Trails.{AreSameFrom};
+ghost use Rattle.rw_mend.specs.Histories.{AreSameFrom};
 ghost use Rattle.rw_mend.specs.Words.{HoldsWord, block_at};
 ghost use Rattle.raw_subcode.specs.Sizes.{block_bytes};
 

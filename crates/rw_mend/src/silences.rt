@@ -3,17 +3,17 @@ ghost use Rattle.std.specs.Prelude.{◌≡◌, ◌<◌, ◌≤◌, ◌+◌, ◌^
 ghost use Rattle.std.specs.List.{list_any};
 ghost use Rattle.rw_mend.specs.Drops.{HasGraphics, Misses};
 ghost use Rattle.rw_mend.specs.Readings.{AreHeldReadings, program_in, programs_in, size_in};
-ghost use Rattle.rw_mend.specs.Rows.{AreTrails, IsRow};
+ghost use Rattle.rw_mend.specs.Rows.{AreHistories, IsRow};
 ghost use Rattle.rw_mend.specs.Silences.{AreSilences, IsCalm, IsSilence, WillMiss};
-ghost use Rattle.rw_mend.specs.Trails.{IsTrail};
-ghost use Rattle.rw_mend.specs.Voices.{is_graphics_voice, is_quiet_voice, voice_of};
+ghost use Rattle.rw_mend.specs.Histories.{IsHistory};
+ghost use Rattle.rw_mend.specs.Candidates.{is_graphics_candidate, is_quiet_candidate, candidate_of};
 ghost use Rattle.rw_mend.specs.Words.{HoldsWord, given_at, reading_at};
 
-use crate::cover::Trail;
+use crate::candidates::MOST_WRONG;
+use crate::cover::BlockHistory;
 use crate::readings::Readings;
 use crate::rows::word_at;
-use crate::voices::MOST_WRONG;
-use crate::{Coverage, Voice, WordReading, hear};
+use crate::{Candidate, Coverage, WordReading, decode};
 
 /// Whether a reading is quiet at the last word that was come to, and whether it then lacks graphics there.
 #[derive(Clone, Copy)]
@@ -50,9 +50,9 @@ impl Silence {
         words: usize,
         r: usize,
         n: usize,
-        row: &[Voice],
-        given: &Voice,
-        trail: &Trail,
+        row: &[Candidate],
+        given: &Candidate,
+        history: &BlockHistory,
         calm: &mut usize,
     )
         requires readings { AreHeldReadings readings.now }
@@ -62,7 +62,7 @@ impl Silence {
         requires row { IsRow (programs_in readings.now) n row.now }
         requires count { length row.now ≡ readings.now.count }
         requires given { given.now ≡ given_at (programs_in readings.now) r n }
-        requires trail { IsTrail (program_in readings.now r) n trail.now }
+        requires history { IsHistory (program_in readings.now r) n history.now }
         requires before { IsSilence words (programs_in readings.now) r n self.old }
         requires calm { IsCalm (programs_in readings.now) n calm.old }
         ensures silence { IsSilence words (programs_in readings.now) r (n + 1) self.new }
@@ -72,7 +72,7 @@ impl Silence {
             self.quiet = false;
             self.lacks = false;
         } else if !self.quiet {
-            self.lacks = will_miss(readings, words, r, n, row, trail, calm);
+            self.lacks = will_miss(readings, words, r, n, row, history, calm);
             self.quiet = true;
         }
     }
@@ -83,8 +83,8 @@ pub(crate) fn advance_all(
     readings: &Readings,
     words: usize,
     n: usize,
-    row: &[Voice],
-    trails: &[Trail],
+    row: &[Candidate],
+    histories: &[BlockHistory],
     silences: &mut [Silence],
     calm: &mut usize,
 )
@@ -93,8 +93,8 @@ pub(crate) fn advance_all(
     requires within { n < words }
     requires row { IsRow (programs_in readings.now) n row.now }
     requires count { length row.now ≡ readings.now.count }
-    requires trails_size { readings.now.count ≤ length trails.now }
-    requires trails { AreTrails (programs_in readings.now) n trails.now }
+    requires histories_size { readings.now.count ≤ length histories.now }
+    requires histories { AreHistories (programs_in readings.now) n histories.now }
     requires size { readings.now.count ≤ length silences.old }
     requires before { AreSilences words (programs_in readings.now) n silences.old }
     requires calm { IsCalm (programs_in readings.now) n calm.old }
@@ -103,7 +103,7 @@ pub(crate) fn advance_all(
     ensures calm { IsCalm (programs_in readings.now) (n + 1) calm.new }
 {
     for r in 0..row.len() {
-        silences[r].advance(readings, words, r, n, row, &row[r], &trails[r], calm);
+        silences[r].advance(readings, words, r, n, row, &row[r], &histories[r], calm);
     }
 }
 
@@ -115,8 +115,8 @@ fn will_miss(
     words: usize,
     r: usize,
     n: usize,
-    row: &[Voice],
-    trail: &Trail,
+    row: &[Candidate],
+    history: &BlockHistory,
     calm: &mut usize,
 ) -> bool
     requires readings { AreHeldReadings readings.now }
@@ -125,8 +125,8 @@ fn will_miss(
     requires within { n < words }
     requires row { IsRow (programs_in readings.now) n row.now }
     requires count { length row.now ≡ readings.now.count }
-    requires quiet { is_quiet_voice (given_at (programs_in readings.now) r n) ≡ true }
-    requires trail { IsTrail (program_in readings.now r) n trail.now }
+    requires quiet { is_quiet_candidate (given_at (programs_in readings.now) r n) ≡ true }
+    requires history { IsHistory (program_in readings.now r) n history.now }
     requires calm { IsCalm (programs_in readings.now) n calm.old }
     ensures will { MatchBool result (WillMiss words (programs_in readings.now) r n)
         (¬ WillMiss words (programs_in readings.now) r n) }
@@ -136,13 +136,13 @@ fn will_miss(
         return true;
     }
     let program = readings.program(r);
-    let mut trail = *trail;
+    let mut history = *history;
     for m in n + 1..words {
-        trail.advance(program, m);
-        if !is_quiet_at(program, m, &trail) {
+        history.advance(program, m);
+        if !is_quiet_at(program, m, &history) {
             return false;
         }
-        if misses_at(readings, r, m, program, &trail, calm) {
+        if misses_at(readings, r, m, program, &history, calm) {
             return true;
         }
     }
@@ -150,7 +150,7 @@ fn will_miss(
 }
 
 // Whether reading r misses graphics at word n, to which all have come.
-fn misses_here(row: &[Voice], r: usize, n: usize, calm: &mut usize) -> bool
+fn misses_here(row: &[Candidate], r: usize, n: usize, calm: &mut usize) -> bool
     requires reading { r < length row.now }
     requires number { n < 2 ^ 63 }
     ensures told { (programs : List (List ℕ)) → length programs ≡ length row.now → IsRow programs n row.now
@@ -171,7 +171,7 @@ fn misses_at(
     r: usize,
     m: usize,
     program: &[u8],
-    trail: &Trail,
+    history: &BlockHistory,
     calm: &mut usize,
 ) -> bool
     requires readings { AreHeldReadings readings.now }
@@ -179,22 +179,22 @@ fn misses_at(
     requires program { program.now ≡ program_in readings.now r }
     requires size { length program.now ≡ size_in readings.now }
     requires within { HoldsWord m (length program.now) }
-    requires trail { IsTrail program.now m trail.now }
-    requires quiet { is_quiet_voice (given_at (programs_in readings.now) r m) ≡ true }
+    requires history { IsHistory program.now m history.now }
+    requires quiet { is_quiet_candidate (given_at (programs_in readings.now) r m) ≡ true }
     requires calm { IsCalm (programs_in readings.now) m calm.old }
     ensures told { MatchBool result (Misses (programs_in readings.now) r m)
         (¬ Misses (programs_in readings.now) r m) }
     ensures calm { (n : ℕ) → IsCalm (programs_in readings.now) n calm.old
         → IsCalm (programs_in readings.now) n calm.new }
 {
-    if trail.coverage(m) == Coverage::Unread {
+    if history.coverage(m) == Coverage::Unread {
         return false;
     }
     has_graphics_at(readings, m, calm)
 }
 
 // Whether some reading gives graphics at word n, to which all have come.
-fn has_graphics_here(row: &[Voice], n: usize, calm: &mut usize) -> bool
+fn has_graphics_here(row: &[Candidate], n: usize, calm: &mut usize) -> bool
     requires { n < 2 ^ 63 }
     ensures told { (programs : List (List ℕ)) → length programs ≡ length row.now → IsRow programs n row.now
         → MatchBool result (HasGraphics programs n) (¬ HasGraphics programs n) }
@@ -208,10 +208,10 @@ fn has_graphics_here(row: &[Voice], n: usize, calm: &mut usize) -> bool
     false
 }
 
-fn is_any_graphics(row: &[Voice]) -> bool
-    ensures { result ≡ list_any is_graphics_voice row.now }
+fn is_any_graphics(row: &[Candidate]) -> bool
+    ensures { result ≡ list_any is_graphics_candidate row.now }
 {
-    row.iter().any(|voice| voice.is_graphics())
+    row.iter().any(|candidate| candidate.is_graphics())
 }
 
 // Whether some reading gives graphics at word m, which lies ahead. None does up to a word that it keeps.
@@ -254,13 +254,13 @@ fn is_any_graphics_at(readings: &Readings, m: usize) -> bool
 #[inline]
 fn is_graphics_at(program: &[u8], m: usize) -> bool
     requires { HoldsWord m (length program.now) }
-    ensures { result ≡ is_graphics_voice (voice_of (reading_at program.now m)) }
+    ensures { result ≡ is_graphics_candidate (candidate_of (reading_at program.now m)) }
 {
     let word = word_at(program, m);
     if word.weight() <= MOST_WRONG {
         return false;
     }
-    hear(&WordReading {
+    decode(&WordReading {
         word,
         coverage: Coverage::Whole,
     })
@@ -269,12 +269,12 @@ fn is_graphics_at(program: &[u8], m: usize) -> bool
 
 // Whether a reading is quiet at word m: it is not decoded.
 #[inline]
-fn is_quiet_at(program: &[u8], m: usize, trail: &Trail) -> bool
+fn is_quiet_at(program: &[u8], m: usize, history: &BlockHistory) -> bool
     requires within { HoldsWord m (length program.now) }
-    requires trail { IsTrail program.now m trail.now }
-    ensures { result ≡ is_quiet_voice (voice_of (reading_at program.now m)) }
+    requires history { IsHistory program.now m history.now }
+    ensures { result ≡ is_quiet_candidate (candidate_of (reading_at program.now m)) }
 {
-    if trail.is_blank(m) {
+    if history.is_blank(m) {
         return true;
     }
     word_at(program, m).weight() <= MOST_WRONG

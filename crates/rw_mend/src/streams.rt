@@ -61,10 +61,10 @@ fn mend_two(readings: &Readings, packs: &mut [u8]) -> MendCounts
     let mut counts = MendCounts::zero();
     for n in 0..mender.words() {
         mender.come_to(readings, n);
-        let voices = mender.voices(readings.count);
-        let found = mend(voices);
+        let candidates = mender.candidates(readings.count);
+        let found = mend(candidates);
         put(packs, n, &found);
-        counts.add(&found_by(voices, &found));
+        counts.add(&found_by(candidates, &found));
     }
     counts
 }

@@ -3,7 +3,7 @@ ghost use Rattle.std.specs.Prelude.{◌≡◌, ◌≤◌, length};
 ghost use Rattle.rw_mend.specs.Streams.{way_by, way_of};
 
 use crate::choice::votes;
-use crate::{Mended, Voice, WordSource};
+use crate::{Candidate, Mended, WordSource};
 
 /// Where the codeword of a word of two readings comes from.
 #[derive(Clone, Copy)]
@@ -19,23 +19,23 @@ pub(crate) enum Way {
 }
 
 /// The way in which a word is mended, if it is.
-pub(crate) fn found_by(voices: &[Voice], found: &Option<Mended>) -> Option<Way>
-    requires { length voices.now ≤ 254 }
-    ensures { result ≡ way_of voices.now found.now }
+pub(crate) fn found_by(candidates: &[Candidate], found: &Option<Mended>) -> Option<Way>
+    requires { length candidates.now ≤ 254 }
+    ensures { result ≡ way_of candidates.now found.now }
 {
     match found {
-        Some(mended) => Some(way_by(voices, mended)),
+        Some(mended) => Some(way_by(candidates, mended)),
         None => None,
     }
 }
 
-fn way_by(voices: &[Voice], mended: &Mended) -> Way
-    requires { length voices.now ≤ 254 }
-    ensures { result ≡ way_by mended.now.source voices.now mended.now.pack }
+fn way_by(candidates: &[Candidate], mended: &Mended) -> Way
+    requires { length candidates.now ≤ 254 }
+    ensures { result ≡ way_by mended.now.source candidates.now mended.now.pack }
 {
     match mended.source {
         WordSource::Reading(r) => {
-            if votes(voices, &mended.pack) == 2 {
+            if votes(candidates, &mended.pack) == 2 {
                 Way::Both
             } else if r == 0 {
                 Way::First

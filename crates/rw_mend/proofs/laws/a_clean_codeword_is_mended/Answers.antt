@@ -2,4 +2,4 @@ use Rattle.rw_mend.proofs.Clean.{clean_wins}
 use Rattle.rw_mend.proofs.laws.a_clean_codeword_is_mended.Goals as goal
 
 pub returns : goal.returns
-returns c voices r codeword found = clean_wins voices r codeword found
+returns c candidates r codeword found = clean_wins candidates r codeword found

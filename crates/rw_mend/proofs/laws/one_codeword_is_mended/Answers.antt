@@ -2,7 +2,7 @@ use Rattle.rw_mend.proofs.Once.{one_found, one_list}
 use Rattle.rw_mend.proofs.laws.one_codeword_is_mended.Goals as goal
 
 pub returns-clause-word : goal.returns-clause-word
-returns-clause-word c voices found other = one_found voices found other
+returns-clause-word c candidates found other = one_found candidates found other
 
 pub returns-clause-stream : goal.returns-clause-stream
 returns-clause-stream c words programs said others found other =

@@ -6,5 +6,5 @@ use Rattle.rw_mend.proofs.mender.say_next.Goals as goal
 
 pub advance_all-requires-clause-row : goal.advance_all-requires-clause-row
 advance_all-requires-clause-row c =
-    subst (IsRow (programs_in c.args.readings.now) c.args.n) (sym c.voices-row.ensures.voices)
-    (row_taken c.args.readings.now c.args.n c.args.given.now.voices c.requires.row)
+    subst (IsRow (programs_in c.args.readings.now) c.args.n) (sym c.candidates-row.ensures.candidates)
+    (row_taken c.args.readings.now c.args.n c.args.given.now.candidates c.requires.row)

@@ -2,10 +2,10 @@ use Rattle.std.proofs.Common.{◌<◌, ◌+◌, length, get_or, sym, ◌∙◌, 
 use Rattle.std.proofs.Math.ListN.{set, length-set}
 use Rattle.std.proofs.lemmas.List.{get_or_default, get_or-set_other, get_or-set_same}
 use Rattle.rw_mend.specs.Readings.{programs_in}
-use Rattle.rw_mend.specs.Rows.{no_trail}
+use Rattle.rw_mend.specs.Rows.{no_history}
 use Rattle.rw_mend.specs.Silences.{IsSilence, no_silence}
-use Rattle.rw_mend.specs.Trails.{IsTrail}
-use Rattle.rw_mend.specs.declared.voices.Voice.TheVariants.{Silent}
+use Rattle.rw_mend.specs.Histories.{IsHistory}
+use Rattle.rw_mend.specs.declared.candidates.Candidate.TheVariants.{Silent}
 use Rattle.rw_mend.proofs.Reading.{count_is, program_at}
 use Rattle.rw_mend.proofs.silences.advance_all.Goals as goal
 
@@ -23,13 +23,13 @@ advance-requires-clause-before c =
     (c.requires.before.each c.loop-r.r
     (omega (arith, c.loop-r-test.true, c.requires.count, count_is c.args.readings.now)))
 
-pub advance-requires-clause-trail : goal.advance-requires-clause-trail
-advance-requires-clause-trail c =
+pub advance-requires-clause-history : goal.advance-requires-clause-history
+advance-requires-clause-history c =
     let readings = c.args.readings.now in
     let r = c.loop-r.r in
     let among : r < readings.count = omega (arith, c.loop-r-test.true, c.requires.count) in
-    subst (λ p. IsTrail p c.args.n (get_or c.args.trails.now r no_trail)) (program_at readings r among)
-    (c.requires.trails.each r (omega (arith, among, count_is readings)))
+    subst (λ p. IsHistory p c.args.n (get_or c.args.histories.now r no_history)) (program_at readings r among)
+    (c.requires.histories.each r (omega (arith, among, count_is readings)))
 
 pub loop-r-preserved : goal.loop-r-preserved
 loop-r-preserved c =

@@ -9,12 +9,12 @@ use Rattle.rw_mend.proofs.silences.is_quiet_at.Goals as goal
 pub returns-then-is_blank : goal.returns-then-is_blank
 returns-then-is_blank c =
     let program = c.args.program.now in
-    let trail = c.requires.trail in
+    let history = c.requires.history in
     let blank : c.is_blank.result ≡ true = search rules in
     let marks = c.is_blank.ensures blank in
     sym (blank_quiet program c.args.m
-    (blank_by_blocks program c.args.m (sym trail.first_blank ∙ marks.0) (sym trail.second_blank ∙ marks.1)
-    (λ apart. sym (trail.third_blank apart) ∙ marks.2 apart)))
+    (blank_by_blocks program c.args.m (sym history.first_blank ∙ marks.0) (sym history.second_blank ∙ marks.1)
+    (λ apart. sym (history.third_blank apart) ∙ marks.2 apart)))
 
 pub returns : goal.returns
 returns c =

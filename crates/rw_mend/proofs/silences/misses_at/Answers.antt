@@ -2,9 +2,9 @@ use Rattle.std.proofs.Common.{rules, ◌≡◌, ◌≢◌, true, ap, sym, ◌∙
 use Rattle.std.proofs.lemmas.Bool.{false≢true}
 use Rattle.rw_mend.specs.Drops.{HasGraphics, Misses}
 use Rattle.rw_mend.specs.Readings.{programs_in}
-use Rattle.rw_mend.specs.Voices.{is_idle_voice, is_quiet_voice, voice_of}
+use Rattle.rw_mend.specs.Candidates.{is_idle_candidate, is_quiet_candidate, candidate_of}
 use Rattle.rw_mend.specs.Words.{given_at, reading_at}
-use Rattle.rw_mend.specs.declared.voices.Coverage.TheVariants.{Unread}
+use Rattle.rw_mend.specs.declared.candidates.Coverage.TheVariants.{Unread}
 use Rattle.rw_mend.proofs.Missing.{match_other}
 use Rattle.rw_mend.proofs.Quiet.{read_idle, unread_not_idle}
 use Rattle.rw_mend.proofs.Reading.{program_at}
@@ -19,8 +19,8 @@ returns-then-eq-clause-told c misses =
     let unread : c.coverage.result ≡ Unread = search rules in
     false≢true
     (sym (unread_not_idle (reading_at program m)
-    (reading-coverage program m ∙ sym (c.coverage.ensures program c.requires.trail) ∙ unread))
-    ∙ ap (λ p. is_idle_voice (voice_of (reading_at p m))) is
+    (reading-coverage program m ∙ sym (c.coverage.ensures program c.requires.history) ∙ unread))
+    ∙ ap (λ p. is_idle_candidate (candidate_of (reading_at p m))) is
     ∙ misses.idle)
 
 pub returns-clause-told : goal.returns-clause-told
@@ -33,11 +33,11 @@ returns-clause-told c =
     let some : c.coverage.result ≢ Unread = search rules in
     let is_read : (reading_at program m).coverage ≢ Unread =
     λ unread.
-    some (c.coverage.ensures program c.requires.trail ∙ sym (reading-coverage program m) ∙ unread) in
-    let idle : is_idle_voice (given_at programs r m) ≡ true =
-    ap (λ p. is_idle_voice (voice_of (reading_at p m))) (sym is)
+    some (c.coverage.ensures program c.requires.history ∙ sym (reading-coverage program m) ∙ unread) in
+    let idle : is_idle_candidate (given_at programs r m) ≡ true =
+    ap (λ p. is_idle_candidate (candidate_of (reading_at p m))) (sym is)
     ∙ read_idle (reading_at program m) is_read
-    ∙ ap (λ p. is_quiet_voice (voice_of (reading_at p m))) is
+    ∙ ap (λ p. is_quiet_candidate (candidate_of (reading_at p m))) is
     ∙ c.requires.quiet in
     match_other c.has_graphics_at.result (HasGraphics programs m) (Misses programs r m)
     (λ graphics. record { idle = idle; graphics = graphics }) (λ misses. misses.graphics)

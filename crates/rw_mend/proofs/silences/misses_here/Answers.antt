@@ -1,8 +1,8 @@
 use Rattle.std.proofs.Common.{rules, ◌≡◌, true, false, ap, ◌∙◌, arith}
 use Rattle.std.proofs.lemmas.List.{get_or_default}
 use Rattle.rw_mend.specs.Drops.{HasGraphics}
-use Rattle.rw_mend.specs.Voices.{is_idle_voice}
-use Rattle.rw_mend.specs.declared.voices.Voice.TheVariants.{Silent}
+use Rattle.rw_mend.specs.Candidates.{is_idle_candidate}
+use Rattle.rw_mend.specs.declared.candidates.Candidate.TheVariants.{Silent}
 use Rattle.rw_mend.proofs.Missing.{match_not, match_true}
 use Rattle.rw_mend.proofs.Quiet.{idle_misses}
 use Rattle.rw_mend.proofs.silences.misses_here.Goals as goal
@@ -22,5 +22,6 @@ returns-clause-told c programs size rows =
     (match_true c.has_graphics_here.result (HasGraphics programs c.args.n) holds
     (c.has_graphics_here.ensures.told programs size rows))
     (c.is_idle.ensures
-    ∙ ap is_idle_voice (c.index-row-r.is ∙ get_or_default row r c.index-row-r.result Silent c.requires.reading
+    ∙ ap is_idle_candidate
+    (c.index-row-r.is ∙ get_or_default row r c.index-row-r.result Silent c.requires.reading
     ∙ rows.each r (omega (arith, size, c.requires.reading))))

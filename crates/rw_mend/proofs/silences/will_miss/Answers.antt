@@ -3,8 +3,8 @@ use Rattle.std.proofs.lemmas.Bool.{cases_eq, false≢true}
 use Rattle.std.proofs.lemmas.Bool.Decides.{leb_tells}
 use Rattle.rw_mend.specs.Drops.{Misses}
 use Rattle.rw_mend.specs.Readings.{program_in, programs_in}
-use Rattle.rw_mend.specs.Trails.{IsTrail}
-use Rattle.rw_mend.specs.Voices.{is_quiet_voice, voice_of}
+use Rattle.rw_mend.specs.Histories.{IsHistory}
+use Rattle.rw_mend.specs.Candidates.{is_quiet_candidate, candidate_of}
 use Rattle.rw_mend.specs.Words.{given_at, reading_at}
 use Rattle.rw_mend.proofs.Missing.{match_not, match_true}
 use Rattle.rw_mend.proofs.Reading.{count_is, program_at}
@@ -23,7 +23,7 @@ returns-then-misses_here c =
         within = c.requires.within;
         quiet =
             λ k from to.
-            subst (λ j. is_quiet_voice (given_at programs c.args.r j) ≡ true) (omega (arith, from, to))
+            subst (λ j. is_quiet_candidate (given_at programs c.args.r j) ≡ true) (omega (arith, from, to))
             c.requires.quiet;
         misses = match_true c.misses_here.result (Misses programs c.args.r c.args.n) holds
             (c.misses_here.ensures.told programs size c.requires.row);
@@ -44,12 +44,12 @@ loop-m-init c =
       from = omega arith;
       quiet =
           λ k from to.
-          subst (λ j. is_quiet_voice (given_at programs c.args.r j) ≡ true) (omega (arith, from, to))
+          subst (λ j. is_quiet_candidate (given_at programs c.args.r j) ≡ true) (omega (arith, from, to))
           c.requires.quiet;
       none = λ k from to misses.
           none (subst (λ j. Misses programs c.args.r j) (omega (arith, from, to)) misses);
-      trail = subst (λ k. IsTrail (program_in readings c.args.r) k c.args.trail.now) (omega arith)
-          c.requires.trail;
+      history = subst (λ k. IsHistory (program_in readings c.args.r) k c.args.history.now) (omega arith)
+          c.requires.history;
       calm = c.misses_here.ensures.calm programs size c.requires.row c.requires.calm;
     }
 
@@ -61,8 +61,10 @@ returns-then-not-is_quiet_at-clause-will c will =
     let m = c.loop-m.m in
     let is = c.program-program.ensures.program ∙ sym (program_at readings r c.requires.reading) in
     let fails : c.is_quiet_at.result ≡ false = search rules in
-    let loud : is_quiet_voice (given_at programs r m) ≡ false =
-    ap (λ p. is_quiet_voice (voice_of (reading_at p m))) (sym is) ∙ sym c.is_quiet_at.ensures ∙ fails in
+    let loud : is_quiet_candidate (given_at programs r m) ≡ false =
+    ap (λ p. is_quiet_candidate (candidate_of (reading_at p m))) (sym is)
+    ∙ sym c.is_quiet_at.ensures
+    ∙ fails in
     elim (leb_tells (suc will.word) m) [
       | inl before ↦ c.loop-m.invariant.none will.word will.from (omega (arith, before.1)) will.misses
       | inr past ↦
@@ -78,8 +80,10 @@ returns-then-misses_at-clause-will c =
     let m = c.loop-m.m in
     let is = c.program-program.ensures.program ∙ sym (program_at readings r c.requires.reading) in
     let quiet : c.is_quiet_at.result ≡ true = search rules in
-    let here : is_quiet_voice (given_at programs r m) ≡ true =
-    ap (λ p. is_quiet_voice (voice_of (reading_at p m))) (sym is) ∙ sym c.is_quiet_at.ensures ∙ quiet in
+    let here : is_quiet_candidate (given_at programs r m) ≡ true =
+    ap (λ p. is_quiet_candidate (candidate_of (reading_at p m))) (sym is)
+    ∙ sym c.is_quiet_at.ensures
+    ∙ quiet in
     let holds : c.misses_at.result ≡ true = search rules in
     record {
       word = m;
@@ -88,7 +92,7 @@ returns-then-misses_at-clause-will c =
       quiet =
           λ k from to.
           elim (cases_eq k m) [
-            | inl same ↦ subst (λ j. is_quiet_voice (given_at programs r j) ≡ true) (sym same) here
+            | inl same ↦ subst (λ j. is_quiet_candidate (given_at programs r j) ≡ true) (sym same) here
             | inr differs ↦ c.loop-m.invariant.quiet k from (omega (arith, to, differs))
           ];
       misses = match_true c.misses_at.result (Misses programs r m) holds c.misses_at.ensures.told;
@@ -100,7 +104,7 @@ misses_at-requires-clause-quiet c =
     let m = c.loop-m.m in
     let is = c.program-program.ensures.program ∙ sym (program_at readings c.args.r c.requires.reading) in
     let quiet : c.is_quiet_at.result ≡ true = search rules in
-    ap (λ p. is_quiet_voice (voice_of (reading_at p m))) (sym is) ∙ sym c.is_quiet_at.ensures ∙ quiet
+    ap (λ p. is_quiet_candidate (candidate_of (reading_at p m))) (sym is) ∙ sym c.is_quiet_at.ensures ∙ quiet
 
 pub misses_at-requires-clause-calm : goal.misses_at-requires-clause-calm
 misses_at-requires-clause-calm c = record {
@@ -115,8 +119,10 @@ loop-m-preserved c =
     let m = c.loop-m.m in
     let is = c.program-program.ensures.program ∙ sym (program_at readings r c.requires.reading) in
     let quiet : c.is_quiet_at.result ≡ true = search rules in
-    let here : is_quiet_voice (given_at programs r m) ≡ true =
-    ap (λ p. is_quiet_voice (voice_of (reading_at p m))) (sym is) ∙ sym c.is_quiet_at.ensures ∙ quiet in
+    let here : is_quiet_candidate (given_at programs r m) ≡ true =
+    ap (λ p. is_quiet_candidate (candidate_of (reading_at p m))) (sym is)
+    ∙ sym c.is_quiet_at.ensures
+    ∙ quiet in
     let fails : c.misses_at.result ≡ false = search rules in
     let none : ¬ Misses programs r m =
     match_not c.misses_at.result (Misses programs r m) fails c.misses_at.ensures.told in
@@ -125,7 +131,7 @@ loop-m-preserved c =
       quiet =
           λ k from to.
           elim (cases_eq k m) [
-            | inl same ↦ subst (λ j. is_quiet_voice (given_at programs r j) ≡ true) (sym same) here
+            | inl same ↦ subst (λ j. is_quiet_candidate (given_at programs r j) ≡ true) (sym same) here
             | inr differs ↦ c.loop-m.invariant.quiet k from (omega (arith, to, differs))
           ];
       none =
@@ -134,8 +140,8 @@ loop-m-preserved c =
             | inl same ↦ none (subst (λ j. Misses programs r j) same misses)
             | inr differs ↦ c.loop-m.invariant.none k from (omega (arith, to, differs)) misses
           ];
-      trail =
-          subst₂ (λ (p : List ℕ) (k : ℕ). IsTrail p k c.advance.new.self) c.program-program.ensures.program
+      history =
+          subst₂ (λ (p : List ℕ) (k : ℕ). IsHistory p k c.advance.new.self) c.program-program.ensures.program
           (omega arith) c.advance.ensures;
       calm = c.misses_at.ensures.calm c.args.n c.loop-m.invariant.calm;
     }

@@ -8,12 +8,12 @@ returns c = record {
   are = c.requires.readings;
   words = c.saturating_sub.ensures;
   few = omega (arith, c.saturating_sub.ensures, c.requires.few);
-  trails_kept = refl;
+  histories_kept = refl;
   same_kept = refl;
   silences_kept = refl;
   said_kept = refl;
   dropped_kept = refl;
-  trails = λ some. absurd (omega (arith, some));
+  histories = λ some. absurd (omega (arith, some));
   same = none_followed c.args.readings.now c.requires.readings;
   silences = none_silent c.saturating_sub.result c.args.readings.now c.new-3.result c.requires.readings
       (λ r. c.new-3.ensures c.saturating_sub.result r (programs_in c.args.readings.now));

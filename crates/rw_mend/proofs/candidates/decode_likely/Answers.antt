@@ -1,7 +1,7 @@
 use Rattle.std.proofs.Common.{rules, ◌≡◌, ◌≢◌}
-use Rattle.rw_mend.specs.declared.voices.Coverage.TheVariants.{Unread}
+use Rattle.rw_mend.specs.declared.candidates.Coverage.TheVariants.{Unread}
 use Rattle.rw_mend.proofs.Hearing.{near_is, silent_is}
-use Rattle.rw_mend.proofs.voices.hear_likely.Goals as goal
+use Rattle.rw_mend.proofs.candidates.decode_likely.Goals as goal
 
 pub returns-then-eq : goal.returns-then-eq
 returns-then-eq c =

@@ -1,6 +1,6 @@
 use Rattle.std.proofs.Common.{◌≡◌, ◌+◌, ◌/◌, ℕ, ap, ◌∙◌, arith}
 use Rattle.rw_mend.specs.Words.{block_at, is_blank_block, is_unread_block}
-use Rattle.rw_mend.proofs.cover.Trail.advance.Goals as goal
+use Rattle.rw_mend.proofs.cover.BlockHistory.advance.Goals as goal
 
 pub returns-then-n-eq0 : goal.returns-then-n-eq0
 returns-then-n-eq0 c =

@@ -3,8 +3,8 @@ ghost use Rattle.std.specs.Prelude.{◌≡◌, ◌==◌, List, ℕ, slice_index_
 ghost use Rattle.std.specs.List.{list_any};
 ghost use Rattle.rw_code.specs.Codeword.{IsWord, differences};
 ghost use Rattle.rw_code.specs.Packs.{idle_pack};
-ghost use Rattle.rw_mend.specs.declared.voices.WordReading.{WordReading};
-ghost use Rattle.rw_mend.specs.Voices.{GivesNear, doubts_of, has_used_mode, instructions, is_doubtful_voice, is_graphics_pack, is_graphics_voice, is_idle_pack, is_idle_voice, is_quiet_voice, voice_of};
+ghost use Rattle.rw_mend.specs.declared.candidates.WordReading.{WordReading};
+ghost use Rattle.rw_mend.specs.Candidates.{GivesNear, doubts_of, has_used_mode, instructions, is_doubtful_candidate, is_graphics_pack, is_graphics_candidate, is_idle_pack, is_idle_candidate, is_quiet_candidate, candidate_of};
 
 use crate::choice::is_same;
 use rw_code::{Fixed, Pack, Word, correct, words_have_24_symbols};
@@ -32,7 +32,7 @@ pub struct WordReading {
 
 /// What a reading of a word gives.
 #[derive(Clone, Copy)]
-pub enum Voice {
+pub enum Candidate {
     /// Nothing: it was not read, or its idle pack counts for nothing.
     Silent,
     /// It was read, and no codeword is near it.
@@ -56,48 +56,48 @@ pub(crate) const MOST_WRONG: u8 = 2;
 const IDLE_DOUBTS: u8 = 3;
 
 /// What a reading of a word gives by itself.
-pub fn hear(reading: &WordReading) -> Voice
-    ensures { result ≡ voice_of reading.now }
+pub fn decode(reading: &WordReading) -> Candidate
+    ensures { result ≡ candidate_of reading.now }
 {
     if reading.coverage == Coverage::Unread {
-        return Voice::Silent;
+        return Candidate::Silent;
     }
     match correct(&reading.word) {
-        Some(fixed) => Voice::Near {
+        Some(fixed) => Candidate::Near {
             pack: fixed.pack,
             doubts: doubts(reading.coverage, &fixed),
         },
-        None => Voice::Lost { word: reading.word },
+        None => Candidate::Lost { word: reading.word },
     }
 }
 
 /// The same, beside what another reading gives, which is most often the same codeword: that one is tried first.
 #[inline]
-pub(crate) fn hear_likely(other: &Voice, reading: &WordReading) -> Voice
-    ensures { result ≡ voice_of reading.now }
+pub(crate) fn decode_likely(other: &Candidate, reading: &WordReading) -> Candidate
+    ensures { result ≡ candidate_of reading.now }
 {
     if reading.coverage == Coverage::Unread {
-        return Voice::Silent;
+        return Candidate::Silent;
     }
     match near(other, &reading.word) {
-        Some(fixed) => Voice::Near {
+        Some(fixed) => Candidate::Near {
             pack: fixed.pack,
             doubts: doubts(reading.coverage, &fixed),
         },
-        None => hear(reading),
+        None => decode(reading),
     }
 }
 
-// The codeword that a voice is, where a word is near it.
+// The codeword that a candidate is, where a word is near it.
 #[inline]
-fn near(voice: &Voice, word: &Word) -> Option<Fixed>
+fn near(candidate: &Candidate, word: &Word) -> Option<Fixed>
     ensures near { GivesNear word.now result }
     ensures word { IsWord word.now }
 {
     // What is found for a word is known of words alone.
     words_have_24_symbols(word);
-    match voice {
-        Voice::Near { pack, .. } => near_pack(pack, word),
+    match candidate {
+        Candidate::Near { pack, .. } => near_pack(pack, word),
         _ => None,
     }
 }
@@ -116,17 +116,17 @@ fn near_pack(pack: &Pack, word: &Word) -> Option<Fixed>
 
 /// What a reading gives by itself of a word without symbols.
 #[inline]
-pub(crate) fn hear_blank(coverage: Coverage) -> Voice
+pub(crate) fn decode_blank(coverage: Coverage) -> Candidate
     ensures { (reading : WordReading) → reading.coverage ≡ coverage → reading.word ≡ idle_pack
-        → result ≡ voice_of reading }
+        → result ≡ candidate_of reading }
 {
     match coverage {
-        Coverage::Unread => Voice::Silent,
-        Coverage::Partly => Voice::Near {
+        Coverage::Unread => Candidate::Silent,
+        Coverage::Partly => Candidate::Near {
             pack: Pack::idle(),
             doubts: IDLE_DOUBTS,
         },
-        Coverage::Whole => Voice::Near {
+        Coverage::Whole => Candidate::Near {
             pack: Pack::idle(),
             doubts: 0,
         },
@@ -151,33 +151,33 @@ fn is_idle_pack(pack: &Pack) -> bool
     is_same(pack, &Pack::idle())
 }
 
-impl Voice {
+impl Candidate {
     /// Whether it is near the idle pack.
     pub(crate) fn is_idle(&self) -> bool
-        ensures { result ≡ is_idle_voice self.now }
+        ensures { result ≡ is_idle_candidate self.now }
     {
         match self {
-            Voice::Near { pack, .. } => is_idle_pack(pack),
+            Candidate::Near { pack, .. } => is_idle_pack(pack),
             _ => false,
         }
     }
 
     /// Whether it is near the idle pack, or nothing was read.
     pub(crate) fn is_quiet(&self) -> bool
-        ensures { result ≡ is_quiet_voice self.now }
+        ensures { result ≡ is_quiet_candidate self.now }
     {
         match self {
-            Voice::Silent => true,
+            Candidate::Silent => true,
             _ => self.is_idle(),
         }
     }
 
     /// Whether it shows that the word is not idle.
     pub(crate) fn is_graphics(&self) -> bool
-        ensures { result ≡ is_graphics_voice self.now }
+        ensures { result ≡ is_graphics_candidate self.now }
     {
         match self {
-            Voice::Near { pack, doubts } => {
+            Candidate::Near { pack, doubts } => {
                 !is_idle_pack(pack) && (*doubts == 0 || is_graphics_pack(pack))
             }
             _ => false,
@@ -186,10 +186,10 @@ impl Voice {
 
     /// Whether it is a codeword of a mode and item that no disc carries, and some symbol is wrong.
     pub(crate) fn is_doubtful(&self) -> bool
-        ensures { result ≡ is_doubtful_voice self.now }
+        ensures { result ≡ is_doubtful_candidate self.now }
     {
         match self {
-            Voice::Near { pack, doubts } => {
+            Candidate::Near { pack, doubts } => {
                 !(*doubts == 0) && !is_idle_pack(pack) && !has_used_mode(pack)
             }
             _ => false,

@@ -5,11 +5,11 @@ use Rattle.rw_code.specs.Codeword.{Reads, differences}
 use Rattle.rw_code.specs.Finding.{finding}
 use Rattle.rw_code.specs.Packs.{idle_pack}
 use Rattle.rw_code.specs.declared.correction.Fixed.{Fixed}
-use Rattle.rw_mend.specs.declared.voices.Coverage.{Coverage}
-use Rattle.rw_mend.specs.declared.voices.Coverage.TheVariants.{Partly, Unread}
-use Rattle.rw_mend.specs.declared.voices.WordReading.{WordReading}
-use Rattle.rw_mend.specs.declared.voices.Voice.{Voice}
-use Rattle.rw_mend.specs.declared.voices.Voice.TheVariants.{Silent, Lost, Near}
+use Rattle.rw_mend.specs.declared.candidates.Coverage.{Coverage}
+use Rattle.rw_mend.specs.declared.candidates.Coverage.TheVariants.{Partly, Unread}
+use Rattle.rw_mend.specs.declared.candidates.WordReading.{WordReading}
+use Rattle.rw_mend.specs.declared.candidates.Candidate.{Candidate}
+use Rattle.rw_mend.specs.declared.candidates.Candidate.TheVariants.{Silent, Lost, Near}
 
 -- where a codeword is given, the word is read as it, and its wrong symbols are counted
 abbrev pub GivesNear : List ℕ → Option Fixed → Type 0
@@ -27,28 +27,28 @@ doubts_of Partly word codeword = if is_idle_pack codeword then 3 else difference
 doubts_of coverage word codeword = differences word codeword
 
 -- what a word that was read gives: the codeword that is found for it, or the lost word itself
-abbrev pub voice_found : WordReading → Option (List ℕ) → Voice
-voice_found reading (Some codeword) = Near codeword (doubts_of reading.coverage reading.word codeword)
-voice_found reading None = Lost reading.word
+abbrev pub candidate_found : WordReading → Option (List ℕ) → Candidate
+candidate_found reading (Some codeword) = Near codeword (doubts_of reading.coverage reading.word codeword)
+candidate_found reading None = Lost reading.word
 
 -- and nothing where it was not read
-abbrev pub voice_covered : Coverage → WordReading → Voice
-voice_covered Unread reading = Silent
-voice_covered coverage reading = voice_found reading (finding reading.word)
+abbrev pub candidate_covered : Coverage → WordReading → Candidate
+candidate_covered Unread reading = Silent
+candidate_covered coverage reading = candidate_found reading (finding reading.word)
 
 -- what a reading of a word gives by itself
-unfoldable pub voice_of : WordReading → Voice
-voice_of reading = voice_covered reading.coverage reading
+unfoldable pub candidate_of : WordReading → Candidate
+candidate_of reading = candidate_covered reading.coverage reading
 
--- whether a voice is the idle pack
-abbrev pub is_idle_voice : Voice → Bool
-is_idle_voice (Near pack doubts) = is_idle_pack pack
-is_idle_voice voice = false
+-- whether a candidate is the idle pack
+abbrev pub is_idle_candidate : Candidate → Bool
+is_idle_candidate (Near pack doubts) = is_idle_pack pack
+is_idle_candidate candidate = false
 
--- whether a voice is the idle pack, or nothing was read
-abbrev pub is_quiet_voice : Voice → Bool
-is_quiet_voice Silent = true
-is_quiet_voice voice = is_idle_voice voice
+-- whether a candidate is the idle pack, or nothing was read
+abbrev pub is_quiet_candidate : Candidate → Bool
+is_quiet_candidate Silent = true
+is_quiet_candidate candidate = is_idle_candidate candidate
 
 -- the instructions of graphics packs
 abbrev pub instructions : List ℕ
@@ -59,11 +59,11 @@ abbrev pub is_graphics_pack : List ℕ → Bool
 is_graphics_pack codeword = (slice_index_or codeword 0 0 == 9)
     && list_any (λ known. slice_index_or codeword 1 0 == known) instructions
 
--- Whether a voice shows that the word is not idle: it is another codeword than the idle pack, and either no symbol stands
+-- Whether a candidate shows that the word is not idle: it is another codeword than the idle pack, and either no symbol stands
 -- against it or it is a graphics pack.
-abbrev pub is_graphics_voice : Voice → Bool
-is_graphics_voice (Near pack doubts) = not (is_idle_pack pack) && ((doubts == 0) || is_graphics_pack pack)
-is_graphics_voice voice = false
+abbrev pub is_graphics_candidate : Candidate → Bool
+is_graphics_candidate (Near pack doubts) = not (is_idle_pack pack) && ((doubts == 0) || is_graphics_pack pack)
+is_graphics_candidate candidate = false
 
 -- the modes and items that discs carry: line graphics, graphics, extended graphics, MIDI
 abbrev pub used_modes : List ℕ
@@ -73,9 +73,9 @@ used_modes = 8 ∷ 9 ∷ 10 ∷ 24 ∷ []
 abbrev pub has_used_mode : List ℕ → Bool
 has_used_mode codeword = list_any (λ mode. slice_index_or codeword 0 0 == mode) used_modes
 
--- whether a voice is a doubtful codeword: not the idle pack, of a mode and item that no disc carries, and some symbol
+-- whether a candidate is a doubtful codeword: not the idle pack, of a mode and item that no disc carries, and some symbol
 -- stands against it
-abbrev pub is_doubtful_voice : Voice → Bool
-is_doubtful_voice (Near pack doubts) = not (is_idle_pack pack)
+abbrev pub is_doubtful_candidate : Candidate → Bool
+is_doubtful_candidate (Near pack doubts) = not (is_idle_pack pack)
     && (not (doubts == 0) && not (has_used_mode pack))
-is_doubtful_voice voice = false
+is_doubtful_candidate candidate = false

@@ -1,7 +1,7 @@
 use Rattle.std.proofs.Common.{◌∙◌, ap}
-use Rattle.rw_mend.specs.declared.voices.Voice.TheVariants.{Near}
+use Rattle.rw_mend.specs.declared.candidates.Candidate.TheVariants.{Near}
 use Rattle.rw_mend.proofs.Hearing.{partly_idle, silent_is, whole_idle}
-use Rattle.rw_mend.proofs.voices.hear_blank.Goals as goal
+use Rattle.rw_mend.proofs.candidates.decode_blank.Goals as goal
 
 pub returns-in-Unread : goal.returns-in-Unread
 returns-in-Unread c reading coverage word = silent_is reading (coverage ∙ c.in-Unread.is)
