@@ -1,9 +1,10 @@
 // The page of the studio in a Chromium without a window: a text is timed by taps, edited, undone, saved and made. What was
 // found is printed as JSON.
 //
-//     node --experimental-websocket desk/tests/studio_page.mjs CHROMIUM ADDRESS FOLDER [times]
+//     node --experimental-websocket desk/tests/studio_page.mjs CHROMIUM ADDRESS FOLDER [times | look]
 //
-// With `times` it makes edits of a long song, and measures how long each takes until its picture stands on the page.
+// With `times` it makes edits of a long song, and measures how long each takes until its picture stands on the page. With
+// `look` the address is that of a page of `look`, whose names and colours are checked, and which is used by keys.
 import { join } from "node:path";
 import { writeFileSync } from "node:fs";
 import { Browser, wait } from "../../tests/peers/browser.mjs";
@@ -210,8 +211,34 @@ async function main() {
     found.wrong = browser.events.filter(({ method }) => method === "Runtime.exceptionThrown").map(({ params }) => params.exceptionDetails);
 }
 
+/** A page of `look`: names, colours, keys, and a selected line that follows the song. */
+async function look() {
+    await visit(address);
+    found.nameless = await nameless();
+    found.faint = await faint();
+    await browser.look(1280, 1000, "dark");
+    await wait(200);
+    found.faint.push(...await faint());
+    const chosen = () => browser.value("[...document.querySelectorAll('#lines button')].findIndex((it) => it.getAttribute('aria-current') === 'true')");
+    await browser.value("document.getElementById('sound').currentTime = 7.5");
+    await key("p");
+    await browser.until("document.getElementById('sound').currentTime > 8.3");
+    found.followed = await chosen();
+    await key("p");
+    // The space bar on a line that has the focus jumps to that line, and sets no time.
+    await browser.value("document.querySelectorAll('#lines button')[0].focus()");
+    await browser.press(" ", "Space", " ");
+    found.jumped = [await chosen(), await position(), await browser.value("document.getElementById('told').textContent")];
+    await browser.value("document.getElementById('time').focus()");
+    await browser.press("ArrowRight", "ArrowRight");
+    found.slid = await position();
+    await browser.value("document.activeElement.blur()");
+    await browser.press("ArrowDown", "ArrowDown");
+    found.chosen = await chosen();
+}
+
 try {
-    await (mode === "times" ? times() : main());
+    await ({ times, look }[mode] ?? main)();
 } catch (error) {
     found.failed = String(error?.stack ?? error);
     found.told = await browser.value("document.body.innerText").catch(() => "");

@@ -8,6 +8,7 @@ import struct
 import subprocess
 import unittest
 import zlib
+from pathlib import Path
 from typing import Any
 from unittest import mock
 
@@ -239,6 +240,20 @@ class LookTest(FolderTest):
             self.write(f"web/{name}", "export function load() { throw new Error('not here'); }")
         with mock.patch.dict(os.environ, {"RIBJASPER_WEB": str(self.folder / "web")}):
             self.check_in_a_browser(self.page(), "changes")
+
+    @needs_node
+    @unittest.skipUnless(CHROMIUM, "chromium is not installed")
+    def test_keys_names_and_colours(self) -> None:
+        """All that can be used has a name, all texts can be read in both themes, and keys do what the page says."""
+        self.page()
+        driver = Path(__file__).with_name("studio_page.mjs")
+        call = ["node", "--experimental-websocket", "--no-warnings", str(driver), str(CHROMIUM)]
+        subprocess.run([*call, f"file://{self.folder}/a.html", str(self.folder), "look"], timeout=150, check=True)
+        found = json.loads((self.folder / "found.json").read_text())
+        self.assertNotIn("failed", found, found)
+        self.assertEqual((found["nameless"], found["faint"]), ([], []))
+        self.assertEqual((found["followed"], found["jumped"], found["chosen"]), (1, [0, 5.5, ""], 1))
+        self.assertAlmostEqual(found["slid"], 6.5, places=2)
 
     def check_in_a_browser(self, page: str, drawn: str) -> None:
         profile = self.folder / "profile"
