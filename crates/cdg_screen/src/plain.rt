@@ -1,14 +1,16 @@
 // What stands on a screen, and what an instruction makes of it.
 ghost use Rattle.std.specs.Prelude.{◌≡◌, ◌<◌, ◌≤◌, ℕ, [], ◌∷◌, slice_index, length, All, IfOk, ◌+◌, ◌-◌, ◌&&◌, nat_le, nat_lt, if◌then◌else◌};
+ghost use Rattle.cdg_instructions.specs.Effect.{effect_of};
 ghost use Rattle.cdg_instructions.specs.Instruction.{InRange};
 ghost use Rattle.cdg_instructions.specs.Sizes.{colour_count, colour_values, level_values, screen_height, screen_pixels, screen_width};
+ghost use Rattle.cdg_instructions.specs.declared.effect.Effect.TheVariants.{Draw};
 ghost use Rattle.cdg_instructions.specs.declared.instr.Instr.{Instr};
 ghost use Rattle.cdg_screen.specs.Standing.{blank, pixel_at, rows_in, standing_after, screen_pixel};
 ghost use Rattle.cdg_screen.specs.Memory.{IsInRange, Kept, seen};
 
 use crate::memory::Memory;
 use cdg_instructions::{
-    COLOURS, Effect, Instr, TILE_HEIGHT, TILE_WIDTH, WINDOW_BOTTOM, WINDOW_RIGHT,
+    COLOURS, DrawnTile, Effect, Instr, TILE_HEIGHT, TILE_WIDTH, WINDOW_BOTTOM, WINDOW_RIGHT,
 };
 use std::marker::Model;
 
@@ -155,6 +157,16 @@ impl PlainScreen {
             Effect::Levels { levels } => self.levels = levels,
             Effect::Colours { first, colours } => set_half(&mut self.colours, first, &colours),
         }
+    }
+
+    /// Carries out an instruction that draws this tile. It is inlined, so that a tile that was just read is not copied.
+    #[inline(always)]
+    pub fn draw(&mut self, tile: &DrawnTile)
+        requires { All (λ colour. colour < colour_count) tile.now.colours }
+        ensures { (instr : Instr) → effect_of instr ≡ Draw tile.now
+            → seen self.new ≡ standing_after (seen self.old) (instr ∷ []) }
+    {
+        self.memory.draw_tile(tile);
     }
 
     /// The pixel of the memory at a place: `x` below 300 from the left, `y` below 216 from the top.

@@ -10,6 +10,7 @@ mod Kept
 pub mod Seen
 mod Idle
 mod Quiet
+mod TilePacks
 mod Parities
 mod Places
 pub mod Drops

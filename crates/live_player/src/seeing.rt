@@ -5,9 +5,11 @@ ghost use Rattle.cdg_screen.specs.Memory.{seen};
 ghost use Rattle.cdg_screen.specs.Standing.{offsets_from, standing_after};
 ghost use Rattle.live_player.specs.Changes.{sees, IsWithinScreen};
 ghost use Rattle.live_player.specs.Lives.{bad_counted, drawn_for, instruction_of, instructions_of};
-ghost use Rattle.cdg_instructions.specs.Instruction.{content_of, InRange, Means};
+ghost use Rattle.cdg_instructions.specs.Effect.{effect_of};
+ghost use Rattle.cdg_instructions.specs.Instruction.{content_of, InRange};
 ghost use Rattle.cdg_instructions.specs.Meaning.{meaning};
 ghost use Rattle.cdg_instructions.specs.Sizes.{tile_height};
+ghost use Rattle.cdg_instructions.specs.declared.effect.Effect.TheVariants.{Draw};
 ghost use Rattle.cdg_screen.specs.Touched.{tile_touched, touched_by};
 ghost use Rattle.rw_code.specs.Codeword.{IsCodeword, IsWord};
 ghost use Rattle.rw_code.specs.Finding.{finding};
@@ -18,7 +20,7 @@ ghost use Rattle.stream_stages.specs.Steps.{bad_next, words_give, words_next, Id
 
 use crate::watch::Watch;
 use arrayvec::ArrayVec;
-use cdg_instructions::{Instr, TILE_HEIGHT, read, read_word};
+use cdg_instructions::{DrawnTile, Instr, TILE_HEIGHT, read, read_word};
 use cdg_io::Stage;
 use cdg_screen::PlainScreen;
 use raw_subcode::{BLOCK_BYTES, SLOTS_A_BLOCK};
@@ -102,44 +104,28 @@ fn draw_tile_seen(screen: &mut PlainScreen, watch: &mut Watch, symbols: &[u8; SY
     ensures draws { seen screen.new ≡ standing_after (seen screen.old) (meaning symbols.now ∷ []) }
     ensures sees { watch.new ≡ sees watch.old (meaning symbols.now) }
 {
-    let instr = tile_of(symbols);
-    screen.obey(&instr);
-    watch.see_tile(symbols[6] % 32, symbols[7]);
+    let tile = tile_of(symbols);
+    screen.draw(&tile);
+    watch.see_tile(tile.row, tile.column);
 }
 
-// The instruction of a pack that sets or combines a tile.
+// The tile of a pack that sets or combines one.
 #[inline(always)]
-fn tile_of(symbols: &[u8; SYMBOLS]) -> Instr
+fn tile_of(symbols: &[u8; SYMBOLS]) -> DrawnTile
     requires symbols { IsWord symbols.now }
     requires mode { slice_index symbols.now 0 ≡ 9 }
     requires code { (slice_index symbols.now 1 ≡ 6) ⊎ (slice_index symbols.now 1 ≡ 38) }
-    ensures meaning { Means symbols.now result }
-    ensures range { InRange result }
-    ensures touches { touched_by result
-        ≡ tile_touched (slice_index symbols.now 6 % 32) (slice_index symbols.now 7) }
-    ensures stays { (start : ℕ × ℕ) → offsets_from start (result ∷ []) ≡ start }
+    ensures draws { effect_of (meaning symbols.now) ≡ Draw result }
+    ensures touches { touched_by (meaning symbols.now) ≡ tile_touched result.row result.column }
+    ensures stays { (start : ℕ × ℕ) → offsets_from start (meaning symbols.now ∷ []) ≡ start }
+    ensures range { All (λ colour. colour < 16) result.colours }
 {
-    let colour0 = symbols[4] % 16;
-    let colour1 = symbols[5] % 16;
-    let row = symbols[6] % 32;
-    let column = symbols[7];
-    let lines = lines_of(symbols);
-    if symbols[1] == SET_TILE {
-        Instr::SetTile {
-            colour0,
-            colour1,
-            row,
-            column,
-            lines,
-        }
-    } else {
-        Instr::XorTile {
-            colour0,
-            colour1,
-            row,
-            column,
-            lines,
-        }
+    DrawnTile {
+        row: symbols[6] % 32,
+        column: symbols[7],
+        colours: [symbols[4] % 16, symbols[5] % 16],
+        lines: lines_of(symbols),
+        exclusive: symbols[1] == XOR_TILE,
     }
 }
 
