@@ -22,8 +22,8 @@ from typing import Any, Iterator, Mapping, NamedTuple
 
 DESK = Path(__file__).resolve().parent
 TOP = DESK.parent
-# The version stands beside the desk in an archive of its sources, and above it in the repository; between two releases it
-# ends in -dev, which packages of Python spell so.
+# The version stands beside the desk in an archive of its sources, and above it in the repository; between two releases
+# it ends in -dev, which packages of Python spell so.
 WRITTEN = next(path for path in (DESK / "VERSION", TOP / "VERSION") if path.exists()).read_text().strip()
 VERSION = WRITTEN.replace("-dev", ".dev0")
 PROJECT: dict[str, Any] = tomllib.loads((DESK / "pyproject.toml").read_text())["project"]
@@ -178,7 +178,8 @@ def build_wheel(
 def build_editable(
     wheel_directory: str, config_settings: Mapping[str, Any] | None = None, metadata_directory: str | None = None
 ) -> str:
-    """A wheel that only names this folder to Python: the desk runs from here, with what the checkout has in bin/ and lib/."""
+    """A wheel that only names this folder to Python: the desk runs from here, with what the checkout has in bin/ and
+    lib/."""
     link = File(f"{PROJECT['name'].replace('-', '_')}.pth", f"{DESK}\n".encode())
     return write_wheel(wheel_directory, [link, manual()], ANY)
 

@@ -34,9 +34,9 @@ class Version(argparse.Action):
         output.write_text(f"ribjasper-desk {__version__}\n")
         try:
             if version() != __version__:
-                output.tell(f"the library at hand has the version {version()}")
+                output.complain(f"the library at hand has the version {version()}")
         except output.Missing as missing:
-            output.tell(str(missing))
+            output.complain(str(missing))
         parser.exit()
 
 
@@ -76,7 +76,12 @@ def parser(command: str | None = None) -> argparse.ArgumentParser:
     commands = top.add_subparsers(metavar="COMMAND", required=True, parser_class=Parser)
     for name in COMMANDS if command is None else [command]:
         module_of(name).add_parser(commands)
+        add_quiet(commands.choices[name])
     return top
+
+
+def add_quiet(of: argparse.ArgumentParser) -> None:
+    of.add_argument("-q", "--quiet", action="store_true", help="print no notes and no progress; errors are printed")
 
 
 class Stopped(KeyboardInterrupt):
@@ -116,7 +121,7 @@ def open_streams() -> None:
             os.fstat(number)
         except OSError:
             os.open(os.devnull, how)
-    # A reader of a closed standard output is none: each write to it is refused.
+    # A closed standard output refuses each write.
     sys.stdout = sys.stdout or open(1, "w", closefd=False)
     sys.stderr = sys.stderr or open(2, "w", closefd=False)
 
@@ -129,7 +134,7 @@ def let_go_of_output() -> None:
         os.close(nothing)
 
 
-def inputs_of(arguments: argparse.Namespace | None) -> str:
+def called_on(arguments: argparse.Namespace | None) -> str:
     """How the files of a call are called where nobody knows which of them was at fault."""
     names = (getattr(arguments, name, None) for name in ("files", "file", "folder", "song", "image", "sheet", "stream"))
     found = next((name for name in names if name), "the call")
@@ -143,6 +148,7 @@ def followed(words: Sequence[str] | None) -> int:
     try:
         try:
             arguments = parser(words[0] if words and words[0] in COMMANDS else None).parse_args(words)
+            output.set_quiet(arguments.quiet)
             status: int = arguments.run(arguments)
         except SystemExit as end:
             status = end.code if isinstance(end.code, int) else 0
@@ -151,17 +157,18 @@ def followed(words: Sequence[str] | None) -> int:
     except Failure as failure:
         return told(failure)
     except Exception as error:
-        return told(failure_of(error, inputs_of(arguments)))
+        return told(failure_of(error, called_on(arguments)))
 
 
 def told(failure: Failure) -> int:
     for line in failure.lines:
-        output.tell(line)
+        output.complain(line)
     return failure.status
 
 
 def main(words: Sequence[str] | None = None) -> int:
     open_streams()
+    output.set_quiet(False)
     # Names of files are bytes: what is no text in this locale goes out as it came in.
     for stream in (sys.stdout, sys.stderr):
         if isinstance(stream, io.TextIOWrapper):
@@ -171,7 +178,7 @@ def main(words: Sequence[str] | None = None) -> int:
         with stopping():
             status = followed(words)
     except KeyboardInterrupt as stop:
-        output.tell("stopped")
+        output.complain("stopped")
         status = failures.STOPPED + getattr(stop, "number", signal.SIGINT)
     finally:
         beside.sweep()

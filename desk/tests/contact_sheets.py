@@ -12,12 +12,13 @@ from fixtures import TOP, write_wav
 from test_album import random_packs
 
 from ribjasper.songs.albums import joined_packs, made_ready, read_album, sing_all
-from ribjasper.common.library import HEIGHT, PACK, WIDTH, Player
+from ribjasper.common.library import HEIGHT, PACK, WIDTH
+from ribjasper.common.player import Player
 from ribjasper.common.output import png
 from ribjasper.songs.song_files import read_song
 from ribjasper.songs.song_script import Wishes, best
 from ribjasper.drawing.styles import read_style, shipped
-from ribjasper.songs.tracks import packs_of
+from ribjasper.songs.tracks import track_packs
 
 DOCS = TOP / "docs"
 SONGS = TOP / "examples" / "album"
@@ -64,7 +65,7 @@ def sheet(cells: list[Cell], columns: int) -> Any:
 
 def song_packs(path: Path, wishes: Wishes) -> bytes:
     made = best(read_song(path), wishes)
-    return packs_of(path, made.text(), 60 * 75)
+    return track_packs(path, made.text(), 60 * 75)
 
 
 def styles() -> list[Cell]:

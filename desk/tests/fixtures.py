@@ -60,7 +60,7 @@ def needs(module: str, package: str) -> Callable[[Test], Test]:
 
 
 PROGRAM = found_program()
-CALLS = "ribjasper_survey", "ribjasper_texts", "ribjasper_mend", "ribjasper_block_text_packs"
+CALLS = "ribjasper_survey", "ribjasper_texts", "ribjasper_mend_report", "ribjasper_block_text_packs"
 needs_library = unittest.skipUnless(PROGRAM and has(*CALLS), "lib/ or the program is not built (make library, make)")
 needs_plan = unittest.skipUnless(has("ribjasper_plan"), "lib/ is not built, or has no ribjasper_plan")
 needs_program = unittest.skipUnless(PROGRAM, "the program is not built (make)")

@@ -422,7 +422,8 @@ class Made(NamedTuple):
     reads: frozenset[str]
 
     def __repr__(self) -> str:
-        """The words, and of each input its length, its checksum and its beginning; KEEP is a folder where they are left."""
+        """The words, and of each input its length, its checksum and its beginning; KEEP is a folder where they are
+        left."""
         if keep := os.environ.get("KEEP"):
             for name, content in self.inputs.items():
                 (Path(keep) / name.replace("/", "-")).write_bytes(content)

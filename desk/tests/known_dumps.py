@@ -1,6 +1,6 @@
 """Dumps whose truth is known, in the forms that tools of the trade write, made from the written definitions of the
-subcode without a line of the desk or of its library. Words of R to W come from tests/peers/reckon_rows.py, which works them
-out by other means than the program."""
+subcode without a line of the desk or of its library. Words of R to W come from tests/peers/reckon_rows.py, which works
+them out by other means than the program."""
 import functools
 import random
 import site
@@ -68,8 +68,8 @@ class Disc:
         )
 
     def frame(self, block: int) -> bytes:
-        """The frame of a block, one in a hundred a catalogue number, one a recording code. The first block of a track may
-        carry its code."""
+        """The frame of a block, one in a hundred a catalogue number, one a recording code. The first block of a track
+        may carry its code."""
         track = self.track(block)
         if block < self.end and self.catalogue and block % 97 == 40:
             return q_frame(bytes([track.control << 4 | 2]) + digits(self.catalogue + "000") + bytes([bcd(block % 75)]))
@@ -182,7 +182,8 @@ def two_sessions(first: Disc, second: Disc, lead_out: int = 6750, lead_in_blocks
 
 
 def after(first: Disc, tracks: int, seconds: int, control: int = 0) -> Disc:
-    """The second session of a disc: so many tracks of so many seconds, behind a lead-out of 90 seconds and a lead-in of 60."""
+    """The second session of a disc: so many tracks of so many seconds, behind a lead-out of 90 seconds and a lead-in of
+    60."""
     start = first.end + 6750 + 4500 + PAUSE
     made = [
         Track(
@@ -196,8 +197,8 @@ def after(first: Disc, tracks: int, seconds: int, control: int = 0) -> Disc:
     return Disc(made, start + 75 * seconds * tracks)
 
 
-# How frames are changed by design. The published frames of a protected disc show this: one bit of each time is turned, and two
-# bits of the check of the right frame, as in 41 01 01 07 06 05 00 23 08 05 38 39 at 03:08:05.
+# How frames are changed by design. The published frames of a protected disc show this: one bit of each time is turned,
+# and two bits of the check of the right frame, as in 41 01 01 07 06 05 00 23 08 05 38 39 at 03:08:05.
 
 
 def libcrypt(right: bytes, seed: int, check_bits: int = 0x8001, of_content: bool = False) -> bytes:
@@ -278,8 +279,8 @@ EDC_OF = [remainder(byte << 32, 40) for byte in range(256)]
 
 
 def edc(content: bytes) -> bytes:
-    """The error detection code of a data sector: the remainder of its bits, the lowest of each byte first, by the polynomial
-    x^32 + x^31 + x^16 + x^15 + x^4 + x^3 + x + 1 = (x^16 + x^15 + x^2 + 1) (x^16 + x^2 + x + 1)."""
+    """The error detection code of a data sector: the remainder of its bits, the lowest of each byte first, by the
+    polynomial x^32 + x^31 + x^16 + x^15 + x^4 + x^3 + x + 1 = (x^16 + x^15 + x^2 + 1) (x^16 + x^2 + x + 1)."""
     state = 0
     for byte in content.translate(REVERSED):
         state = state << 8 & 0xFFFF_FFFF ^ EDC_OF[state >> 24 ^ byte]
@@ -345,8 +346,8 @@ def text_pack(kind: int, track: int, number: int, where: int, content: bytes) ->
 
 
 def text_packs(language: int, first: int, kinds: dict[int, list[bytes]], width: int = 1) -> list[bytes]:
-    """The packs of a language, numbered from one on: of each kind the texts of the album and the tracks, or where there is
-    but one the bytes as they are."""
+    """The packs of a language, numbered from one on: of each kind the texts of the album and the tracks, or where there
+    is but one the bytes as they are."""
     packs: list[bytes] = []
     for kind, texts in kinds.items():
         content = b"".join(text + bytes(width) for text in texts) if kind < 0x86 or kind == 0x8E else texts[0]

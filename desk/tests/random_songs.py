@@ -10,12 +10,13 @@ import tempfile
 from dataclasses import dataclass, field
 from pathlib import Path
 
-from ribjasper.common.library import PACK, WIDTH, Player
+from ribjasper.common.library import PACK, WIDTH
+from ribjasper.common.player import Player
 from ribjasper.drawing.styles import read_style
 from ribjasper.songs.pages import Placed
 from ribjasper.songs.song_files import read_song
 from ribjasper.songs.song_script import Made, Wishes, best
-from ribjasper.songs.tracks import packs_of
+from ribjasper.songs.tracks import track_packs
 
 BLOCKS, PAUSE = 75, 150
 # A word may be lit so many blocks late, which is 40 ms, and so many early, or as many as its tiles take: one pack each.
@@ -58,8 +59,8 @@ def random_song(dice: random.Random) -> str:
 
 @dataclass(eq=False)
 class Row:
-    """A row of the song: its page and place, its pixels as the bits of a number, when its words begin, and what was seen of
-    it: the first block with a part of it, with all of it, and with all of it lit."""
+    """A row of the song: its page and place, its pixels as the bits of a number, when its words begin, and what was
+    seen of it: the first block with a part of it, with all of it, and with all of it lit."""
 
     page: int
     slot: int
@@ -189,8 +190,8 @@ class Watch:
         self.shown[slot] = row if row.seen else None
 
     def order(self, block: int) -> None:
-        """Of two pages the rows of the later one stand above those of the earlier one that are not sung yet, and those of
-        one page in their order."""
+        """Of two pages the rows of the later one stand above those of the earlier one that are not sung yet, and those
+        of one page in their order."""
         unsung = sorted((row for row in self.shown.values() if row and not row.sung), key=self.rows.index)
         for one, other in zip(unsung, unsung[1:]):
             if (one.page == other.page) != (one.slot < other.slot):
@@ -256,7 +257,7 @@ def still_ink(placed: Placed) -> int:
 def watch(path: Path, wishes: Wishes) -> Watch:
     made = best(read_song(path), wishes)
     seconds = max(line.stays for line in made.maker.song.lines) + 4
-    packs = packs_of(path, made.text(), round(BLOCKS * seconds) + 5 * BLOCKS)
+    packs = track_packs(path, made.text(), round(BLOCKS * seconds) + 5 * BLOCKS)
     seen = Watch(made, path.name)
     with Player() as player:
         done = 0

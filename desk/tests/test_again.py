@@ -1,4 +1,5 @@
-"""`damage --again`: what is to be read again of discs whose damage is known, in each form of list; and what a drive said."""
+"""`damage --again`: what is to be read again of discs whose damage is known, in each form of list; and what a drive
+said."""
 import random
 import re
 import unittest

@@ -1,5 +1,5 @@
-"""`album`: each track begins clean from any screen, at its time, and nothing is drawn across a border; `pair`: the file that
-is sold begins with presets and colours, and is what hand work makes."""
+"""`album`: each track begins clean from any screen, at its time, and nothing is drawn across a border; `pair`: the file
+that is sold begins with presets and colours, and is what hand work makes."""
 import os
 import random
 import re
@@ -14,7 +14,8 @@ from fixtures import (
     needs_plan, needs_program, program, write_wav,
 )  # fmt: skip
 
-from ribjasper.common.library import BLOCK, PACK, RAW, SECTOR, Player, convert
+from ribjasper.common.library import BLOCK, PACK, RAW, SECTOR, packs_of_blocks
+from ribjasper.common.player import Player
 from ribjasper.common.planning import least_lead_in
 
 Change = Callable[[str], str]
@@ -112,10 +113,10 @@ class AlbumTest(SongsTest):
     def test_each_track_begins_clean_from_any_screen(self) -> None:
         self.album()
         program = self.program()
-        packs, told = convert(program, RAW, 0)
+        packs, told = packs_of_blocks(program, RAW, 0)
         self.assertEqual((told.bad, len(program) // BLOCK), (0, PAUSE + sum(LENGTHS) + 2 * GAP))
         for number, (start, length) in enumerate(zip(self.starts(), LENGTHS)):
-            cut, _ = convert(program[BLOCK * start :], RAW, 0)
+            cut, _ = packs_of_blocks(program[BLOCK * start :], RAW, 0)
             with Player() as whole, Player() as skipped:
                 whole.draw(packs[: PACK * 4 * start])
                 skipped.draw(random_packs(number))
@@ -133,7 +134,7 @@ class AlbumTest(SongsTest):
 
     def test_nothing_is_sent_between_tracks(self) -> None:
         self.album()
-        packs, _ = convert(self.program(), RAW, 0)
+        packs, _ = packs_of_blocks(self.program(), RAW, 0)
         ends = [0] + [start + length for start, length in zip(self.starts(), LENGTHS)]
         for end, start in zip(ends, self.starts()):
             # A pack has eight slots, of which the first is seven before its own.
@@ -144,7 +145,7 @@ class AlbumTest(SongsTest):
     def test_words_are_lit_at_their_times(self) -> None:
         """The second line of each song, by the pixels that change colour."""
         self.album()
-        packs, _ = convert(self.program(), RAW, 0)
+        packs, _ = packs_of_blocks(self.program(), RAW, 0)
         blue, white = (2 * 17, 8 * 17, 15 * 17), (255, 255, 255)
         for start in self.starts():
             with Player() as player:
@@ -335,7 +336,7 @@ class PairTest(SongsTest):
         self.pair("--karaoke-cd")
         image = self.folder / "one.bin"
         self.assertEqual(os.path.getsize(image), SECTOR * LENGTHS[0])
-        packs, _ = convert(
+        packs, _ = packs_of_blocks(
             b"".join(image.read_bytes()[at + 2352 : at + SECTOR] for at in range(0, SECTOR * LENGTHS[0], SECTOR)),
             RAW,
             0,

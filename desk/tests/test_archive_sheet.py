@@ -204,8 +204,8 @@ class SheetOfDumpsTest(FolderTest):
         self.assertIn("tracks 01 to 02, lead-out at 00:42:00", rows[1]["sessions"][0])
 
     def test_an_index_that_begins_with_a_code(self) -> None:
-        """A frame with the catalogue number or a code names no index: where codes or control bits of the tracks tell, the
-        index begins there, and otherwise the sheet says that it may."""
+        """A frame with the catalogue number or a code names no index: where codes or control bits of the tracks tell,
+        the index begins there, and otherwise the sheet says that it may."""
         for where, hides, has_codes, controls in itertools.product((0, 2), (5, 6), (False, True), ((0, 0), (0, 4))):
             start = 150 + 75 * 20
             tracks = [
@@ -325,7 +325,8 @@ class SheetOfDumpsTest(FolderTest):
         )
 
     def test_a_sheet_compared_with_its_own_dump(self) -> None:
-        """Whatever the dump lacks, and whatever times count from, a sheet differs in nothing from the dump it was made of."""
+        """Whatever the dump lacks, and whatever times count from, a sheet differs in nothing from the dump it was made
+        of."""
         disc = coded(3, 20)
         whole = known.lead_in(disc, 60) + program(disc, 0, disc.end, 0)
         program_only = program(disc, 150, disc.end, 0)
@@ -366,7 +367,8 @@ class SheetOfDumpsTest(FolderTest):
         self.assertIn("the times of later files are not known", ran.told)
 
     def test_a_cue_with_strange_names_and_numbers(self) -> None:
-        """A name that no file can have is that of none, and digits of other scripts are numbers or words as they may be."""
+        """A name that no file can have is that of none, and digits of other scripts are numbers or words as they may
+        be."""
         text = 'FILE "a\0b.bin" BINARY\nTRACK ² AUDIO\nTRACK 01 AUDIO\nINDEX ² 00:00:00\nINDEX 01 00:00:00\n'
         cue = read_cue("a.cue", text.encode())
         self.assertEqual([(it.number, it.indices) for it in cue.tracks], [(1, {1: 0})])

@@ -51,12 +51,12 @@ class BesideTest(FolderTest):
             ("d.lrc", "dd.WAV", False),
         ):
             path, other = self.write(lyrics, ""), self.write(sound, "")
-            self.assertEqual(audio.beside(path), other if is_found else None, lyrics)
+            self.assertEqual(audio.sound_beside(path), other if is_found else None, lyrics)
         # In doubt it is the one whose name has the same letters.
         self.write("E.WAV", "")
-        self.assertEqual(audio.beside(self.write("e.lrc", "")), self.folder / "E.WAV")
+        self.assertEqual(audio.sound_beside(self.write("e.lrc", "")), self.folder / "E.WAV")
         self.write("e.WAV", "")
-        self.assertEqual(audio.beside(self.folder / "e.lrc"), self.folder / "e.WAV")
+        self.assertEqual(audio.sound_beside(self.folder / "e.lrc"), self.folder / "e.WAV")
 
 
 class AudioTest(FolderTest):

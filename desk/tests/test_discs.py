@@ -5,7 +5,8 @@ import unittest
 from fixtures import FolderTest, has, needs_program
 
 from ribjasper.common import library
-from ribjasper.common.discs import COPY, SheetDisc, SheetTrack, read_disc, tracks_of
+from ribjasper.common.cue_sheets import COPY
+from ribjasper.common.discs import SheetDisc, SheetTrack, read_disc, tracks_of
 from ribjasper.common.library import SheetRow
 from ribjasper.common.failures import Refusal
 from ribjasper.common.planning import ScriptWhy, SheetWhy, Why, without_line
@@ -85,7 +86,8 @@ class ReadTest(FolderTest):
         self.assertEqual(second, SheetTrack(2, 460, [535], 910, 0, 0, 0, {"songwriter": b"Else"}))
 
     def test_a_long_text(self) -> None:
-        """One that is longer than what the desk gives room for at first: more than a disc holds, so the sheet is refused."""
+        """One that is longer than what the desk gives room for at first: more than a disc holds, so the sheet is
+        refused."""
         title = b"x" * 70_000
         self.assertEqual(
             library.sheet_text(b'TITLE "%b"\n' % title + SHEET.replace(b'TITLE "All"\n', b""), 0, 0), title

@@ -1,4 +1,5 @@
-"""Songs as documents: what is opened and saved is the same song, whatever kind of file it was; exports are read back."""
+"""Songs as documents: what is opened and saved is the same song, whatever kind of file it was; exports are read
+back."""
 import importlib
 import random
 import shutil

@@ -93,7 +93,7 @@ class MainTest(FolderTest):
     def ended(self, error: BaseException) -> tuple[int, str]:
         """What a command ends with in which this happens."""
         path = self.write("x", b"dump")
-        with mock.patch("ribjasper.dumps.loading.Dump", side_effect=error):
+        with mock.patch("ribjasper.dumps.loading.DumpFile", side_effect=error):
             ran = desk("identify", path)
         self.assertEqual(ran.told.count("\n"), 1)
         return ran.status, ran.told.removeprefix(f"ribjasper-desk: {path}: ").rstrip("\n")

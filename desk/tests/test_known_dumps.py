@@ -11,7 +11,7 @@ import known_dumps as known
 from fixtures import FolderTest, Word, desk, needs_library
 from known_dumps import BLOCK, REDUMPER_LEAD_IN, album, program
 from ribjasper.dumps.detection import form_of
-from ribjasper.dumps.dump import Dump
+from ribjasper.dumps.dump import DumpFile
 
 DISC = album(4, 3, catalogue="0123456789012")
 SHORT = album(0.5, 1)
@@ -220,7 +220,8 @@ class KnownDumpsTest(FolderTest):
                 self.check_sheet(case, truth)
 
     def check_sheet(self, case: str, truth: Truth) -> None:
-        """The tracks of the disc, by a sheet; dumps that have no Q, or a part of the disc, are refused or have a part."""
+        """The tracks of the disc, by a sheet; dumps that have no Q, or a part of the disc, are refused or have a
+        part."""
         ran = desk("sheet", self.folder / truth.name)
         has_q = "cooked" not in truth.form and "cdg" not in truth.form and "Q: not read" not in truth.note
         self.assertEqual(ran.status, 0 if has_q else 3, ran.told)
@@ -229,15 +230,15 @@ class KnownDumpsTest(FolderTest):
             self.assertEqual(tracks, [("01", "00:00:00"), ("02", "01:20:00"), ("03", "02:40:00")])
 
     def test_packs_have_no_header(self) -> None:
-        """Whatever their number, with parity and without, dense and sparse, torn, and behind idle ones: the first pack is the
-        first of the file, unless --skip says otherwise."""
+        """Whatever their number, with parity and without, dense and sparse, torn, and behind idle ones: the first pack
+        is the first of the file, unless --skip says otherwise."""
         chance = random.Random(1)
         for number in range(16):
             content = packs(chance.randrange(15_990, 20_000), chance.choice((0.05, 0.5, 1)))
             content = content if number % 3 else known.without_parity(content)
             content = bytes(24 * chance.choice((0, 1, 400))) + content[: len(content) - chance.choice((0, 0, 5))]
             path = self.write(f"song{number}.{('cdg', 'bin')[number % 2]}", content)
-            found, _ = form_of(Dump(path))
+            found, _ = form_of(DumpFile(path))
             assert found is not None
             self.assertEqual(found.skip, 0)
             self.assertEqual(

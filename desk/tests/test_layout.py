@@ -1,5 +1,5 @@
-"""The structs that the desk declares for the library lie in memory as tools/check/abi.txt lists them. check_abi.py compares that
-list with the header, as a C compiler lays it out."""
+"""The structs that the desk declares for the library lie in memory as tools/check/abi.txt lists them. check_abi.py
+compares that list with the header, as a C compiler lays it out."""
 import ctypes
 import inspect
 import re

@@ -7,8 +7,8 @@ from ribjasper.common import library
 
 
 def rank(numbers: list[int]) -> int:
-    """How many of the differences from the first number are independent, as sums without carry: each pack of a tile adds one
-    to what the tile can have, but the first, which sets two colours."""
+    """How many of the differences from the first number are independent, as sums without carry: each pack of a tile
+    adds one to what the tile can have, but the first, which sets two colours."""
     found: list[int] = []
     for number in numbers[1:]:
         difference = number ^ numbers[0]

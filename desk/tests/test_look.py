@@ -1,4 +1,5 @@
-"""`look`: the page shows what the player shows, tells what is late, and keys move what is sung; in node and in Chromium."""
+"""`look`: the page shows what the player shows, tells what is late, and keys move what is sung; in node and in
+Chromium."""
 import base64
 import json
 import os
@@ -14,7 +15,8 @@ from unittest import mock
 
 from fixtures import TOP, FolderTest, desk, needs_font, needs_pillow, needs_plan, needs_program, write_wav
 
-from ribjasper.common.library import HEIGHT, PACK, WIDTH, Player
+from ribjasper.common.library import HEIGHT, PACK, WIDTH
+from ribjasper.common.player import Player
 from ribjasper.commands.publish.look import web
 
 SCRIPT = TOP / "desk" / "ribjasper" / "commands" / "publish" / "look.js"
@@ -143,7 +145,8 @@ class LookTest(FolderTest):
 
     @needs_node
     def test_what_is_not_edited_is_saved_whole(self) -> None:
-        """Rests, ends of words and lines, names, tags and pictures; the file is spelled out by hand as the page writes it."""
+        """Rests, ends of words and lines, names, tags and pictures; the file is spelled out by hand as the page writes
+        it."""
         rich = """[ti:A title]
 [by:Nobody]
 [singer:Ann]
@@ -178,7 +181,8 @@ class LookTest(FolderTest):
 
     @needs_node
     def test_keys_of_what_has_the_focus(self) -> None:
-        """Space on a button is the button's own, arrows on the slider are the slider's own, and others are the page's."""
+        """Space on a button is the button's own, arrows on the slider are the slider's own, and others are the
+        page's."""
         found = self.node(
             """const on = (names) => ({ closest: (asked) => asked.split(", ").some((one) => names.includes(one)) ? {} : null });
             const key = (key, ...names) => look.isOwnKey({ key, target: on(names) });
@@ -193,7 +197,8 @@ class LookTest(FolderTest):
         self.assertEqual(moved, [4, 6, 12, 0, 0, 12, None])
 
     def test_colours_of_the_page_can_be_read(self) -> None:
-        """By the formula of WCAG 2: 4.5 for text, on the page and on the band of the chosen line; 3 for bars and edges."""
+        """By the formula of WCAG 2: 4.5 for text, on the page and on the band of the chosen line; 3 for bars and
+        edges."""
         page = SCRIPT.with_suffix(".html").read_text()
         themes = re.findall(r":root \{([^}]*--ground[^}]*)\}", page)
         self.assertEqual(len(themes), 2)

@@ -10,14 +10,15 @@ from fixtures import (
 )  # fmt: skip
 from random_songs import bits
 from ribjasper.drawing.colours import Colour, contrast
-from ribjasper.common.library import HEIGHT, PACK, RAW, WIDTH, Player, convert
+from ribjasper.common.library import HEIGHT, PACK, RAW, WIDTH, packs_of_blocks
+from ribjasper.common.player import Player
 from ribjasper.commands.publish import lyrics
 from ribjasper.songs.pages import DotOut, Placed
 from ribjasper.songs.song_script import Made, Maker, Wishes, best
 from ribjasper.songs.songs import Song
 from ribjasper.drawing.styles import read_style, shipped
 from ribjasper.songs.timeline import EARLY, blocks_for
-from ribjasper.common.times import blocks, clock
+from ribjasper.common.times import blocks, spelled
 
 SHEET = 'FILE "a.wav" WAVE\nTRACK 01 AUDIO\nINDEX 01 00:00:00\n'
 # The Japanese font of the package fonts-vlgothic, which the desk finds by itself.
@@ -112,10 +113,10 @@ class ScriptTest(FolderTest):
     def stream(self, script: Path) -> Path:
         """A disc that ends three seconds after the last picture."""
         last = [line.split()[2] for line in script.read_text().splitlines() if line.startswith("show")][-1]
-        return author(self.write("a.cue", SHEET), script, clock(blocks(last) + 3 * 75), self.folder / "a.raw")
+        return author(self.write("a.cue", SHEET), script, spelled(blocks(last) + 3 * 75), self.folder / "a.raw")
 
     def is_planned(self, script: Path) -> None:
-        self.assertEqual(desk("plan", self.write("a.cue", SHEET), script, "--length", clock(30_000)).status, 0)
+        self.assertEqual(desk("plan", self.write("a.cue", SHEET), script, "--length", spelled(30_000)).status, 0)
 
     @staticmethod
     def letters(placed: Placed) -> list[bytes]:
@@ -134,7 +135,7 @@ class ScriptTest(FolderTest):
 
     def screens(self, script: Path) -> Iterator[tuple[int, bytes]]:
         """What stands at each block of the program from the end of the pause on: the numbers of all pixels."""
-        packs, _ = convert(self.stream(script).read_bytes(), RAW, LEAD_IN)
+        packs, _ = packs_of_blocks(self.stream(script).read_bytes(), RAW, LEAD_IN)
         with Player() as player:
             done, pixels = 0, player.screen()
             for block in range(PAUSE, len(packs) // PACK // 4 + 2):
@@ -147,7 +148,7 @@ class ScriptTest(FolderTest):
     def pictures(self, script: Path, blocks: list[int]) -> dict[int, Screen]:
         """What stands at some blocks of the program, by the library; at the first of them by the program too."""
         stream = self.stream(script)
-        packs, _ = convert(stream.read_bytes(), RAW, LEAD_IN)
+        packs, _ = packs_of_blocks(stream.read_bytes(), RAW, LEAD_IN)
         shown, done = {}, 0
         with Player() as player:
             for block in sorted(set(blocks)):

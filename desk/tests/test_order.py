@@ -1,5 +1,5 @@
-"""Rows come in the order of singing, words are lit at their times and no two lines are mixed, in songs as chance makes them
-and in those that went wrong once; decoded frame by frame."""
+"""Rows come in the order of singing, words are lit at their times and no two lines are mixed, in songs as chance makes
+them and in those that went wrong once; decoded frame by frame."""
 import random
 import unittest
 from dataclasses import replace

@@ -1,5 +1,5 @@
-"""The desk on Windows and macOS, as far as Linux can show it: what these systems lack is taken away from Python, and what they do
-otherwise is done so. Commands then write the same files, and names and places are those of the system."""
+"""The desk on Windows and macOS, as far as Linux can show it: what these systems lack is taken away from Python, and
+what they do otherwise is done so. Commands then write the same files, and names and places are those of the system."""
 import os
 import subprocess
 import sys

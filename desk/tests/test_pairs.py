@@ -1,5 +1,5 @@
-"""Albums of finished pairs and lyrics: each track begins clean from any screen, and the graphics of a pair keep their time to
-its sound; and what a list may ask of the sound."""
+"""Albums of finished pairs and lyrics: each track begins clean from any screen, and the graphics of a pair keep their
+time to its sound; and what a list may ask of the sound."""
 import array
 import math
 import os
@@ -15,7 +15,8 @@ from fixtures import (
     PAUSE, FolderTest, Ran, Word, desk, needs_ffmpeg, needs_font, needs_pillow, needs_plan, needs_program, write_wav,
 )  # fmt: skip
 
-from ribjasper.common.library import BLOCK, PACK, RAW, SECTOR, Player, convert
+from ribjasper.common.library import BLOCK, PACK, RAW, SECTOR, packs_of_blocks
+from ribjasper.common.player import Player
 from ribjasper.common.planning import least_lead_in
 from ribjasper.songs import audio
 from ribjasper.songs.albums import check_digit
@@ -45,7 +46,8 @@ def tiles(dice: random.Random, count: int) -> list[bytes]:
 
 
 def usual(dice: random.Random, seconds: int) -> bytes:
-    """Graphics as most programs write them: the memory preset sixteen times, border, colours, and tiles now and then."""
+    """Graphics as most programs write them: the memory preset sixteen times, border, colours, and tiles now and
+    then."""
     packs = [pack(1, 5, number) for number in range(16)] + [pack(2, 3), *colours(dice)]
     while len(packs) < 300 * seconds:
         packs += dice.choice(([bytes(24)] * dice.randint(1, 40), tiles(dice, dice.randint(1, 60)), colours(dice)))
@@ -53,7 +55,8 @@ def usual(dice: random.Random, seconds: int) -> bytes:
 
 
 def hasty(dice: random.Random, seconds: int) -> bytes:
-    """Graphics whose first packs draw at once, with scrolls, and with bits of P and Q in each byte, as some rips have."""
+    """Graphics whose first packs draw at once, with scrolls, and with bits of P and Q in each byte, as some rips
+    have."""
     packs = [*colours(dice), *tiles(dice, 200)]
     while len(packs) < 300 * seconds:
         packs += [pack(20, 2, dice.randrange(6), dice.randrange(12)), *tiles(dice, 50), *[bytes(24)] * 30]
@@ -130,12 +133,12 @@ class PairsTest(FolderTest):
                     self.graphics["usual"], b""]  # fmt: skip
         program, starts = self.program(), self.starts()
         self.assertEqual(len(starts), 6)
-        whole, told = convert(program, RAW, 0)
+        whole, told = packs_of_blocks(program, RAW, 0)
         self.assertEqual(told.bad, 0)
         ends = [*(start - 75 for start in starts[1:]), len(program) // BLOCK]
         for number, (start, end, content) in enumerate(zip(starts, ends, contents)):
             later = LEAD if number == 1 else 0
-            cut, _ = convert(program[BLOCK * start :], RAW, 0)
+            cut, _ = packs_of_blocks(program[BLOCK * start :], RAW, 0)
             with Player() as through, Player() as skipped, Player() as alone:
                 through.draw(whole[: PACK * 4 * start])
                 # Another track was left with its picture moved.

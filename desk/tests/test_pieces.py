@@ -8,14 +8,16 @@ from ribjasper.dumps.survey import Stretch
 
 class PiecesTest(unittest.TestCase):
     def test_small_pieces_alone(self) -> None:
-        """Two hundred pieces, none of which has a hundredth of the frames: the first of the largest tells the lead-in."""
+        """Two hundred pieces, none of which has a hundredth of the frames: the first of the largest tells the
+        lead-in."""
         first = range(100, 1300, 6)
         survey = mock.Mock(blocks=1300)
         survey.stretches.return_value = [Stretch(at, at + 2, at - 100 + number) for number, at in enumerate(first)]
         self.assertEqual(lead_in_of(survey), 100)
 
     def test_pieces_go_where_their_times_say(self) -> None:
-        """A part that stands before the one that comes first on the disc, in one layer; stale blocks in one of their own."""
+        """A part that stands before the one that comes first on the disc, in one layer; stale blocks in one of their
+        own."""
         swapped = [Stretch(0, 99, 500), Stretch(100, 299, 0)]
         self.assertEqual(layers_of(swapped), [[Piece(0, 100, 500, 100), Piece(100, 300, -100, 200)]])
         stale = [Stretch(0, 999, 0), Stretch(1000, 1099, 200), Stretch(1100, 1999, 1100)]

@@ -1,4 +1,5 @@
-"""`q-fix`: what can stand in a block alone is filled in, what cannot is left; changed frames of copy protection; P and order."""
+"""`q-fix`: what can stand in a block alone is filled in, what cannot is left; changed frames of copy protection; P and
+order."""
 import random
 import unittest
 from typing import Callable
@@ -216,7 +217,8 @@ class QFixTest(FolderTest):
             self.assertNotIn("\nchanged\t", ran.out)
 
     def test_frames_with_a_regular_pattern(self) -> None:
-        """Frames that all differ in the same bits, and good frames that all tell the same wrong distance, stay and are listed."""
+        """Frames that all differ in the same bits, and good frames that all tell the same wrong distance, stay and are
+        listed."""
         stream, blocks = self.whole, [300 + 131 * k for k in range(6)]
         for block in blocks:
             stream = spoiled(stream, block, 0b1011 << 40)

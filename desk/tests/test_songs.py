@@ -1,4 +1,5 @@
-"""Lyrics of all kinds: what is read of them, in whatever letters they are written, and that all faults are told at once."""
+"""Lyrics of all kinds: what is read of them, in whatever letters they are written, and that all faults are told at
+once."""
 import random
 import struct
 import sys
@@ -92,7 +93,8 @@ class LrcTest(SongTest):
         )
         self.assertEqual((song.title, song.performer), ("A song", "Somebody"))
         self.assertEqual(words(song), [[("First line", 5.5)], [("Second", 10)], [("Third", 60)]])
-        # A line whose end no time tells is swept over with at least twelve letters a second, and stays until the next one.
+        # A line whose end no time tells is swept over with at least twelve letters a second, and stays until the next
+        # one.
         self.assertEqual([line.end for line in song.lines], [6.5, 12.5, 61])
         self.assertEqual([line.stays for line in song.lines], [10, 12.5, 61])
         self.assertEqual([line.is_open for line in song.lines], [True, False, True])

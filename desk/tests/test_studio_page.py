@@ -12,7 +12,8 @@ from typing import Any
 
 from fixtures import DESK, TOP, FolderTest, desk, needs_font, needs_pillow, needs_plan, needs_program, write_wav
 
-from ribjasper.common.library import PACK, Player
+from ribjasper.common.library import PACK
+from ribjasper.common.player import Player
 from ribjasper.common.web import web
 from ribjasper.songs.song_files import read_song
 

@@ -1,4 +1,5 @@
-"""`sums --tracks`: tracks as other code cuts them, the disc of a list, the offset of its audio, and error detection codes."""
+"""`sums --tracks`: tracks as other code cuts them, the disc of a list, the offset of its audio, and error detection
+codes."""
 import hashlib
 import random
 import subprocess
@@ -61,7 +62,7 @@ class EdcTest(unittest.TestCase):
         found = edc.EdcCount()
         edc.count(b"".join(sectors), 7, found)
         self.assertEqual((found.sectors, found.without, found.bad), (16, 1, []))
-        self.assertEqual(edc.codes([bytes(AUDIO)], edc.MODE_1), [bytes(4)])
+        self.assertEqual(edc.edc_codes([bytes(AUDIO)], edc.MODE_1), [bytes(4)])
 
     def test_what_is_wrong(self) -> None:
         chance = random.Random(3)

@@ -30,6 +30,9 @@ put() {
         755 | 644) install -m "$1" "$2" "$3" ;;
         filled) filled "$2" >"$3" && chmod 644 "$3" ;;
         written) "$2" >"$3" && chmod 644 "$3" ;;
+        bash | zsh)
+            if "$2" "$1" >"$3"; then chmod 644 "$3"; else rm -f "$3" && rmdir "$(dirname "$3")" 2>/dev/null || true; fi
+            ;;
         link) ln -sf "$2" "$3" ;;
         calls)
             install -d "$3"

@@ -1,1 +1,1 @@
-"""What all of the desk stands on: output, failures, words of the command line, the library and the program."""
+"""What all packages of the desk use: output, failures, options of the command line, the library and the program."""

@@ -1,4 +1,4 @@
-"""Files that wait beside where they are to stand, until all of them are written, and signals that have to wait too."""
+"""Temporary files beside the outputs, until all outputs are written; and signals that are delayed for as long."""
 import atexit
 import contextlib
 import errno
@@ -11,7 +11,7 @@ from typing import Any, Iterator
 
 from .failures import writing
 
-# What is written waits under such a name beside where it is to stand.
+# Names of temporary files begin with this.
 PREFIX = ".ribjasper-"
 # What a user ends a command with. Windows has SIGBREAK in place of SIGHUP.
 STOPS = tuple(getattr(signal, name) for name in ("SIGINT", "SIGTERM", "SIGHUP", "SIGBREAK") if hasattr(signal, name))
@@ -78,7 +78,7 @@ def new_mode() -> int:
     return 0o666 & ~mask
 
 
-class Part(io.BufferedIOBase):
+class WaitingFile(io.BufferedIOBase):
     """Where an output is written to; what the system refuses names the output."""
 
     def __init__(self, name: str, file: Any) -> None:

@@ -1,10 +1,10 @@
 """What burners read beside the sectors of a disc image: its sheet and its table of contents for cdrdao."""
 import os
 
-from .cue_sheets import COMMANDS, FLAGS, quoted
-from .discs import COPY, FOUR_CHANNELS, PRE_EMPHASIS, SheetDisc, SheetTrack
+from .cue_sheets import COMMANDS, COPY, FOUR_CHANNELS, PRE_EMPHASIS, CueWriter
+from .discs import SheetDisc, SheetTrack
 from .library import SECTOR
-from .times import PAUSE, clock
+from .times import PAUSE, spelled
 
 # The shortest track, which burners refuse to make shorter.
 SHORTEST_TRACK = 4 * 75
@@ -46,10 +46,10 @@ def toc_track(disc: SheetDisc, track: SheetTrack, name: str) -> list[str]:
     if code := track.texts.get("code"):
         lines.append(f"ISRC {in_quotes(code)}")
     lines += toc_texts(disc, track.texts, False)
-    lines.append(f"DATAFILE {in_quotes(os.fsencode(name))} #{SECTOR * (begin - PAUSE)} {clock(track.end - begin)}")
+    lines.append(f"DATAFILE {in_quotes(os.fsencode(name))} #{SECTOR * (begin - PAUSE)} {spelled(track.end - begin)}")
     if track.indices[0] > begin:
-        lines.append(f"START {clock(track.indices[0] - begin)}")
-    return lines + [f"INDEX {clock(index - track.indices[0])}" for index in track.indices[1:]]
+        lines.append(f"START {spelled(track.indices[0] - begin)}")
+    return lines + [f"INDEX {spelled(index - track.indices[0])}" for index in track.indices[1:]]
 
 
 def toc_of(disc: SheetDisc, name: str) -> str:
@@ -61,29 +61,28 @@ def toc_of(disc: SheetDisc, name: str) -> str:
     return "".join(f"{line}\n" for line in lines)
 
 
-def cue_texts(texts: dict[str, bytes], margin: bytes) -> list[bytes]:
-    return [
-        b"%b%b %b" % (margin, name, spelled)
-        for kind, name in COMMANDS.items()
-        if kind in texts and (spelled := quoted(texts[kind]))
-    ]
+def write_texts(sheet: CueWriter, texts: dict[str, bytes]) -> None:
+    for kind in COMMANDS:
+        if kind in texts:
+            sheet.text(kind, texts[kind])
 
 
 def cue_of(disc: SheetDisc, name: str) -> bytes:
     """A sheet of the image: tracks of sectors with subcode, whose gaps are in the file."""
-    code = disc.texts.get("code")
-    lines = [b"CATALOG " + code] if code else []
-    lines += [*cue_texts(disc.texts, b""), b'FILE "' + os.fsencode(name) + b'" BINARY']
+    sheet = CueWriter()
+    if code := disc.texts.get("code"):
+        sheet.catalogue(code)
+    write_texts(sheet, disc.texts)
+    sheet.file(os.fsencode(name), b"BINARY")
     for track in disc.tracks:
-        flags = [name for bit, name in FLAGS if track.control & bit]
-        lines.append(b"  TRACK %02d CDG" % track.number)
-        lines += [b"    FLAGS " + b" ".join(flags)] * bool(flags)
-        lines += cue_texts(track.texts, b"    ")
+        sheet.track(track.number, b"CDG")
+        sheet.flags(track.control)
+        write_texts(sheet, track.texts)
         if code := track.texts.get("code"):
-            lines.append(b"    ISRC " + code)
+            sheet.isrc(code)
         begin = max(track.begin, PAUSE)
-        starts = list(enumerate(track.indices, 1))
         if begin < track.indices[0]:
-            starts.insert(0, (0, begin))
-        lines += [b"    INDEX %02d %s" % (number, clock(start - PAUSE).encode()) for number, start in starts]
-    return b"".join(line + b"\n" for line in lines)
+            sheet.index(0, begin - PAUSE)
+        for number, time in enumerate(track.indices, 1):
+            sheet.index(number, time - PAUSE)
+    return sheet.content()

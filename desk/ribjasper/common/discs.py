@@ -13,8 +13,6 @@ from .times import PAUSE
 
 # Four repetitions of the longest table of contents.
 ROOM_FOR_TABLE = 4 * 3 * 102
-# Control bits of a track.
-COPY, PRE_EMPHASIS, FOUR_CHANNELS = 2, 1, 8
 
 
 @dataclass
@@ -34,7 +32,7 @@ class SheetTrack:
 
 @dataclass
 class SheetDisc:
-    """The tracks, the texts of the album, and the stream of the sheet with no pictures, of which so many blocks are
+    """The tracks, the texts of the album, the stream of the sheet with no pictures, and how many of its blocks are
     lead-in."""
 
     tracks: list[SheetTrack]
@@ -47,8 +45,8 @@ class SheetDisc:
         return len(self.stream) // BLOCK - self.lead_in
 
     def silence(self) -> set[int]:
-        """The blocks whose sound no file has: before each track that has a pregap, of the first one behind the pause, and
-        behind each that has a postgap."""
+        """The blocks whose sound no file has: before each track that has a pregap, of the first one behind the pause,
+        and behind each that has a postgap."""
         befores = (range(max(track.begin, PAUSE), max(track.begin, PAUSE) + track.pregap) for track in self.tracks)
         behinds = (range(track.end - track.postgap, track.end) for track in self.tracks)
         return {block for gap in (*befores, *behinds) for block in gap}
@@ -70,9 +68,9 @@ def read_disc(path: Path, sheet: bytes, audio: int) -> SheetDisc:
     said = library.sheet(sheet)
     if said.why:
         raise Refusal(path, NoPlan(Why.SHEET_REFUSED, said.line, said.why).cause())
-    disc = SheetDisc(tracks_of(said.rows), texts_of(sheet, 0, said.catalogue), stream, lead_in)
+    disc = SheetDisc(tracks_of(said.rows), sheet_texts(sheet, 0, said.catalogue), stream, lead_in)
     for place, track in enumerate(disc.tracks, 1):
-        track.texts |= texts_of(sheet, place, b"")
+        track.texts |= sheet_texts(sheet, place, b"")
     for track, following in zip(disc.tracks, disc.tracks[1:]):
         track.end = following.begin
     disc.tracks[-1].end = disc.blocks
@@ -80,11 +78,11 @@ def read_disc(path: Path, sheet: bytes, audio: int) -> SheetDisc:
 
 
 def tracks_of(rows: list[SheetRow]) -> list[SheetTrack]:
-    """The tracks of the index lines of a sheet, as far as they tell them. Two indices at one time are one, as on the
+    """The tracks of the index lines of a sheet, as far as these say. Two indices at one time are one, as on the
     disc."""
     tracks: list[SheetTrack] = []
     gaps = 0
-    for _, lines in itertools.groupby(rows, key=track_of):
+    for _, lines in itertools.groupby(rows, key=row_track):
         first, *others = lines
         here = PAUSE + gaps + first.pregap
         times = sorted({here + row.time for row in (first, *others) if row.index})
@@ -97,12 +95,12 @@ def tracks_of(rows: list[SheetRow]) -> list[SheetTrack]:
     return tracks
 
 
-def track_of(row: SheetRow) -> int:
+def row_track(row: SheetRow) -> int:
     number: int = row.track
     return number
 
 
-def texts_of(sheet: bytes, place: int, code: bytes) -> dict[str, bytes]:
+def sheet_texts(sheet: bytes, place: int, code: bytes) -> dict[str, bytes]:
     """The texts of the album, or of a track, and its code."""
     found = {kind: library.sheet_text(sheet, number, place) for number, kind in enumerate(library.SHEET_TEXTS)}
     return {kind: text for kind, text in {**found, "code": code}.items() if text}

@@ -8,8 +8,6 @@ from typing import Iterator, NamedTuple
 Name = str | bytes | os.PathLike[str] | os.PathLike[bytes]
 # What the desk ends with beside 0. Damage was found, or files differ: that is an answer, and no failure.
 FOUND = 1
-# The words of the call are wrong.
-USAGE = 2
 # A file cannot be used: an input that is not what it should be, or an output that would take the place of another file.
 REFUSED = 3
 # A picture is late.
@@ -84,7 +82,7 @@ class Fault(Refusal):
 
 
 class Several(Failure):
-    """Failures that are told together; the first one's status is what the desk ends with."""
+    """Failures that are reported together. The exit status is that of the first."""
 
     def __init__(self, failures: list[Failure]) -> None:
         super().__init__(*(line for failure in failures for line in failure.lines))
@@ -92,7 +90,7 @@ class Several(Failure):
 
 
 class Refusals:
-    """Collects what is wrong with a file, so that all of it is told at once."""
+    """Collects what is wrong with a file, so that all of it is reported at once."""
 
     def __init__(self, path: Name) -> None:
         self.path, self.causes = path, list[str]()
@@ -153,7 +151,7 @@ def failure_of(error: BaseException, path: Name, writing: bool = False) -> Failu
 
 @contextlib.contextmanager
 def reading(path: Name) -> Iterator[None]:
-    """Whatever goes wrong outside while a file is read is a failure that names it."""
+    """Turns an exception while a file is read into a failure that names the file."""
     try:
         with warnings.catch_warnings():
             # Pillow only warns of a picture that is half as large as what it refuses.
@@ -165,7 +163,7 @@ def reading(path: Name) -> Iterator[None]:
 
 @contextlib.contextmanager
 def writing(path: Name) -> Iterator[None]:
-    """Whatever the system refuses while a file is written is a failure that names it."""
+    """Turns an error of the system while a file is written into a failure that names the file."""
     try:
         yield
     except (OSError, MemoryError) as error:

@@ -1,5 +1,5 @@
-"""The files that this process opens to read, whoever asks for them: a command reads more files than its arguments name, as
-the files beside a dump. None of them may be overwritten."""
+"""The files that this process opens to read, whoever asks for them: a command reads more files than its arguments name,
+as the files beside a dump. None of them may be overwritten."""
 import contextlib
 import os
 import stat
@@ -50,7 +50,7 @@ def begin() -> Heard:
     return heard
 
 
-def end(heard: Heard) -> None:
+def stop_hearing(heard: Heard) -> None:
     with contextlib.suppress(ValueError):
         _listening.remove(heard)
 

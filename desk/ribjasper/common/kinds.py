@@ -12,9 +12,9 @@ PAGE_MARK = b'<meta name="generator" content="ribjasper-desk">'
 
 
 class Kind(NamedTuple):
-    """What a command writes: a name; and how such a file is known: by its first bytes and its size, by the ending of its
-    name, or by both. What is known by neither is replaced with --force alone. Other programs and people make files of a
-    recorded kind too, so only those that the desk wrote itself are replaced."""
+    """What a command writes: a name; and how such a file is known: by its first bytes and its size, by the ending of
+    its name, or by both. What is known by neither is replaced with --force alone. Other programs and people make files
+    of a recorded kind too, so only those that the desk wrote itself are replaced."""
 
     name: str
     looks: Callable[[bytes, int], bool] | None = None

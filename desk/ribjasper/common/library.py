@@ -1,4 +1,4 @@
-"""The proved library, by ctypes: its structs, its calls, and a player."""
+"""The proved library, by ctypes: its structs and its calls."""
 import ctypes
 import functools
 import itertools
@@ -6,7 +6,6 @@ import os
 import sys
 from ctypes import POINTER, Structure, c_bool, c_int32, c_size_t, c_uint16, c_uint32, c_uint64, c_uint8, c_void_p
 from pathlib import Path
-from types import TracebackType
 from typing import Any, Iterator, NamedTuple
 
 from .failures import Missing
@@ -23,11 +22,17 @@ NAME = NAMES.get(sys.platform, "libribjasper.so.0")
 BLOCK, PACK, TEXT_PACK, SECTOR = 96, 24, 18, 2448
 WIDTH, HEIGHT, PICTURE, COLOURS = 300, 216, 194_400, 16
 BLOCKS_A_SECOND, PACKS_A_BLOCK = 75, 4
+# The audio of a sector in bytes; the slots, four in a block, over which a word is spread; and how many blocks behind
+# its own it reaches.
+AUDIO, SLOTS, SPREAD = 2352, 8, 2
+# The first symbol of a pack of graphics.
+GRAPHICS = 9
 MOST_BLOCKS, LONGEST_LEAD_IN = 1_000_000, 450_000
-RAW, PACKS, SECTORS = 0, 1, 2
-# The most readings that are mended at once; in place of a reading's number that readings agree, and that none gives a word.
+RAW, PACKS = 0, 1
+# The most readings that are mended at once; in place of a reading's number that readings agree, and that none gives a
+# word.
 READINGS, AGREED, NO_READING = 254, 254, 255
-DONE, DAMAGED, USAGE, TORN, NO_ROOM, NO_MEMORY = 0, 1, 2, 3, 6, 7
+DONE, DAMAGED, TORN, NO_ROOM, NO_MEMORY = 0, 1, 3, 6, 7
 NO_TIME = 0xFFFF_FFFF
 # The pixels of a tile, the most index lines that a sheet has, and the kinds of its texts by their numbers.
 TILE, MOST_INDEX_LINES = 72, 9_900
@@ -87,24 +92,12 @@ class Surveyed(Structure):
     _fields_ = [("blocks", c_uint32), ("rest", c_uint32)]
 
 
-class Listed(Structure):
+class ListedTexts(Structure):
     _fields_ = [("bytes", c_uint64), ("seq", c_uint32), ("byte", c_uint32)]
 
 
-class Mended(Structure):
-    _fields_ = [
-        ("bytes", c_uint64),
-        ("blocks", c_uint32),
-        ("both", c_uint32),
-        ("of_first", c_uint32),
-        ("of_second", c_uint32),
-        ("agreed", c_uint32),
-        ("none", c_uint32),
-    ]
-
-
 class MendedReadings(Structure):
-    """What is told of readings that were mended."""
+    """What the library counts when it mends readings."""
 
     _fields_ = [
         ("bytes", c_uint64),
@@ -118,7 +111,7 @@ class MendedReadings(Structure):
 
 
 class MendReported(Structure):
-    """What is told of readings that were mended, and how many words of each are lost."""
+    """The counts of mended readings, and how many error-free words of each did not come out."""
 
     _fields_ = [("counts", MendedReadings), ("lost", c_uint32 * READINGS)]
 
@@ -149,8 +142,8 @@ class Planned(Structure):
 
 
 class Change(Structure):
-    """What of the screen may have changed: pixels from `left` to `right` of the rows from `top` to `bottom`, and whether
-    colours or levels may have."""
+    """What of the screen may have changed: pixels from `left` to `right` of the rows from `top` to `bottom`, and
+    whether colours or levels may have."""
 
     _fields_ = [
         ("left", c_uint32),
@@ -215,6 +208,15 @@ CALLS = {
     "ribjasper_player_screen": ([_PLAYER, _BYTES], c_int32),
     "ribjasper_player_picture": ([_PLAYER, _BYTES], c_int32),
     "ribjasper_player_colours": ([_PLAYER, c_uint16 * COLOURS], c_int32),
+    "ribjasper_player_pixels": (
+        [_PLAYER, c_uint32, c_uint32, c_uint32, c_uint32, c_uint32, _BYTES, c_size_t, c_uint32],
+        c_int32,
+    ),
+    "ribjasper_player_seek": (
+        [_PLAYER, c_uint32, c_uint32, _BYTES, c_size_t, c_uint64, _BYTES, c_size_t, c_uint32],
+        c_int32,
+    ),
+    "ribjasper_player_seek_packs": ([_PLAYER, _BYTES, c_size_t, c_uint64, _BYTES, c_size_t, c_uint32], c_int32),
     "ribjasper_text_pack_matches": ([_BYTES], c_int32),
     "ribjasper_text_pack_symbols": ([_BYTES, _BYTES], None),
     "ribjasper_q_decode": ([_BYTES, POINTER(QFrame), POINTER(c_uint8)], c_int32),
@@ -224,16 +226,7 @@ CALLS = {
     "ribjasper_block_text_packs": ([_BYTES, _BYTES], None),
     "ribjasper_convert": ([_BYTES, c_size_t, c_uint32, c_uint32, _BYTES, c_size_t, POINTER(Converted)], c_int32),
     "ribjasper_survey": ([_BYTES, c_size_t, c_uint32, c_uint32, _BYTES, c_size_t, POINTER(Surveyed)], c_int32),
-    "ribjasper_texts": ([_BYTES, c_size_t, c_uint32, c_uint32, _BYTES, c_size_t, POINTER(Listed)], c_int32),
-    "ribjasper_mend": ([_BYTES, c_size_t, _BYTES, c_size_t, c_uint32, _BYTES, c_size_t, POINTER(Mended)], c_int32),
-    "ribjasper_mend_readings": (
-        [_BYTES, c_size_t, c_uint32, c_uint32, _BYTES, c_size_t, _BYTES, c_size_t, POINTER(MendedReadings)],
-        c_int32,
-    ),
-    "ribjasper_mend_stream": (
-        [_BYTES, c_size_t, c_uint32, c_uint32, _BYTES, c_size_t, _BYTES, c_size_t, POINTER(MendedReadings)],
-        c_int32,
-    ),
+    "ribjasper_texts": ([_BYTES, c_size_t, c_uint32, c_uint32, _BYTES, c_size_t, POINTER(ListedTexts)], c_int32),
     **{
         name: (
             [_BYTES, c_size_t, c_uint32, c_uint32, _BYTES, c_size_t, _BYTES, c_size_t, POINTER(MendReported)],
@@ -252,8 +245,9 @@ CALLS = {
 
 
 def candidates() -> Iterator[str]:
-    """Where the shared library may be: as RIBJASPER_LIBRARY names it; in the checkout whose desk this is; in the package,
-    where a wheel has it; below the folder that the desk was installed to; and where the system has its libraries."""
+    """Where the shared library may be: as RIBJASPER_LIBRARY names it; in the checkout whose desk this is; in the
+    package, where a wheel has it; below the folder that the desk was installed to; and where the system has its
+    libraries."""
     if named := os.environ.get("RIBJASPER_LIBRARY"):
         yield named
         return
@@ -287,7 +281,7 @@ def call(name: str) -> Any:
 
 
 def address(content: bytes) -> int:
-    """Where bytes stand, for a call that is to read from one of them on."""
+    """The address of bytes, for a call that reads from a place within them."""
     return ctypes.cast(ctypes.c_char_p(content), ctypes.c_void_p).value or 0
 
 
@@ -296,63 +290,8 @@ def version() -> str:
     return f"{number >> 16}.{number >> 8 & 255}.{number & 255}"
 
 
-class Player:
-    """A player of packs or raw blocks, to be used in a `with`."""
-
-    def __init__(self) -> None:
-        self._handle = PlayerHandle()
-
-    def __enter__(self) -> "Player":
-        if call("ribjasper_player_open")(self._handle) != DONE:
-            raise MemoryError
-        return self
-
-    def __exit__(self, kind: type[BaseException] | None, error: BaseException | None, _: TracebackType | None) -> None:
-        call("ribjasper_player_close")(self._handle)
-
-    def draw(self, packs: bytes) -> Change:
-        """Draws packs of 24 bytes, as those of a .cdg file; what of the screen may have changed."""
-        change = Change()
-        call("ribjasper_player_draw_all")(self._handle, packs, len(packs) // PACK, change)
-        return change
-
-    def begin(self, form: int, lead_in: int) -> None:
-        """Forgets all that was drawn; blocks that are fed from now on have this form."""
-        call("ribjasper_player_begin")(self._handle, form, lead_in)
-
-    def feed(self, blocks: bytes) -> Change:
-        """Feeds blocks; what of the screen may have changed."""
-        change = Change()
-        call("ribjasper_player_feed_all")(self._handle, blocks, len(blocks) // BLOCK, change)
-        return change
-
-    def take(self, block: bytes) -> list[Pack]:
-        """Feeds a block, and returns the packs that came with it."""
-        packs = (Pack * PACKS_A_BLOCK)()
-        count = call("ribjasper_player_take")(self._handle, block, packs)
-        return list(packs[: max(0, count)])
-
-    def screen(self) -> bytes:
-        """The numbers of the colours of all pixels, row by row."""
-        pixels = ctypes.create_string_buffer(WIDTH * HEIGHT)
-        call("ribjasper_player_screen")(self._handle, pixels)
-        return pixels.raw
-
-    def picture(self) -> bytes:
-        """Red, green and blue of all pixels, row by row."""
-        pixels = ctypes.create_string_buffer(PICTURE)
-        call("ribjasper_player_picture")(self._handle, pixels)
-        return pixels.raw
-
-    def colours(self) -> list[int]:
-        """The sixteen colours, four bits each of red, green and blue."""
-        colours = (c_uint16 * COLOURS)()
-        call("ribjasper_player_colours")(self._handle, colours)
-        return list(colours)
-
-
-def convert(stream: bytes, form: int, lead_in: int) -> tuple[bytes, Converted]:
-    """The packs of a stream of whole blocks, and what is told of them."""
+def packs_of_blocks(stream: bytes, form: int, lead_in: int) -> tuple[bytes, Converted]:
+    """The packs of a stream of whole blocks, and their counts."""
     told = Converted()
     room = PACKS_A_BLOCK * PACK * (len(stream) // BLOCK)
     packs = ctypes.create_string_buffer(max(1, room))
@@ -365,8 +304,9 @@ def convert(stream: bytes, form: int, lead_in: int) -> tuple[bytes, Converted]:
 
 
 def texts(stream: bytes, lead_in: int) -> str:
-    """The lines of the texts of a raw lead-in, as the program's `text` writes them, or nothing where they are refused."""
-    told, room, status = Listed(), TEXT_ROOM, NO_ROOM
+    """The lines of the texts of a raw lead-in, as the program's `text` writes them, or nothing where they are
+    refused."""
+    told, room, status = ListedTexts(), TEXT_ROOM, NO_ROOM
     while status == NO_ROOM:
         lines = ctypes.create_string_buffer(room)
         status = call("ribjasper_texts")(stream, len(stream), RAW, lead_in, lines, room, told)
@@ -374,17 +314,6 @@ def texts(stream: bytes, lead_in: int) -> str:
     if status == NO_MEMORY:
         raise MemoryError
     return ctypes.string_at(lines, told.bytes).decode("ascii") if status == DONE else ""
-
-
-def mend(first: bytes, second: bytes, lead_in: int) -> tuple[bytes, Mended]:
-    """The packs of two readings of equally many raw blocks, and how many words came of which."""
-    told = Mended()
-    room = PACKS_A_BLOCK * PACK * (len(first) // BLOCK)
-    packs = ctypes.create_string_buffer(max(1, room))
-    status = call("ribjasper_mend")(first, len(first), second, len(second), lead_in, packs, room, told)
-    if status not in (DONE, DAMAGED):
-        raise ValueError(f"ribjasper_mend answers {status}")
-    return ctypes.string_at(packs, told.bytes), told
 
 
 def q_frame(block: bytes) -> QFrame | None:
@@ -422,6 +351,6 @@ def sheet_text(text: bytes, kind: int, place: int) -> bytes:
 
 @functools.lru_cache(maxsize=None)
 def tile_weight(numbers: frozenset[int]) -> int:
-    """How many packs a tile takes in which the colours of these numbers stand, and no others."""
+    """How many packs draw a tile that has the colours with these numbers, and no others."""
     pixels = (*numbers, *itertools.repeat(min(numbers), TILE - len(numbers)))
     return int(call("ribjasper_tile_weight")((c_uint8 * TILE)(*pixels)))

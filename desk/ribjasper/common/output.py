@@ -1,5 +1,5 @@
-"""What the desk writes. There is one way for all commands: `Outputs` takes the files that a call reads and those that it
-is to write, refuses what would cost the user a file, and lets all outputs appear together or none of them."""
+"""What the desk writes. There is one way for all commands: `Outputs` takes the files that a call reads and those that
+it is to write, refuses what would cost the user a file, and lets all outputs appear together or none of them."""
 import argparse
 import contextlib
 import io
@@ -13,7 +13,7 @@ from types import TracebackType
 from typing import Any, Iterable, Sequence, TextIO
 
 from . import heard, records
-from .beside import Part, forget, give_name, held_back, keep_folder, link_or_move, made_beside, new_mode
+from .beside import WaitingFile, forget, give_name, held_back, keep_folder, link_or_move, made_beside, new_mode
 from .failures import (
     Failure as Failure,
     Missing as Missing,
@@ -50,8 +50,40 @@ def package(module: str, debian: str) -> Any:
         raise Missing(f"this needs {pip} (apt-get install {debian}, or pip install {pip}): {error}") from None
 
 
+_is_quiet = False
+# The progress bar that is on the terminal, if there is one: it is cleared before anything is printed.
+_bar: Any = None
+
+
+def show_bar(bar: Any) -> None:
+    global _bar
+    _bar = bar
+
+
+def shown_bar() -> Any:
+    return _bar
+
+
+def set_quiet(quiet: bool) -> None:
+    """Whether notes and progress are left out, as `-q` asks for."""
+    global _is_quiet
+    _is_quiet = quiet
+
+
+def is_quiet() -> bool:
+    return _is_quiet
+
+
 def tell(message: str) -> None:
-    """A line on standard error."""
+    """A note on standard error, which `-q` leaves out."""
+    if not _is_quiet:
+        complain(message)
+
+
+def complain(message: str) -> None:
+    """An error message on standard error."""
+    if _bar is not None:
+        _bar.clear()
     if sys.stderr is not None:
         with contextlib.suppress(OSError):
             print(f"ribjasper-desk: {message}", file=sys.stderr)
@@ -59,6 +91,8 @@ def tell(message: str) -> None:
 
 def write_text(text: str, to: TextIO | None = None) -> None:
     """A text on standard output, or on what takes its place."""
+    if _bar is not None:
+        _bar.clear()
     with writing(STANDARD_OUTPUT):
         print(text, end="", file=to or sys.stdout)
 
@@ -121,7 +155,7 @@ class Output:
 
     def __init__(self, name: Name, kind: Kind, force: bool) -> None:
         self.target, self.kind, self.force = Target(name), kind, force
-        self.part: Part | None = None
+        self.part: WaitingFile | None = None
         self.waits: str | None = None
         self.kept: str | None = None
         self.is_put = False
@@ -134,13 +168,13 @@ class Output:
         if why := self.target.against(self.kind, self.force):
             raise Refusal(self.name, why)
 
-    def open(self) -> Part:
+    def open(self) -> WaitingFile:
         """Where it is written to."""
         if self.part is None:
             if self.target.is_stream:
-                self.part = Part(self.name, tempfile.SpooledTemporaryFile(KEPT_IN_MEMORY))
+                self.part = WaitingFile(self.name, tempfile.SpooledTemporaryFile(KEPT_IN_MEMORY))
             else:
-                self.part = Part(self.name, os.fdopen(self._beside(self.target.folder), "w+b"))
+                self.part = WaitingFile(self.name, os.fdopen(self._beside(self.target.folder), "w+b"))
         return self.part
 
     def path(self, ending: str) -> str:
@@ -248,9 +282,9 @@ def _copy(file: Any, target: Target) -> None:
 
 class Outputs:
     """The outputs of a call, to be used in a `with`. Made from the files that the call reads and from those that it is
-    to write, each with its kind (a name that is None is passed over); what would cost the user a file is refused at once.
-    Within the `with` each file that is opened to read is an input too, as one beside a dump. If the `with` ends well, all
-    that was opened appears together; otherwise nothing does."""
+    to write, each with its kind (a name that is None is passed over); what would cost the user a file is refused at
+    once. Within the `with` each file that is opened to read is an input too, as one beside a dump. If the `with` ends
+    well, all that was opened appears together; otherwise nothing does."""
 
     def __init__(
         self,
@@ -305,7 +339,7 @@ class Outputs:
         """A table that the call prints."""
         return Table(names, as_json, self.printed)
 
-    def open(self, name: Name) -> Part:
+    def open(self, name: Name) -> WaitingFile:
         """Where an output is written to, bytes."""
         return self._output(name).open()
 
@@ -317,8 +351,8 @@ class Outputs:
         self.write(name, png(image))
 
     def path(self, name: Name, ending: str = "") -> str:
-        """The name of a file for a program that writes the output itself; it has the ending of the output's name, or this
-        one if that has none."""
+        """The name of a file for a program that writes the output itself; it has the ending of the output's name, or
+        this one if that has none."""
         return self._output(name).path(ending)
 
     def drop(self) -> None:
@@ -351,7 +385,7 @@ class Outputs:
                 self._appear()
                 self.made.clear()
         finally:
-            heard.end(self.heard)
+            heard.stop_hearing(self.heard)
             self.drop()
             for folder in reversed(self.made):
                 with contextlib.suppress(OSError):

@@ -4,7 +4,7 @@ import struct
 from typing import NamedTuple
 
 from .library import LONGEST_LEAD_IN, NO_MEMORY, PlanRow, Planned, call
-from .times import clock
+from .times import spelled
 
 # As many pictures as a script may have.
 MOST_PICTURES = 20_000
@@ -82,7 +82,7 @@ class Plan(NamedTuple):
 
 
 class NoPlan(Exception):
-    """Why there is none: the reason, its line, and its number."""
+    """A sheet and a script have no plan: `why`, the `line` of the text, and a `number` that depends on the reason."""
 
     def __init__(self, why: int, line: int, number: int) -> None:
         self.why, self.line, self.number = Why(why), line, number
@@ -101,11 +101,11 @@ class NoPlan(Exception):
             case Why.SCRIPT_REFUSED:
                 return f"line {self.line}: {ScriptWhy(number).word}"
             case Why.LENGTH_SHORT:
-                return f"its index lines need an audio of {clock(number)} at least"
+                return f"its index lines need an audio of {spelled(number)} at least"
             case Why.DISC_TOO_LONG:
                 return f"the disc would have {number} blocks, and 449,999 are the most"
             case Why.PAST_END:
-                return f"its last picture is held beyond the end of the disc, which is at {clock(number)}"
+                return f"its last picture is held beyond the end of the disc, which is at {spelled(number)}"
             case Why.CD_TEXT_TOO_LONG:
                 return f"its texts need {number} packs, and 256 are the most"
             case Why.LEAD_IN_SHORT:
@@ -113,7 +113,8 @@ class NoPlan(Exception):
 
 
 def plan(sheet: bytes, script: bytes, audio: int, lead_in: int = LONGEST_LEAD_IN) -> Plan:
-    """The plan of a disc with an audio of so many blocks, or NoPlan."""
+    """The plan of a disc: a cue sheet, a picture script, and the length of the audio in blocks (75 a second). Raises
+    NoPlan with the reason and the line of a text that is refused."""
     rows, told = (PlanRow * MOST_PICTURES)(), Planned()
     status = call("ribjasper_plan")(sheet, len(sheet), script, len(script), lead_in, audio, rows, MOST_PICTURES, told)
     if status == NO_MEMORY:
@@ -126,15 +127,15 @@ def plan(sheet: bytes, script: bytes, audio: int, lead_in: int = LONGEST_LEAD_IN
     return Plan([PlannedPicture._make(row) for row in ROW.iter_unpack(listed)], told.blocks)
 
 
-# So many refused lines of a text are told.
+# At most so many refused lines of a text are reported.
 MOST_TOLD = 20
 # What later lines of a sheet depend on: if one of these is refused, what follows cannot be judged.
 NEEDED_LATER = (b"FILE", b"TRACK", b"INDEX")
 
 
 def refused_lines(sheet: bytes, script: bytes, audio: int, first: NoPlan) -> list[str]:
-    """Each line of a sheet or of a script that is refused, the first one before the others: a line that was refused is left
-    empty, and the library is asked again."""
+    """Each line of a sheet or of a script that is refused, the first one before the others: a line that was refused is
+    left empty, and the library is asked again."""
     causes, none = [first.cause()], first
     while none.why in (Why.SHEET_REFUSED, Why.SCRIPT_REFUSED) and len(causes) < MOST_TOLD:
         rest = without_line(script if none.is_of_script() else sheet, none.line)

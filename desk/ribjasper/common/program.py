@@ -10,7 +10,7 @@ from pathlib import Path
 
 from .failures import Missing, writing
 from .library import PACKAGE, checkout
-from .times import clock
+from .times import spelled
 
 NAME = "ribjasper.exe" if sys.platform == "win32" else "ribjasper"
 # What make built, or what the gate left.
@@ -27,7 +27,7 @@ def of_wheel() -> list[Path]:
 
 @functools.lru_cache(maxsize=None)
 def program() -> str:
-    """The program: that which RIBJASPER_PROGRAM names, or that of the checkout, or an installed one."""
+    """The path of the program: from RIBJASPER_PROGRAM, from the checkout, or an installed one."""
     built = [os.fspath(path) for path in (*BUILT, *of_wheel()) if path and path.exists()]
     found = os.environ.get("RIBJASPER_PROGRAM") or (built[0] if built else shutil.which("ribjasper"))
     if not found:
@@ -53,6 +53,6 @@ def stream_of(
         for name, content in zip(names, (sheet, other[1])):
             with writing(name):
                 name.write_bytes(content)
-        words = [command, "--lead-in", str(lead_in), "--length", clock(length), "--", *(str(name) for name in names)]
+        words = [command, "--lead-in", str(lead_in), "--length", spelled(length), "--", *(str(name) for name in names)]
         done = subprocess.run([program(), *words], stdin=subprocess.DEVNULL, capture_output=True)
     return done.stdout, done.returncode, done.stderr.decode(errors="replace").strip()

@@ -32,7 +32,7 @@ else:
         fcntl.flock(number, fcntl.LOCK_EX)
 
 
-def checksum(path: str) -> str:
+def file_checksum(path: str) -> str:
     with open(path, "rb") as file:
         return hashlib.file_digest(file, "sha256").hexdigest()
 
@@ -53,7 +53,7 @@ def is_own(path: str) -> bool:
             known = {found for other, found in entries(record.read()) if other == name}
     except OSError:
         return False
-    return bool(known) and checksum(path) in known
+    return bool(known) and file_checksum(path) in known
 
 
 def keep(path: str, content: str) -> None:
@@ -61,7 +61,7 @@ def keep(path: str, content: str) -> None:
     be written is no failure: the desk then asks for --force the next time."""
     folder, name = os.path.split(path)
     with contextlib.suppress(OSError):
-        line = f"{checksum(content)} {json.dumps(name)}\n".encode("ascii")
+        line = f"{file_checksum(content)} {json.dumps(name)}\n".encode("ascii")
         number = os.open(os.path.join(folder, RECORD), os.O_RDWR | os.O_CREAT | os.O_APPEND | FLAGS, new_mode())
         with open(number, "r+b", buffering=0) as record:
             # Several calls may write outputs to one folder at the same time.

@@ -1,4 +1,4 @@
-"""What the name of an output stands for, and whether that may be written."""
+"""What the name of an output means, and whether that may be written."""
 import contextlib
 import os
 import stat
@@ -9,13 +9,13 @@ from .failures import Failure, Name, Refusal, reading
 from .kinds import Kind
 from .records import is_own as is_own_output
 
-# The name that stands for standard output.
+# The name of standard output.
 DASH = "-"
 WRITABLE = stat.S_IWUSR | stat.S_IWGRP | stat.S_IWOTH
 
 
 class Target:
-    """What the name of an output stands for."""
+    """What the name of an output means."""
 
     def __init__(self, name: Name) -> None:
         self.name = os.fsdecode(name)
@@ -30,7 +30,7 @@ class Target:
 
     @property
     def is_stream(self) -> bool:
-        """Whether it is written to as it stands: standard output, a pipe, a device or a socket."""
+        """Whether it is written to directly: standard output, a pipe, a device or a socket."""
         return self.is_dash or (self.found is not None and not stat.S_ISREG(self.found.st_mode))
 
     def identity(self) -> tuple[object, ...]:
@@ -89,7 +89,7 @@ def inputs_of(names: list[str]) -> dict[tuple[object, ...], str]:
     """The files that a call reads. A character device is none that could be lost."""
     found: dict[tuple[object, ...], str] = {}
     for name in names:
-        # Whatever is wrong with an input is told when it is read.
+        # An input that cannot be used is reported when it is read.
         with contextlib.suppress(Failure, OSError):
             target = Target(name if name != DASH else f"./{DASH}")
             if target.found is None or not stat.S_ISCHR(target.found.st_mode):

@@ -19,11 +19,6 @@ PAUSE = 2 * BLOCKS_A_SECOND
 CLOCK = re.compile(r"(\d\d):([0-5]\d):([0-6]\d|7[0-4])")
 
 
-def clock(number: int) -> str:
-    """A number of blocks as a time."""
-    return spelled(number)
-
-
 def blocks(time: str) -> int:
     """The blocks of a time, as an argument of the command line."""
     parts = CLOCK.fullmatch(time)

@@ -2,22 +2,22 @@
 import math
 from typing import Any
 
+from ..common.library import BLOCKS_A_SECOND, PACKS_A_BLOCK
 from ..common.output import package
 from ..common.planning import Plan, PlannedPicture
 
-# The chart in pixels; and what stands around the bars.
+# The size of the chart in pixels, and the margins around the bars.
 WIDE, HIGH = 1600, 480
 LEFT, RIGHT, TOP, BOTTOM = 64, 24, 56, 44
 # Colours that differ for a colour-blind reader too.
 PAPER, INK, RULE = "#FFFFFF", "#202020", "#DDDDDD"
 FREE, NEED, LATE = "#C6DBEF", "#2171B5", "#D94801"
-BLOCKS_A_SECOND, PACKS_A_BLOCK = 75, 4
 # Steps of the axis of times, in seconds.
 STEPS = (1, 2, 5, 10, 15, 30, 60, 120, 300, 600)
 
 
 class Chart:
-    """The picture that is drawn, and where a time and a number of packs stand on it."""
+    """The picture that is drawn, and the places of times and numbers of packs on it."""
 
     def __init__(self, plan: Plan):
         image = package("PIL.Image", "python3-pil")
@@ -30,7 +30,7 @@ class Chart:
         return LEFT + (WIDE - LEFT - RIGHT) * block / self.blocks
 
     def up(self, packs: int) -> float:
-        """Powers of ten stand equally far from each other; none stands at the foot."""
+        """Powers of ten are equally far apart; no packs are at the foot."""
         return HIGH - BOTTOM - (HIGH - TOP - BOTTOM) * math.log10(1 + packs) / math.log10(1 + self.most)
 
     def axes(self) -> None:

@@ -1,4 +1,4 @@
-"""Colours of twelve bits, four each of red, green and blue, and the few of them that stand for many."""
+"""Colours of twelve bits, four each of red, green and blue, and the few of them that replace many."""
 import functools
 import math
 import re
@@ -31,7 +31,7 @@ class Colour(NamedTuple):
 
 
 def linear(part: float) -> float:
-    """The light that a part of an sRGB colour stands for."""
+    """The light of a component of an sRGB colour."""
     return part / 12.92 if part <= 0.04045 else math.pow((part + 0.055) / 1.055, 2.4)
 
 
@@ -62,17 +62,17 @@ def blend(first: Colour, second: Colour, part: float) -> Colour:
     return Colour(*(round(one + (two - one) * part) for one, two in zip(first, second)))
 
 
-def nearest(colour: Colour, among: Sequence[Colour]) -> int:
+def nearest_colour(colour: Colour, among: Sequence[Colour]) -> int:
     """The place of the colour that looks most like this one."""
     return min(range(len(among)), key=lambda place: colour.far_from(among[place]))
 
 
 def chosen(pixels: Iterable[Colour], most: int) -> list[Colour]:
-    """At most so many colours that stand best for these pixels, those that are frequent first."""
+    """At most so many colours that come nearest to these pixels, frequent ones first."""
     weights = Counter(pixels)
     if len(weights) <= most:
         return [colour for colour, _ in weights.most_common()]
-    few = spread(weights, most)
+    few = spread_colours(weights, most)
     for _ in range(12):
         better = [mean(group, weights) for group in groups(weights, few) if group]
         better = list(dict.fromkeys(better))
@@ -86,7 +86,7 @@ def chosen(pixels: Iterable[Colour], most: int) -> list[Colour]:
     return [few[place] for place, _ in count.most_common()]
 
 
-def spread(weights: Counter[Colour], most: int) -> list[Colour]:
+def spread_colours(weights: Counter[Colour], most: int) -> list[Colour]:
     """The most frequent colour, and then always the one that is worst shown by those before."""
     first = weights.most_common(1)[0][0]
     return [first, *farthest(weights, [first], most - 1)]
@@ -107,10 +107,10 @@ def farthest(weights: Counter[Colour], few: list[Colour], count: int) -> list[Co
 
 
 def groups(weights: Counter[Colour], few: Sequence[Colour]) -> list[list[Colour]]:
-    """The colours that each of the few stands for."""
+    """The colours that each of the few replaces."""
     parts: list[list[Colour]] = [[] for _ in few]
     for colour in weights:
-        parts[nearest(colour, few)].append(colour)
+        parts[nearest_colour(colour, few)].append(colour)
     return parts
 
 

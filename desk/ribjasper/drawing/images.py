@@ -11,7 +11,7 @@ from ..common.failures import Refusal, reading
 from ..common.library import tile_weight
 from ..common.output import package
 from .colours import Colour
-from .raster import COLOURS, HEIGHT, Raster, Span, TILE_HEIGHT, TILE_WIDTH, WIDTH, joined
+from .raster import COLOURS, HEIGHT, Raster, Span, TILE_HEIGHT, TILE_WIDTH, WIDTH, span_lines
 
 Grid = list[bytearray]
 # The pixels of the largest image that is read, and from which distance on a colour is not near another.
@@ -27,9 +27,9 @@ class Flat(NamedTuple):
 
 
 @dataclass(frozen=True)
-class Reading:
+class ImageOptions:
     """How an image is read: which frame of a file that has several, and whether it fills its place and loses what is
-    beyond, or stands whole amid the colour of its edge."""
+    beyond, or is shown whole on a ground in the colour of its edge."""
 
     frame: int | None = None
     crop: bool = False
@@ -39,7 +39,7 @@ def image_package() -> Any:
     return package("PIL.Image", "python3-pil")
 
 
-def read(path: Path, how: Reading = Reading()) -> Any:
+def read_image(path: Path, how: ImageOptions = ImageOptions()) -> Any:
     """The image of a file as it is to be looked at, in red, green and blue, on black where it is transparent."""
     pictures = image_package()
     with reading(path):
@@ -114,14 +114,14 @@ def in_colours(image: Any, most: int, dither: bool = False) -> Flat:
     if dither:
         places = dithered(image, few)
     else:
-        place_of = {colour: colouring.nearest(colour, few) for colour in set(pixels)}
+        place_of = {colour: colouring.nearest_colour(colour, few) for colour in set(pixels)}
         places = bytes(place_of[pixel] for pixel in pixels)
     width = image.width
     return Flat([bytearray(places[at : at + width]) for at in range(0, len(places), width)], few)
 
 
 def dithered(image: Any, few: Sequence[Colour]) -> bytes:
-    """The places of the colours, with what each pixel lacks handed to its neighbours."""
+    """The places of the colours, with the error of each pixel spread over its neighbours."""
     table = [17 * part for colour in few for part in colour]
     palette = image_package().new("P", (1, 1))
     palette.putpalette(table + table[:3] * (256 - len(few)))
@@ -211,7 +211,7 @@ def flat_of(image: Any, most: int = COLOURS, simple: float = PLAIN, dither: bool
 
 
 def raster_of(flat: Flat, ground: Raster, left: int, top: int, free: Sequence[int] = range(COLOURS)) -> Raster:
-    """What stands if it is drawn on something else from a pixel on, its colours having some of the free numbers."""
+    """The screen after it is drawn on another one from a pixel on; its colours get some of the free numbers."""
     numbers = numbered(flat, free)
     raster = ground.copy()
     for number, colour in zip(numbers, flat.colours):
@@ -227,11 +227,11 @@ def whole(
     most: int = COLOURS,
     simple: float = PLAIN,
     dither: bool = False,
-    how: Reading = Reading(),
+    how: ImageOptions = ImageOptions(),
     border: Colour | None = None,
 ) -> Raster:
     """An image that fills the window, with a border of this colour, or of the one that most of its edge is near."""
-    image = fitted(read(path, how), WIDTH, HEIGHT, how.crop)
+    image = fitted(read_image(path, how), WIDTH, HEIGHT, how.crop)
     raster = raster_of(flat_of(image, most, simple, dither), Raster(), 0, 0)
     edge = bytes(raster.rows[0] + raster.rows[-1]) + b"".join(bytes((row[0], row[-1])) for row in raster.rows)
     used = sorted(set(b"".join(raster.rows)))
@@ -248,21 +248,17 @@ def border_number(raster: Raster, used: Sequence[int], border: Colour) -> int:
     """A colour for the border: one that the image has, a number that is free, or the nearest that there is."""
     free = next((number for number in range(COLOURS) if number not in used), None)
     if border in [raster.colours[number] for number in used] or free is None:
-        return used[colouring.nearest(border, [raster.colours[number] for number in used])]
+        return used[colouring.nearest_colour(border, [raster.colours[number] for number in used])]
     raster.colours[free] = border
     return free
 
 
 def placed_lines(flat: Flat, column: int, row: int, first: int) -> list[str]:
-    """The lines that draw an image from a tile on, whatever stands there."""
+    """The lines that draw an image from a tile on, over anything that is there."""
     left, top = TILE_WIDTH * column, TILE_HEIGHT * row
     numbers = numbered(flat, range(first, COLOURS))
     colours = [f"colour {number} {colour.word()}" for number, colour in sorted(zip(numbers, flat.colours))]
     table = bytes(numbers) + bytes(256 - len(numbers))
     return colours + list(
-        joined([Span(left, top + y, bytes(pixels.translate(table))) for y, pixels in enumerate(flat.rows)])
+        span_lines([Span(left, top + y, bytes(pixels.translate(table))) for y, pixels in enumerate(flat.rows)])
     )
-
-
-# A disc of one track, on which a script can be planned.
-ONE_TRACK = b'FILE "song.wav" WAVE\nTRACK 01 AUDIO\nINDEX 01 00:00:00\n'

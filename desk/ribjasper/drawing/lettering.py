@@ -18,7 +18,7 @@ FONTS_OF_SYSTEMS = {
 }
 DEFAULT_FONT = FONTS_OF_SYSTEMS.get(sys.platform, Path("/usr/share/fonts/truetype/dejavu/DejaVuSans-Bold.ttf"))
 FONT_PACKAGE = "fonts-dejavu-core"
-# Fonts of Debian that have what others lack, where they are installed.
+# Fonts of Debian for letters that other fonts do not have, if they are installed.
 FALLBACKS = tuple(
     Path("/usr/share/fonts") / name
     for name in (
@@ -32,11 +32,11 @@ FALLBACKS = tuple(
         "truetype/noto/NotoSansDevanagari-Bold.ttf",
     )
 )
-# No letter of any font, whose picture is that of a letter that is missing.
+# A character that no font has: its picture is the one for missing letters.
 NO_LETTER = "\U0010ffff"
-# Which letters files are known to have, or to lack.
+# Whether a font file has a letter, as far as that was asked.
 KNOWN: dict[tuple[Path, str], bool] = {}
-# What stands for a letter that no font has, if it is asked for; and a sign that joins a letter to the next one.
+# The box that replaces a missing letter on request, and a sign that joins a letter to the next one.
 BOX, JOINER = "\u25a1", "\u200d"
 
 
@@ -45,9 +45,9 @@ Others = tuple[tuple[int, tuple[Path, ...], float], ...]
 LEAST_LETTERS = 8
 
 
-class Run(NamedTuple):
-    """A stretch of a text in one direction that one file has: its letters from and to a place in the text, the number of
-    the file, and from which pixel on it stands, how wide."""
+class LetterRun(NamedTuple):
+    """A stretch of a text in one direction that one file has: its letters from and to a place in the text, the number
+    of the file, its first pixel, and its width."""
 
     first: int
     last: int
@@ -58,7 +58,7 @@ class Run(NamedTuple):
 
 
 class Font:
-    """The letters of some files in one size, those that the first lacks from the next; plain ones have no levels
+    """The letters of some files in one size, missing ones from the next file; plain ones have no levels
     between the ground and the full colour."""
 
     def __init__(self, paths: Sequence[Path], size: int, is_plain: bool = False, others: "Others" = ()):
@@ -78,7 +78,7 @@ class Font:
         # Letters that the first file has, and those that are not drawn.
         self._plain: set[str] = set()
         self._widths: dict[tuple[str, int], float] = {}
-        self._runs: dict[tuple[str, int], list[Run]] = {}
+        self._runs: dict[tuple[str, int], list[LetterRun]] = {}
         self.face(0, size)
 
     def of(self, voice: int) -> "Font":
@@ -137,27 +137,27 @@ class Font:
                 faces.append(self.face_of(letter) or 0)
         return faces
 
-    def runs(self, text: str, size: int) -> list[Run]:
-        """The runs of a text as they stand from left to right, the first at 0."""
+    def runs(self, text: str, size: int) -> list[LetterRun]:
+        """The runs of a text from left to right, the first at 0."""
         if (text, size) not in self._runs:
             self._runs[text, size] = self._laid_out(text, size)
         return self._runs[text, size]
 
-    def _laid_out(self, text: str, size: int) -> list[Run]:
+    def _laid_out(self, text: str, size: int) -> list[LetterRun]:
         levels, faces = levels_of(text), self.faces_of(text)
         starts = [at for at in range(len(text)) if not at or (levels[at], faces[at]) != (levels[at - 1], faces[at - 1])]
         ends, left = [*starts[1:], len(text)], 0.0
-        runs: list[Run] = []
+        runs: list[LetterRun] = []
         for number in in_sight([levels[at] for at in starts]):
             first, last = starts[number], ends[number]
             wide = self.face(faces[first], size).getlength(text[first:last])
-            runs.append(Run(first, last, faces[first], bool(levels[first] % 2), left, wide))
+            runs.append(LetterRun(first, last, faces[first], bool(levels[first] % 2), left, wide))
             left += wide
         return runs
 
     def extents(self, text: str, size: int, first: int, last: int) -> list[tuple[int, int, float, float, bool]]:
-        """The pieces in which some letters of a text stand, in the order of reading: from and to a letter, from and to a
-        pixel, and whether the piece runs from right to left."""
+        """The pieces in which some letters of a text stand, in the order of reading: from and to a letter, from and to
+        a pixel, and whether the piece runs from right to left."""
         found = []
         for run in self.runs(text, size):
             begin, end = max(first, run.first), min(last, run.last)
@@ -167,8 +167,9 @@ class Font:
                 found.append((begin, end, run.left + sides[0], run.left + sides[1], run.is_leftward))
         return sorted(found)
 
-    def _width_up_to(self, text: str, run: Run, place: int, size: int) -> float:
-        """How wide the letters of a run in front of a place are; the last of them has the form that it has in the run."""
+    def _width_up_to(self, text: str, run: LetterRun, place: int, size: int) -> float:
+        """How wide the letters of a run in front of a place are; the last of them has the form that it has in the
+        run."""
         if place in (run.first, run.last):
             return run.width if place == run.last else 0.0
         joined = unicodedata.bidirectional(text[place - 1]) == "AL" and text[place].isalpha()
@@ -181,7 +182,7 @@ class Font:
         return self._widths[text, size]
 
     def heights(self, texts: Iterable[str], size: int) -> tuple[int, int]:
-        """How far the letters reach above the line that they stand on, and below it."""
+        """How far the letters reach above and below their base line."""
         boxes = [
             self.face(run.face, size).getbbox(text[run.first : run.last], anchor="ls")
             for text in texts
@@ -213,7 +214,7 @@ def font_of(paths: tuple[Path, ...], size: int, is_plain: bool = False, others: 
 
 @functools.lru_cache(maxsize=None)
 def has_directions() -> bool:
-    """Whether Pillow draws a text in the direction that it is told, and joins its letters."""
+    """Whether Pillow can draw a text in a given direction, with its letters joined (libraqm)."""
     features: Any = package("PIL.features", "python3-pil")
     return bool(features.check("raqm"))
 
@@ -225,6 +226,6 @@ def is_drawn(letter: str) -> bool:
 
 
 def named(letter: str) -> str:
-    """A letter as it is told: itself, its number and its name."""
+    """A letter as messages spell it: itself, its number and its name."""
     name = unicodedata.name(letter, "").lower()
     return f"{letter} (U+{ord(letter):04X}{' ' * bool(name)}{name})"

@@ -17,7 +17,7 @@ AS_DIGITS = bytes.maketrans(bytes(range(COLOURS)), DIGITS.encode())
 
 @dataclass
 class Raster:
-    """What stands: the numbers of the colours, row by row, the sixteen colours and the border's number."""
+    """What the screen shows: the numbers of the colours, row by row, the sixteen colours and the border's number."""
 
     rows: list[bytearray] = field(default_factory=lambda: [bytearray(WIDTH) for _ in range(HEIGHT)])
     colours: list[Colour] = field(default_factory=lambda: [BLACK] * COLOURS)
@@ -57,7 +57,7 @@ def spans(before: Sequence[bytes], after: Sequence[bytes], first: int = 0) -> It
             yield Span(left, top, bytes(new[left:right]))
 
 
-def joined(stretches: list[Span]) -> Iterator[str]:
+def span_lines(stretches: list[Span]) -> Iterator[str]:
     """The lines that draw them, with one `rect` for equal stretches of one colour below each other."""
     place = 0
     while place < len(stretches):
@@ -74,18 +74,18 @@ def joined(stretches: list[Span]) -> Iterator[str]:
 
 
 def pixel_lines(before: list[bytearray], after: list[bytearray]) -> list[str]:
-    """The lines that draw the pixels that differ: on those that stand, or on one colour where that is shorter."""
-    plain = list(joined(list(spans(before, after))))
+    """The lines that draw the pixels that differ: over the old ones, or over one colour if that is shorter."""
+    plain = list(span_lines(list(spans(before, after))))
     if len(plain) < HEIGHT // 2:
         return plain
     whole = b"".join(after)
     most = max(set(whole), key=whole.count)
-    filled = [f"fill {most}", *joined(list(spans([bytearray([most]) * WIDTH] * HEIGHT, after)))]
+    filled = [f"fill {most}", *span_lines(list(spans([bytearray([most]) * WIDTH] * HEIGHT, after)))]
     return min(plain, filled, key=lambda lines: sum(map(len, lines)))
 
 
 def lines_between(before: Raster, after: Raster) -> list[str]:
-    """The lines of a script that turn what stands into something else."""
+    """The lines of a script that turn one screen into another."""
     colours = [
         f"colour {number} {colour.word()}"
         for number, colour in enumerate(after.colours)

@@ -1,4 +1,4 @@
-"""Styles of lyrics: fonts, colours and the layout of a page, as small TOML files tell them."""
+"""Styles of lyrics: fonts, colours and the layout of a page, as small TOML files define them."""
 import functools
 import os
 import sys
@@ -44,16 +44,16 @@ class Voice:
 
 @dataclass(frozen=True)
 class Inks:
-    """The numbers of colours: for each voice its levels, from the one next to the ground to the full colour; of an outline
-    around letters; and of the border. One or two voices have three levels, three have two. Of four voices two share the
-    level between the ground and the full colour."""
+    """The numbers of colours: for each voice its levels, from the one next to the ground to the full colour; of an
+    outline around letters; and of the border. One or two voices have three levels, three have two. Of four voices two
+    share the level between the ground and the full colour."""
 
     levels: tuple[tuple[int, ...], ...]
     outline: int
     border: int
 
     def full(self, voice: int) -> int:
-        """The full colour of a voice; the last stands for more."""
+        """The full colour of a voice; further voices have the last one."""
         return self.levels[min(voice, len(self.levels) - 1)][-1]
 
     @property
@@ -107,7 +107,7 @@ class Style:
         return [path for path in (self.path, self.background, *fonts) if path]
 
     def voice(self, number: int) -> Voice:
-        """The colours of a voice; those of the last stand for more."""
+        """The colours of a voice; further voices have those of the last one."""
         return self.voices[min(number, len(self.voices) - 1)]
 
     @property
@@ -121,7 +121,7 @@ class Style:
         return HEIGHT // TILE_HEIGHT // self.rows
 
     def top(self, slot: int) -> int:
-        """The first pixel row of a row of a page; what is left over stands above the first."""
+        """The first pixel row of a row of a page; rows that are left over come above the first."""
         above = HEIGHT // TILE_HEIGHT - self.rows * self.slot_rows
         return TILE_HEIGHT * (above + self.slot_rows * slot)
 
@@ -164,7 +164,7 @@ def middle(colours: Sequence[Colour]) -> Colour:
     return Colour(*(round(sum(parts) / len(parts)) for parts in zip(*colours)))
 
 
-class Table:
+class TomlTable:
     """A table of TOML whose keys are asked for one by one; what is no such thing is refused by its name."""
 
     def __init__(self, path: Path, values: dict[str, Any]):
@@ -207,11 +207,11 @@ class Table:
         name = self.text(key)
         return self.path.parent / name if name else None
 
-    def tables(self, key: str) -> list["Table"]:
+    def tables(self, key: str) -> list["TomlTable"]:
         found = self.take(key, list, "tables in double brackets")
         if not all(isinstance(one, dict) for one in found or []):
             raise Refusal(self.path, f"{key} has to be written [[{key}]]")
-        return [Table(self.path, one) for one in found or []]
+        return [TomlTable(self.path, one) for one in found or []]
 
     def end(self) -> None:
         """Refuses what was not asked for."""
@@ -219,11 +219,11 @@ class Table:
             raise Refusal(self.path, f"knows nothing of {', '.join(map(repr, self.values))}")
 
 
-def read_table(path: Path) -> Table:
+def read_table(path: Path) -> TomlTable:
     """A file of TOML."""
     content = read_file(path)
     try:
-        return Table(path, tomllib.loads(content.decode("utf-8-sig")))
+        return TomlTable(path, tomllib.loads(content.decode("utf-8-sig")))
     except UnicodeDecodeError as wrong:
         raise Refusal(path, f"byte {wrong.start} is no UTF-8") from None
     except tomllib.TOMLDecodeError as wrong:
@@ -265,7 +265,7 @@ def read_style(word: str) -> Style:
 
 
 def check_colours(style: Style) -> None:
-    """Refuses letters that nobody could tell from the ground, or sung ones from those that are not."""
+    """Refuses letters in the colour of the ground, and sung letters in the colour of unsung ones."""
     for number, voice in enumerate(style.voices, 1):
         if style.ground in (voice.sung, voice.unsung):
             which = "sung" if voice.sung == style.ground else "unsung"
@@ -274,7 +274,7 @@ def check_colours(style: Style) -> None:
             raise Refusal(style.path or "the style", f"[[voice]] {number}: sung and unsung have the same colour")
 
 
-def voice_of(table: Table) -> Voice:
+def voice_of(table: TomlTable) -> Voice:
     unsung, sung = table.colour("unsung", None), table.colour("sung", None)
     if unsung is None or sung is None:
         raise Refusal(table.path, "a [[voice]] needs the colours unsung and sung")
@@ -284,7 +284,7 @@ def voice_of(table: Table) -> Voice:
     return Voice(unsung, sung, fonts, size)
 
 
-def font_names(table: Table) -> list[str]:
+def font_names(table: TomlTable) -> list[str]:
     names = table.take("font", (str, list), "the name of a font, or a list of names") or []
     names = [names] if isinstance(names, str) else names
     if not all(isinstance(name, str) for name in names):

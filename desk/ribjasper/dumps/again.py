@@ -1,16 +1,16 @@
-"""What is to be read again of a disc: sectors whose subcode is damaged or missing, and those of which the drive was unsure, as
+"""The sectors of a disc to read again, because their subcode is damaged or missing or the drive was unsure of them: as
 lists for rippers and as a map of ddrescue."""
 import re
 from typing import Callable, Iterable, NamedTuple, Sequence
 
+from ..common.library import SPREAD
 from ..common.times import PAUSE, spelled
 from .drive_errors import DriveErrors
 from .loading import Loaded
 from .q_source import Source
-from .survey import Clock, Run, either, runs
+from .columns import Run, both, either, joined, runs
+from .survey import Clock
 
-# The words that are complete with a block are spread over it and the two before it.
-SPREAD = 2
 # Runs that are no further apart are read as one.
 NEAR = 2
 # ddrescue reads a drive in sectors of user data.
@@ -19,7 +19,7 @@ BAD_Q, LOST, EMPTY, DRIVE, MISSING = "q", "words", "empty", "drive", "missing"
 
 
 class Again(NamedTuple):
-    """Sectors that are to be read again, by their logical block addresses, the first and the last; and why."""
+    """Sectors to read again: the logical block addresses of the first and the last, and the reasons."""
 
     first: int
     last: int
@@ -27,8 +27,8 @@ class Again(NamedTuple):
 
 
 class Wanted(NamedTuple):
-    """All that is to be read again; the sectors of the program, from the first up to the end; and how many damaged blocks have
-    no known address."""
+    """All that is to be read again; the sectors of the program, from the first up to the end; and how many damaged
+    blocks have no known address."""
 
     parts: list[Again]
     first: int
@@ -43,7 +43,7 @@ def widened(column: bytes) -> bytes:
 
 
 def wanted(loaded: Loaded, errors: DriveErrors | None = None) -> Wanted:
-    """What is to be read again of a dump. Blocks that were not read in front of the program and behind it are not."""
+    """The sectors of a dump to read again. Unread blocks before and after the program are left out."""
     survey, source = loaded.survey, Source(loaded)
     unread = bytes(0 if it else 255 for it in survey.unread_column())
     reasons = {
@@ -55,8 +55,8 @@ def wanted(loaded: Loaded, errors: DriveErrors | None = None) -> Wanted:
     found: list[tuple[int, int, str]] = []
     unplaced = 0
     for why, column in reasons.items():
-        for run in runs(masked(column, unread)):
-            for part in pieces(source.clock, run):
+        for run in runs(both(column, unread)):
+            for part in timed_parts(source.clock, run):
                 if part is None or part[0] < PAUSE:
                     unplaced += 1
                 else:
@@ -66,40 +66,28 @@ def wanted(loaded: Loaded, errors: DriveErrors | None = None) -> Wanted:
             found.append((before + 1 - PAUSE, after.time - 1 - PAUSE, MISSING))
     times = [it.time for it in source.stretches], [it.last + it.shift + 1 for it in source.stretches]
     first, end = (min(times[0]) - PAUSE, max(times[1]) - PAUSE) if source.stretches else (0, 0)
-    return Wanted(merged(found), max(0, first), end, unplaced)
+    return Wanted(merged_runs(found), max(0, first), end, unplaced)
 
 
-def masked(column: bytes, mask: bytes) -> bytes:
-    return (int.from_bytes(column, "little") & int.from_bytes(mask, "little")).to_bytes(len(column), "little")
+def timed_parts(clock: Clock, run: Run) -> list[tuple[int, int] | None]:
+    """The absolute times of neighbouring blocks, in parts that go on by one; none for a block without a time."""
+
+    def next_one(before: tuple[int, int] | None, behind: tuple[int, int] | None) -> tuple[int, int] | None:
+        return (before[0], behind[1]) if before and behind and behind[0] == before[1] + 1 else None
+
+    times = (clock.time(block) for block in range(run.first, run.last + 1))
+    return joined((None if time is None else (time, time) for time in times), next_one)
 
 
-def pieces(clock: Clock, run: Run) -> Iterable[tuple[int, int] | None]:
-    """The absolute times of neighbouring blocks, in parts that go on by one."""
-    part: list[int] | None = None
-    for block in range(run.first, run.last + 1):
-        time = clock.time(block)
-        if part is not None and time is not None and time == part[1] + 1:
-            part[1] = time
-            continue
-        if part is not None:
-            yield part[0], part[1]
-        part = None if time is None else [time, time]
-        if time is None:
-            yield None
-    if part is not None:
-        yield part[0], part[1]
-
-
-def merged(parts: Iterable[tuple[int, int, str]]) -> list[Again]:
+def merged_runs(parts: Iterable[tuple[int, int, str]]) -> list[Again]:
     """Parts in order, near ones as one."""
-    found: list[tuple[int, int, set[str]]] = []
-    for first, last, why in sorted(parts):
-        if found and first <= found[-1][1] + NEAR + 1:
-            before = found.pop()
-            found.append((before[0], max(before[1], last), before[2] | {why}))
-        else:
-            found.append((first, last, {why}))
-    return [Again(first, last, tuple(sorted(whys))) for first, last, whys in found]
+
+    def near(before: Again, behind: Again) -> Again | None:
+        if behind.first > before.last + NEAR + 1:
+            return None
+        return Again(before.first, max(before.last, behind.last), tuple(sorted({*before.why, *behind.why})))
+
+    return joined((Again(first, last, (why,)) for first, last, why in sorted(parts)), near)
 
 
 NAMES = ("first-lba", "last-lba", "from", "to", "sectors", "why")

@@ -8,7 +8,8 @@ from typing import Iterable, NamedTuple
 
 from ..common.failures import Refusal, reading
 from ..common.output import read_file
-from .dump import Dump
+from ..common.progress import counted
+from .dump import DumpFile
 
 NAMES = ("file", "size", "crc32", "md5", "sha1", "sha256")
 READ_AT_ONCE = 1 << 20
@@ -17,7 +18,7 @@ DOCTYPE = (
 )
 
 
-# How the names of files tell the number of a track.
+# How names of files spell the number of a track.
 TRACK_MARK = re.compile(r"\(Track (\d+)\)", re.IGNORECASE)
 
 
@@ -34,11 +35,12 @@ class Sums(NamedTuple):
 def sums_of(path: str) -> Sums:
     """The checksums of a file, which is read once."""
     # What is no file, as a pipe, has no end.
-    path = Dump(path).path
+    path = DumpFile(path).path
     crc = size = 0
     digests = [hashlib.new(name, usedforsecurity=False) for name in ("md5", "sha1", "sha256")]
-    with reading(path), open(path, "rb") as file:
+    with reading(path), open(path, "rb") as file, counted(os.fstat(file.fileno()).st_size, "B", True) as advance:
         while part := file.read(READ_AT_ONCE):
+            advance(len(part))
             size += len(part)
             crc = zlib.crc32(part, crc)
             for digest in digests:
@@ -53,8 +55,8 @@ def plain(name: str) -> str:
 
 
 def dat(title: str, files: Iterable[tuple[str, Sums]]) -> bytes:
-    """A list in the form of Logiqx: a game for each name without its ending and the number of a track, with the files that
-    have it."""
+    """A list in the form of Logiqx: a game for each name without its ending and the number of a track, with the files
+    that have it."""
     top = xml.Element("datafile")
     header = xml.SubElement(top, "header")
     for name, value in (("name", title), ("description", title), ("version", "1"), ("author", "ribjasper-desk")):

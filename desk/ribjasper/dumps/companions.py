@@ -1,5 +1,5 @@
-"""Files that tools leave beside a dump: of how many sessions the disc is, with which tracks, and at which absolute time the
-dump begins."""
+"""Files that tools leave beside a dump. They say how many sessions the disc has, with which tracks, and at which
+absolute time the dump begins."""
 import configparser
 import os
 import re
@@ -7,24 +7,24 @@ import struct
 from dataclasses import dataclass, field
 from typing import Callable, Iterator, Sequence
 
+from ..common.times import PAUSE
 
-# redumper begins 45,150 sectors before that of the absolute time 00:02:00, and keeps a byte for each of the 588 samples.
+# redumper begins 45,150 sectors before that of the absolute time 00:02:00, and keeps a byte for each of the 588
+# samples.
 REDUMPER_START, SAMPLES = -45_000, 588
 # A .c2 file has a bit for each of the 2,352 bytes of a sector, and some tools two bytes more.
 C2_SIZES = (294, 296)
-# The absolute time of the first sector of an image.
-FIRST_SECTOR = 150
 # The most that is read of a file beside a dump.
 MOST = 1 << 22
-# The point of a table of contents that tells where the lead-out begins.
+# The point of a table of contents that says where the lead-out begins.
 LEAD_OUT = 0xA2
 MDS_MARK = b"MEDIA DESCRIPTOR"
 
 
 @dataclass
 class Companions:
-    """What stands beside a dump: the names, how many sessions there are, the first track of each after the first, the
-    absolute time of each lead-out, and the absolute time at which the dump begins, in blocks, where they tell."""
+    """What files beside a dump say: their names, how many sessions there are, the first track of each after the first,
+    the absolute time of each lead-out, and the absolute time at which the dump begins, in blocks, if they say so."""
 
     names: list[str] = field(default_factory=list)
     sessions: int | None = None
@@ -39,7 +39,7 @@ class Companions:
         yield from self.wrong
 
 
-def state_of(path: str, blocks: int, found: Companions) -> None:
+def add_state(path: str, blocks: int, found: Companions) -> None:
     """redumper's .state has the length of its dump."""
     if os.path.getsize(path) // SAMPLES >= blocks > 0 and os.path.getsize(path) % SAMPLES == 0:
         found.begin = REDUMPER_START
@@ -47,29 +47,29 @@ def state_of(path: str, blocks: int, found: Companions) -> None:
         found.wrong.append(f"{os.path.basename(path)} is not as long as the dump")
 
 
-def c2_of(path: str, blocks: int, found: Companions) -> None:
+def add_c2(path: str, blocks: int, found: Companions) -> None:
     """C2 errors have a fixed length for each block."""
     if os.path.getsize(path) not in [unit * blocks for unit in C2_SIZES]:
         found.wrong.append(f"{os.path.basename(path)} is not as long as the dump")
 
 
-def ccd_of(content: bytes, found: Companions) -> None:
+def add_ccd(content: bytes, found: Companions) -> None:
     """CloneCD's sheet: its dump begins with the first sector."""
     sheet = configparser.ConfigParser(strict=False, interpolation=None)
     sheet.read_string(content.decode("utf-8", "replace"))
     found.sessions = int(sheet.get("Disc", "Sessions", fallback="1"))
-    found.begin = FIRST_SECTOR
+    found.begin = PAUSE
     for name in sheet.sections():
         if name.startswith("Entry"):
             session, point = int(sheet[name]["Session"]), int(sheet[name]["Point"], 0)
             if session > 1 and 1 <= point <= 99:
                 found.session_tracks[session] = min(point, found.session_tracks.get(session, 99))
             if point == LEAD_OUT and "PLBA" in sheet[name]:
-                found.lead_outs[session] = int(sheet[name]["PLBA"]) + FIRST_SECTOR
+                found.lead_outs[session] = int(sheet[name]["PLBA"]) + PAUSE
 
 
-def cue_of(content: bytes, found: Companions) -> None:
-    """A cue sheet: remarks tell sessions."""
+def add_cue_sheet(content: bytes, found: Companions) -> None:
+    """A cue sheet: its remarks name sessions."""
     session, sessions = 1, 1
     for line in content.splitlines():
         if mark := re.match(rb"\s*REM\s+SESSION\s+(\d+)", line, re.IGNORECASE):
@@ -80,43 +80,43 @@ def cue_of(content: bytes, found: Companions) -> None:
     found.sessions = max(sessions, found.sessions or 1)
 
 
-def toc_of(content: bytes, found: Companions) -> None:
+def add_toc(content: bytes, found: Companions) -> None:
     """cdrdao's sheet is of one session; its dump begins with the first sector."""
     if re.search(rb"^\s*CD_(DA|ROM|ROM_XA|I)\b", content, re.MULTILINE):
         found.sessions = found.sessions or 1
-        found.begin = FIRST_SECTOR if found.begin is None else found.begin
+        found.begin = PAUSE if found.begin is None else found.begin
 
 
-def mds_of(content: bytes, found: Companions) -> None:
+def add_mds(content: bytes, found: Companions) -> None:
     """The descriptor of an image: how many sessions, and the first sector of the first."""
     if not content.startswith(MDS_MARK):
         raise ValueError("no descriptor")
     (found.sessions,) = struct.unpack_from("<H", content, 0x14)
     (at,) = struct.unpack_from("<I", content, 0x50)
     (start,) = struct.unpack_from("<i", content, at)
-    found.begin = start + FIRST_SECTOR
+    found.begin = start + PAUSE
 
 
 READERS: dict[str, Callable[[bytes, Companions], None]] = {
-    ".ccd": ccd_of,
-    ".cue": cue_of,
-    ".toc": toc_of,
-    ".mds": mds_of,
+    ".ccd": add_ccd,
+    ".cue": add_cue_sheet,
+    ".toc": add_toc,
+    ".mds": add_mds,
 }
 
 
 def beside_dump(path: str, blocks: int) -> Companions:
-    """What the files beside a dump of so many blocks tell. What cannot be read is said, and no more is made of it."""
+    """What the files beside a dump of so many blocks say. A file that cannot be used is noted and ignored."""
     found = Companions()
     for name in neighbours(path, (".state", ".c2", *READERS)):
         ending = os.path.splitext(name)[1].lower()
         try:
-            # A file whose length alone tells something is opened too: what was read is no output.
+            # A file is opened even if only its length counts: files that were read are never overwritten.
             with open(name, "rb") as file:
                 if ending == ".state":
-                    state_of(name, blocks, found)
+                    add_state(name, blocks, found)
                 elif ending == ".c2":
-                    c2_of(name, blocks, found)
+                    add_c2(name, blocks, found)
                 else:
                     READERS[ending](file.read(MOST), found)
             found.names.append(os.path.basename(name))

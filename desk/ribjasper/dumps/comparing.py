@@ -7,25 +7,25 @@ from pathlib import Path
 from typing import NamedTuple
 
 from ..common.failures import Refusal
+from ..common.library import AUDIO, SECTOR
 from ..common.output import Table, tell
 from ..common.times import PAUSE, spelled
 from .q_disc import CATALOGUE, Disc, ISRC, Source
 
 NAMES = ("track", "what", "contents", "q", "cue", "times")
-AUDIO_SECTOR, IMAGE_SECTOR = 2352, 2448
 TIME = re.compile(r"(\d+):(\d\d):(\d\d)")
 
 
 class TimeBase(enum.Enum):
     """What the times of a sheet count from."""
 
-    FILE = "file"  # where the audio of the dump begins; what the dump lacks does not count
+    FILE = "file"  # where the audio of the dump begins; missing parts of the dump do not count
     DISC = "disc"  # the first sector of the disc, at the absolute time 00:02:00
 
     @property
     def remark(self) -> bytes:
-        """The line of a sheet that names it."""
-        return b"REM TIMES " + self.value.upper().encode()
+        """The remark of a sheet that names it."""
+        return b"TIMES " + self.value.upper().encode()
 
 
 def time_at(source: Source, base: TimeBase, time: int) -> int:
@@ -35,8 +35,8 @@ def time_at(source: Source, base: TimeBase, time: int) -> int:
 
 @dataclass
 class CueTrack:
-    """A track of a cue sheet: its indexes by their times in all of its files, one behind another, with the silence that no
-    file has and without it; whether it is data; and its code."""
+    """A track of a cue sheet: its indexes by their times in all of its files, one behind another, with the silence that
+    no file has and without it; whether it is data; and its code."""
 
     number: int
     indices: dict[int, int] = field(default_factory=dict)
@@ -62,7 +62,7 @@ def blocks_of(word: str) -> int | None:
     return 75 * (60 * int(found[1]) + int(found[2])) + int(found[3]) if found else None
 
 
-def file_of(folder: Path, name: str) -> tuple[str, int, int] | None:
+def named_file(folder: Path, name: str) -> tuple[str, int, int] | None:
     """A file that a sheet names, the bytes of its sectors and how many there are, if it is there."""
     path = folder / os.path.basename(name.replace("\\", "/"))
     try:
@@ -70,13 +70,13 @@ def file_of(folder: Path, name: str) -> tuple[str, int, int] | None:
     except (OSError, ValueError):
         # No file has such a name, one with a zero byte say.
         return None
-    unit = AUDIO_SECTOR if size % AUDIO_SECTOR == 0 else IMAGE_SECTOR
+    unit = AUDIO if size % AUDIO == 0 else SECTOR
     return os.fspath(path), unit, size // unit
 
 
 def read_cue(path: str, content: bytes) -> Cue:
-    """What a cue sheet of any tool says, also of several files and of data, which `author` does not take: here it is only
-    compared."""
+    """What a cue sheet of any tool says, also of several files and of data, which `author` does not take: here it is
+    only compared."""
     cue, folder = Cue(), Path(path).parent
     before: int | None = 0
     length: int | None = 0
@@ -87,7 +87,7 @@ def read_cue(path: str, content: bytes) -> Cue:
         if command == "FILE":
             before = None if before is None or length is None else before + length
             name = re.search(r'"([^"]*)"', line)
-            file = file_of(folder, name[1] if name else " ".join(words[1:-1]))
+            file = named_file(folder, name[1] if name else " ".join(words[1:-1]))
             length = None if file is None else file[2]
             cue.files += [file] if file else []
             if length is None:
@@ -137,7 +137,7 @@ class Difference(NamedTuple):
     times: str
 
 
-def rows(source: Source, found: Disc, cue: Cue, base: TimeBase) -> list[Difference]:
+def differences(source: Source, found: Disc, cue: Cue, base: TimeBase) -> list[Difference]:
     """What differs: of the album, and of each track its beginning, its indexes, its code and its session."""
     result: list[Difference] = []
 
@@ -182,9 +182,9 @@ def rows(source: Source, found: Disc, cue: Cue, base: TimeBase) -> list[Differen
 
 def write_differences(table: Table, source: Source, found: Disc, cue: Cue, base: TimeBase) -> bool:
     """The table of what differs; whether anything does."""
-    differences = rows(source, found, cue, base)
-    for row in differences:
+    found_rows = differences(source, found, cue, base)
+    for row in found_rows:
         table.row(row)
     if cue.untold:
         tell(cue.untold)
-    return bool(differences)
+    return bool(found_rows)

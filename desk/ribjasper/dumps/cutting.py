@@ -1,5 +1,5 @@
-"""Tracks cut out of a disc image as published lists have them: 2,352 bytes a sector, data tracks from index 01, and audio
-tracks from their pauses, moved by an offset in samples."""
+"""Tracks cut out of a disc image as published lists have them: 2,352 bytes a sector, data tracks from index 01, and
+audio tracks from their pauses, moved by an offset in samples."""
 import hashlib
 import os
 import zlib
@@ -7,17 +7,19 @@ from dataclasses import dataclass, field
 from pathlib import Path
 from typing import Iterator, NamedTuple, Sequence
 
+from ..common.cue_sheets import DATA
 from ..common.failures import Refusal, reading
 from ..common.library import SECTOR
 from ..common.output import read_file
+from ..common.progress import progress
 from ..common.times import PAUSE, spelled
 from . import comparing, edc
 from .checksums import Game, Listed, Sums
-from .dump import Dump
+from .dump import DumpFile
 from .edc import EdcCount
 from .forms import AUDIO
-from .loading import Asked, Loaded, Unknown, load_found
-from .q_disc import DATA, Disc, Source, disc
+from .loading import DumpOptions, Loaded, Unknown, load_found
+from .q_disc import Disc, Source, disc
 
 SAMPLE = 4
 AT_ONCE = 512
@@ -27,7 +29,7 @@ MOST_OFFSET = 5 * 588
 REACH = MOST_OFFSET * SAMPLE // AUDIO
 
 
-class Stretch(NamedTuple):
+class FileSectors(NamedTuple):
     """Sectors of a file: where the first begins, how many bytes apart they are, and how many there are."""
 
     path: str
@@ -40,7 +42,7 @@ class Stretch(NamedTuple):
 class Image:
     """Sectors of 2,352 bytes, in files one behind another."""
 
-    stretches: list[Stretch]
+    stretches: list[FileSectors]
 
     @property
     def sectors(self) -> int:
@@ -61,7 +63,7 @@ class Image:
             place -= stretch.sectors
         return b"".join([*parts, bytes(AUDIO * left)])
 
-    def _of(self, stretch: Stretch, first: int, count: int) -> bytes:
+    def _of(self, stretch: FileSectors, first: int, count: int) -> bytes:
         with reading(stretch.path), open(stretch.path, "rb") as file:
             file.seek(stretch.start + first * stretch.unit)
             content = file.read(count * stretch.unit)
@@ -110,7 +112,7 @@ def tracks_of_dump(loaded: Loaded) -> CutDisc:
     if not source.stretches:
         raise Refusal(loaded.path, "no Q frame names a track")
     found = disc(source, loaded.companions)
-    image = Image([Stretch(loaded.path, loaded.dump.skip, loaded.form.unit, loaded.survey.blocks)])
+    image = Image([FileSectors(loaded.path, loaded.dump.skip, loaded.form.unit, loaded.survey.blocks)])
     ends = {session.number: session.lead_out for session in found.sessions}
     cut, notes = [], [f"{loaded.survey.blocks} sectors of {loaded.form.unit} bytes, cut by Q"]
     for place, track in enumerate(found.tracks):
@@ -146,7 +148,7 @@ def tracks_of_sheet(path: str) -> CutDisc:
     cue = comparing.read_cue(path, read_file(path))
     if cue.missing:
         raise Refusal(path, f"names the file {cue.missing}, which is not there")
-    stretches = [Stretch(name, 0, unit, count) for name, unit, count in cue.files]
+    stretches = [FileSectors(name, 0, unit, count) for name, unit, count in cue.files]
     image = Image(stretches)
     cut = []
     for place, track in enumerate(cue.tracks):
@@ -160,7 +162,7 @@ def tracks_of_sheet(path: str) -> CutDisc:
     return CutDisc(path, image, cut, notes + gaps(cut))
 
 
-def sheet_of(path: str) -> str | None:
+def sheet_beside(path: str) -> str | None:
     """The cue sheet of an image: the file itself, or the one beside it that has its name."""
     if path.lower().endswith(".cue"):
         return path
@@ -169,9 +171,10 @@ def sheet_of(path: str) -> str | None:
     return next((name for name in names if os.path.isfile(name)), None)
 
 
-def open_disc(path: str, words: Asked = Asked()) -> CutDisc:
-    """An image with its tracks: sectors with subcode, whose Q channel names the tracks, or other sectors with a sheet."""
-    sheet, size = sheet_of(path), Dump(path).size
+def open_disc(path: str, words: DumpOptions = DumpOptions()) -> CutDisc:
+    """An image with its tracks: sectors with subcode, whose Q channel names the tracks, or other sectors with a
+    sheet."""
+    sheet, size = sheet_beside(path), DumpFile(path).size
     is_plain = path == sheet or (sheet is not None and size % AUDIO == 0 and size % SECTOR != 0)
     found = None if is_plain else load_found(path, words)
     if isinstance(found, Loaded) and found.form.is_in_sectors() and found.survey.has_q:
@@ -183,8 +186,9 @@ def open_disc(path: str, words: Asked = Asked()) -> CutDisc:
     raise Refusal(path, "has no sectors with Q, and no cue sheet lies beside it")
 
 
-def parts_of(cut: CutDisc, track: CutTrack, offset: int = 0) -> Iterator[bytes]:
-    """The bytes of a track, in parts of whole sectors. The audio of a track begins so many samples later in the image."""
+def track_bytes(cut: CutDisc, track: CutTrack, offset: int = 0) -> Iterator[bytes]:
+    """The bytes of a track, in parts of whole sectors. The audio of a track begins so many samples later in the
+    image."""
     if track.is_data or not offset:
         for first in range(track.first, track.end, AT_ONCE):
             yield cut.image.read(first, min(AT_ONCE, track.end - first))
@@ -212,7 +216,8 @@ def hashed(cut: CutDisc, track: CutTrack, offset: int = 0) -> Hashed:
     """The checksums of a track, which is read once."""
     crc, size, codes = 0, 0, EdcCount() if track.is_data else None
     digests = [hashlib.new(name, usedforsecurity=False) for name in ("md5", "sha1", "sha256")]
-    for part in parts_of(cut, track, offset):
+    count = -(-(track.end - track.first) // AT_ONCE)
+    for part in progress(track_bytes(cut, track, offset), count, "parts"):
         if codes is not None:
             edc.count(part, track.first + size // AUDIO, codes)
         size += len(part)
@@ -270,8 +275,8 @@ def offsets_with(content: bytes, length: int, wanted: set[int]) -> Iterator[tupl
 
 
 def found_offset(cut: CutDisc, listed: Sequence[Listed]) -> int | None:
-    """The offset with which the audio tracks are in a list, by their sizes and CRC-32: the nearest to none of those that fit
-    the shortest track, and as long as there are several, the next one too. Silence fits everywhere."""
+    """The offset with which the audio tracks are in a list, by their sizes and CRC-32: the nearest to none of those
+    that fit the shortest track, and as long as there are several, the next one too. Silence fits everywhere."""
     by_size: dict[int, set[int]] = {}
     for it in listed:
         if it.values.get("size", "").isdecimal() and "crc32" in it.values:
@@ -288,8 +293,8 @@ def found_offset(cut: CutDisc, listed: Sequence[Listed]) -> int | None:
 
 
 class Comparison(NamedTuple):
-    """What a list says of an image: the disc that has the most of its tracks, if there is one, how many it has, and of each
-    track the name of its file in the list or the fields that differ."""
+    """What a list says of an image: the disc that has the most of its tracks, if there is one, how many it has, and of
+    each track the name of its file in the list or the fields that differ."""
 
     game: Game | None
     same: int
@@ -299,7 +304,7 @@ class Comparison(NamedTuple):
 SAME, DIFFERS, NOT_LISTED = "same", "differs", "not listed"
 
 
-def is_same(track: Hashed, listed: Listed | None) -> bool:
+def is_listed(track: Hashed, listed: Listed | None) -> bool:
     return listed is not None and not listed.differs(track.sums)
 
 
@@ -307,7 +312,7 @@ def compared(tracks: Sequence[Hashed], games: Sequence[Game]) -> Comparison:
     """The disc of a list that an image is, track by track."""
 
     def same(game: Game) -> int:
-        return sum(is_same(it, listed) for it, listed in zip(tracks, padded(game, len(tracks))))
+        return sum(is_listed(it, listed) for it, listed in zip(tracks, padded(game, len(tracks))))
 
     best = max(games, key=lambda it: (same(it), -abs(len(it.tracks) - len(tracks))), default=None)
     if best is None or not same(best):

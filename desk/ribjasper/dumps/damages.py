@@ -7,7 +7,8 @@ from ..common.library import BLOCKS_A_SECOND
 from ..common.times import spelled
 from .identity import has_parity
 from .loading import Loaded
-from .survey import Clock, Run, Survey, either, runs
+from .columns import Run, either, runs
+from .survey import Clock, Survey
 
 NAMES = ("kind", "first", "last", "from", "to", "track", "bad", "corrected", "q-bad", "empty")
 RUN, JUMP, UNREAD = "run", "jump", "unread"
@@ -70,7 +71,7 @@ def damages(survey: Survey) -> list[Damage]:
     return sorted([*found, *jumps(survey, clock)], key=lambda it: (it.first, it.kind))
 
 
-def unread(survey: Survey) -> list[Damage]:
+def unread_damages(survey: Survey) -> list[Damage]:
     """The blocks before the first that was read, and behind the last, which are no damage."""
     clock = Clock(survey)
     return [
@@ -80,11 +81,11 @@ def unread(survey: Survey) -> list[Damage]:
 
 
 def damages_of(loaded: Loaded) -> list[Damage]:
-    """All that is damaged in a dump. Of packs without parity nothing can be told."""
+    """All that is damaged in a dump. Packs without parity have no known damage."""
     return damages(loaded.survey) if loaded.form.library != library.PACKS or has_parity(loaded) else []
 
 
-def seconds(survey: Survey) -> bytes:
+def worst_by_second(survey: Survey) -> bytes:
     """For each second of the file the worst that is in it, as a number of damage_map.STATES."""
     corrected = either(survey.column("one"), survey.column("two"))
     worst = bytearray(survey.blocks)
@@ -98,7 +99,7 @@ def seconds(survey: Survey) -> bytes:
             worst[run.first : run.last + 1] = bytes([state]) * (run.last - run.first + 1)
     cells = bytearray(max(worst[start : start + BLOCKS_A_SECOND]) for start in range(0, survey.blocks, BLOCKS_A_SECOND))
     for run in survey.unread():
-        # A second of which a part was read is what that part is.
+        # A second that was read in part has the state of that part.
         first, end = -(-run.first // BLOCKS_A_SECOND), (run.last + 1) // BLOCKS_A_SECOND
         last = -(-survey.blocks // BLOCKS_A_SECOND) if run.last + 1 == survey.blocks else end
         cells[first:last] = bytes([damage_map.UNREAD]) * max(0, last - first)
@@ -107,9 +108,9 @@ def seconds(survey: Survey) -> bytes:
 
 def draw_map(survey: Survey, has_legend: bool = True) -> Any:
     """The map of a dump, a picture: a row a minute, a cell a second. Rows are marked by the absolute time of their
-    first block, or where there is no Q by its place in the file."""
+    first block, or without Q by its place in the file."""
     clock = Clock(survey)
-    cells = seconds(survey)
+    cells = worst_by_second(survey)
     firsts = range(0, survey.blocks, 60 * BLOCKS_A_SECOND)
     if clock.stretches:
         marks = ["lead-in" if clock.time(first) is None else spelled(clock.time(first)) for first in firsts]

@@ -4,25 +4,26 @@ import re
 from typing import Iterator, NamedTuple, Sequence
 
 from ..common import library
-from ..common.library import BLOCK, PACK, RAW
-from .dump import Dump
+from ..common.library import BLOCK, GRAPHICS, PACK, RAW
+from .columns import both, busy
+from .dump import DumpFile
 from .forms import Coding, FORMS, Form, Order, PLAIN_FORMS, subcode
 from .survey import Survey
 
-# A form is tried in windows of so many bytes, the same bytes for each form. Windows of a few places are looked at, until
-# enough of them are not empty; where these tell nothing, more of all places.
+# A form is tried in windows of so many bytes, the same bytes for each form. Windows of a few places are looked at,
+# until enough of them are not empty; if these decide nothing, more of all places.
 WINDOW, FEW, ENOUGH, MANY = 1 << 17, 64, 12, 64
-# How often random bytes are good by chance: a Q frame of any kind, one with fields of its own, one with fields and no check, a
-# word with a codeword near it, and the first symbols of a pack of graphics.
+# How often random bytes are good by chance: a Q frame of any kind, one with fields of its own, one with fields and no
+# check, a word with a codeword near it, and the first symbols of a pack of graphics.
 CHANCE_FRAME, CHANCE_FIELDS, CHANCE_UNCHECKED, CHANCE_WORD, CHANCE_PACK = 2**-16, 1e-9, 1e-5, 1.6e-5, 9 / 4096
 # How unlikely chance has to be.
 UNLIKELY = 1e-8
-# A form that explains so much of what is not empty is taken at once; one that explains less than so much of what the best
-# one does is none; and from so much on it is as much.
+# A form that explains so much of what is not empty is taken at once; one that explains less than so much of what the
+# best one does is none; and from so much on it is as much.
 SURE, COMPARABLE, AS_MUCH = 0.9, 0.7, 0.95
 # Where the best form explains so much, no stranger ones are tried.
 LIKELY_BY_Q, LIKELY_BY_WORDS = 0.2, 0.5
-# Q tells before words do, unless it explains less than so much and words are likely.
+# Q decides before words do, unless it explains less than so much and words are likely.
 LITTLE = 0.05
 # The share of packs of graphics that a file of packs without parity has at least, and of words of what is not idle.
 LEAST_PACKS, LEAST_WORDS = 0.2, 0.05
@@ -30,12 +31,12 @@ LEAST_PACKS, LEAST_WORDS = 0.2, 0.05
 LEAST_UNCHECKED = 0.25
 # A header that is longer than a unit ends, up to here, where a frame is good or a block empty.
 MOST_HEADER = 4096
-# What is strange is tried in so many windows; where the length of a file does not tell its header, so many units of them at
-# each byte, or of sectors at each fourth one.
+# What is strange is tried in so many windows; where the header does not follow from the length of a file, so many units
+# of them at each byte, or of sectors at each fourth one.
 STRANGE_WINDOWS, TRIED_UNITS, SECTOR_STEP = 3, 20, 4
-GRAPHICS = 9
-# The instructions of graphics that there are.
-INSTRUCTIONS = frozenset((1, 2, 6, 20, 24, 28, 30, 31, 38))
+# Columns of 1 where a symbol says that a pack is of graphics, and where one is an instruction of graphics.
+_IS_GRAPHICS = bytes(symbol == GRAPHICS for symbol in range(256))
+_IS_INSTRUCTION = bytes(symbol in (1, 2, 6, 20, 24, 28, 30, 31, 38) for symbol in range(256))
 
 
 class Window(NamedTuple):
@@ -46,8 +47,8 @@ class Window(NamedTuple):
 
 
 class Signs(NamedTuple):
-    """What speaks for a form: how many Q frames are not empty, how many of them are good, and how many have fields of their
-    own; how many words carry something, of how many that are not idle, and of how many in all."""
+    """What speaks for a form: how many Q frames are not empty, how many of them are good, and how many have fields of
+    their own; how many words carry something, of how many that are not idle, and of how many in all."""
 
     frames: int = 0
     good: int = 0
@@ -62,7 +63,8 @@ class Signs(NamedTuple):
 
 
 class Explained(NamedTuple):
-    """Whether Q tells, or the words do; the share that is good of what is not empty; and how many frames, or words, are."""
+    """Whether Q decides, or the words do; the share that is good of what is not empty; and how many frames, or words,
+    are."""
 
     by_q: bool
     share: float
@@ -80,7 +82,7 @@ class Found(NamedTuple):
         """What this form explains, or none where chance explains as much."""
         it = self.signs
         if self.form.coding is Coding.PQ:
-            # A check that is not there is right in any unit: here the fields tell.
+            # Without checks the fields decide.
             is_so = it.fields >= LEAST_UNCHECKED * it.frames and is_no_chance(it.fields, it.frames, CHANCE_UNCHECKED)
             return Explained(True, it.fields / it.frames, it.fields) if is_so else None
         if is_no_chance(it.good, it.frames, CHANCE_FRAME) or is_no_chance(it.fields, it.frames, CHANCE_FIELDS):
@@ -112,28 +114,25 @@ def is_no_chance(count: int, of: int, chance: float) -> bool:
     return count * math.log(expected) - math.lgamma(count + 1) < math.log(UNLIKELY)
 
 
-def frames_of(blocks: bytes) -> tuple[int, int, int]:
+def frame_signs(blocks: bytes) -> tuple[int, int, int]:
     """How many Q frames are not empty, how many are good, and how many of these have fields."""
     survey = Survey(blocks, RAW, 0, is_trimmed=False)
     good = survey.good_frames()
     return survey.blocks - sum(survey.column("empty")), good, good - survey.column("q").count(library.Q_OTHER)
 
 
-def words_of(blocks: bytes, form: int) -> tuple[int, int, int]:
+def word_signs(blocks: bytes, form: int) -> tuple[int, int, int]:
     """How many words carry something, how many are not idle, and how many there are."""
-    packs, told = library.convert(blocks, form, 0)
+    packs, told = library.packs_of_blocks(blocks, form, 0)
     firsts = packs[::PACK]
     carrying = len(firsts) - firsts.count(0)
     return carrying, carrying + told.bad, len(firsts)
 
 
-def packs_of(symbols: bytes) -> tuple[int, int, int]:
+def pack_signs(symbols: bytes) -> tuple[int, int, int]:
     """How many packs of graphics there are, how many packs are not idle, and how many there are."""
-    idle = bytes(PACK)
-    starts = range(0, len(symbols), PACK)
-    busy = sum(symbols[start : start + PACK] != idle for start in starts)
-    graphics = sum(symbols[at] == GRAPHICS and symbols[at + 1] in INSTRUCTIONS for at in starts)
-    return graphics, busy, len(starts)
+    kinds, instructions = symbols[::PACK].translate(_IS_GRAPHICS), symbols[1::PACK].translate(_IS_INSTRUCTION)
+    return sum(both(kinds, instructions)), sum(busy(symbols, PACK)), len(kinds)
 
 
 def units_within(window: Window, form: Form, skip: int) -> bytes:
@@ -153,18 +152,19 @@ def signs(windows: Sequence[Window], form: Form, skip: int) -> Signs:
             continue
         frames = words = (0, 0, 0)
         if not form.is_packs():
-            frames = frames_of(blocks)
+            frames = frame_signs(blocks)
         if form.coding is Coding.CDG:
-            words = packs_of(blocks)
+            words = pack_signs(blocks)
         elif form.has_graphics():
-            words = words_of(blocks, form.library)
+            words = word_signs(blocks, form.library)
         total = Signs(*(a + b for a, b in zip(total, (*frames, *words))))
     return total
 
 
-def best(candidates: Sequence[Found]) -> Found | None:
-    """The form that explains most. Q tells before words do. Of forms that explain much the same share, those which explain
-    most; of these that which has the fewest words, for packs behind silent audio are found without the sectors too."""
+def best_form(candidates: Sequence[Found]) -> Found | None:
+    """The form that explains most. Q decides before words do. Of forms that explain much the same share, those which
+    explain most; of these the one with the fewest words, for packs behind silent audio are found without the sectors
+    too."""
     told = [(explained, found) for found in candidates if (explained := found.explained())]
     by_q = [it for it in told if it[0].by_q]
     by_words = [it for it in told if not it[0].by_q]
@@ -186,12 +186,14 @@ def best(candidates: Sequence[Found]) -> Found | None:
 
 
 def may_have_header(form: Form) -> bool:
-    """Whether a header in front of a form is searched for. A file of packs has none: without its first packs it looks like
-    a file of packs too."""
+    """Whether a header in front of a form is searched for. A file of packs has none: without its first packs it looks
+    like a file of packs too."""
     return form.is_in_sectors() or not form.is_packs()
 
 
-def tried(dump: Dump, windows: Sequence[Window], forms: Sequence[Form], skips: Sequence[int] | None) -> Iterator[Found]:
+def tried(
+    dump: DumpFile, windows: Sequence[Window], forms: Sequence[Form], skips: Sequence[int] | None
+) -> Iterator[Found]:
     """What speaks for each form, with no header and with one whose length follows from that of the file."""
     for form in forms:
         lengths = {0, dump.size % form.unit} if may_have_header(form) else {0}
@@ -206,12 +208,12 @@ def offsets(windows: Sequence[Window], form: Form) -> Iterator[int]:
         for window in windows:
             units = units_within(window, form, skip)[: TRIED_UNITS * form.unit]
             blocks = subcode(units, form)
-            found += words_of(blocks, form.library)[0] if form.is_packs() else frames_of(blocks)[2]
+            found += word_signs(blocks, form.library)[0] if form.is_packs() else frame_signs(blocks)[2]
         if found > 2:
             yield skip
 
 
-def windows_of(dump: Dump, is_thorough: bool) -> list[Window]:
+def windows_of(dump: DumpFile, is_thorough: bool) -> list[Window]:
     """Windows that are not empty, in order: enough of a few places, or many of all places."""
     places = -(-dump.size // WINDOW)
     if places <= FEW or is_thorough:
@@ -228,12 +230,13 @@ def any_of(content: bytes) -> bool:
     return content.count(0) < len(content)
 
 
-def is_all_zeros(dump: Dump) -> bool:
+def is_all_zeros(dump: DumpFile) -> bool:
     return not any(any_of(dump.read(start, WINDOW)) for start in range(0, dump.size, WINDOW))
 
 
-def past_header(dump: Dump, found: Found) -> Found:
-    """The same form behind the whole of a header that is longer than a unit, where what comes first is unlikely to be damage."""
+def past_header(dump: DumpFile, found: Found) -> Found:
+    """The same form behind the whole of a header that is longer than a unit, where what comes first is unlikely to be
+    damage."""
     told = found.explained()
     if not found.skip or found.form.unit != BLOCK or told is None or not told.by_q or told.share < SURE:
         return found
@@ -244,24 +247,24 @@ def past_header(dump: Dump, found: Found) -> Found:
     return found._replace(skip=found.skip + count * found.form.unit)
 
 
-def fits(dump: Dump, form: Form) -> bool:
+def has_units(dump: DumpFile, form: Form) -> bool:
     return 0 < dump.size // form.unit and form.blocks(dump.size // form.unit) <= library.MOST_BLOCKS
 
 
-def as_named(dump: Dump, found: Found) -> Found:
-    """Packs with parity are both a cooked dump and a `.cdg` file: the name of the file tells, or a length that is no whole
-    blocks."""
+def as_named(dump: DumpFile, found: Found) -> Found:
+    """Packs with parity are both a cooked dump and a `.cdg` file: the name of the file decides, or a length that is no
+    whole blocks."""
     if found.form.coding is not Coding.COOKED or found.form.is_in_sectors():
         return found
     is_cdg = dump.path.lower().endswith(".cdg") or (dump.size - found.skip) % found.form.unit
     return found._replace(form=FORMS["cdg"].ordered(found.form.order)) if is_cdg else found
 
 
-def stages(dump: Dump, windows: Sequence[Window], skip: int | None) -> Iterator[Iterator[Found]]:
-    """What is tried, the likeliest first: each form; those with their bits or bytes in another order; a header whose length
-    is not told by that of the file; and other places of the file."""
+def stages(dump: DumpFile, windows: Sequence[Window], skip: int | None) -> Iterator[Iterator[Found]]:
+    """What is tried, the likeliest first: each form; those with their bits or bytes in another order; a header whose
+    length does not follow from that of the file; and other places of the file."""
     skips = None if skip is None else [skip]
-    plain = [form for form in PLAIN_FORMS if fits(dump, form)]
+    plain = [form for form in PLAIN_FORMS if has_units(dump, form)]
     yield tried(dump, windows, plain, skips)
     others = [form.ordered(order) for order in (Order.REVERSED, Order.SWAPPED) for form in plain]
     few = windows[:: max(1, len(windows) // STRANGE_WINDOWS)][:STRANGE_WINDOWS]
@@ -273,12 +276,12 @@ def stages(dump: Dump, windows: Sequence[Window], skip: int | None) -> Iterator[
         yield tried(dump, windows_of(dump, True), plain, skips)
 
 
-def form_of(dump: Dump, skip: int | None = None) -> tuple[Found | None, list[str]]:
-    """The form of a dump and its header, or none and what speaks against each form. A header that is given is not searched
-    for."""
+def form_of(dump: DumpFile, skip: int | None = None) -> tuple[Found | None, list[str]]:
+    """The form of a dump and its header, or none and what speaks against each form. A header that is given is not
+    searched for."""
     seen: list[Found] = []
     found = None
-    if not any(fits(dump, form) for form in PLAIN_FORMS):
+    if not any(has_units(dump, form) for form in PLAIN_FORMS):
         return None, [reason(dump, form, None) for form in PLAIN_FORMS]
     windows = windows_of(dump, False) or windows_of(dump, True)
     if not windows:
@@ -288,7 +291,7 @@ def form_of(dump: Dump, skip: int | None = None) -> tuple[Found | None, list[str
             seen.append(candidate)
             if candidate.is_sure_among(seen):
                 break
-        found = best(seen)
+        found = best_form(seen)
         if found is not None and found.is_likely():
             break
     if found is not None:
@@ -297,7 +300,7 @@ def form_of(dump: Dump, skip: int | None = None) -> tuple[Found | None, list[str
     return None, [reason(dump, form, against.get(form)) for form in PLAIN_FORMS]
 
 
-def reason(dump: Dump, form: Form, found: Found | None) -> str:
+def reason(dump: DumpFile, form: Form, found: Found | None) -> str:
     """What speaks against a form."""
     if found is not None:
         return f"{form.name}: {found.signs.against()}"

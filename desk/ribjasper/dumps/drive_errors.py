@@ -1,9 +1,10 @@
-"""What a drive said while it read a dump: C2 errors and redumper's states of samples, in files beside the dump. They are of
-the main channel, but where the drive was unsure of it, the subcode is doubtful too."""
+"""What a drive said while it read a dump: C2 errors and redumper's states of samples, in files beside the dump. They
+are of the main channel, but where the drive was unsure of it, the subcode is doubtful too."""
 import os
 import re
 from typing import NamedTuple
 
+from .columns import either
 from .companions import C2_SIZES, SAMPLES, neighbours
 
 # redumper's states of samples below this one are errors: the sector was skipped, or a C2 error was reported.
@@ -14,7 +15,8 @@ _BAD = re.compile(rb"[^\x00]")
 
 
 class DriveErrors(NamedTuple):
-    """A byte for each block of a dump, 1 where the drive was unsure of the sector; and the names of the files that say so."""
+    """A byte for each block of a dump, 1 where the drive was unsure of the sector; and the names of the files that say
+    so."""
 
     mask: bytes
     names: list[str]
@@ -28,7 +30,7 @@ class DriveErrors(NamedTuple):
         return self.mask.count(1, first, end)
 
 
-def marked(path: str, unit: int, blocks: int, table: bytes | None) -> bytes:
+def doubtful_units(path: str, unit: int, blocks: int, table: bytes | None) -> bytes:
     """A byte for each unit of a file, 1 where one of its bytes, by a table, is not zero."""
     mask = bytearray(blocks)
     with open(path, "rb") as file:
@@ -56,21 +58,18 @@ def unit_of(path: str, blocks: int) -> int | None:
 
 
 def drive_errors(path: str, blocks: int) -> DriveErrors | None:
-    """The doubtful blocks of a dump of so many blocks, by the .c2 and .state files beside it; none if there are no such files
-    of its length."""
+    """The doubtful blocks of a dump of so many blocks, by the .c2 and .state files beside it; none if there are no such
+    files of its length."""
     masks, names = [], []
     for name in neighbours(path, (".c2", ".state")):
         try:
             unit = unit_of(name, blocks)
             if unit is None:
                 continue
-            masks.append(marked(name, unit, blocks, _BAD_STATE if unit == SAMPLES else None))
+            masks.append(doubtful_units(name, unit, blocks, _BAD_STATE if unit == SAMPLES else None))
             names.append(os.path.basename(name))
         except OSError:
             continue
     if not masks:
         return None
-    joined = 0
-    for mask in masks:
-        joined |= int.from_bytes(mask, "little")
-    return DriveErrors(joined.to_bytes(blocks, "little"), names)
+    return DriveErrors(either(*masks), names)

@@ -8,11 +8,11 @@ from ..common.failures import Name, Refusal, cause
 from ..common.library import PACKS_A_BLOCK
 from .forms import Coding, Form, subcode
 
-# So many bytes are read at a time, of which only the subcode is kept.
+# So many bytes are read at a time; only their subcode is kept.
 READ_AT_ONCE = 1 << 23
 
 
-class Dump:
+class DumpFile:
     """A file that is read as units behind a header of so many bytes."""
 
     def __init__(self, path: Name, skip: int = 0):

@@ -1,30 +1,33 @@
-"""The error detection codes of data sectors (ECMA-130, and the forms of mode 2 in CD-ROM XA), for many sectors at a time."""
+"""The error detection codes of data sectors (ECMA-130, and the forms of mode 2 in CD-ROM XA), for many sectors at a
+time."""
 import functools
 from dataclasses import dataclass, field
 from typing import NamedTuple, Sequence
 
-SECTOR, SYNC = 2352, b"\0" + b"\xff" * 10 + b"\0"
+from ..common.library import AUDIO
+
+SYNC = b"\0" + b"\xff" * 10 + b"\0"
 # x^32 + x^31 + x^16 + x^15 + x^4 + x^3 + x + 1, the lowest bit first.
 POLYNOMIAL = 0xD8018001
 MODE, SUBMODE = 15, 18
 FORM_2 = 0x20
 
 
-class Layout(NamedTuple):
-    """The bytes of a sector that its code covers, and behind which it stands."""
+class EdcLayout(NamedTuple):
+    """The bytes of a sector that its code covers. The code follows them."""
 
     first: int
     end: int
     may_be_zero: bool = False
 
 
-MODE_1, MODE_2_FORM_1, MODE_2_FORM_2 = Layout(0, 2064), Layout(16, 2072), Layout(16, 2348, may_be_zero=True)
+MODE_1, MODE_2_FORM_1, MODE_2_FORM_2 = EdcLayout(0, 2064), EdcLayout(16, 2072), EdcLayout(16, 2348, may_be_zero=True)
 
 
 @dataclass
 class EdcCount:
-    """What the codes of data sectors say: how many sectors there are, how many of them have no code, and the numbers of those
-    whose code is wrong or that are no data sectors."""
+    """What the codes of data sectors say: how many sectors there are, how many of them have no code, and the numbers of
+    those whose code is wrong or that are no data sectors."""
 
     sectors: int = 0
     without: int = 0
@@ -43,9 +46,9 @@ def tables() -> tuple[bytes, bytes, bytes, bytes]:
     return low, second, third, high
 
 
-def codes(sectors: Sequence[bytes], layout: Layout) -> list[bytes]:
-    """The four bytes of the code of each sector, worked out for all of them at once, column by column: the state is a number
-    that has the lowest bytes of all codes first, then the others."""
+def edc_codes(sectors: Sequence[bytes], layout: EdcLayout) -> list[bytes]:
+    """The four bytes of the code of each sector, worked out for all of them at once, column by column: the state is a
+    number that has the lowest bytes of all codes first, then the others."""
     content = b"".join(sector[layout.first : layout.end] for sector in sectors)
     length, many = layout.end - layout.first, len(sectors)
     state, lowest = 0, (1 << 8 * many) - 1
@@ -57,7 +60,7 @@ def codes(sectors: Sequence[bytes], layout: Layout) -> list[bytes]:
     return [bytes(four) for four in zip(*(found[start : start + many] for start in range(0, 4 * many, many)))]
 
 
-def layout_of(sector: bytes) -> Layout | None:
+def layout_of(sector: bytes) -> EdcLayout | None:
     """Where a sector has its code; none in mode 0, whose bytes are zeros."""
     if sector[MODE] == 1:
         return MODE_1
@@ -67,10 +70,10 @@ def layout_of(sector: bytes) -> Layout | None:
 
 
 def count(content: bytes, first: int, found: EdcCount) -> None:
-    """Counts whole sectors, of which the first has a number."""
-    by_layout: dict[Layout, list[tuple[int, bytes]]] = {}
-    for at in range(0, len(content), SECTOR):
-        sector, number = content[at : at + SECTOR], first + at // SECTOR
+    """Counts whole sectors; `first` is the number of the first."""
+    by_layout: dict[EdcLayout, list[tuple[int, bytes]]] = {}
+    for at in range(0, len(content), AUDIO):
+        sector, number = content[at : at + AUDIO], first + at // AUDIO
         found.sectors += 1
         if not sector.startswith(SYNC) or sector[MODE] > 2:
             found.bad.append(number)
@@ -81,7 +84,7 @@ def count(content: bytes, first: int, found: EdcCount) -> None:
         else:
             by_layout.setdefault(layout, []).append((number, sector))
     for layout, numbered in by_layout.items():
-        for (number, sector), code in zip(numbered, codes([sector for _, sector in numbered], layout)):
+        for (number, sector), code in zip(numbered, edc_codes([sector for _, sector in numbered], layout)):
             if sector[layout.end : layout.end + 4] != code:
                 found.bad.append(number)
     found.bad.sort()

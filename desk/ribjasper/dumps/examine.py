@@ -1,18 +1,16 @@
-"""What is told of one dump in a report: a row, a thumbnail of its first picture, a map of its damage and a list of its
+"""What a report has on one dump: a row, a thumbnail of its first picture, a map of its damage and a list of damaged
 places."""
-import io
 from typing import Any, Iterable, NamedTuple
 
-from ..common import library
 from ..common.failures import Failure, shown
-from ..common.library import HEIGHT, PACK, WIDTH
-from ..common.output import package
+from ..common.library import GRAPHICS, HEIGHT, PACK, WIDTH
+from ..common.output import package, png
+from ..common.player import Player
 from .checksums import Sums, sums_of
-from .damages import Damage, NAMES, RUN, damages_of, draw_map, unread
-from .detection import GRAPHICS
+from .damages import Damage, NAMES, RUN, damages_of, draw_map, unread_damages
 from .drive_errors import drive_errors
-from .identity import identity, packs_of
-from .loading import Asked, IS_EMPTY, Loaded, Unknown, load_found
+from .identity import identity, program_packs
+from .loading import DumpOptions, IS_EMPTY, Loaded, Unknown, load_found
 from .q_disc import sessions_in
 from .sessions import notes as session_notes
 
@@ -24,17 +22,17 @@ COLUMNS = (
 )  # fmt: skip
 # What a row's status says.
 GOOD, DAMAGED, TORN, EMPTY, FOREIGN, UNREAD = "good", "damaged", "torn", "empty", "foreign", "unread"
-# A picture stands when no pack of graphics comes for a second; else it is taken after ten.
+# A picture is complete when no pack of graphics comes for a second; else it is taken after ten.
 STANDS, LONGEST = 300, 3000
 # So many packs of graphics are drawn at most until a picture shows.
 MOST_DRAWN = 30_000
-# So many places stand in a row; a list has all.
+# A row has at most so many places; the list has all.
 MOST_PLACES = 20
 
 
 class Examined(NamedTuple):
-    """A row by the names of its columns; two pictures, PNG files, where there are any; and a list of places, where there is
-    damage."""
+    """A row by the names of its columns; two pictures, PNG files, where there are any; and a list of places, where
+    there is damage."""
 
     row: ReportRow
     first_picture: bytes | None = None
@@ -51,10 +49,10 @@ def shows_something(picture: bytes) -> bool:
 
 
 def first_picture(parts: Iterable[bytes]) -> bytes | None:
-    """Red, green and blue of the first picture that shows something and stands for a second, of packs that come in
+    """Red, green and blue of the first picture that shows something and stays for a second, of packs that come in
     parts."""
     drawn = waited = since = 0
-    with library.Player() as player:
+    with Player() as player:
         for packs in parts:
             kinds = packs[::PACK]
             at = 0
@@ -79,19 +77,13 @@ def image_of(picture: bytes) -> Any:
     return package("PIL.Image", "python3-pil").frombytes("RGB", (WIDTH, HEIGHT), picture)
 
 
-def png(image: Any) -> bytes:
-    out = io.BytesIO()
-    image.save(out, "PNG", optimize=True)
-    return out.getvalue()
-
-
 def status_of(loaded: Loaded, found: list[Damage]) -> str:
     if loaded.rest:
         return TORN
     return DAMAGED if found else GOOD
 
 
-def row_of(loaded: Loaded, found: list[Damage]) -> ReportRow:
+def report_row(loaded: Loaded, found: list[Damage]) -> ReportRow:
     """The columns of a dump whose form is known."""
     survey, told = loaded.survey, identity(loaded)
     runs = [it for it in found if it.kind == RUN]
@@ -130,8 +122,8 @@ def with_sums(row: ReportRow, found: Sums) -> None:
     row.update({"size": found.size, "sha256": found.sha256, "crc32": found.crc32, "md5": found.md5, "sha1": found.sha1})
 
 
-def examine(path: str, name: str, with_pictures: bool = True, words: Asked = Asked()) -> Examined:
-    """All that a report tells of a file, whatever it is."""
+def examine(path: str, name: str, with_pictures: bool = True, words: DumpOptions = DumpOptions()) -> Examined:
+    """All that a report has on a file of any kind."""
     row: ReportRow = dict.fromkeys(COLUMNS)
     row["file"] = name
     try:
@@ -141,11 +133,11 @@ def examine(path: str, name: str, with_pictures: bool = True, words: Asked = Ask
             row["status"], row["why"] = EMPTY if loaded.cause == IS_EMPTY else FOREIGN, loaded.cause
             return Examined(row)
         found = damages_of(loaded)
-        row.update(row_of(loaded, found))
-        places = list_of(sorted([*found, *unread(loaded.survey)], key=lambda it: it.first)) if found else None
+        row.update(report_row(loaded, found))
+        places = list_of(sorted([*found, *unread_damages(loaded.survey)], key=lambda it: it.first)) if found else None
         if not with_pictures:
             return Examined(row, places=places)
-        picture = first_picture(packs_of(loaded)) if row["graphics"] == "yes" else None
+        picture = first_picture(program_packs(loaded)) if row["graphics"] == "yes" else None
         row["picture"] = "shown" if picture else why_no_picture(row["graphics"])
         first = png(image_of(picture)) if picture else None
         return Examined(row, first, png(draw_map(loaded.survey, has_legend=False)), places)

@@ -6,9 +6,8 @@ import enum
 from typing import NamedTuple
 
 from ..common import library
-from ..common.library import BLOCK, PACK, PACKS_A_BLOCK
+from ..common.library import AUDIO as AUDIO, BLOCK, PACK, PACKS_A_BLOCK
 
-AUDIO = 2352
 # P and Q as drives give them: the frame, three bytes of zeros, and P in the highest bit of the last byte.
 PQ = 16
 FRAME, FRAME_WITHOUT_CHECK = 12, 10
@@ -25,7 +24,7 @@ class Coding(enum.Enum):
 
 
 class Order(enum.Enum):
-    """How the bytes of the subcode stand."""
+    """The order of the bytes of the subcode."""
 
     PLAIN = ""
     REVERSED = "reversed"  # the bits of each byte in reverse
@@ -37,7 +36,7 @@ class Form(NamedTuple):
 
     name: str
     unit: int  # bytes of the file for each of its parts
-    size: int  # of which the last so many are subcode
+    size: int  # how many of them, at the end, are subcode
     coding: Coding
     order: Order = Order.PLAIN
 
@@ -152,8 +151,8 @@ def in_order(content: bytes, order: Order) -> bytes:
 
 
 def subcode(units: bytes, form: Form) -> bytes:
-    """The subcode of the whole units of a part of a file: raw blocks, or blocks of four packs, the last of which is filled
-    up."""
+    """The subcode of the whole units of a part of a file: raw blocks, or blocks of four packs, with zeros at the end of
+    the last."""
     units = units[: len(units) - len(units) % form.unit]
     if form.is_in_sectors():
         ends = range(form.unit, len(units) + 1, form.unit)

@@ -2,12 +2,12 @@
 from typing import Iterator, NamedTuple
 
 from ..common import library
-from ..common.library import BLOCK, PACK, RAW
-from .detection import GRAPHICS
+from ..common.library import BLOCK, GRAPHICS, PACK, RAW, SPREAD
+from .columns import busy
 from .loading import Loaded
 
-# So many blocks are turned into packs at a time, and the words of so many blocks reach into the next ones.
-AT_ONCE, SPREAD = 10_000, 2
+# So many blocks are turned into packs at a time.
+AT_ONCE = 10_000
 NOT_READ = "not read"
 
 
@@ -21,36 +21,36 @@ class Identity(NamedTuple):
 
     @property
     def q_good(self) -> str:
-        """The share of good Q frames, 1 where all are good alone; or a dash where there is no Q."""
+        """The share of good Q frames, which is 1 only if all are good; or a dash without Q."""
         return f"{10_000 * self.good // self.frames / 10_000:.4f}" if self.frames else "-"
 
 
-def packs_of(loaded: Loaded) -> Iterator[bytes]:
+def program_packs(loaded: Loaded) -> Iterator[bytes]:
     """The packs of the program, in parts."""
     if loaded.form.library != RAW:
+        is_coded = has_parity(loaded)
         for start in range(0, len(loaded.stream), BLOCK * AT_ONCE):
-            yield corrected(loaded, loaded.stream[start : start + BLOCK * AT_ONCE])
+            part = loaded.stream[start : start + BLOCK * AT_ONCE]
+            yield corrected(part) if is_coded else part
         return
     for first in range(loaded.survey.lead_in, loaded.survey.blocks, AT_ONCE):
         # Each part begins with the blocks over which the last words before it are spread.
         start = max(loaded.survey.lead_in, first - SPREAD)
-        packs, _ = library.convert(loaded.stream[BLOCK * start : BLOCK * (first + AT_ONCE)], RAW, 0)
+        packs, _ = library.packs_of_blocks(loaded.stream[BLOCK * start : BLOCK * (first + AT_ONCE)], RAW, 0)
         skipped = PACK if start < first else 0
         yield packs[skipped:]
 
 
-def corrected(loaded: Loaded, blocks: bytes) -> bytes:
-    """Packs with their errors corrected; of a file without parity as they are."""
-    if not has_parity(loaded):
-        return blocks
-    return library.convert(blocks + bytes(-len(blocks) % BLOCK), library.PACKS, 0)[0][: len(blocks)]
+def corrected(blocks: bytes) -> bytes:
+    """Packs with their errors corrected."""
+    return library.packs_of_blocks(blocks + bytes(-len(blocks) % BLOCK), library.PACKS, 0)[0][: len(blocks)]
 
 
 def has_parity(loaded: Loaded) -> bool:
     """Whether the packs of a file are words of the code, most of those that are not idle at least."""
     survey = loaded.survey
     words = sum(survey.total(name) for name in ("clean", "one", "two", "bad"))
-    idle = sum(loaded.stream[start : start + PACK] == bytes(PACK) for start in range(0, len(loaded.stream), PACK))
+    idle = busy(loaded.stream, PACK).count(0)
     return 2 * (survey.total("clean") - idle) >= words - idle
 
 
@@ -58,7 +58,7 @@ def graphics_of(loaded: Loaded) -> str:
     """Whether a dump carries packs of graphics; or that it has no bit of R to W at all."""
     if not loaded.has_graphics_bits():
         return NOT_READ
-    return yes(any(GRAPHICS in packs[::PACK] for packs in packs_of(loaded)))
+    return yes(any(GRAPHICS in packs[::PACK] for packs in program_packs(loaded)))
 
 
 def identity(loaded: Loaded) -> Identity:

@@ -8,7 +8,7 @@ from ..common.library import BLOCK, RAW
 from ..common.words import lead_in, number_in
 from .companions import Companions, beside_dump
 from .detection import form_of, is_all_zeros
-from .dump import Dump
+from .dump import DumpFile
 from .forms import FORMS, Form, Order, PLAIN_FORMS
 from .pieces import lead_in_of
 from .survey import Survey, has_graphics_bits
@@ -16,10 +16,11 @@ from .survey import Survey, has_graphics_bits
 # No header is longer.
 MOST_SKIPPED = 1 << 32
 IS_EMPTY = "is empty"
+FORM_NAMES = ", ".join(form.name for form in PLAIN_FORMS)
 NO_FORM = "no known form fits; give --form, --lead-in or --skip if you know them (details: identify -v)"
 
 
-class Asked(NamedTuple):
+class DumpOptions(NamedTuple):
     """What the words of a command say of a dump; none where it is to be found."""
 
     form: str | None = None
@@ -28,7 +29,7 @@ class Asked(NamedTuple):
 
 
 class Unknown(NamedTuple):
-    """A file of which no form is known: why, in a few words, and what speaks against each form."""
+    """A file without a known form: why, in a few words, and what speaks against each form."""
 
     cause: str
     against: list[str]
@@ -37,7 +38,7 @@ class Unknown(NamedTuple):
 class Loaded(NamedTuple):
     """A dump that was read: blocks of 96 bytes, and what is found of each."""
 
-    dump: Dump
+    dump: DumpFile
     form: Form
     stream: bytes
     survey: Survey
@@ -57,7 +58,7 @@ class Loaded(NamedTuple):
         return self.form.has_graphics() and has_graphics_bits(self.stream)
 
     def notes(self) -> Iterator[str]:
-        """What is told of a dump beside its form, in a few words each."""
+        """What is unusual in a dump, in a few words each."""
         if self.rest:
             yield f"torn: {self.rest} bytes behind the last whole unit"
         if self.dump.skip:
@@ -75,13 +76,12 @@ class Loaded(NamedTuple):
 
 
 def add_options(parser: argparse.ArgumentParser) -> None:
-    """The words with which each command is told what a dump is."""
-    names = ", ".join(form.name for form in PLAIN_FORMS)
+    """The options that say what a dump is."""
     parser.add_argument(
         "--form",
         type=form_name,
         metavar="F",
-        help=f"the form: {names}, each also with -reversed or -swapped behind it; otherwise it is found",
+        help=f"the form: {FORM_NAMES}, each also with -reversed or -swapped behind it; otherwise it is found",
     )
     parser.add_argument("--lead-in", type=lead_in, metavar="N", help="blocks of the lead-in; otherwise Q says how many")
     parser.add_argument(
@@ -94,17 +94,17 @@ def add_options(parser: argparse.ArgumentParser) -> None:
 
 def form_name(word: str) -> str:
     if word not in FORMS:
-        names = ", ".join(form.name for form in PLAIN_FORMS)
-        raise argparse.ArgumentTypeError(f"unknown form {word!r}; forms: {names}, each also with -reversed or -swapped")
+        forms = f"{FORM_NAMES}, each also with -reversed or -swapped"
+        raise argparse.ArgumentTypeError(f"unknown form {word!r}; forms: {forms}")
     return word
 
 
-def asked(arguments: argparse.Namespace) -> Asked:
-    return Asked(arguments.form, arguments.lead_in, arguments.skip)
+def asked(arguments: argparse.Namespace) -> DumpOptions:
+    return DumpOptions(arguments.form, arguments.lead_in, arguments.skip)
 
 
 def survey_of(stream: bytes, form: Form, told: int | None = None, companions: Companions | None = None) -> Survey:
-    """The survey of a stream; where no lead-in is told, with that which its Q frames tell, or else the files beside it."""
+    """The survey of a stream, with the lead-in that is given, that its Q frames say, or that files beside it say."""
     survey = Survey(stream, form.library, told or 0)
     if told is not None or form.library != RAW:
         return survey
@@ -114,7 +114,7 @@ def survey_of(stream: bytes, form: Form, told: int | None = None, companions: Co
     return Survey(stream, form.library, found) if 0 < found <= library.LONGEST_LEAD_IN else survey
 
 
-def unknown(dump: Dump, against: list[str]) -> Unknown:
+def unknown(dump: DumpFile, against: list[str]) -> Unknown:
     """Why a file has no known form."""
     if not dump.size:
         return Unknown(IS_EMPTY, [])
@@ -125,9 +125,9 @@ def unknown(dump: Dump, against: list[str]) -> Unknown:
     return Unknown(NO_FORM, against)
 
 
-def load_found(path: str, words: Asked = Asked()) -> Loaded | Unknown:
+def load_found(path: str, words: DumpOptions = DumpOptions()) -> Loaded | Unknown:
     """A dump with its form, or why it has none."""
-    dump = Dump(path)
+    dump = DumpFile(path)
     if not dump.size:
         return unknown(dump, [])
     if words.form is not None:
@@ -144,7 +144,7 @@ def load_found(path: str, words: Asked = Asked()) -> Loaded | Unknown:
     return Loaded(dump, form, stream, survey_of(stream, form, words.lead_in, companions), companions)
 
 
-def load(path: str, words: Asked = Asked()) -> Loaded:
+def read_dump(path: str, words: DumpOptions = DumpOptions()) -> Loaded:
     """A dump with its form, or a refusal that says why it has none."""
     found = load_found(path, words)
     if isinstance(found, Unknown):
@@ -152,9 +152,9 @@ def load(path: str, words: Asked = Asked()) -> Loaded:
     return found
 
 
-def load_raw(path: str, words: Asked, wants: str) -> Loaded:
+def load_raw(path: str, words: DumpOptions, wants: str) -> Loaded:
     """A dump that has blocks and not packs alone."""
-    loaded = load(path, words)
+    loaded = read_dump(path, words)
     if loaded.form.library != RAW:
         raise Refusal(path, f"is {loaded.form.name}, which has no {wants}")
     return loaded

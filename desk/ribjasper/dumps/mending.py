@@ -1,5 +1,5 @@
-"""Readings that were put side by side are mended by one call of the library, which decides and counts; this is what it takes
-and what it returns."""
+"""Mending of readings that are side by side: one call of the library decides and counts. This module has the input and
+the output of that call."""
 import ctypes
 import functools
 import itertools
@@ -8,24 +8,22 @@ from dataclasses import dataclass
 from typing import Iterator, NamedTuple, Sequence
 
 from ..common import library
-from ..common.library import BLOCK, PACK, PACKS_A_BLOCK, MendReported
+from ..common.library import BLOCK, PACK, PACKS_A_BLOCK, SLOTS, MendReported
+from .columns import Run, both, busy, different, joined, runs, touching
 from .readings import Laid, Reading
-from .survey import Run, either, has_graphics_bits, runs
+from .survey import has_graphics_bits
 
-# The slots that a word reaches over.
-SLOTS = 8
 # So many blocks are looked at at a time.
 AT_ONCE = 1_000
-# So many packs that two readings both give tell whether they are of one disc.
+# So many packs that two readings share are enough to decide whether they are of one disc.
 ENOUGH = 2_000
 _PQ = bytes(byte & 0xC0 for byte in range(256))
-_ANY = bytes([0] + [1] * 255)
 _NO_WORD = re.compile(bytes([library.NO_READING]) + b"+")
 
 
 class Counts(NamedTuple):
-    """What the library counted of each reading, in words: those that came of it, those that count for nothing, and those
-    with no symbol wrong that did not come out."""
+    """What the library counted of each reading, in words: those that came from it, those that were ignored, and
+    error-free ones that did not come out."""
 
     of_reading: int
     left_out: int
@@ -33,7 +31,8 @@ class Counts(NamedTuple):
 
 
 class Mended(NamedTuple):
-    """What came of readings: the packs or the blocks, of each word which reading it is of, and what the library counted."""
+    """Mended readings: `content` is the packs or the blocks; `sources` has a byte for each word, the number of the
+    reading it is from, 254 if readings agree, 255 if none has a codeword; and what the library counted, in words."""
 
     content: memoryview
     sources: bytes
@@ -46,15 +45,9 @@ class Mended(NamedTuple):
         return [Run(found.start(), found.end() - 1) for found in _NO_WORD.finditer(self.sources)]
 
     def lost_blocks(self) -> list[Run]:
-        """The blocks in which such words stand."""
-        found: list[Run] = []
-        for run in self.lost_words():
-            first, last = run.first // PACKS_A_BLOCK, (run.last + SLOTS - 1) // PACKS_A_BLOCK
-            if found and first <= found[-1].last + 1:
-                found[-1] = Run(found[-1].first, last)
-            else:
-                found.append(Run(first, last))
-        return found
+        """The blocks that these words are spread over."""
+        blocks = (Run(run.first // PACKS_A_BLOCK, (run.last + SLOTS - 1) // PACKS_A_BLOCK) for run in self.lost_words())
+        return joined(blocks, touching)
 
 
 def whole_words(blocks: int) -> int:
@@ -85,7 +78,7 @@ class Content:
         return any(own < its for own, its in itertools.islice(self.pairs(other), 1))
 
 
-def in_order(laid: Laid) -> list[int]:
+def best_first(laid: Laid) -> list[int]:
     """The readings in the order in which the library takes them: those with the fewest words lost first. Where no rule
     decides, as of words that both ends cut, the first reading does; so the order of the command line changes nothing.
     """
@@ -100,7 +93,7 @@ def in_order(laid: Laid) -> list[int]:
     return sorted(range(len(laid.readings)), key=rank)
 
 
-def joined(laid: Laid, order: Sequence[int]) -> bytearray:
+def programs_of(laid: Laid, order: Sequence[int]) -> bytearray:
     """The program of all readings, one behind another. What is known of their blocks, and the streams of files that no later
     reading needs, are let go."""
     content = bytearray(laid.size * len(order))
@@ -113,10 +106,10 @@ def joined(laid: Laid, order: Sequence[int]) -> bytearray:
     return content
 
 
-def mend(laid: Laid, as_stream: bool) -> Mended:
+def mend_laid(laid: Laid, as_stream: bool) -> Mended:
     """The packs of readings, or their stream without a lead-in."""
-    order = in_order(laid)
-    content = joined(laid, order)
+    order = best_first(laid)
+    content = programs_of(laid, order)
     words = whole_words(laid.blocks - laid.lead_in)
     name = "ribjasper_mend_stream_report" if as_stream else "ribjasper_mend_report"
     room = laid.size if as_stream else PACK * words
@@ -155,23 +148,7 @@ class Shared:
     same: int = 0
 
 
-def marked(packs: bytes) -> bytes:
-    """A byte for each pack, 1 where it is not all zeros."""
-    return either(*(packs[place::PACK] for place in range(PACK))).translate(_ANY) if packs else b""
-
-
-def both(a: bytes, b: bytes) -> bytes:
-    """A byte that is 1 where two columns of 0 and 1 are."""
-    return (int.from_bytes(a, "little") & int.from_bytes(b, "little")).to_bytes(len(a), "little")
-
-
-def differ(a: bytes, b: bytes) -> bytes:
-    """A byte for each pack, 1 where two differ."""
-    joined = int.from_bytes(a, "little") ^ int.from_bytes(b, "little")
-    return marked(joined.to_bytes(len(a), "little"))
-
-
-def spread(parts: int) -> Iterator[int]:
+def far_apart(parts: int) -> Iterator[int]:
     """Numbers of parts, those that lie far from each other first."""
     bits = max(1, (parts - 1).bit_length())
     for number in range(1 << bits):
@@ -180,36 +157,39 @@ def spread(parts: int) -> Iterator[int]:
             yield place
 
 
-def shared(laid: Laid) -> dict[tuple[int, int], Shared]:
+def in_common(laid: Laid) -> dict[tuple[int, int], Shared]:
     """What pairs of readings share, of parts that are spread over the disc, until it is enough."""
     found = {pair: Shared() for pair in itertools.combinations(range(len(laid.readings)), 2)}
     blocks = laid.blocks - laid.lead_in
-    for part in spread(-(-blocks // AT_ONCE)):
+    for part in far_apart(-(-blocks // AT_ONCE)):
         wanted = {number for pair, own in found.items() if own.all < ENOUGH for number in pair}
         if not wanted:
             break
         first = laid.lead_in + part * AT_ONCE
-        add(found, {number: alone(laid, number, first, min(laid.blocks, first + AT_ONCE)) for number in sorted(wanted)})
+        count_common(
+            found,
+            {number: packs_given(laid, number, first, min(laid.blocks, first + AT_ONCE)) for number in sorted(wanted)},
+        )
     return found
 
 
-def alone(laid: Laid, number: int, first: int, end: int) -> tuple[bytes, bytes]:
+def packs_given(laid: Laid, number: int, first: int, end: int) -> tuple[bytes, bytes]:
     """The packs that a reading gives by itself in a part of the disc, and which of them are not idle."""
     stream = bytes(laid.window(laid.readings[number], first, end))
     if not has_graphics_bits(stream):
         empty = bytes(whole_words(end - first))
         return bytes(PACK * len(empty)), empty
-    packs = library.convert(stream, library.RAW, 0)[0]
-    return packs, marked(packs)
+    packs = library.packs_of_blocks(stream, library.RAW, 0)[0]
+    return packs, busy(packs, PACK)
 
 
-def add(found: dict[tuple[int, int], Shared], packs: dict[int, tuple[bytes, bytes]]) -> None:
+def count_common(found: dict[tuple[int, int], Shared], packs: dict[int, tuple[bytes, bytes]]) -> None:
     """Counts what pairs share in a part."""
     for (a, b), own in found.items():
         if a in packs and b in packs and own.all < ENOUGH:
             common = both(packs[a][1], packs[b][1])
             own.all += sum(common)
-            own.same += sum(common) - sum(both(common, differ(packs[a][0], packs[b][0])))
+            own.same += sum(common) - sum(both(common, busy(different(packs[a][0], packs[b][0]), PACK)))
 
 
 # ---- Where two dumps differ.
@@ -217,8 +197,7 @@ def add(found: dict[tuple[int, int], Shared], packs: dict[int, tuple[bytes, byte
 
 def differing_blocks(a: bytes, b: bytes) -> list[Run]:
     """The blocks in which two streams differ."""
-    joined = (int.from_bytes(a, "little") ^ int.from_bytes(b, "little")).to_bytes(len(a), "little")
-    return runs(either(*(joined[place::BLOCK] for place in range(BLOCK))))
+    return runs(busy(different(a, b), BLOCK))
 
 
 def without_graphics(stream: bytes) -> bytes:

@@ -1,4 +1,4 @@
-"""The parts of a dump whose absolute times go on by one, and what they tell of where the dump begins."""
+"""The parts of a dump whose absolute times go on by one, and where by these the dump begins."""
 import itertools
 from typing import NamedTuple, Sequence
 
@@ -28,7 +28,7 @@ class Piece(NamedTuple):
         return self.first + self.shift
 
 
-def joined(pieces: Sequence[Piece]) -> list[Piece]:
+def merged_pieces(pieces: Sequence[Piece]) -> list[Piece]:
     """Pieces in turn, those with the same shift as one."""
     found = []
     for shift, group in itertools.groupby(pieces, key=lambda it: it.shift):
@@ -47,9 +47,9 @@ def with_one_shift(stretches: Sequence[Stretch]) -> list[Piece]:
     return found
 
 
-def in_order(pieces: Sequence[Piece]) -> list[Piece]:
-    """Of pieces in the order of the file those whose times go on too, from each to the next, and that have the most frames
-    together: what was read somewhere else, as stale subcode is, drops out."""
+def chain_of(pieces: Sequence[Piece]) -> list[Piece]:
+    """Of pieces in the order of the file those whose times go on too, from each to the next, and that have the most
+    frames together: what was read somewhere else, as stale subcode is, drops out."""
     heaviest = sorted(sorted(pieces, key=lambda it: it.known, reverse=True)[:MOST_PIECES])
     chains: list[tuple[int, int]] = []  # the frames of the best chain up to a piece, and the piece before it
     for place, piece in enumerate(heaviest):
@@ -75,8 +75,8 @@ def in_order(pieces: Sequence[Piece]) -> list[Piece]:
 def pieces_of(stretches: Sequence[Stretch]) -> list[Piece]:
     """The pieces of a dump that go on from each to the next, but for frames that are wrong."""
     found = with_one_shift(stretches)
-    found = joined([it for it in found if it.known >= FEWEST]) or found
-    return joined(in_order(found))
+    found = merged_pieces([it for it in found if it.known >= FEWEST]) or found
+    return merged_pieces(chain_of(found))
 
 
 def layers_of(stretches: Sequence[Stretch]) -> list[list[Piece]]:
@@ -84,8 +84,8 @@ def layers_of(stretches: Sequence[Stretch]) -> list[list[Piece]]:
     to the next keep their places, in the first layer. Another piece, as stale subcode, is in the first layer where its
     place is free; those with the most frames come first."""
     found = with_one_shift(stretches)
-    found = joined([it for it in found if it.known >= FEWEST]) or found
-    run = in_order(found)
+    found = merged_pieces([it for it in found if it.known >= FEWEST]) or found
+    run = chain_of(found)
     layers = [list(run)]
     kept = set(run)
     for piece in sorted((it for it in found if it not in kept), key=lambda it: it.known, reverse=True):
@@ -104,13 +104,13 @@ def meet(one: Piece, other: Piece) -> bool:
 
 
 def lead_in_of(survey: Survey) -> int | None:
-    """The blocks before that whose absolute time is zero, or none where no frame tells. Most frames tell it: the first piece
-    of a second or more, in the order of the times. Where there is a table of contents and no program all is lead-in."""
+    """How many blocks come before the absolute time zero, or none if no frame has a time. Most frames decide: the first
+    piece of a second or more, in the order of the times. With a table of contents and no program all is lead-in."""
     found = pieces_of(survey.stretches())
     if not found:
         kinds = survey.column("q")
         return survey.blocks if any(kinds.count(kind) for kind in TABLE) else None
     frames = sum(it.known for it in found)
     solid = [it for it in found if it.known >= min(DECIDES, -(-frames // SHARE))]
-    # Where all pieces are small the one that tells the most does.
+    # If all pieces are small, the one with the most frames decides.
     return max(0, -(solid or [max(found, key=lambda it: it.known)])[0].shift)

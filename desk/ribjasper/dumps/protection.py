@@ -1,5 +1,5 @@
-"""Q frames that were changed by design. LibCrypt changes frames in pairs, the second frame five blocks behind the first: one
-bit of the relative time, one bit of the absolute time, and the check. Each pair is judged on its own."""
+"""Q frames that were changed by design. LibCrypt changes frames in pairs, the second frame five blocks behind the
+first: one bit of the relative time, one bit of the absolute time, and the check. Each pair is judged on its own."""
 import binascii
 import collections
 import enum
@@ -8,9 +8,10 @@ from typing import Collection, Iterable, Mapping, NamedTuple
 CHECK = 2
 # The bytes of a frame that hold its relative and its absolute time.
 RELATIVE, ABSOLUTE = slice(3, 6), slice(7, 10)
-# The second frame of a pair stands so many blocks behind the first.
+# The second frame of a pair is so many blocks behind the first.
 APART = 5
-# What LibCrypt turns in a check: most discs the first, some the second, in which one bit is wrong, as damage has it too.
+# What LibCrypt turns in a check: most discs the first, some the second, in which one bit is wrong, as damage has it
+# too.
 CHECK_BITS, ONE_CHECK_BIT = 0x8001, 0x0080
 # Frames that differ from the right ones in the same way are no accident if there are so many; fewer bits are damage.
 FEWEST_ALIKE, FEWEST_BITS = 4, 3
@@ -18,7 +19,7 @@ SBI_MARK, SBI_FRAME = b"SBI\0", b"\1"
 
 
 class BadFrame(NamedTuple):
-    """A bad frame whose right value follows from good frames beside it; the absolute time is that of its place."""
+    """A bad frame whose right value follows from good frames beside it; `absolute` is the time of its place."""
 
     block: int
     absolute: int
@@ -69,8 +70,8 @@ def likeness(frame: BadFrame) -> Likeness:
 
 
 def judged(frames: Iterable[BadFrame]) -> dict[int, Verdict]:
-    """What each bad frame is, by its block. Frames are changed by design if both of a pair resemble those of LibCrypt in
-    full. One that does so alone, and a pair that does so but for its checks, may be."""
+    """What each bad frame is, by its block. Frames are changed by design if both of a pair resemble those of LibCrypt
+    in full. One that does so alone, and a pair that does so but for its checks, may be."""
     alike = {frame.block: likeness(frame) for frame in frames}
     found = {}
     for block, own in alike.items():
@@ -112,11 +113,13 @@ def clock_bytes(time: int) -> bytes:
 
 
 def sbi(changed: Mapping[int, bytes]) -> bytes:
-    """The changed frames by the times of their places, as emulators read them: time, kind, and ten bytes without check."""
+    """The changed frames by the times of their places, as emulators read them: time, kind, and ten bytes without
+    check."""
     rows = (clock_bytes(time) + SBI_FRAME + frame[:-CHECK] for time, frame in sorted(changed.items()))
     return SBI_MARK + b"".join(rows)
 
 
 def lsd(changed: Mapping[int, bytes]) -> bytes:
-    """The changed frames by the times of their places, as emulators read them: time, and twelve bytes with the check."""
+    """The changed frames by the times of their places, as emulators read them: time, and twelve bytes with the
+    check."""
     return b"".join(clock_bytes(time) + frame for time, frame in sorted(changed.items()))

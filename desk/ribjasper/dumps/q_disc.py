@@ -13,7 +13,6 @@ from .loading import Loaded
 from .q_source import Source as Source
 from .sessions import Layout, Session
 
-DATA = 4
 # So many frames of a track are looked at for its control bits.
 SAMPLED = 25
 ISRC, CATALOGUE = re.compile(rb"[A-Z]{2}[A-Z0-9]{3}[0-9]{7}"), re.compile(rb"[0-9]{13}")
@@ -25,7 +24,7 @@ class Vote(NamedTuple):
     value: bytes
     by: int
     of: int
-    is_guess: bool = False  # its only frame stands between two tracks
+    is_guess: bool = False  # its only frame is between two tracks
 
     def holds(self) -> bool:
         return 2 * self.by > self.of
@@ -71,7 +70,7 @@ def changes(source: Source) -> Iterator[tuple[int, int, int]]:
                 last = found
 
 
-def starts(source: Source) -> dict[int, dict[int, tuple[int, int]]]:
+def index_starts(source: Source) -> dict[int, dict[int, tuple[int, int]]]:
     """For each track the indices that are met, each with its first block and the absolute time."""
     found: dict[int, dict[int, tuple[int, int]]] = {}
     for block, track, index in changes(source):
@@ -92,22 +91,23 @@ def first_index(source: Source, known: dict[int, tuple[int, int]]) -> int | None
 
 
 class Start(NamedTuple):
-    """Where an index begins: at an absolute time, or up to so many blocks before, where no frame tells an index."""
+    """Where an index begins: at an absolute time, or up to so many blocks before, if frames there name no index."""
 
     time: int
     unsure: int = 0
 
 
 class Hidden(NamedTuple):
-    """What frames without a time have in common with those of their track: its code, if it has one, and its control bits."""
+    """What frames without a time have in common with those of their track: its code, if it has one, and its control
+    bits."""
 
     code: bytes
     control: int | None
 
 
 def start_of(source: Source, known: tuple[int, int], before: Hidden, behind: Hidden) -> Start:
-    """Where an index begins whose first frame with a time is known. Frames right before it that tell no index belong to it
-    if they have the code or the control bits of its track, and to the track before if they have those."""
+    """Where an index begins whose first frame with a time is known. Frames right before it that name no index belong to
+    it if they have the code or the control bits of its track, and to the track before if they have those."""
     block, time = known
     earliest = latest = block
     while earliest > 0 and source.survey.absolute(earliest - 1) == library.NO_TIME:
@@ -123,7 +123,7 @@ def start_of(source: Source, known: tuple[int, int], before: Hidden, behind: Hid
 
 
 def owner_of(frame: QFrame | None, before: Hidden, behind: Hidden) -> Hidden | None:
-    """To which of two tracks a frame without a time belongs, if its code or its control bits tell."""
+    """To which of two tracks a frame without a time belongs, by its code or its control bits."""
     if frame is None or frame.kind not in (library.Q_CATALOGUE, library.Q_ISRC):
         return None
     code = bytes(frame.text)[:12] if frame.kind == library.Q_ISRC else b""
@@ -135,8 +135,8 @@ def owner_of(frame: QFrame | None, before: Hidden, behind: Hidden) -> Hidden | N
 
 
 def pause(source: Source, known: tuple[int, int], first: int, start: Start) -> Start:
-    """Where the pause of a track begins. If the frames right before tell no time, P is set from there on, if the pause is two
-    seconds long at least; a shorter pause has P before it too."""
+    """Where the pause of a track begins. If the frames right before name no time, P is set from there on, if the pause
+    is two seconds long at least; a shorter pause has P before it too."""
     block, time = known
     back = 0
     while (
@@ -156,8 +156,8 @@ def most(counted: collections.Counter[bytes]) -> Vote | None:
 
 
 def codes(source: Source) -> dict[int, Vote]:
-    """The recording code that most frames of each track say. A code between two tracks may be that of either: it counts for
-    the second where this has no other, and it is not the first one's."""
+    """The recording code that most frames of each track say. A code between two tracks may be that of either: it counts
+    for the second where this has no other, and it is not the first one's."""
     counts: dict[int, collections.Counter[bytes]] = {}
     between: dict[int, bytes] = {}
     for block, frame in source.frames(library.Q_ISRC):
@@ -258,7 +258,7 @@ def code_of(vote: Vote | None, text: bytes, name: str, votes: list[str]) -> byte
 
 def disc(source: Source, companions: Companions | None = None) -> Disc:
     """All that a sheet says, of the frames of the program and else of the lead-in; of sessions also by files beside."""
-    layout, met, found_texts = Layout(source), starts(source), lead_in_texts(source)
+    layout, met, found_texts = Layout(source), index_starts(source), lead_in_texts(source)
     listed, isrc = listed_by(layout), codes(source)
     by_frames = {number: first for number, known in met.items() if (first := first_index(source, known)) is not None}
     begins = by_frames | {number: int(frame.absolute) for number, frame in listed.items()}
@@ -272,7 +272,7 @@ def disc(source: Source, companions: Companions | None = None) -> Disc:
         known, end = met.get(number, {}), min(behind, default=source.survey.end)
         bits = control(source, known, end) if known else listed[number].control
         own_codes[number] = code
-        # A code that was given to a track because it stands before it proves nothing of where the track begins.
+        # A code that is a guess proves nothing about where the track begins.
         hidden[number] = Hidden(b"" if vote and vote.is_guess else code, bits)
     parts = Parts(met, begins, hidden)
     numbers = sessions.numbers_of(layout, blocks, begins, companions.session_tracks if companions else {})

@@ -1,5 +1,5 @@
-"""Bad Q frames between good ones, where only one frame can stand; frames that were changed by design; and what is wrong with P
-and with the order of tracks and indexes."""
+"""Bad Q frames between good ones, where only one frame is possible; frames that were changed by design; and what is
+wrong with P and with the order of tracks and indexes."""
 import ctypes
 from typing import Iterator, NamedTuple
 
@@ -9,7 +9,7 @@ from ..common.times import PAUSE, spelled
 from .forms import to_planar
 from .protection import BadFrame, Verdict, alike, judged
 from .q_disc import Source, catalogue, codes
-from .survey import Run, runs
+from .columns import Run, runs
 
 NAMES = ("kind", "block", "time", "what")
 FILLED, LEFT, CHANGED, DOUBTFUL, REGULAR, P_WRONG, ORDER = (
@@ -24,13 +24,14 @@ FILLED, LEFT, CHANGED, DOUBTFUL, REGULAR, P_WRONG, ORDER = (
 # The kinds of lines after which the exit status is 1.
 OPEN = (LEFT, DOUBTFUL, REGULAR, P_WRONG, ORDER)
 FRAME, CHECK = 12, 2
-# Good frames that tell the time of another place are no accident if so many are wrong by the same time.
+# Good frames with the time of another place are no accident if so many are wrong by the same time.
 FEWEST_MOVED = 4
 MAY_BE_CHANGED = "may have been changed by design, as LibCrypt changes frames, but not both frames of its pair are so"
 
 
 class Gap(NamedTuple):
-    """Neighbouring blocks whose Q is bad, the good frames before and behind, and the frames that time and track leave."""
+    """Neighbouring blocks whose Q is bad, the good frames before and behind, and the frames that time and track
+    leave."""
 
     run: Run
     frames: list[QFrame]
@@ -99,8 +100,8 @@ def gap_of(source: Source, run: Run) -> Gap:
 
 
 class Fixed(NamedTuple):
-    """What q-fix found: the rows of its table, the frames to be filled in by block, and those that were changed by design, by
-    the absolute time of their place."""
+    """What q-fix found: the rows of its table, the frames to be filled in by block, and those that were changed by
+    design, by the absolute time of their place."""
 
     rows: list[Finding]
     frames: dict[int, bytes]
@@ -108,13 +109,13 @@ class Fixed(NamedTuple):
     right: dict[int, bytes]  # what changed frames would be
 
     def left(self) -> int:
-        """How many lines tell of what is still wrong."""
+        """How many lines are about faults that remain."""
         return sum(row.kind in OPEN for row in self.rows)
 
 
-class Known(NamedTuple):
-    """What is known of bad frames before they are filled in: the codes of the disc, and by their blocks what each bad frame
-    is, and those that differ from the right ones as others do."""
+class KnownFrames(NamedTuple):
+    """What is known of bad frames before they are filled in: the codes of the disc, and by their blocks what each bad
+    frame is, and those that differ from the right ones as others do."""
 
     coded: list[tuple[int, dict[int, bytes]]]
     verdicts: dict[int, Verdict]
@@ -128,10 +129,10 @@ def with_code(source: Source, block: int, frame: QFrame, code: bytes, kind: int)
     )
 
 
-def nearest(
+def nearest_frame(
     source: Source, block: int, frame: QFrame, coded: list[tuple[int, dict[int, bytes]]]
 ) -> tuple[bytes, int] | None:
-    """Of the frames that may stand in a block, that of its time and those with the codes of its track, the one from which
+    """Of the possible frames of a block, that of its time and those with the codes of its track, the one from which
     the bad frame differs in the fewest bits."""
     found = q_bytes(source.stream[BLOCK * block : BLOCK * (block + 1)])
     wanted = [encoded(frame)]
@@ -164,7 +165,7 @@ def fixed(source: Source) -> Fixed:
     by_track = {track: vote.value for track, vote in codes(source).items() if vote.holds()}
     number = catalogue(source)
     coded = [(library.Q_ISRC, by_track), (library.Q_CATALOGUE, {0: number.value} if number and number.holds() else {})]
-    known = Known(coded, verdicts, alike(bad, [it for it in verdicts if verdicts[it] is not Verdict.DAMAGED]))
+    known = KnownFrames(coded, verdicts, alike(bad, [it for it in verdicts if verdicts[it] is not Verdict.DAMAGED]))
     result = Fixed([], {}, {}, {})
     for gap in gaps:
         for block in range(gap.run.first, gap.run.last + 1):
@@ -176,7 +177,7 @@ def fixed(source: Source) -> Fixed:
     return result
 
 
-def fill(source: Source, gap: Gap, block: int, known: Known, result: Fixed) -> None:
+def fill(source: Source, gap: Gap, block: int, known: KnownFrames, result: Fixed) -> None:
     if not gap.frames:
         result.rows.append(Finding(LEFT, block, "-", gap.why))
         return
@@ -194,7 +195,7 @@ def fill(source: Source, gap: Gap, block: int, known: Known, result: Fixed) -> N
     elif block in known.regular:
         what = f"differs from the right frame as others do, in the bits {known.regular[block]}"
         result.rows.append(Finding(REGULAR, block, time, what))
-    elif (found_frame := nearest(source, block, frame, known.coded)) is None:
+    elif (found_frame := nearest_frame(source, block, frame, known.coded)) is None:
         result.rows.append(Finding(LEFT, block, time, "no frame can say its time"))
     else:
         result.frames[block] = found_frame[0]
@@ -203,7 +204,7 @@ def fill(source: Source, gap: Gap, block: int, known: Known, result: Fixed) -> N
 
 
 def moved_rows(source: Source) -> Iterator[Finding]:
-    """Single good frames that tell the time of another place, if several are wrong by the same time."""
+    """Single good frames with the time of another place, if several are wrong by the same time."""
     by_distance: dict[int, list[tuple[int, int]]] = {}
     for stretch in source.clock.stretches:
         piece = next((it for it in source.pieces if it.first <= stretch.first and stretch.last < it.end), None)
@@ -218,8 +219,8 @@ def moved_rows(source: Source) -> Iterator[Finding]:
 
 
 def p_rows(source: Source) -> Iterator[Finding]:
-    """Where P does not say what Q does: it is set in the pause before a track, two seconds long at least, and falls with its
-    index 01. Where it is set nowhere it says nothing."""
+    """Where P does not say what Q does: it is set in the pause before a track, two seconds long at least, and falls
+    with its index 01. Where it is set nowhere it says nothing."""
     if not any(source.has_p(block) for block in samples(source)):
         return
     tracks, indices = source.survey.column("track"), source.survey.column("index")

@@ -1,4 +1,4 @@
-"""A dump whose Q frames are looked at one by one, where its survey says that they tell something."""
+"""A dump whose Q frames are decoded one by one, where its survey says that they are good."""
 import re
 from typing import Iterator
 
@@ -9,12 +9,12 @@ from .loading import Loaded
 from .pieces import pieces_of
 from .survey import Clock, Stretch
 
-# A code belongs to the track whose frames stand so near on both sides of it.
+# A code belongs to the track that has frames so near on both sides of it.
 NEAR = 4
 
 
 class Source:
-    """A stream whose Q frames are looked at one by one, where its survey says that they tell something."""
+    """A stream whose Q frames are decoded one by one, where its survey says that they are good."""
 
     def __init__(self, loaded: Loaded):
         self.stream, self.survey = loaded.stream, loaded.survey
@@ -48,7 +48,7 @@ class Source:
         return None
 
     def block_of(self, time: int) -> int:
-        """The block of the file at an absolute time; where it lacks that time, the next one."""
+        """The block of the file at an absolute time; if that time is missing, the next one."""
         for piece in self.pieces:
             if time < piece.end + piece.shift:
                 return max(piece.first if piece is not self.pieces[0] else 0, time - piece.shift)
@@ -64,8 +64,8 @@ class Source:
         return found
 
     def origin(self) -> int:
-        """The block at which the audio of the file begins: that of the absolute time 00:02:00, or the first of the program
-        where the file begins later."""
+        """The block at which the audio of the file begins: that of the absolute time 00:02:00, or the first of the
+        program where the file begins later."""
         first = self.pieces[0]
         return max(self.survey.first, PAUSE - first.shift) if first.shift < PAUSE else self.survey.first
 

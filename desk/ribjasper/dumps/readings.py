@@ -5,9 +5,10 @@ from typing import Iterator, Sequence
 from ..common.failures import Refusal
 from ..common.library import BLOCK
 from .forms import Coding, Form, Order
-from .loading import Asked, Loaded, load_raw
+from .loading import DumpOptions, Loaded, load_raw
 from .pieces import Piece, layers_of
-from .survey import Clock, Run, has_graphics_bits
+from .columns import Run
+from .survey import Clock, has_graphics_bits
 
 # So many blocks are read at a time.
 AT_ONCE = 1 << 13
@@ -44,7 +45,7 @@ class Reading:
 
 @dataclass
 class Laid:
-    """Readings side by side: the absolute time of the first block, where they tell one, how many blocks there are, and
+    """Readings side by side: the absolute time of the first block, if they have times, how many blocks there are, and
     how many of these are lead-in."""
 
     readings: list[Reading]
@@ -101,7 +102,7 @@ def readable(reading: Reading, begin: int, stop: int) -> list[Run]:
     return found
 
 
-def read(path: str, words: Asked) -> Reading:
+def read_reading(path: str, words: DumpOptions) -> Reading:
     """A reading as raw blocks, not yet put anywhere."""
     loaded = load_raw(path, words, "blocks that could be mended: its packs are gathered already")
     has_graphics = has_graphics_bits(loaded.stream)
@@ -119,8 +120,8 @@ def placed(reading: Reading) -> list[Reading]:
     layers = layers_of(Clock(survey).stretches)
     if not layers[0]:
         return [reading]
-    # What stands between two parts of different shift is left out, for nothing tells to which it belongs; what stands
-    # before the first and behind the last goes with it. The lead-in, which has no time, stays out.
+    # Blocks between two parts of different shift are left out, since nothing says to which they belong; blocks
+    # before the first and behind the last go with it. The lead-in, which has no time, stays out.
     first = min(part.first for layer in layers for part in layer)
     end = max(part.end for layer in layers for part in layer)
     found = []
@@ -137,7 +138,7 @@ def placed(reading: Reading) -> list[Reading]:
 
 
 def side_by_side(readings: Sequence[Reading]) -> Laid:
-    """Readings by their times; where one tells none, as they are if they are equally long."""
+    """Readings by their times; if one has none, as they are if they are equally long."""
     found = [own for reading in readings for own in placed(reading)]
     without = [reading for reading in found if not reading.parts]
     if without:

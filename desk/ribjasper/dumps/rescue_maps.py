@@ -4,7 +4,7 @@ from typing import Iterator, NamedTuple, Sequence
 
 from ..common.failures import Refusal
 from ..common.output import read_file
-from .survey import Run
+from .columns import Run, joined, touching
 
 NUMBER = r"(0[xX][0-9a-fA-F]+|[0-9]+)"
 AREA = re.compile(rf"{NUMBER}\s+{NUMBER}\s+([?*/+-])\s*")
@@ -45,16 +45,9 @@ def areas(path: str) -> list[Area]:
 
 def unread_units(found: Sequence[Area], skip: int, unit: int, units: int) -> list[Run]:
     """The units of a file behind a header that were not read whole."""
-    result: list[Run] = []
-    for first, end in unread_bytes(found, skip + unit * units):
-        begin, stop = max(0, first - skip) // unit, min(units, -(-max(0, end - skip) // unit))
-        if begin >= stop:
-            continue
-        if result and begin <= result[-1].last + 1:
-            result[-1] = Run(result[-1].first, max(result[-1].last, stop - 1))
-        else:
-            result.append(Run(begin, stop - 1))
-    return result
+    lost = unread_bytes(found, skip + unit * units)
+    ends = ((max(0, first - skip) // unit, min(units, -(-max(0, end - skip) // unit))) for first, end in lost)
+    return joined((Run(begin, stop - 1) for begin, stop in ends if begin < stop), touching)
 
 
 def unread_bytes(found: Sequence[Area], size: int) -> Iterator[tuple[int, int]]:
@@ -67,8 +60,8 @@ def unread_bytes(found: Sequence[Area], size: int) -> Iterator[tuple[int, int]]:
 
 
 def domain(size: int, lost: Sequence[tuple[int, int]], told: str) -> bytes:
-    """A map of a file with which ddrescue reads again what was lost, and nothing else (its option -m): `+` is what is to be
-    read again, from the first byte up to the end, and `-` all other."""
+    """A map of a file with which ddrescue reads again what was lost, and nothing else (its option -m): `+` is what is
+    to be read again, from the first byte up to the end, and `-` all other."""
     lines = [f"# Mapfile of the mended {told}. Made by ribjasper-desk", "# current_pos  current_status  current_pass"]
     lines += ["0x00000000     +               1", "#      pos        size  status"]
     at = 0

@@ -6,19 +6,20 @@ from typing import Iterator, Mapping, NamedTuple, Sequence
 from ..common import library
 from ..common.library import QFrame
 from ..common.times import spelled
+from .columns import joined
 from .companions import Companions
 from .loading import Loaded
+from .pieces import TABLE
 from .q_source import Source
 
-TABLE = (library.Q_TRACK, library.Q_FIRST, library.Q_LAST, library.Q_LEAD_OUT)
 # The track number of a lead-out, in a frame of mode 1.
 LEAD_OUT_TRACK, POSITION = 0xAA, 1
 # Fewer frames make no lead-in and no lead-out; frames of one that are no further apart belong together.
 FEWEST, APART = 3, 75
 # So many blocks of a lead-in are looked at for its table of contents, and so many frames of a lead-out.
 MOST_OF_LEAD_IN, MOST_OF_LEAD_OUT = 20_000, 500
-# The blocks from a lead-out to the music of the next session: the lead-out of the first session or of a later one, the next
-# lead-in, and a pause.
+# The blocks from a lead-out to the music of the next session: the lead-out of the first session or of a later one, the
+# next lead-in, and a pause.
 FIRST_GAP, LATER_GAP = 6750 + 4500 + 150, 2250 + 4500 + 150
 # Where a lead-out's beginning is known from.
 BY_CONTENTS, BY_FRAMES, BY_FILE, BY_GAP, BY_END = "contents", "lead-out", "file", "gap", "end"
@@ -40,7 +41,8 @@ class Contents(NamedTuple):
 
 
 class Session(NamedTuple):
-    """A session: its first and its last track, the absolute time at which its lead-out begins, and how that is known."""
+    """A session: its first and its last track, the absolute time at which its lead-out begins, and how that is
+    known."""
 
     number: int
     first: int
@@ -64,7 +66,7 @@ def bcd(byte: int) -> int | None:
 
 
 def lead_out_of(frame: QFrame) -> int | None:
-    """Where the lead-out begins of which this is a frame: its absolute time less the time within."""
+    """Where the lead-out of this frame begins: the frame's absolute time less its time in the lead-out."""
     rest = bytes(frame.text)
     if frame.kind != library.Q_OTHER or frame.mode != POSITION or rest[0] != LEAD_OUT_TRACK:
         return None
@@ -77,14 +79,13 @@ def lead_out_of(frame: QFrame) -> int | None:
     return times[1] - times[0] if times[1] >= times[0] else None
 
 
-def joined(blocks: Iterator[int], is_lead_in: bool) -> list[Zone]:
+def zones_of(blocks: Iterator[int], is_lead_in: bool) -> list[Zone]:
     """Blocks in turn as zones."""
-    found: list[list[int]] = []
-    for block in blocks:
-        if found and block - found[-1][1] <= APART:
-            found[-1][1:] = [block, found[-1][2] + 1]
-        else:
-            found.append([block, block, 1])
+
+    def near(before: tuple[int, int, int], behind: tuple[int, int, int]) -> tuple[int, int, int] | None:
+        return (before[0], behind[1], before[2] + behind[2]) if behind[0] - before[1] <= APART else None
+
+    found = joined(((block, block, 1) for block in blocks), near)
     return [Zone(is_lead_in, first, last) for first, last, count in found if count >= FEWEST]
 
 
@@ -92,9 +93,9 @@ def zones(source: Source) -> list[Zone]:
     """The lead-ins and lead-outs of a dump."""
     kinds = source.survey.column("q")
     table = kinds.translate(bytes(1 if kind in TABLE else 0 for kind in range(256)))
-    lead_ins = joined((it.start() for it in re.finditer(rb"\x01", table)), True)
+    lead_ins = zones_of((it.start() for it in re.finditer(rb"\x01", table)), True)
     other = re.finditer(re.escape(bytes([library.Q_OTHER])), kinds)
-    lead_outs = joined((it.start() for it in other if is_lead_out(source, it.start())), False)
+    lead_outs = zones_of((it.start() for it in other if is_lead_out(source, it.start())), False)
     return sorted([*lead_ins, *lead_outs], key=lambda it: it.first)
 
 
@@ -129,8 +130,8 @@ def lead_out_by_frames(source: Source, zone: Zone) -> int | None:
 
 
 class Border:
-    """What stands before the first part of the program, between two parts, or behind the last: the table of contents of what
-    comes behind, and where the lead-out begins of what comes before."""
+    """What comes before the first part of the program, between two parts, or behind the last: the table of contents of
+    what comes behind, and where the lead-out begins of what comes before."""
 
     def __init__(self, source: Source, of: Sequence[Zone]) -> None:
         self.end = of[-1].last if of else -1
@@ -170,8 +171,9 @@ class Layout:
 def numbers_of(
     layout: Layout, blocks: Mapping[int, int | None], begins: Mapping[int, int], told: Mapping[int, int]
 ) -> dict[int, int]:
-    """The session of each track, by a file beside the dump, or by the borders, or because it begins behind a lead-out that the
-    table of contents names. Of each track are given the first block, if it was met, and the time at which it begins."""
+    """The session of each track, by a file beside the dump, or by the borders, or because it begins behind a lead-out
+    that the table of contents names. Of each track are given the first block, if it was met, and the time at which it
+    begins."""
     if told:
         return {number: max([1, *(session for session, first in told.items() if number >= first)]) for number in blocks}
     listed = {number: place for place, border in enumerate(layout.borders, 1) for number in border.contents.tracks}

@@ -1,14 +1,15 @@
-"""A stream or a `.cdg` file that is to be shown: where its audio begins, and what stands at each time."""
+"""A stream or a `.cdg` file that is to be shown: where its audio begins, and the picture at each time."""
 from dataclasses import dataclass
 from pathlib import Path
 from typing import Iterator
 
 from ..common.failures import Refusal
-from ..common.library import BLOCK, BLOCKS_A_SECOND, PACK, PACKS_A_BLOCK, Player, RAW
+from ..common.library import BLOCK, BLOCKS_A_SECOND, PACK, PACKS_A_BLOCK, RAW
+from ..common.player import Player
 from ..common.output import read_file
 from ..common.times import PAUSE
 from .detection import form_of
-from .dump import Dump
+from .dump import DumpFile
 from .pieces import pieces_of
 from .survey import Survey
 
@@ -37,7 +38,7 @@ class Stream:
         return max(0, self.units - self.begin) / self.a_second()
 
     def frames(self, rate: int, count: int) -> Iterator[bytes]:
-        """What stands at each frame: red, green and blue of 300 by 216 pixels."""
+        """The picture of each frame: red, green and blue of 300 by 216 pixels."""
         with Player() as player:
             player.begin(RAW, self.lead_in)
             done, picture = 0, player.picture()
@@ -54,7 +55,7 @@ class Stream:
 def open_stream(path: Path) -> Stream:
     """A raw stream, an image of sectors, or a `.cdg` file, by what is in it. A stream that begins with the audio, as
     that of an image does, has no pause."""
-    dump = Dump(path)
+    dump = DumpFile(path)
     found, _ = form_of(dump)
     if found is None:
         packs = read_file(path)

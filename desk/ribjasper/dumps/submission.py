@@ -4,14 +4,14 @@ from dataclasses import dataclass, field
 from typing import Any, Iterator, NamedTuple
 
 from ..common import library
-from ..common.cue_sheets import FLAGS
+from ..common.cue_sheets import DATA, FLAGS
 from ..common.failures import Refusal
 from ..common.library import BLOCK, RAW
 from ..common.times import PAUSE, spelled
 from . import cutting, q_repair, text_packs
 from .loading import Loaded
 from .protection import CHECK, check_of
-from .q_disc import CATALOGUE, DATA, Disc, ISRC, Source, Track, disc
+from .q_disc import CATALOGUE, Disc, ISRC, Source, Track, disc
 from .sessions import BY_END, BY_GAP
 
 
@@ -111,8 +111,8 @@ def changed_of(source: Source, repair: q_repair.Fixed) -> list[ChangedFrame]:
 def texts_in(loaded: Loaded) -> dict[str, list[str]]:
     """The texts of the lead-in by their languages."""
     survey = loaded.survey
-    packs = text_packs.packs_of(loaded.stream[BLOCK * survey.first : BLOCK * survey.lead_in])
-    names = {language.number: language.name for language in text_packs.languages(packs)}
+    packs = text_packs.text_packs_in(loaded.stream[BLOCK * survey.first : BLOCK * survey.lead_in])
+    names = {language.number: language.name for language in text_packs.languages_of(packs)}
     found: dict[str, list[str]] = {}
     for said in text_packs.said(packs):
         if said.kind in text_packs.TITLES.values() or said.kind == text_packs.NAMES[text_packs.GENRE]:
@@ -128,7 +128,7 @@ def hashes_of(loaded: Loaded, offset: int) -> dict[int, cutting.Hashed]:
     return {track.number: cutting.hashed(cut, track, offset) for track in cut.tracks}
 
 
-def track_of(track: Track, end: int, hashed: cutting.Hashed | None) -> SubmittedTrack:
+def submitted_track(track: Track, end: int, hashed: cutting.Hashed | None) -> SubmittedTrack:
     first = track.indices[1]
     begin = max(min(track.indices.values()), PAUSE)
     own = SubmittedTrack(
@@ -164,7 +164,7 @@ def submission(loaded: Loaded, name: str, offset: int = 0) -> Submission:
     if not source.stretches:
         raise Refusal(loaded.path, "no Q frame names a track")
     found, repair, hashed = disc(source, loaded.companions), q_repair.fixed(source), hashes_of(loaded, offset)
-    tracks = [track_of(track, end, hashed.get(track.number)) for track, end in zip(found.tracks, ends_of(found))]
+    tracks = [submitted_track(track, end, hashed.get(track.number)) for track, end in zip(found.tracks, ends_of(found))]
     how = {BY_GAP: "the usual gap", BY_END: "the end of the dump"}
     sessions = [
         SubmittedSession(it.number, it.first, it.last, it.lead_out - PAUSE, how.get(it.by, it.by))
@@ -190,7 +190,7 @@ def submission(loaded: Loaded, name: str, offset: int = 0) -> Submission:
     )
 
 
-def text_of(found: Submission) -> str:
+def submission_text(found: Submission) -> str:
     """As a text that can be pasted into a form."""
     lines = [
         f"File: {found.file}",

@@ -1,19 +1,24 @@
-"""What the library's survey says of a stream, column by column, with no loop over its blocks in Python. Blocks before the
-first and behind the last one that was read are not surveyed: they are unread, and nothing is wrong with them."""
+"""What the library's survey says of a stream, column by column, with no loop over its blocks in Python. Blocks before
+the first and behind the last one that was read are not surveyed: they are unread, and nothing is wrong with them."""
 import bisect
 import ctypes
 import functools
 import re
-from typing import Iterator, NamedTuple
+from typing import TYPE_CHECKING, Iterator, NamedTuple
 
 from ..common import library
 from ..common.library import BLOCK, RAW, SurveyRow, Surveyed
+from ..common.output import package
+from .columns import Run, either, flags
+
+if TYPE_CHECKING:
+    import numpy
+    import numpy.typing
 
 ROW = ctypes.sizeof(SurveyRow)
-# Where the columns of one byte stand in a row.
+# The offsets of the columns in a row.
 COLUMNS = {name: getattr(SurveyRow, name).offset for name, *_ in SurveyRow._fields_}
 GOOD_Q = range(library.Q_OTHER + 1)
-_ANY = bytes([0] + [1] * 255)
 _NO_TIME = library.NO_TIME.to_bytes(4, "little")
 _UNREAD = _NO_TIME + bytes(COLUMNS["q"] - 4) + bytes([library.Q_NONE]) + bytes(ROW - COLUMNS["q"] - 1)
 # The bytes in which no bit of channel Q is set, and none of the channels R to W.
@@ -36,26 +41,6 @@ class Stretch(NamedTuple):
     def shift(self) -> int:
         """What is added to a block's number for its time."""
         return self.time - self.first
-
-
-class Run(NamedTuple):
-    """Neighbouring blocks, the first and the last."""
-
-    first: int
-    last: int
-
-
-def either(*columns: bytes) -> bytes:
-    """A byte that is not zero where one of the columns is not."""
-    joined = 0
-    for column in columns:
-        joined |= int.from_bytes(column, "little")
-    return joined.to_bytes(len(columns[0]), "little")
-
-
-def runs(column: bytes) -> list[Run]:
-    """Where a column is not zero."""
-    return [Run(found.start(), found.end() - 1) for found in re.finditer(rb"[^\x00]+", column)]
 
 
 def has_q(stream: bytes) -> bool:
@@ -116,6 +101,16 @@ class Survey:
         for name in ("bad_frames", "empty", "_stretches"):
             self.__dict__.pop(name, None)
 
+    def table(self) -> "numpy.typing.NDArray[numpy.void]":
+        """The rows as a structured array of numpy, one row a block, which cannot be written to. Its columns:
+        `absolute`, the time that the block's Q frame names, in blocks (4,294,967,295 if it names none); `clean`, `one`,
+        `two` and `bad`, how many of the words that are complete with the block have no wrong symbol, one, two, or no
+        codeword; `q`, the kind of the frame (0 to 7 as in `Frame.kind`, 253 unread, 254 a bad field, 255 a bad check);
+        `track` and `index`; and `empty`, 1 if all 96 bytes are zeros. Raises Missing if numpy is not installed."""
+        module = package("numpy", "python3-numpy")
+        rows: "numpy.typing.NDArray[numpy.void]" = module.frombuffer(self.rows, module.dtype(SurveyRow))
+        return rows
+
     @property
     def read(self) -> int:
         """How many blocks there are from the first that was read to the last."""
@@ -170,7 +165,7 @@ class Survey:
         ]
 
     def absolute(self, block: int) -> int:
-        """The absolute time that the Q frame of a block tells, or NO_TIME."""
+        """The absolute time in the Q frame of a block, or NO_TIME."""
         return int.from_bytes(self.rows[ROW * block : ROW * block + 4], "little")
 
     def _steps(self) -> bytes:
@@ -185,13 +180,13 @@ class Survey:
         times = int.from_bytes(lanes, "little")
         ones = int.from_bytes(b"\1\0\0\0" * self.blocks, "little")
         differs = ((times >> 32) ^ (times + ones)).to_bytes(4 * self.blocks + 1, "little")
-        breaks = either(*(differs[place : 4 * self.blocks : 4] for place in range(4))).translate(_ANY)
+        breaks = flags(either(*(differs[place : 4 * self.blocks : 4] for place in range(4))))
         unknown = self.rows[3::ROW].translate(bytes(2 if value else 0 for value in range(256)))
         return either(b"\1" + breaks[:-1], unknown)
 
 
 class Clock:
-    """Absolute times and tracks of blocks, also of those whose own frame does not tell them."""
+    """Absolute times and tracks of blocks, also of those whose own frame has none."""
 
     def __init__(self, survey: Survey):
         self.survey = survey

@@ -1,5 +1,5 @@
-"""What text packs say in all their languages: texts by their character codes, and by its kind what is kept as bytes. (Red Book
-CD-TEXT, as libburn and libcdio describe it; languages are those of EBU Tech 3258.)"""
+"""What text packs say in all their languages: texts by their character codes, and by its kind what is kept as bytes.
+(Red Book CD-TEXT, as libburn and libcdio describe it; languages are those of EBU Tech 3258.)"""
 import ctypes
 from dataclasses import dataclass, field
 from typing import Iterable, Iterator, NamedTuple, Sequence
@@ -76,7 +76,7 @@ class Language:
 
     @property
     def code(self) -> str | None:
-        """The name by which Python knows the character code; Latin-1 where none is told."""
+        """The name by which Python knows the character code; Latin-1 if there is no size pack."""
         return CODES.get(self.sizes[CODE]) if self.sizes else "latin-1"
 
     @property
@@ -86,7 +86,7 @@ class Language:
         return LANGUAGE_NAMES.get(told, f"language {told:#04x}" if told else "unknown language")
 
 
-def languages(packs: Iterable[bytes]) -> list[Language]:
+def languages_of(packs: Iterable[bytes]) -> list[Language]:
     """Packs whose checks match by their languages, each in the order of the numbers."""
     found: dict[int, Language] = {}
     for pack in packs:
@@ -103,7 +103,7 @@ def strings(packs: Sequence[bytes], width: int) -> Iterator[tuple[int, bytes]]:
     track, text, is_whole, number = 0, b"", True, None
     for pack in packs:
         if number is None or pack[NUMBER] != number + 1:
-            # A text whose beginning is not there is none.
+            # A text without its beginning is left out.
             track, text, is_whole = pack[TRACK] & 0x7F, b"", pack[WHERE] & 15 == 0
         number = pack[NUMBER]
         content = pack[TEXT]
@@ -145,7 +145,7 @@ def genre(language: Language) -> Iterator[Said]:
 
 def said(packs: Iterable[bytes]) -> Iterator[Said]:
     """All that packs say: of each language its texts, and as hexadecimal bytes what is no text."""
-    for language in languages(packs):
+    for language in languages_of(packs):
         kinds = sorted({pack[KIND] for pack in language.packs})
         for kind in kinds:
             if kind in TITLES:
@@ -162,7 +162,7 @@ def said(packs: Iterable[bytes]) -> Iterator[Said]:
 
 def beyond(packs: Iterable[bytes]) -> str:
     """What packs say beside the texts of their first language, in a few words."""
-    found = languages(packs)
+    found = languages_of(packs)
     kinds = {NAMES.get(pack[KIND], f"kind {pack[KIND]:02x}") for language in found for pack in language.packs}
     more = [f"{len(found)} languages"] if len(found) > 1 else []
     more += [kind for kind in sorted(kinds) if kind not in TITLES.values() and kind != NAMES[SIZE]]
@@ -177,7 +177,7 @@ SEQUENCE, LANGUAGE = 2, 3
 TIMES = 3
 
 
-def packs_of(lead_in_blocks: bytes) -> list[bytes]:
+def text_packs_in(lead_in_blocks: bytes) -> list[bytes]:
     """The packs of a lead-in whose checks match, the first of each number, in order."""
     found: dict[tuple[int, int], bytes] = {}
     room = ctypes.create_string_buffer(TEXT_PACK * PACKS_A_BLOCK)

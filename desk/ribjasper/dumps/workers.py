@@ -1,4 +1,4 @@
-"""Files that are looked at in several processes, here or on the workers of a scheduler."""
+"""Examines files in several processes, here or on the workers of a scheduler."""
 import collections
 import concurrent.futures
 import contextlib
@@ -16,16 +16,17 @@ from typing import Any, Generator, Iterator, NamedTuple, Sequence
 from ..common import library
 from ..common.beside import STOPS
 from ..common.failures import Refusal, shown
-from ..common.output import package, tell
+from ..common.output import complain, package, tell
+from ..common.progress import turn_off
 from .examine import COLUMNS, Examined, UNREAD, examine
-from .loading import Asked
+from .loading import DumpOptions
 
-# Linux's call by which a process is told when the one that started it has ended.
+# The option of Linux's prctl that signals a process when its parent ends.
 PR_SET_PDEATHSIG = 1
 COULD_NOT = "could not be looked at: the process that did ended each time"
 
 
-class Task(NamedTuple):
+class FileTask(NamedTuple):
     """A file to be looked at: where it is, and its name in the report."""
 
     path: str
@@ -36,20 +37,21 @@ class How(NamedTuple):
     """How files are looked at: with pictures, and what the words of the command say of all of them."""
 
     with_pictures: bool
-    words: Asked = Asked()
+    words: DumpOptions = DumpOptions()
 
 
-def look(task: Task, how: How) -> Examined:
+def examine_task(task: FileTask, how: How) -> Examined:
     return examine(task.path, task.name, how.with_pictures, how.words)
 
 
-def unread(name: str, why: str) -> Examined:
-    """The row of what could not be looked at."""
+def lost_row(name: str, why: str) -> Examined:
+    """The row of a file that no process could examine."""
     return Examined(dict.fromkeys(COLUMNS) | {"file": name, "status": UNREAD, "why": why}, was_lost=True)
 
 
 def end_with_parent() -> None:
-    """A worker ends with the run that started it, and leaves Ctrl-C to it."""
+    """A worker ends with the run that started it, and leaves Ctrl-C and the terminal to it."""
+    turn_off()
     for number in STOPS:
         signal.signal(number, signal.SIG_IGN if number == signal.SIGINT else signal.SIG_DFL)
     if sys.platform == "linux":
@@ -67,9 +69,9 @@ def pool_of(count: int) -> ProcessPoolExecutor:
     return ProcessPoolExecutor(count, mp_context=multiprocessing.get_context(how), initializer=end_with_parent)
 
 
-def here(tasks: Sequence[Task], how: How, count: int) -> Iterator[Examined]:
-    """Looks at files in so many processes on this machine. Where a process ends, the files that were being looked at are
-    tried again one by one, and one that ends its process again is a row that says so."""
+def here(tasks: Sequence[FileTask], how: How, count: int) -> Iterator[Examined]:
+    """Looks at files in so many processes on this machine. Where a process ends, the files that were being looked at
+    are tried again one by one, and one that ends its process again is a row that says so."""
     waiting = collections.deque(tasks)
     while waiting:
         suspects = yield from in_pool(waiting, how, count)
@@ -77,18 +79,18 @@ def here(tasks: Sequence[Task], how: How, count: int) -> Iterator[Examined]:
             names = ", ".join(shown(task.path) for task in suspects)
             tell(f"a worker process ended unexpectedly; the files that were open are tried again one by one: {names}")
         for task in suspects:
-            yield alone(task, how)
+            yield look_alone(task, how)
 
 
-def in_pool(waiting: collections.deque[Task], how: How, count: int) -> Generator[Examined, None, list[Task]]:
+def in_pool(waiting: collections.deque[FileTask], how: How, count: int) -> Generator[Examined, None, list[FileTask]]:
     """Looks at the files that wait, as many at a time as there are processes, until a process ends: then the files that
     were being looked at are returned."""
-    running: dict[Future[Examined], Task] = {}
+    running: dict[Future[Examined], FileTask] = {}
     pool = pool_of(count)
     try:
         while waiting or running:
             while waiting and len(running) < count:
-                running[pool.submit(look, waiting[0], how)] = waiting[0]
+                running[pool.submit(examine_task, waiting[0], how)] = waiting[0]
                 waiting.popleft()
             done, _ = concurrent.futures.wait(running, return_when=concurrent.futures.FIRST_COMPLETED)
             for future in done:
@@ -102,14 +104,14 @@ def in_pool(waiting: collections.deque[Task], how: How, count: int) -> Generator
     return []
 
 
-def alone(task: Task, how: How) -> Examined:
+def look_alone(task: FileTask, how: How) -> Examined:
     """Looks at a file in a process of its own."""
     with pool_of(1) as pool:
         try:
-            return pool.submit(look, task, how).result()
+            return pool.submit(examine_task, task, how).result()
         except BrokenProcessPool:
-            tell(f"{shown(task.path)}: {COULD_NOT}")
-            return unread(task.name, COULD_NOT)
+            complain(f"{shown(task.path)}: {COULD_NOT}")
+            return lost_row(task.name, COULD_NOT)
 
 
 def finder(distributed: Any, folder: str) -> Any:
@@ -122,12 +124,12 @@ def finder(distributed: Any, folder: str) -> Any:
     return Finder()
 
 
-def by_cluster(tasks: Sequence[Task], how: How, address: str) -> Iterator[Examined]:
+def by_cluster(tasks: Sequence[FileTask], how: How, address: str) -> Iterator[Examined]:
     """Looks at files on the workers of a scheduler, which see the same files and the same checkout."""
     distributed = package("distributed", "python3-distributed")
     # What its own tasks leave behind when they are cut off at the end is nothing that a user can act on.
     sys.unraisablehook = lambda _: None
-    # What goes wrong is told in a line, and not in its own words.
+    # Errors are reported in a line of our own.
     logging.disable(logging.CRITICAL)
     try:
         client = distributed.Client(address, timeout=10)
@@ -138,14 +140,15 @@ def by_cluster(tasks: Sequence[Task], how: How, address: str) -> Iterator[Examin
         register = getattr(client, "register_plugin", None) or client.register_worker_plugin
         register(finder(distributed, str(library.TOP / "desk")))
         waiting = {
-            client.submit(look, Task(os.path.abspath(task.path), task.name), how, pure=False): task for task in tasks
+            client.submit(examine_task, FileTask(os.path.abspath(task.path), task.name), how, pure=False): task
+            for task in tasks
         }
         for done in distributed.as_completed(waiting):
             if done.status == "finished":
                 yield done.result()
             elif done.status == "error":
-                tell(f"{shown(waiting[done].path)}: {COULD_NOT}: {done.exception()}")
-                yield unread(waiting[done].name, f"{COULD_NOT}: {done.exception()}")
+                complain(f"{shown(waiting[done].path)}: {COULD_NOT}: {done.exception()}")
+                yield lost_row(waiting[done].name, f"{COULD_NOT}: {done.exception()}")
             else:
                 raise Refusal(address, gone)
             done.release()

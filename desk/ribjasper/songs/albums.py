@@ -10,19 +10,22 @@ from . import audio
 from .audio import LOUDEST, QUIETEST, Treatment
 from .encodings import known
 from .pairs import as_track, listed, moves, read_pair, unmoved
+from ..common.cue_sheets import COPY, CueWriter
 from ..common.disc_files import SHORTEST_TRACK, cue_of, toc_of
 from ..common.discs import read_disc
 from ..common.failures import Refusal
 from ..common.library import BLOCK, BLOCKS_A_SECOND, PACK, PACKS_A_BLOCK
-from ..common.output import Outputs, tell
+from ..common.output import Outputs, read_file, tell
 from ..common.planning import NoPlan, least_lead_in
 from ..common.program import press
-from ..common.times import PAUSE, clock
-from ..drawing.styles import Table, read_style, read_table
+from ..common.progress import progress
+from ..common.times import PAUSE, spelled
+from ..drawing.styles import TomlTable, read_style, read_table
+from .recognition import check_list
 from .song_files import read_song
 from .song_script import BOXES, LEAVE, Made, Wishes, best
 from .songs import Song
-from .tracks import packs_of
+from .tracks import track_packs
 
 MOST_TRACKS = 99
 LONGEST_GAP = 60.0
@@ -80,8 +83,8 @@ def entry_of(lyrics: Path, sound: Path, song: Song, folder: Path) -> str:
 
 @dataclass
 class ListedTrack:
-    """A song of the list: its lyrics and its sound, or a finished pair; its texts; how it looks, and what is done with its
-    sound."""
+    """A song of the list: its lyrics and its sound, or a finished pair; its texts; how it looks, and what is done with
+    its sound."""
 
     lyrics: Path
     sound: Path | None
@@ -133,7 +136,13 @@ class Sung:
 
 
 def read_album(path: Path) -> Album:
-    table = read_table(path)
+    try:
+        table = read_table(path)
+    except Refusal:
+        # What is no regular file cannot be read twice.
+        if path.is_file():
+            check_list(path, read_file(path))
+        raise
     style = table.text("style") or "night"
     common = Wishes(read_style(style_file(path, style)), **looks(table))
     loudness = table.number("loudness", QUIETEST, LOUDEST, float)
@@ -165,7 +174,7 @@ def style_file(beside: Path, style: str) -> str:
     return os.fspath(beside.parent / style) if style.endswith(".toml") else style
 
 
-def looks(table: Table) -> dict[str, Any]:
+def looks(table: TomlTable) -> dict[str, Any]:
     """The wishes that a list or a track has."""
     found: dict[str, Any] = {
         "sweep": table.take("sweep", bool, "true or false"),
@@ -179,8 +188,8 @@ def looks(table: Table) -> dict[str, Any]:
     return {key: value for key, value in found.items() if value not in (None, "", ())}
 
 
-def between_of(table: Table) -> tuple[str, ...]:
-    """The pictures, or colours, that stand in rests: their whole paths."""
+def between_of(table: TomlTable) -> tuple[str, ...]:
+    """The pictures, by their whole paths, and colours that are shown in rests."""
     words = table.take("between", (str, list), "a picture or a colour, or a list of them") or []
     words = [words] if isinstance(words, str) else words
     if not all(isinstance(word, str) for word in words):
@@ -188,7 +197,7 @@ def between_of(table: Table) -> tuple[str, ...]:
     return tuple(word if word.startswith("#") else os.path.abspath(table.path.parent / word) for word in words)
 
 
-def read_track(table: Table, number: int, common: Wishes, loudness: float | None) -> ListedTrack:
+def read_track(table: TomlTable, number: int, common: Wishes, loudness: float | None) -> ListedTrack:
     lyrics, sound, pair = table.file("lyrics"), table.file("sound"), table.file("pair")
     if bool(lyrics) == bool(pair) or not (sound or pair):
         raise Refusal(table.path, f"track {number} needs lyrics and sound, or a pair")
@@ -250,7 +259,8 @@ def check_capacity(album: Album, ready: list[Ready], capacity: int | None) -> No
     if length > most:
         asks = "" if capacity else "; --capacity MM:SS allows more, if the disc has it"
         raise Refusal(
-            album.path, f"has {clock(length)}, and the disc {clock(most)}: it is {clock(length - most)} too long{asks}"
+            album.path,
+            f"has {spelled(length)}, and the disc {spelled(most)}: it is {spelled(length - most)} too long{asks}",
         )
 
 
@@ -271,7 +281,7 @@ def sing(album: Album, ready: Ready) -> Sung:
     for line in made.warnings():
         tell(line)
     tell(f"{track.lyrics}: {made.summary()}")
-    return Sung(track, song, made, ready.blocks, packs_of(track.lyrics, made.text(), ready.blocks), ready.sound)
+    return Sung(track, song, made, ready.blocks, track_packs(track.lyrics, made.text(), ready.blocks), ready.sound)
 
 
 def sing_one(lyrics: Path, sound: Path, wishes: Wishes) -> tuple[Album, Sung]:
@@ -285,7 +295,7 @@ def sing_one(lyrics: Path, sound: Path, wishes: Wishes) -> tuple[Album, Sung]:
 
 def sing_all(album: Album, ready: list[Ready]) -> list[Sung]:
     """All tracks; if one of them moves the screen, each begins by undoing that."""
-    sung = [sing(album, one) for one in ready]
+    sung = [sing(album, one) for one in progress(ready, len(ready), "songs")]
     if any(moves(one.packs) for one in ready):
         for track in sung:
             track.packs = b"".join(unmoved(listed(track.packs)))
@@ -308,13 +318,13 @@ def write_disc(album: Album, sung: list[Sung], outputs: Outputs, names: list[str
     outputs.write(sheet_name, sheet)
     outputs.write(raw, stream)
     out, at = outputs.open(binary), BLOCK * (lead_in + PAUSE)
-    for number, sound in enumerate(joined_sound(album, sung)):
+    for number, sound in enumerate(progress(joined_sound(album, sung), length, "sectors")):
         out.write(sound + stream[at + BLOCK * number : at + BLOCK * (number + 1)])
     outputs.write(toc, toc_of(disc, os.path.basename(binary)).encode())
     outputs.write(cue, cue_of(disc, os.path.basename(binary)))
     tell(
-        f"{len(sung)} tracks, {length} sectors, {clock(length)}, lead-in {lead_in}; "
-        f"{clock(max(0, CAPACITY - length))} is left of a disc of 80 minutes; `cdrdao write --swap {toc}` burns them"
+        f"{len(sung)} tracks, {length} sectors, {spelled(length)}, lead-in {lead_in}; "
+        f"{spelled(max(0, CAPACITY - length))} is left of a disc of 80 minutes; `cdrdao write --swap {toc}` burns them"
     )
 
 
@@ -337,37 +347,37 @@ def joined_sound(album: Album, sung: list[Sung]) -> Iterator[bytes]:
 
 def sheet_of(album: Album, sung: list[Sung], binary: str) -> bytes:
     """The cue sheet of the disc."""
-    lines = [f"CATALOG {album.catalogue}".encode()] * bool(album.catalogue)
-    lines += texts_of(album.path, "the disc", album.title, album.singer)
-    lines.append(b'FILE "' + os.fsencode(binary).replace(b'"', b"'") + b'" BINARY')
+    sheet = CueWriter()
+    if album.catalogue:
+        sheet.catalogue(album.catalogue.encode())
+    add_texts_of(sheet, album, "the disc", album.title, album.singer)
+    sheet.file(os.fsencode(binary), b"BINARY")
     at = 0
     for number, one in enumerate(sung, 1):
-        lines.append(b"  TRACK %02d AUDIO" % number)
-        texts = texts_of(album.path, f"track {number}", one.song.title, one.song.performer)
-        lines += [b"    " + text for text in texts]
-        lines += [b"    ISRC " + one.track.code.encode()] * bool(one.track.code)
-        lines.append(b"    FLAGS DCP")
+        sheet.track(number, b"AUDIO")
+        add_texts_of(sheet, album, f"track {number}", one.song.title, one.song.performer)
+        if one.track.code:
+            sheet.isrc(one.track.code.encode())
+        sheet.flags(COPY)
         if number > 1 and album.gap:
-            lines.append(b"    INDEX 00 " + clock(at).encode())
+            sheet.index(0, at)
             at += album.gap
-        lines.append(b"    INDEX 01 " + clock(at).encode())
+        sheet.index(1, at)
         at += one.blocks
-    return b"".join(line + b"\n" for line in lines)
+    return sheet.content()
 
 
-def texts_of(path: Path, place: str, title: str, singer: str) -> list[bytes]:
-    """The lines of a sheet with these texts, in Latin-1; one that has other letters is left out, and told."""
-    lines = []
-    for command, text in (("TITLE", title), ("PERFORMER", singer)):
+def add_texts_of(sheet: CueWriter, album: Album, place: str, title: str, singer: str) -> None:
+    """Adds texts in Latin-1; one with other letters is left out and reported."""
+    for kind, text in (("title", title), ("performer", singer)):
         plain = unicodedata.normalize("NFC", " ".join(text.replace('"', "'").split()))
         try:
-            spelled = plain.encode("latin-1")
+            spelling = plain.encode("latin-1")
         except UnicodeEncodeError as wrong:
             tell(
-                f"{path}: {place}: Latin-1 has no {plain[wrong.start]}, and so the texts of the disc are without "
-                f"{command.lower()} {plain}"
+                f"{album.path}: {place}: Latin-1 has no {plain[wrong.start]}, and so the texts of the disc are without "
+                f"{kind} {plain}"
             )
             continue
-        if plain:
-            lines.append(command.encode() + b' "' + spelled + b'"')
-    return lines
+        if plain and not sheet.text(kind, spelling):
+            tell(f"{album.path}: {place}: the {kind} {plain!r} cannot be spelled in a sheet, and is left out")

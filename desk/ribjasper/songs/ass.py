@@ -22,7 +22,7 @@ class Event:
         self.number, self.values, self.is_comment = number, values, is_comment
 
     def singer(self) -> str:
-        """Who sings it, if it has a name; else its style stands for that."""
+        """Who sings it, if it has a name; else its style."""
         return self.values.get("Name", self.values.get("Actor", "")).strip()
 
     def style(self) -> str:
@@ -33,7 +33,7 @@ class Event:
 
 
 def read_ass(text: str, song: Song) -> None:
-    """`\\N` begins a new line; drawings and what styles look like are passed over, and names or styles tell the
+    """`\\N` begins a new line; drawings and what styles look like are ignored, and names or styles are the
     voices."""
     section, fields, found = "", FIELDS.split(","), list[Event]()
     for number, line in enumerate(text.splitlines(), 1):
@@ -56,15 +56,15 @@ def read_ass(text: str, song: Song) -> None:
 
 
 def sung_of(events: list[Event]) -> list[Event]:
-    """The events that hold the lyrics: those with the effect `karaoke`, if there are any, of which the templater makes
-    comments; else all dialogue but the templater's own."""
+    """The events that hold the lyrics: those with the effect `karaoke`, if there are any, which the templater
+    turns into comments; else all dialogue but the templater's own."""
     karaoke = [event for event in events if event.effect() == SUNG_EFFECT]
     dialogue = [event for event in events if not event.is_comment]
     plain = [event for event in dialogue if event.effect() != MADE_EFFECT]
     return karaoke or plain or dialogue
 
 
-def time_of(value: str, song: Song, number: int) -> float:
+def ass_time(value: str, song: Song, number: int) -> float:
     clock = CLOCK.match(value.strip())
     if not clock:
         song.fault(number, f"{value.strip()} is no time like 0:00:12.50")
@@ -80,10 +80,10 @@ def add_event(song: Song, event: Event, name: str) -> None:
     if missing:
         return
     text = event.values["Text"]
-    start, end = (time_of(event.values[field], song, event.number) for field in ("Start", "End"))
+    start, end = (ass_time(event.values[field], song, event.number) for field in ("Start", "End"))
     lines: list[list[Syllable]] = [[]]
-    for part, sung, until in parts_of(text, start, end):
-        # The templater's readings of a sign stand behind a bar.
+    for part, sung, until in event_pieces(text, start, end):
+        # The templater's readings of a sign follow a bar.
         shown = part.partition("|")[0] if event.effect() == SUNG_EFFECT else part
         first, *others = re.split(r"\\[Nn]", shown.replace(r"\h", " "))
         lines[-1].append(Syllable(first, sung, until))
@@ -97,7 +97,7 @@ def add_event(song: Song, event: Event, name: str) -> None:
     song.lines += [Line(event.number, line, not KARAOKE.search(text), written) for line in kept if line]
 
 
-def parts_of(text: str, start: float, end: float) -> list[tuple[str, float, float]]:
+def event_pieces(text: str, start: float, end: float) -> list[tuple[str, float, float]]:
     """The pieces of an event between its overrides, each with the time at which it is sung; drawings are none."""
     parts: list[tuple[str, float, float]] = []
     at, sung, until, is_drawing = 0, start, start, False

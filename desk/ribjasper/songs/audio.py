@@ -21,11 +21,11 @@ RATE, CHANNELS, SAMPLE_BYTES = 44_100, 2, 2
 # The audio of a block.
 FRAMES_A_BLOCK = RATE // 75
 SECTOR_AUDIO = FRAMES_A_BLOCK * CHANNELS * SAMPLE_BYTES
-# The forms of a WAV file: plain samples, and one whose form stands in a longer header.
+# The forms of a WAV file: plain samples, and one whose form is in a longer header.
 PLAIN, EXTENSIBLE = 1, 0xFFFE
 # The length of a stream whose end was not known when its header was written.
 UNKNOWN = (0, 0xFFFF_FFFF)
-# Sounds that may stand beside lyrics, by the endings of their names.
+# Sounds that may lie beside lyrics, by the endings of their names.
 ENDINGS = (".wav", ".flac", ".mp3", ".ogg", ".opus", ".m4a", ".aiff", ".aif")
 DISC_FORM = ["-vn", "-ar", str(RATE), "-ac", str(CHANNELS), "-c:a", "pcm_s16le"]
 
@@ -38,8 +38,8 @@ WHOLE = 1 << 15
 
 
 class Treatment(NamedTuple):
-    """What is done with a sound before it is used: from and to which second it is taken, its loudness in LUFS, seconds over
-    which it comes and goes, and seconds of silence in front."""
+    """What is done with a sound before it is used: from and to which second it is taken, its loudness in LUFS, seconds
+    over which it comes and goes, and seconds of silence in front."""
 
     begin: float = 0.0
     end: float | None = None
@@ -55,7 +55,7 @@ class Treatment(NamedTuple):
 
 
 class Wave(NamedTuple):
-    """What the header of a WAV file tells, and where its samples are."""
+    """The header of a WAV file, and where its samples are."""
 
     form: int
     channels: int
@@ -283,8 +283,8 @@ def length_with(path: Path, intro: float) -> int:
     return -(-(frames(path) + round(RATE * intro)) // FRAMES_A_BLOCK)
 
 
-def beside(lyrics: Path) -> Path | None:
-    """The sound that stands beside lyrics and has their name, in small letters or in capitals."""
+def sound_beside(lyrics: Path) -> Path | None:
+    """The sound beside lyrics that has their name, in small letters or in capitals."""
     exact = next((path for path in (lyrics.with_suffix(ending) for ending in ENDINGS) if path.exists()), None)
     if exact or not lyrics.name:
         return exact

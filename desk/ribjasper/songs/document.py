@@ -1,5 +1,5 @@
 """A song as a document: LRC, and a TOML file beside it for what LRC cannot express. Both together give back the same
-song, whatever kind of file it came from."""
+song, for every kind of file that it came from."""
 import copy
 import json
 import tomllib
@@ -26,7 +26,7 @@ def beside(path: Path) -> Path:
     return path.with_name(path.stem + BESIDE)
 
 
-class Sung(NamedTuple):
+class LineValues(NamedTuple):
     """The values of a line that its picture depends on."""
 
     texts: list[str]
@@ -38,9 +38,9 @@ class Sung(NamedTuple):
     page: bool
 
 
-def sung(line: Line) -> Sung:
+def values_of(line: Line) -> LineValues:
     parts = line.syllables
-    return Sung(
+    return LineValues(
         [one.text for one in parts],
         [one.start for one in parts],
         [one.end for one in parts],
@@ -58,7 +58,7 @@ def shows(song: Song) -> list[Shown]:
 def is_same(one: Song, other: Song) -> bool:
     """Whether two songs hold the same, apart from the rows of their files."""
     heads = [(song.title, song.performer, song.singers, song.tags, shows(song)) for song in (one, other)]
-    return heads[0] == heads[1] and [sung(line) for line in one.lines] == [sung(line) for line in other.lines]
+    return heads[0] == heads[1] and [values_of(line) for line in one.lines] == [values_of(line) for line in other.lines]
 
 
 def rests_in(text: str) -> list[float]:
@@ -159,7 +159,7 @@ def digits_for(song: Song) -> int:
     return 3 if not all(is_exact(one, 2) for one in times) and all(is_exact(one, 3) for one in times) else 2
 
 
-def spelled(time: float, digits: int) -> str:
+def lrc_time(time: float, digits: int) -> str:
     whole, part = divmod(max(0, round(time * 10**digits)), 10**digits)
     return f"{whole // 60:02}:{whole % 60:02}.{part:0{digits}}"
 
@@ -209,14 +209,14 @@ def lrc_of(song: Song, rests: Iterable[float] = (), others: Sequence[str] = ()) 
     head += [f"[singer:{name}]" for name in names]
     state = min(len(names), SINGERS) - 1 if names else -1 if others else FIRST
     ends = {line.end for line in song.lines if line.is_whole and not line.is_open}
-    stops = {spelled(rest, digits): rest for rest in [*rests, *ends] if rest >= 0}
+    stops = {lrc_time(rest, digits): rest for rest in [*rests, *ends] if rest >= 0}
     items: list[tuple[float, int, Line | Insert | float]] = [(rest, 0, float(rest)) for rest in stops.values()]
     items += [(line.start, 1, line) for line in song.lines]
     items += [(one.after if one.start is None else one.start, 2, one) for one in song.inserts]
     rows, found = head, dict[int, Line]()
     for _, _, item in sorted(items, key=lambda one: one[:2]):
         if isinstance(item, float):
-            rows.append(f"[{spelled(item, digits)}]")
+            rows.append(f"[{lrc_time(item, digits)}]")
         elif isinstance(item, Insert):
             rows += insert_rows(item, digits)
         else:
@@ -235,43 +235,43 @@ def lrc_of(song: Song, rests: Iterable[float] = (), others: Sequence[str] = ()) 
 
 def insert_rows(one: Insert, digits: int) -> list[str]:
     rows = tag("colour" if one.what.startswith("#") else "image", one.what)
-    return rows if one.start is None else [f"[{spelled(one.start, digits)}]{row}" for row in rows]
+    return rows if one.start is None else [f"[{lrc_time(one.start, digits)}]{row}" for row in rows]
 
 
 def row_of(line: Line, mark: str, digits: int) -> str:
     """The row of a line; a word that ends before the next one begins has a time without text behind it."""
-    begin = f"[{spelled(line.start, digits)}]{mark}"
+    begin = f"[{lrc_time(line.start, digits)}]{mark}"
     if line.is_whole:
         return begin + on_a_row(line.text)
     words, until = "", line.start
     for one in line.syllables:
-        words += f"<{spelled(until, digits)}>" * (bool(words) and until < one.start)
-        words += f"<{spelled(one.start, digits)}>{on_a_row(one.text)}"
+        words += f"<{lrc_time(until, digits)}>" * (bool(words) and until < one.start)
+        words += f"<{lrc_time(one.start, digits)}>{on_a_row(one.text)}"
         until = one.end
-    return f"{begin}{words}<{spelled(until, digits)}>"
+    return f"{begin}{words}<{lrc_time(until, digits)}>"
 
 
-def quoted(value: object) -> str:
+def toml_value(value: object) -> str:
     """A value as TOML spells it."""
     if isinstance(value, str):
         return json.dumps(value, ensure_ascii=False).replace("\x7f", "\\u007f")
     if isinstance(value, bool):
         return "true" if value else "false"
     if isinstance(value, (list, tuple)):
-        return f"[{', '.join(quoted(one) for one in value)}]"
+        return f"[{', '.join(toml_value(one) for one in value)}]"
     if isinstance(value, dict):
-        return f"{{{', '.join(f'{quoted(name)} = {quoted(one)}' for name, one in value.items())}}}"
+        return f"{{{', '.join(f'{toml_value(name)} = {toml_value(one)}' for name, one in value.items())}}}"
     return repr(value)
 
 
-def table_of(one: Shown) -> dict[str, object]:
+def insert_table(one: Shown) -> dict[str, object]:
     what, start, after = one
     return {"what": what, "after": after} | ({} if start is None else {"start": start})
 
 
 def heads_of(song: Song) -> dict[str, object]:
     """What a song says apart from its lines."""
-    inserts = [table_of(one) for one in shows(song)]
+    inserts = [insert_table(one) for one in shows(song)]
     return {
         "title": song.title,
         "performer": song.performer,
@@ -288,38 +288,38 @@ def toml_of(song: Song, written: Written, look: dict[str, Any]) -> str:
     parts: list[str] = []
     for (name, wanted), found in zip(heads_of(song).items(), heads_of(again).values()):
         if wanted != found:
-            parts.append(f"[{name}]\nlrc = {quoted(found)}\nvalue = {quoted(wanted)}\n")
+            parts.append(f"[{name}]\nlrc = {toml_value(found)}\nvalue = {toml_value(wanted)}\n")
     rows = written.text.splitlines()
     by_row: dict[int, list[Line]] = {}
     for line in again.lines:
         by_row.setdefault(line.number, []).append(line)
     for row, line in written.lines.items():
         read = by_row.get(row, [])
-        parts += entry_of(line, sung(read[0]) if len(read) == 1 else None, row, rows[row - 1])
+        parts += line_entry(line, values_of(read[0]) if len(read) == 1 else None, row, rows[row - 1])
     if look:
-        parts.append("[look]\n" + "".join(f"{name} = {quoted(value)}\n" for name, value in look.items()))
+        parts.append("[look]\n" + "".join(f"{name} = {toml_value(value)}\n" for name, value in look.items()))
     if not parts:
         return ""
     about = "# Belongs to the LRC file of this name, and holds what LRC cannot express.\n"
     return "\n".join([f"{about}version = {VERSION}\n", *parts])
 
 
-def entry_of(line: Line, read: Sung | None, row: int, lrc: str) -> list[str]:
+def line_entry(line: Line, read: LineValues | None, row: int, lrc: str) -> list[str]:
     """The values of a line that differ from those of its row, or all of them if the row is not read as one line."""
-    wanted = sung(line)
-    keep = [name for name in Sung._fields if read is None or getattr(wanted, name) != getattr(read, name)]
+    wanted = values_of(line)
+    keep = [name for name in LineValues._fields if read is None or getattr(wanted, name) != getattr(read, name)]
     if not keep:
         return []
-    text = f"[[line]]\nrow = {row}\nlrc = {quoted(lrc)}\n"
+    text = f"[[line]]\nrow = {row}\nlrc = {toml_value(lrc)}\n"
     for name in keep:
         value = getattr(wanted, name)
         # A line that is not open has no time until which it stays.
-        text += f"{name} = {quoted(False if value is None else value)}\n"
+        text += f"{name} = {toml_value(False if value is None else value)}\n"
     return [text]
 
 
 def apply(song: Song, text: str, content: bytes, path: Path = Path("the file beside the lyrics")) -> None:
-    """Adds to a song what the file beside its LRC says. Whatever was changed in the LRC since holds as it stands there."""
+    """Adds to a song what the file beside its LRC says. Changes in the LRC since then are kept."""
     try:
         table = tomllib.loads(content.decode("utf-8"))
     except (UnicodeDecodeError, tomllib.TOMLDecodeError) as error:
@@ -367,7 +367,7 @@ def number(value: object) -> float:
     return float(value)
 
 
-def voice(value: object) -> int:
+def voice_number(value: object) -> int:
     if isinstance(value, bool) or not isinstance(value, int) or not FIRST <= value <= BOTH:
         raise TypeError(f"{value} is no voice")
     return value
@@ -385,13 +385,13 @@ def apply_lines(song: Song, rows: list[str], entries: list[dict[str, Any]], path
         taken.add(at)
         old = [line for line in song.lines if line.number == at]
         others = [line for line in song.lines if line.number != at]
-        new = line_of(entry, sung(old[0]) if len(old) == 1 else None)
+        new = line_of(entry, values_of(old[0]) if len(old) == 1 else None)
         new.number, new.written = at, old[0].written if old else lrc.partition("]")[0] + "]"
         # Lines that begin at one time stay in the order of their rows.
         song.lines = sorted([*others, new], key=lambda line: line.number)
 
 
-def line_of(entry: dict[str, Any], read: Sung | None) -> Line:
+def line_of(entry: dict[str, Any], read: LineValues | None) -> Line:
     def value(name: str) -> Any:
         if name in entry:
             return entry[name]
@@ -401,7 +401,7 @@ def line_of(entry: dict[str, Any], read: Sung | None) -> Line:
 
     texts = [word(one) for one in value("texts")]
     lists = [number(one) for one in value("starts")], [number(one) for one in value("ends")]
-    voices = [voice(one) for one in value("voices")]
+    voices = [voice_number(one) for one in value("voices")]
     if not texts or {len(lists[0]), len(lists[1]), len(voices)} != {len(texts)}:
         raise ValueError("a line has not as many times as words")
     until = value("until")

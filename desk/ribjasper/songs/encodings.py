@@ -13,10 +13,10 @@ NAMES = {"utf-16-le": "UTF-16", "utf-16-be": "UTF-16", "utf-16": "UTF-16", "cp93
 SUPERSETS = {"gb2312": "gb18030", "gbk": "gb18030", "euc_kr": "cp949", "shift_jis": "cp932", "tis-620": "cp874"}
 # A detector that is less sure is not believed.
 LEAST_SURE = 0.5
-# Parts of a text: kana that tell Shift-JIS, and letters beyond ASCII that an alphabet has to hold.
+# Parts of a text: kana that show Shift-JIS, and letters beyond ASCII that an alphabet has to hold.
 LEAST_KANA, LEAST_COVERED = 0.2, 0.95
-# The letters beyond ASCII of languages in Latin script, by the encoding of their old files. Detectors do not tell these
-# encodings from each other.
+# The letters beyond ASCII of languages in Latin script, by the encoding of their old files. Detectors do not
+# distinguish these encodings.
 ALPHABETS = {
     "cp1252": (
         "äöüß",
@@ -109,7 +109,7 @@ def kana_in(text: str) -> float:
 
 
 def detected(content: bytes) -> tuple[str | None, float]:
-    """What a detector says, if one is installed: chardet, which tells more languages apart, or charset-normalizer."""
+    """What a detector says, if one is installed: chardet, which distinguishes more languages, or charset-normalizer."""
     try:
         chardet: Any = importlib.import_module("chardet")
         found = chardet.detect(content)
@@ -125,9 +125,9 @@ def detected(content: bytes) -> tuple[str | None, float]:
 
 
 def by_alphabets(content: bytes) -> str | None:
-    """The encoding under which one language has nearly all letters of the text. Of two languages that have them, the one
-    with fewer other letters is the likelier one. Nothing, if two encodings are equally likely and show different texts.
-    """
+    """The encoding under which one language has nearly all letters of the text. Of two languages that have them, the
+    one with fewer other letters is the likelier one. Nothing, if two encodings are equally likely and show different
+    texts."""
     found: dict[tuple[float, int], list[str]] = {}
     for name, alphabets in ALPHABETS.items():
         if not decodes(content, name):

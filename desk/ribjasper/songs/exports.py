@@ -1,9 +1,10 @@
-"""A song as SubRip, ASS and UltraStar, for other programs. What a format cannot express is told."""
+"""A song as SubRip, ASS and UltraStar, for other programs. What a format cannot express is reported."""
 from typing import Callable
 
 from .songs import BOTH, FIRST, FOURTH, SECOND, THIRD, Line, Song
 
-# Beats a minute with which a note of UltraStar begins at a hundredth of a second; a beat is a quarter of one of the music.
+# Beats a minute with which a note of UltraStar begins at a hundredth of a second; a beat is a quarter of one of the
+# music.
 TEMPO = 1500
 ASS_HEAD = """[Script Info]
 Title: {title}
@@ -25,13 +26,13 @@ def hundredths(time: float) -> int:
     return max(0, round(100 * time))
 
 
-def clock(units: int, a_second: int, digits: int, point: str, hour_digits: int) -> str:
+def clock_with_hours(units: int, a_second: int, digits: int, point: str, hour_digits: int) -> str:
     whole, part = divmod(units, a_second)
     return f"{whole // 3600:0{hour_digits}}:{whole // 60 % 60:02}:{whole % 60:02}{point}{part:0{digits}}"
 
 
-class Letters:
-    """Letters of a song in a format; those that mean something else there have others in their places, which is told."""
+class Spelling:
+    """Letters of a song in a format; those that mean something else there are replaced, with a note."""
 
     def __init__(self, song: Song, kind: str, instead: dict[str, str]) -> None:
         self.song, self.kind, self.instead = song, kind, instead
@@ -55,16 +56,16 @@ def ordered(song: Song) -> list[Line]:
 
 def as_srt(song: Song) -> str:
     """Each line with its beginning and its end, to thousandths; SubRip has no times of words and no voices."""
-    letters = Letters(song, "SubRip", {"<": "\u2039", ">": "\u203a", "{": "(", "}": ")"})
+    letters = Spelling(song, "SubRip", {"<": "\u2039", ">": "\u203a", "{": "(", "}": ")"})
     cues = []
     for number, line in enumerate(ordered(song), 1):
-        times = (clock(max(0, round(1000 * time)), 1000, 3, ",", 2) for time in (line.start, line.end))
+        times = (clock_with_hours(max(0, round(1000 * time)), 1000, 3, ",", 2) for time in (line.start, line.end))
         cues.append(f"{number}\n{' --> '.join(times)}\n{letters.of_line(line, line.text).strip()}\n")
     return "\n".join(cues)
 
 
 def voices_first(lines: list[Line]) -> list[Line]:
-    """The lines, in front of which the first one of each voice comes, since programs number voices as they come."""
+    """The lines, with the first one of each voice in front, since programs number voices as they come."""
     first: dict[int, Line] = {}
     for line in lines:
         first.setdefault(line.voice, line)
@@ -74,14 +75,14 @@ def voices_first(lines: list[Line]) -> list[Line]:
 
 def as_ass(song: Song) -> str:
     """Words with `\\k`, to hundredths of a second; a line that has one time has no `\\k`."""
-    letters = Letters(song, "ASS", {"{": "(", "}": ")", "\\": "/"})
-    names = Letters(song, "ASS", {",": ";", "\\": "/"})
+    letters = Spelling(song, "ASS", {"{": "(", "}": ")", "\\": "/"})
+    names = Spelling(song, "ASS", {",": ";", "\\": "/"})
     lines = ordered(song)
     has_names = any(line.voice != FIRST for line in lines) or bool(song.singers)
     events = []
     for line in voices_first(lines):
         name = names.spelled(name_of(song, line.voice), "a singer") if has_names else ""
-        times = (clock(hundredths(time), 100, 2, ".", 1) for time in (line.start, line.end))
+        times = (clock_with_hours(hundredths(time), 100, 2, ".", 1) for time in (line.start, line.end))
         text = letters.of_line(line, line.text) if line.is_whole else timed(line, letters)
         events.append(f"Dialogue: 0,{','.join(times)},Default,{name},0,0,0,,{text}\n")
     return ASS_HEAD.format(title=letters.spelled(song.title, "the title")) + "".join(events)
@@ -93,7 +94,7 @@ def name_of(song: Song, voice: int) -> str:
     return (song.singers[voice] if voice < len(song.singers) else "") or f"Voice {voice + 1}"
 
 
-def timed(line: Line, letters: Letters) -> str:
+def timed(line: Line, letters: Spelling) -> str:
     """Each word with how long it is sung; what passes between two words belongs to no word."""
     text, now = "", hundredths(line.start)
     parts = line.syllables
@@ -110,7 +111,7 @@ def timed(line: Line, letters: Letters) -> str:
 
 def as_ultrastar(song: Song) -> str:
     """Notes without pitches, to hundredths of a second. A line that all sing is one of both singers."""
-    letters = Letters(song, "UltraStar", {"~": "\u223c"})
+    letters = Spelling(song, "UltraStar", {"~": "\u223c"})
     lines = ordered(song)
     head = [f"#TITLE:{letters.spelled(song.title, 'the title').strip()}"]
     head += [f"#ARTIST:{letters.spelled(song.performer, 'the performer').strip()}", f"#BPM:{TEMPO}", "#GAP:0"]
@@ -127,7 +128,7 @@ def as_ultrastar(song: Song) -> str:
     return "\n".join([*head, *parts, "E", ""])
 
 
-def notes_of(lines: list[Line], letters: Letters) -> list[str]:
+def notes_of(lines: list[Line], letters: Spelling) -> list[str]:
     """The notes of some lines, with a break in front of each line but the first."""
     rows: list[str] = []
     for line in lines:

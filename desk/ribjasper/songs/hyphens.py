@@ -11,7 +11,7 @@ WORD = re.compile(r"\w+")
 
 
 @functools.lru_cache(maxsize=None)
-def package() -> Any:
+def pyphen_package() -> Any:
     """The package, or None: it is optional, and does not load without a folder of dictionaries."""
     try:
         return importlib.import_module("pyphen")
@@ -20,19 +20,19 @@ def package() -> Any:
 
 
 def is_installed() -> bool:
-    return package() is not None
+    return pyphen_package() is not None
 
 
 @functools.lru_cache(maxsize=None)
 def dictionary(language: str) -> Any:
     """The dictionary of a language like en_US, or None if there is none."""
-    found = package().language_fallback(language) if is_installed() else None
-    return package().Pyphen(lang=found, left=1, right=1) if found else None
+    found = pyphen_package().language_fallback(language) if is_installed() else None
+    return pyphen_package().Pyphen(lang=found, left=1, right=1) if found else None
 
 
 def languages() -> list[str]:
     """The languages whose words can be divided."""
-    return sorted(package().LANGUAGES) if is_installed() else []
+    return sorted(pyphen_package().LANGUAGES) if is_installed() else []
 
 
 def syllables_of(text: str, language: str) -> list[str]:

@@ -92,7 +92,7 @@ class Journal:
 def read_journal(path: Path, content: bytes) -> Journal:
     """The journal in a file."""
     try:
-        head, *edits, last = (table_of(json.loads(row)) for row in content.decode().splitlines())
+        head, *edits, last = (checked_table(json.loads(row)) for row in content.decode().splitlines())
         if head["ribjasper-studio"] != VERSION:
             raise Refusal(path, f"is the journal of another version ({head['ribjasper-studio']})")
         more = head["more"]
@@ -102,13 +102,13 @@ def read_journal(path: Path, content: bytes) -> Journal:
             edits,
             int(last["at"]),
             None if last["saved"] is None else int(last["saved"]),
-            {str(name): one for name, one in table_of(last["sums"]).items()},
+            {str(name): one for name, one in checked_table(last["sums"]).items()},
         )
     except (ValueError, KeyError, TypeError) as error:
         raise Refusal(path, f"is no journal of the studio: {error}") from None
 
 
-def table_of(value: object) -> dict[str, Any]:
+def checked_table(value: object) -> dict[str, Any]:
     if not isinstance(value, dict):
         raise TypeError("a table is missing")
     return value

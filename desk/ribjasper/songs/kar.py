@@ -4,7 +4,7 @@ from typing import Any, Callable
 
 from ..common.failures import Refusal
 from ..common.output import package
-from .songs import LONGEST_WORD, Line, Song, Syllable, spelled
+from .songs import LONGEST_WORD, Line, Song, Syllable, song_time
 
 # What begins a new line or page in front of a text, and what begins a text that is no lyrics.
 NEW_LINE, TOLD = ("/", "\\", "\r", "\n"), "@"
@@ -14,7 +14,7 @@ Decode = Callable[[list[bytes]], list[str]]
 
 def read_kar(content: bytes, song: Song, decode: Decode) -> None:
     """The texts of the kind `lyrics`, or else those of the kind `text`, as old files have them."""
-    texts = texts_of(content, song, decode)
+    texts = midi_texts(content, song, decode)
     lyrics = [(time, text) for time, kind, text in texts if kind == "lyrics"]
     plain = [(time, text) for time, kind, text in texts if kind == "text"]
     titles = [text[2:].strip() for _, text in plain if text.startswith("@T")]
@@ -25,7 +25,7 @@ def read_kar(content: bytes, song: Song, decode: Decode) -> None:
     add_lines(song, sung)
 
 
-def texts_of(content: bytes, song: Song, decode: Decode) -> list[tuple[float, str, str]]:
+def midi_texts(content: bytes, song: Song, decode: Decode) -> list[tuple[float, str, str]]:
     """All texts with their seconds and their kinds."""
     mido: Any = package("mido", "python3-mido")
     found, now = list[tuple[float, str, bytes]](), 0.0
@@ -59,4 +59,4 @@ def add_lines(song: Song, sung: list[tuple[float, str]]) -> None:
 
 def close(song: Song, line: list[Syllable]) -> None:
     if line:
-        song.lines.append(Line(len(song.lines) + 1, line, written=spelled(line[0].start)))
+        song.lines.append(Line(len(song.lines) + 1, line, written=song_time(line[0].start)))

@@ -7,9 +7,9 @@ from typing import Callable, Iterable, Sequence
 
 from ..common import times
 from ..common.planning import MOST_PICTURES, PlannedPicture
-from ..common.times import clock
-from ..drawing.raster import Raster, TILE_HEIGHT, joined, lines_between, spans
-from .pages import Part, Placed
+from ..common.times import spelled
+from ..drawing.raster import Raster, TILE_HEIGHT, span_lines, lines_between, spans
+from .pages import ColumnStep, Placed
 
 # The most places of pages whose needs are kept.
 MOST_KEPT = 2_000
@@ -17,7 +17,7 @@ FIRST = "00:01:00"
 
 
 @dataclass
-class Answer:
+class StepNeeds:
     """The needs of the steps of a place, and its rows behind them."""
 
     needs: list[int]
@@ -28,16 +28,16 @@ class Known:
     """Answers by what they depend on: the whole screen before a place is drawn, and what its steps bring."""
 
     def __init__(self) -> None:
-        self.answers: dict[bytes, Answer] = {}
+        self.answers: dict[bytes, StepNeeds] = {}
 
-    def find(self, key: bytes) -> Answer | None:
+    def find(self, key: bytes) -> StepNeeds | None:
         found = self.answers.pop(key, None)
         if found:
             # What was used last is forgotten last.
             self.answers[key] = found
         return found
 
-    def keep(self, key: bytes, answer: Answer) -> None:
+    def keep(self, key: bytes, answer: StepNeeds) -> None:
         self.answers[key] = answer
         while len(self.answers) > MOST_KEPT:
             del self.answers[next(iter(self.answers))]
@@ -49,7 +49,7 @@ def area_of(placed: Placed) -> range:
     return range(min(first, placed.area.start), placed.area.stop)
 
 
-def key_of(placed: Placed, steps: Sequence[Part], ground: Raster) -> bytes:
+def need_key(placed: Placed, steps: Sequence[ColumnStep], ground: Raster) -> bytes:
     """What the needs of the steps of a place depend on."""
     area = area_of(placed)
     digest = hashlib.blake2b(b"".join(ground.rows), digest_size=24)
@@ -65,7 +65,7 @@ class Waiting:
     """Steps of a place whose pictures are in the script, from one number on."""
 
     key: bytes
-    steps: list[Part]
+    steps: list[ColumnStep]
     first: int
     after: list[bytes]
 
@@ -88,14 +88,14 @@ class Asker:
     def show(self, lines: Iterable[str]) -> None:
         """Adds a picture."""
         self.block += 1
-        self.lines += [*lines, f"show {clock(self.block)} {clock(self.block)}"]
+        self.lines += [*lines, f"show {spelled(self.block)} {spelled(self.block)}"]
         self.count += 1
 
-    def add(self, placed: Placed, steps: list[Part]) -> None:
+    def add(self, placed: Placed, steps: list[ColumnStep]) -> None:
         """Steps of one place, which follow each other."""
         if self.count + len(steps) + 1 >= MOST_PICTURES:
             self.end()
-        key, area = key_of(placed, steps, self.ground), area_of(placed)
+        key, area = need_key(placed, steps, self.ground), area_of(placed)
         if found := self.known.find(key):
             for step, need in zip(steps, found.needs):
                 step.need = need
@@ -104,7 +104,7 @@ class Asker:
             return
         # The script has what the known steps in front of these brought.
         if stale := list(spans(self.scripted.rows, self.ground.rows)):
-            self.show(joined(stale))
+            self.show(span_lines(stale))
         first = self.count
         for _, alike in itertools.groupby(steps, key=type):
             some = list(alike)
@@ -122,12 +122,12 @@ class Asker:
             needs = [row.need for row in rows[one.first : one.first + len(one.steps)]]
             for step, need in zip(one.steps, needs, strict=True):
                 step.need = need
-            self.known.keep(one.key, Answer(needs, one.after))
+            self.known.keep(one.key, StepNeeds(needs, one.after))
         self.begin()
 
 
 def ask_known(
-    steps: Sequence[Part], ground: Raster, known: Known, ask: Callable[[list[str]], Sequence[PlannedPicture]]
+    steps: Sequence[ColumnStep], ground: Raster, known: Known, ask: Callable[[list[str]], Sequence[PlannedPicture]]
 ) -> None:
     """Sets the needs of steps that are drawn one after the other on a ground."""
     asker = Asker(ground, known, ask)

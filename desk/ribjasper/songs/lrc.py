@@ -56,7 +56,7 @@ def read_lrc(text: str, song: Song) -> None:
             voice, rest = MARKED[mark[1][-1]], rest.replace(mark[0], "", 1)
         if starts:
             stamped += [
-                Stamped(number, written, start, parts_of(rest, start - starts[0][0]), voice)
+                Stamped(number, written, start, line_pieces(rest, start - starts[0][0]), voice)
                 for start, written in starts
             ]
         elif line:
@@ -114,8 +114,8 @@ def stamps_of(line: str) -> tuple[list[tuple[float, str]], str]:
     return starts, line[at:]
 
 
-def parts_of(rest: str, later: float) -> list[tuple[float | None, str]]:
-    """The pieces of a line; where the same line stands at several times, those of its words move along."""
+def line_pieces(rest: str, later: float) -> list[tuple[float | None, str]]:
+    """The pieces of a line; for a line with several times, those of its words move along."""
     parts: list[tuple[float | None, str]] = []
     at, time = 0, None
     for word in WORD.finditer(rest):

@@ -5,13 +5,13 @@ from typing import Iterable
 
 from ..drawing.bidi import is_leftward
 from ..drawing.lettering import Font
-from ..drawing.raster import Raster, Span, TILE_HEIGHT, TILE_WIDTH, WIDTH, joined
+from ..drawing.raster import Raster, Span, TILE_HEIGHT, TILE_WIDTH, WIDTH, span_lines
 from ..drawing.styles import INKS, Inks, Style
-from .setting import Letters, Setter, text_of, wrapped
+from .setting import Letters, Setter, text_of_words, wrapped
 from .songs import Line, Syllable
 
 # How long nothing is sung, in seconds, before a page that is not full is left; before the next line is counted in; and
-# before a page tells how long it is.
+# before a page says how long it is.
 REST, COUNTED_REST, TOLD_REST = 3.0, 6.0, 12.0
 # What is left of a page goes so long after its last word; a page after a long rest comes so long before its first.
 GOES, COMES = 2.0, 6.0
@@ -50,7 +50,7 @@ def over(ground: bytes, inks: bytes) -> bytes:
 @dataclass(eq=False)
 class Placed:
     """Letters in one of the places of a page, or none where it is to be empty; when they are sung, in seconds; and what
-    stood there before them. What is not sung only stands. It is not drawn before `begin`, nor before the row that it
+    was there before them. What is not sung is only shown. It is not drawn before `begin`, nor before the row that it
     follows in the order of singing."""
 
     slot: int
@@ -81,7 +81,7 @@ class Placed:
 
     @functools.cached_property
     def rows(self) -> list[bytes]:
-        """The rows of its area as they stand when it is drawn."""
+        """The rows of its area after it is drawn."""
         rows = [bytearray(row) for row in self.empty.rows[self.area.start : self.area.stop]]
         if self.letters:
             for row, inks in zip(rows[self.top - self.area.start :], self.letters.rows):
@@ -114,7 +114,7 @@ class Step:
 
 @dataclass(eq=False)
 class Show(Step):
-    """Something else stands as a whole."""
+    """The whole screen is replaced."""
 
     picture: Raster
 
@@ -124,7 +124,7 @@ class Show(Step):
 
 
 @dataclass(eq=False)
-class Part(Step):
+class ColumnStep(Step):
     """Some columns of a place change."""
 
     placed: Placed
@@ -136,7 +136,7 @@ class Part(Step):
         raise NotImplementedError
 
     def differing(self, raster: Raster) -> list[Row]:
-        """Those of its rows that are not what stands."""
+        """Those of its rows that differ from the screen."""
         return [(number, row) for number, row in self.rows() if raster.rows[number] != row]
 
     def apply(self, raster: Raster) -> None:
@@ -148,24 +148,24 @@ class Part(Step):
             raster.rows[number][self.left : self.right] = row[self.left : self.right]
 
     def lines(self, raster: Raster, rows: list[Row]) -> list[str]:
-        """The lines of a script that change what stands into this, which then stands; only these rows can differ."""
+        """The lines of a script that draw this on the screen, which then has it; only these rows can differ."""
         spans, left, right = [], self.left, self.right
         for number, row in rows:
             pixels, stands = row[left:right], raster.rows[number]
             if stands[left:right] != pixels:
                 stands[left:right] = pixels
                 spans.append(Span(left, number, pixels))
-        return list(joined(spans))
+        return list(span_lines(spans))
 
 
-class Draw(Part):
+class Draw(ColumnStep):
     """They come, or go, over the empty page."""
 
     def rows(self) -> Iterable[Row]:
         return zip(self.placed.area, self.placed.rows)
 
 
-class Light(Part):
+class Light(ColumnStep):
     """They take the colour of what is sung."""
 
     def rows(self) -> Iterable[Row]:
@@ -173,7 +173,7 @@ class Light(Part):
         return zip(range(placed.top, placed.area.stop), placed.lit[placed.top - placed.area.start :])
 
 
-class DotOut(Part):
+class DotOut(ColumnStep):
     """One of the dots that count a line in goes out."""
 
     def rows(self) -> Iterable[Row]:
@@ -194,8 +194,8 @@ class Group:
 
 
 def groups_of(lines: list[Line], font: Font, style: Style, rests: bool = True, end: float = 0.0) -> list[Group]:
-    """The rows of a verse, at most so many a page; the rows of a line stand on one page if they can, and after a rest a new
-    page begins. Nothing is sung from a time on, until the verse begins."""
+    """The rows of a verse, at most so many a page; the rows of a line are on one page if possible, and after a rest a
+    new page begins. Nothing is sung from a time on, until the verse begins."""
     pages: list[Group] = []
     most = style.rows
     for number, line in enumerate(lines):
@@ -218,7 +218,7 @@ def groups_of(lines: list[Line], font: Font, style: Style, rests: bool = True, e
 
 
 def rest_page(text: str, end: float, start: float, font: Font) -> Group:
-    """A page that tells how long nothing is sung."""
+    """A page that says how long nothing is sung."""
     seconds = round(start - end)
     return still_page([f"{text} {seconds // 60}:{seconds % 60:02}"], end + GOES, start - COMES, font)
 
@@ -264,7 +264,7 @@ class Screen:
         )
 
     def clear(self, slot: int) -> list[Placed]:
-        """Makes a place empty where letters stand, as soon as they are sung."""
+        """Clears a place with letters as soon as they are sung."""
         standing = self.standing[slot]
         if not standing or not standing.letters:
             return []
@@ -272,7 +272,7 @@ class Screen:
 
 
 @dataclass
-class Page:
+class SongPage:
     """What is to be drawn of a page, in its order, and what it is made of. A page that follows quickly does not wait until
     the one in front of it is left."""
 
@@ -281,12 +281,12 @@ class Page:
     is_quick: bool = False
 
 
-def laid_out(groups: list[Group], setter: Setter, style: Style, empty: Raster, is_last: bool = True) -> list[Page]:
-    """Each row at its place, with those places that become empty; and last an empty page, if the song ends here, but not
-    with a page that is not sung."""
+def laid_out(groups: list[Group], setter: Setter, style: Style, empty: Raster, is_last: bool = True) -> list[SongPage]:
+    """Each row at its place, with those places that become empty; and last an empty page, if the song ends here, but
+    not with a page that is not sung."""
     inset = TILE_HEIGHT * max(0, (style.slot_rows - setter.tile_rows + 1) // 2)
     inset = min(inset, TILE_HEIGHT * max(0, style.slot_rows - setter.tile_rows))
-    screen, pages = Screen(style, empty, setter.inks), list[Page]()
+    screen, pages = Screen(style, empty, setter.inks), list[SongPage]()
     last_rows = {id(line): row for group in groups for line, row in group.rows}
     before: Placed | None = None
     for group in groups:
@@ -305,14 +305,14 @@ def laid_out(groups: list[Group], setter: Setter, style: Style, empty: Raster, i
             page.append(placed)
         if group.is_counted and group.rows:
             count_in(next(placed for placed in page if placed.letters))
-        pages.append(Page(page, group))
+        pages.append(SongPage(page, group))
     ends = is_last and groups and groups[-1].is_sung
     last = [placed for slot in range(style.rows) for placed in screen.clear(slot)] if ends else []
-    return [*pages, Page(last, Group())]
+    return [*pages, SongPage(last, Group())]
 
 
 def count_in(placed: Placed) -> None:
-    """Puts dots above a line, where there is room."""
+    """Puts dots above a line, if there is room."""
     if placed.top >= TILE_HEIGHT:
         middle = WIDTH // 2 // TILE_WIDTH
         placed.dots = [TILE_WIDTH * (middle + 2 * place - DOTS + 1) for place in range(DOTS)]
@@ -320,4 +320,4 @@ def count_in(placed: Placed) -> None:
 
 def texts_of(groups: list[Group]) -> list[tuple[str, int]]:
     """The texts of all rows with their voices."""
-    return [(text_of(row), line.voice) for group in groups for line, row in group.rows]
+    return [(text_of_words(row), line.voice) for group in groups for line, row in group.rows]

@@ -1,4 +1,5 @@
-"""Finished pairs of graphics and sound as tracks of a disc: a .cdg file with a sound of its name, or a ZIP file of both."""
+"""Finished pairs of graphics and sound as tracks of a disc: a .cdg file with a sound of its name, or a ZIP file of
+both."""
 import shutil
 import zipfile
 import zlib
@@ -7,17 +8,16 @@ from typing import NamedTuple, Sequence
 
 from . import audio
 from ..common.failures import Refusal, reading
-from ..common.library import PACK, PACKS_A_BLOCK
+from ..common.library import GRAPHICS, PACK, PACKS_A_BLOCK
 from ..common.output import MOST_READ, read_file, tell
 
 CDG, ZIP = ".cdg", ".zip"
 ENDINGS = (CDG, ZIP)
-# The instructions of CD+G packs; only their lowest six bits count, as of each symbol.
-GRAPHICS = 9
+# The instructions of packs of graphics; only their lowest six bits count, as of each symbol.
 MEMORY, BORDER, TILE, SCROLL, COPY, TRANSPARENT, TILE_XOR, LOW, HIGH = 1, 2, 6, 20, 24, 28, 38, 30, 31
 CHANGES_OFFSETS = (SCROLL, COPY, TRANSPARENT)
-# The first packs of a track begin in front of it: a player that skips to the track does not read them whole. From pack 8
-# on presets and colours make it clean, at the latest here.
+# The first packs of a track begin in front of it: a player that skips to the track does not read them whole. From pack
+# 8 on presets and colours make it clean, at the latest here.
 LOST, LATEST_START = 8, 48
 # If the graphics leave no room, they and the sound are later by so many blocks.
 LEAD = 4
@@ -35,11 +35,11 @@ def is_pair(path: Path) -> bool:
 
 
 def read_pair(path: Path, sound: Path | None = None) -> Pair:
-    """The pair of a file; the sound may be named, else it stands beside or in the file."""
+    """The pair of a file; the sound may be named, else it is beside or in the file."""
     if path.suffix.lower() == ZIP:
         graphics, packed = unpacked(path)
         return Pair(packs_in(path, graphics), sound or packed)
-    found = sound or audio.beside(path)
+    found = sound or audio.sound_beside(path)
     packs = packs_in(path, read_file(path))
     if not found:
         raise Refusal(path, f"has no sound of its name beside it ({', '.join(audio.ENDINGS)})")
@@ -94,8 +94,8 @@ def listed(packs: bytes) -> list[bytes]:
 
 
 def clean(packs: list[bytes]) -> list[bytes] | None:
-    """The packs with presets of the memory and the border and both packs of colours behind those that are lost, at places
-    whose own packs change nothing, so that all others keep their times; nothing if there is no room."""
+    """The packs with presets of the memory and the border and both packs of colours behind those that are lost, at
+    places whose own packs change nothing, so that all others keep their times; nothing if there is no room."""
     memory = border = 0
     colours = {LOW: bytes(16), HIGH: bytes(16)}
     for pack in packs[:LOST]:

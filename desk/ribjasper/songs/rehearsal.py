@@ -17,7 +17,7 @@ from .scores import Look, Score, song_of
 from .song_files import clip
 from .song_script import Made, Wishes, best
 from .songs import Song
-from .tracks import as_pair, packs_of
+from .tracks import as_pair, track_packs
 
 
 @dataclass
@@ -103,7 +103,7 @@ def rehearsed(revision: int, score: Score, like: Song, sound: Path, known: Known
         return Rehearsed(revision, blocks=blocks, summary="no line has a time yet")
     try:
         made = best(song, wishes_for(look, like.path.parent, PAUSE + blocks), known)
-        packs = as_pair(packs_of(like.path, made.text(), blocks))
+        packs = as_pair(track_packs(like.path, made.text(), blocks))
     except Exception as error:
         lines = (error if isinstance(error, Failure) else failure_of(error, like.path)).lines
         return Rehearsed(revision, error="; ".join(lines), blocks=blocks)

@@ -7,7 +7,7 @@ from typing import Any, Iterable, NamedTuple
 from ..drawing.styles import LEAST_ROWS, LEAST_SIZE, MOST_ROWS, MOST_SIZE
 from .document import Document
 from .lrc import TAG
-from .songs import FIRST, LONGEST_WORD, Insert, Line, Song, Syllable, open_line, spelled
+from .songs import FIRST, LONGEST_WORD, Insert, Line, Song, Syllable, open_line, song_time
 
 # A row of a plain text that names a part of the song and is not sung.
 HEADING = re.compile(r"\[[^\[\]]*\]|\([^()]*\)\s*:")
@@ -220,7 +220,7 @@ def song_of(score: Score, like: Song) -> Song:
 
 
 def written(line: ScoreLine) -> str:
-    return "" if line.start is None else f"[{spelled(line.start)}]"
+    return "" if line.start is None else f"[{song_time(line.start)}]"
 
 
 def document_for(score: Score, opened: Document, first: Score) -> Document:

@@ -1,4 +1,4 @@
-"""Lines of lyrics set in a font: rows of words, and where each syllable stands."""
+"""Lines of lyrics set in a font: rows of words, and the place of each syllable."""
 import bisect
 import re
 import unicodedata
@@ -19,8 +19,8 @@ PIECE = re.compile(r"\s*\S+\s*")
 
 
 @dataclass
-class Part:
-    """A syllable, or what of it has one direction, and the pixels from and to which it stands."""
+class SungPart:
+    """A syllable, or what of it has one direction, and its first pixel and the one behind its last."""
 
     syllable: Syllable
     left: int
@@ -30,12 +30,12 @@ class Part:
 
 @dataclass
 class Letters:
-    """A row of a line as it stands on the screen: the numbers of its pixels, 0 where the ground is seen, and its
+    """A row of a line on the screen: the numbers of its pixels, 0 where the ground is seen, and its
     syllables in the order of reading."""
 
     line: Line
     rows: list[bytes]
-    parts: list[Part]
+    parts: list[SungPart]
 
     @property
     def syllables(self) -> list[Syllable]:
@@ -52,7 +52,7 @@ def words_of(line: Line) -> list[list[Syllable]]:
     is_new = True
     for syllable in line.syllables:
         for text in PIECE.findall(re.sub(r"\s+", " ", syllable.text)):
-            for part in parts_of(text):
+            for part in word_pieces(text):
                 if is_new or part[0].isspace():
                     words.append([])
                 words[-1].append(Syllable(part, syllable.start, syllable.end, syllable.voice))
@@ -65,7 +65,7 @@ def is_wide(letter: str) -> bool:
     return unicodedata.east_asian_width(letter) in "WF"
 
 
-def parts_of(text: str) -> list[str]:
+def word_pieces(text: str) -> list[str]:
     """The pieces of a word between which a line may be broken."""
     parts = [""]
     for place, letter in enumerate(text):
@@ -77,7 +77,7 @@ def parts_of(text: str) -> list[str]:
 
 
 def is_closing(letter: str) -> bool:
-    """Whether no line begins with a letter: blanks, marks and signs that belong to what stands before them."""
+    """Whether no line begins with a letter: blanks, marks and signs that belong to what comes before them."""
     return letter.isspace() or unicodedata.category(letter) in ("Pe", "Pf", "Po", "Mn", "Lm")
 
 
@@ -95,24 +95,24 @@ def spelled_with(text: str, font: Font, has_boxes: bool) -> str:
     return "".join(kept)
 
 
-def text_of(words: list[list[Syllable]]) -> str:
+def text_of_words(words: list[list[Syllable]]) -> str:
     return "".join(syllable.text for word in words for syllable in word).strip()
 
 
-def fits(words: list[list[Syllable]], font: Font, room: float) -> bool:
+def fits_in_row(words: list[list[Syllable]], font: Font, room: float) -> bool:
     """Whether all words have room in one row."""
-    return font.width(text_of(words), font.size) <= room
+    return font.width(text_of_words(words), font.size) <= room
 
 
 def unbroken_words(line: Line, font: Font) -> list[list[Syllable]]:
     """The words of a line, those that are much too long for a row in pieces."""
-    return [part for word in words_of(line) for part in pieces(word, font)]
+    return [part for word in words_of(line) for part in broken_word(word, font)]
 
 
-def pieces(word: list[Syllable], font: Font) -> list[list[Syllable]]:
+def broken_word(word: list[Syllable], font: Font) -> list[list[Syllable]]:
     """A word in pieces that fit into a row, broken between syllables or else between letters. One that letters only a
     little smaller make fit stays whole."""
-    if font.width(text_of([word]), max(SMALLEST, round(LEAST_PART * font.size))) <= ROOM:
+    if font.width(text_of_words([word]), max(SMALLEST, round(LEAST_PART * font.size))) <= ROOM:
         return [word]
     letters = [one for syllable in word for one in lettered(syllable)]
     starts = {id(syllable): place for place, (syllable, _) in reversed(list(enumerate(letters)))}
@@ -163,19 +163,19 @@ def wrapped(line: Line, font: Font) -> list[list[list[Syllable]]]:
     """The words of a line in as few rows as they need, and these as even as they can be."""
     font = font.of(line.voice)
     words = unbroken_words(line, font)
-    count = len(filled(words, font, ROOM))
+    count = len(filled_rows(words, font, ROOM))
     if count == 1:
         return [words]
-    widest = max(font.width(text_of([word]), font.size) for word in words)
+    widest = max(font.width(text_of_words([word]), font.size) for word in words)
     limits = [ROOM * step / 40 for step in range(1, 41)]
     # The fewer rows, the wider they are: the least width that does with as many is looked for by halves.
-    even = bisect.bisect_left(limits, -count, key=lambda limit: -len(filled(words, font, limit)))
-    return sung_later(filled(words, font, max(widest, limits[min(even, len(limits) - 1)])))
+    even = bisect.bisect_left(limits, -count, key=lambda limit: -len(filled_rows(words, font, limit)))
+    return sung_later(filled_rows(words, font, max(widest, limits[min(even, len(limits) - 1)])))
 
 
 def sung_later(rows: list[list[list[Syllable]]]) -> list[list[list[Syllable]]]:
-    """The same rows; where one time is told for words that stand on several of them, those on a later row are sung
-    later, as far as the letters before them tell."""
+    """The same rows; where words on several of them have one time, those on a later row are sung
+    later, in proportion to the letters before them."""
     for number, row in enumerate(rows[:-1]):
         told = row[-1][-1]
         here = [syllable for word in row for syllable in word if syllable.start == told.start]
@@ -195,22 +195,25 @@ def sung_later(rows: list[list[list[Syllable]]]) -> list[list[list[Syllable]]]:
     return rows
 
 
-def filled(words: list[list[Syllable]], font: Font, room: float) -> list[list[list[Syllable]]]:
+def filled_rows(words: list[list[Syllable]], font: Font, room: float) -> list[list[list[Syllable]]]:
     """The words in rows, each row as full as it can be."""
     rows: list[list[list[Syllable]]] = []
     while words:
         # More words are wider, so the first number of them that has no room is looked for by halves.
         count = min(len(words), ROOM)
-        if not fits(words[:count], font, room):
-            count = bisect.bisect_left(range(2, count), True, key=lambda most: not fits(words[:most], font, room)) + 1
+        if not fits_in_row(words[:count], font, room):
+            count = (
+                bisect.bisect_left(range(2, count), True, key=lambda most: not fits_in_row(words[:most], font, room))
+                + 1
+            )
         rows.append(words[:count])
         words = words[count:]
     return rows
 
 
 class Setter:
-    """Sets lines in one font, or one for each voice, all on the same height within their rows of tiles. The texts are those
-    of the song with their voices."""
+    """Sets lines in one font, or one for each voice, all on the same height within their rows of tiles. The texts are
+    those of the song with their voices."""
 
     def __init__(
         self,
@@ -246,7 +249,7 @@ class Setter:
         return TILE_HEIGHT * self.tile_rows
 
     def set(self, line: Line, words: list[list[Syllable]]) -> Letters:
-        text, font = text_of(words), self.of(line.voice if line.syllables else FIRST)
+        text, font = text_of_words(words), self.of(line.voice if line.syllables else FIRST)
         size = font.size
         while font.width(text, size) > ROOM and size > SMALLEST:
             size -= 1
@@ -256,7 +259,7 @@ class Setter:
         parts = parts_of_text([syllable for word in words for syllable in word], text, font, left, size)
         return Letters(line, self.inks_of(text, font, left, size, parts), parts)
 
-    def inks_of(self, text: str, font: Font, left: int, size: int, parts: list[Part]) -> list[bytes]:
+    def inks_of(self, text: str, font: Font, left: int, size: int, parts: list[SungPart]) -> list[bytes]:
         """The numbers of all pixels: levels of the voices, and the outline."""
         light = font.drawn(text, size, left, self.above, self.height)
         lights = [light[at : at + WIDTH] for at in range(0, len(light), WIDTH)]
@@ -280,9 +283,9 @@ class Setter:
         return TILE_HEIGHT * min(max(1, round(self.middle / TILE_HEIGHT)), max(1, self.tile_rows - 1))
 
 
-def parts_of_text(syllables: list[Syllable], text: str, font: Font, left: int, size: int) -> list[Part]:
-    """Where each syllable of a row stands that begins at a pixel; one in two directions has a part for each."""
-    parts: list[Part] = []
+def parts_of_text(syllables: list[Syllable], text: str, font: Font, left: int, size: int) -> list[SungPart]:
+    """The places of the syllables of a row that begins at a pixel; one in two directions has a part for each."""
+    parts: list[SungPart] = []
     whole = "".join(syllable.text for syllable in syllables)
     at = len(whole.lstrip()) - len(whole)
     for syllable in syllables:
@@ -300,7 +303,7 @@ def parts_of_text(syllables: list[Syllable], text: str, font: Font, left: int, s
             following = found[number + 1][0] if number + 1 < len(found) else last
             spelled = syllable.text if len(found) == 1 else text[begin if number else first : following]
             piece = Syllable(spelled, start, until, syllable.voice)
-            parts.append(Part(piece, left + round(one), left + round(other), is_leftward))
+            parts.append(SungPart(piece, left + round(one), left + round(other), is_leftward))
     if parts:
         # Letters may reach a little beyond their width.
         rightmost, leftmost = max(parts, key=lambda one: one.right), min(parts, key=lambda one: one.left)

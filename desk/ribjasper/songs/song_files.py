@@ -1,4 +1,4 @@
-"""Reads the lyrics of a song, of whatever kind the file is."""
+"""Reads the lyrics of a song from files of all kinds."""
 import contextlib
 import re
 from pathlib import Path
@@ -58,11 +58,13 @@ def why_not(content: bytes, name: str) -> str:
     return "?"
 
 
-def read_song(path: Path, encoding: str | None = None, later: float = 0.0) -> Song:
-    """The song of a file: karaoke MIDI, ASS, UltraStar, SubRip, WebVTT or LRC, by its content; all of it some seconds later
-    than the file says. All faults are reported at once."""
+def read_song(path: Path | str, encoding: str | None = None, later: float = 0.0) -> Song:
+    """The song of a file: karaoke MIDI, ASS, UltraStar, SubRip, WebVTT or LRC, by its content; all of it some seconds
+    later than the file says. Times are in seconds of the sound. The encoding is found if it is not given. Raises
+    Refusal, with all faults of the file at once."""
+    path = Path(path)
     content, more = read_file(path), companion_of(path)
-    song, _ = song_of(path, content, read_file(more) if more else None, encoding)
+    song, _ = parsed_song(path, content, read_file(more) if more else None, encoding)
     song.shift(later)
     clip(song)
     if not song.lines:
@@ -74,7 +76,7 @@ def open_document(path: Path, encoding: str | None = None) -> Document:
     """The lyrics of a file as a document that can be edited and saved as LRC."""
     content, more = read_file(path), companion_of(path)
     toml = read_file(more) if more else None
-    song, is_lrc = song_of(path, content, toml, encoding)
+    song, is_lrc = parsed_song(path, content, toml, encoding)
     return document_of(song, content, toml) if is_lrc else Document(song)
 
 
@@ -84,7 +86,7 @@ def companion_of(path: Path) -> Path | None:
     return found if path.suffix.lower() == ".lrc" and found.is_file() else None
 
 
-def song_of(path: Path, content: bytes, toml: bytes | None, encoding: str | None) -> tuple[Song, bool]:
+def parsed_song(path: Path, content: bytes, toml: bytes | None, encoding: str | None) -> tuple[Song, bool]:
     """The song that a file holds, and whether it is LRC."""
     song, is_lrc = Song([], path=path), False
     if content.startswith(b"MThd"):
@@ -93,7 +95,7 @@ def song_of(path: Path, content: bytes, toml: bytes | None, encoding: str | None
         song.encoding = encoding_for(content, song, encoding)
         text = content.decode(song.encoding)
         kinds = ((WEB_VTT, read_vtt), (EVENTS, read_ass), (NOTES, read_ultrastar), (STRETCH, read_srt))
-        reader: Callable[[str, Song], None] = next((one for mark, one in kinds if starts(mark, text)), read_lrc)
+        reader: Callable[[str, Song], None] = next((one for mark, one in kinds if is_of_kind(mark, text)), read_lrc)
         reader(text, song)
         is_lrc = reader is read_lrc
         if is_lrc and toml is not None:
@@ -106,8 +108,8 @@ def song_of(path: Path, content: bytes, toml: bytes | None, encoding: str | None
 
 
 def pictures_of(path: Path) -> list[Path]:
-    """The files that lyrics bring with them: the one beside LRC, and the pictures that lyrics of any kind may name. A file
-    that is no regular one is not looked at."""
+    """The files that lyrics bring with them: the one beside LRC, and the pictures that lyrics of any kind may name. A
+    file that is no regular one is not looked at."""
     if not path.is_file():
         return []
     more = companion_of(path)
@@ -121,7 +123,7 @@ def pictures_of(path: Path) -> list[Path]:
     return found
 
 
-def starts(mark: re.Pattern[str], text: str) -> bool:
+def is_of_kind(mark: re.Pattern[str], text: str) -> bool:
     """Whether a text is of a kind: WebVTT by its first line, others by any line."""
     return bool(mark.match(text) if mark is WEB_VTT else mark.search(text))
 

@@ -8,30 +8,32 @@ from pathlib import Path
 from typing import Callable, Iterable, Sequence
 
 from ..common import times
+from ..common.cue_sheets import ONE_TRACK
 from ..common.failures import Refusal, shown
 from ..common.library import BLOCKS_A_SECOND
 from ..common.planning import MOST_PICTURES, Plan, plan
-from ..common.times import clock
+from ..common.progress import progress
+from ..common.times import spelled
 from ..drawing.colours import read_colour
-from ..drawing.images import ONE_TRACK, PLAIN, fitted, flat_of, raster_of, read, whole
+from ..drawing.images import PLAIN, fitted, flat_of, raster_of, read_image, whole
 from ..drawing.lettering import Font, font_of, named
-from ..drawing.raster import COLOURS, HEIGHT, Raster, TILE_HEIGHT, WIDTH, joined, lines_between, spans
+from ..drawing.raster import COLOURS, HEIGHT, Raster, TILE_HEIGHT, WIDTH, span_lines, lines_between, spans
 from ..drawing.styles import INKS, Style
 
 from .known_needs import Known, ask_known
 
 from .pages import (
-    Draw, GOES, Group, Light, Page, Part, Placed, Show, Step, TOLD_REST, groups_of, laid_out, still_page, texts_of,
+    Draw, GOES, Group, Light, SongPage, ColumnStep, Placed, Show, Step, TOLD_REST, groups_of, laid_out, still_page, texts_of,
 )  # fmt: skip
-from .setting import ROOM, Setter, filled, fits, spelled_with, unbroken_words, wrapped
-from .songs import BOTH, FIRST, MOST_MESSAGES, Line, Song, Syllable, first_of_many, shortened, spelled
-from .timeline import FOREVER, Arranger, Due, Picture, Task, Timeline, Told, blocks_for, dues_of, grouped, paired
+from .setting import ROOM, Setter, filled_rows, fits_in_row, spelled_with, unbroken_words, wrapped
+from .songs import BOTH, FIRST, MOST_MESSAGES, Line, Song, Syllable, first_of_many, shortened, song_time
+from .timeline import FOREVER, Arranger, Due, SentPicture, Task, Timeline, Told, blocks_for, dues_of, grouped, paired
 
 BLOCKS = BLOCKS_A_SECOND
 # A black picture is held through the pause, so that all that is drawn comes with the audio; the four packs that set it
 # have room behind the pause, and so have two more.
 BEGIN = times.PAUSE + 4
-THROUGH_PAUSE = f"show 00:00:20 {clock(BEGIN)}"
+THROUGH_PAUSE = f"show 00:00:20 {spelled(BEGIN)}"
 # The blocks of audio that the longest disc has behind its pause.
 LONGEST_AUDIO = 449_999 - times.PAUSE
 # A line stays this long when it is sung; a title and a legend stand so long at least, and are gone so long before the
@@ -52,8 +54,8 @@ FEW_LATE = 20
 LATER = 60 * BLOCKS
 # Schedules that are tried until the plan finds nothing late.
 ROUNDS = 8
-# A line is drawn so many seconds before it is sung, or earlier if lines would be late otherwise (None: as early as there
-# is room). If that is not enough, lines whose end is a guess go as soon as they are lit.
+# A line is drawn so many seconds before it is sung, or earlier if lines would be late otherwise (None: as early as
+# there is room). If that is not enough, lines whose end is a guess go as soon as they are lit.
 LEAD = 4.0
 # At last columns of a sweep are lit two by two, which takes fewer blocks.
 Trial = tuple[float | None, bool, bool]
@@ -74,8 +76,8 @@ LEAVE, BOXES = "leave", "box"
 @dataclass(frozen=True)
 class Wishes:
     """What is asked of a script: how it looks, where its audio ends (a block of the program), how many seconds at most
-    a line stands before it is sung, and what stands beside the lines. The encoding of the lyrics, and by how much they are
-    later than their file says, are for those who read the song."""
+    a line is shown before it is sung, and what is shown beside the lines. The encoding of the lyrics, and by how much
+    they are later than their file says, are for those who read the song."""
 
     style: Style
     fonts: tuple[Path, ...] = ()
@@ -94,7 +96,7 @@ class Wishes:
 
 @dataclass
 class Made:
-    """A script, what of the song is not shown at its time, and what else is to be told."""
+    """A script, what of the song is not shown at its time, and notes."""
 
     lines: list[str]
     told: Told
@@ -144,15 +146,15 @@ def plan_of(lines: list[str], length: int = LONGEST_AUDIO) -> Plan:
     return plan(ONE_TRACK, "".join(f"{line}\n" for line in lines).encode(), length)
 
 
-def steps_of(pages: list[Page], dues: list[Due]) -> list[Part]:
-    """All steps in an order in which each is drawn on what it will stand on."""
-    lights: dict[Placed, list[Part]] = {}
+def steps_of(pages: list[SongPage], dues: list[Due]) -> list[ColumnStep]:
+    """All steps in an order in which each is drawn on what it will be drawn on later."""
+    lights: dict[Placed, list[ColumnStep]] = {}
     for due in dues:
         lights.setdefault(due.placed, []).extend(due.steps)
     return [step for page in pages for placed in page.placed for step in [*placed.draws, *lights.get(placed, [])]]
 
 
-def ask_needs(steps: Sequence[Part], ground: Raster, known: Known | None = None) -> None:
+def ask_needs(steps: Sequence[ColumnStep], ground: Raster, known: Known | None = None) -> None:
     """Asks the plan how many packs each step needs, one after the other; what is known is not asked for."""
     if known:
         ask_known(steps, ground, known, lambda lines: plan_of(lines).rows)
@@ -162,12 +164,12 @@ def ask_needs(steps: Sequence[Part], ground: Raster, known: Known | None = None)
         part = steps[at : at + MOST_PICTURES - 1]
         lines = [*lines_between(Raster(), ground), "show 00:01:00 00:01:00"]
         numbers = itertools.count(times.blocks("00:01:01"))
-        # Steps of one kind at one place bring the same rows, of which only those that differ are looked at.
+        # Steps of one kind at one place bring the same rows, and only those that differ are compared.
         for _, alike in itertools.groupby(part, key=lambda step: (step.placed, type(step))):
             some = list(alike)
             rows = some[0].differing(ground)
             for step, number in zip(some, numbers):
-                lines += [*step.lines(ground, rows), f"show {clock(number)} {clock(number)}"]
+                lines += [*step.lines(ground, rows), f"show {spelled(number)} {spelled(number)}"]
         for step, row in zip(part, plan_of(lines).rows[1:]):
             step.need = row.need
 
@@ -176,7 +178,7 @@ def ask_shows(shows: Sequence[Show], ground: Raster) -> None:
     """The same of whole pages."""
     lines = [*lines_between(Raster(), ground), "show 00:01:00 00:01:00"]
     for number, show in enumerate(shows, times.blocks("00:01:01")):
-        lines += [*lines_between(ground, show.picture), f"show {clock(number)} {clock(number)}"]
+        lines += [*lines_between(ground, show.picture), f"show {spelled(number)} {spelled(number)}"]
         ground = show.picture
     for show, row in zip(shows, plan_of(lines).rows[1:]):
         show.need = row.need
@@ -191,7 +193,7 @@ def empty_page(style: Style, voices: int) -> Raster:
     taken = set(style.colours(voices)) - {0}
     free = [number for number in range(COLOURS) if number not in taken]
     picture = raster_of(
-        flat_of(fitted(read(style.background), WIDTH, HEIGHT), len(free), BACKGROUND_LOSS), raster, 0, 0, free
+        flat_of(fitted(read_image(style.background), WIDTH, HEIGHT), len(free), BACKGROUND_LOSS), raster, 0, 0, free
     )
     picture.colours = [
         style.colours(voices).get(number, colour) if number in taken else colour
@@ -205,8 +207,8 @@ Text = tuple[str, int, int]
 
 
 def page_of_texts(lines: list[Text], empty: Raster, font: Font, style: Style, voices: int) -> Raster:
-    """A page with some texts, wrapped, in letters small enough for them; if the smallest are too large, the last rows are
-    left out."""
+    """A page with some texts, wrapped, in letters small enough for them; if the smallest are too large, the last rows
+    are left out."""
     most = HEIGHT // TILE_HEIGHT - 2
     lines = [(text[:LONGEST_TITLE], voice, lit) for text, voice, lit in lines]
     for size in range(font.size, 9, -1):
@@ -245,18 +247,18 @@ Words = list[list[Syllable]]
 
 def broken(lines: list[Line], font: Font) -> int:
     """How many lines need more than one row."""
-    return sum(not fits(unbroken_words(line, font.of(line.voice)), font.of(line.voice), ROOM) for line in lines)
+    return sum(not fits_in_row(unbroken_words(line, font.of(line.voice)), font.of(line.voice), ROOM) for line in lines)
 
 
 def first_of(fonts: list[Font], holds: Callable[[Font], bool]) -> int:
-    """The place of the first font of which something holds that then holds of all smaller ones, which follow it; or their
-    number. Letters of a smaller size are no wider and no higher."""
+    """The place of the first font for which a condition holds; it then holds for all smaller ones, which follow. Or
+    their number. Letters of a smaller size are no wider and no higher."""
     return bisect.bisect_left(fonts, True, key=holds)
 
 
 def without_missing(song: Song, wishes: Wishes) -> list[str]:
-    """Takes the letters that no font has out of the song, or puts boxes in their place; a note for each line that changes.
-    A line without any other letters goes."""
+    """Takes the letters that no font has out of the song, or puts boxes in their place; a note for each line that
+    changes. A line without any other letters goes."""
     font, has_boxes = first_font(wishes), wishes.missing == BOXES
     notes: list[str] = []
 
@@ -292,8 +294,8 @@ def first_font(wishes: Wishes) -> Font:
 
 
 def fonts_for(song: Song, wishes: Wishes, notes: list[str]) -> list[Font]:
-    """The font, first in the largest size that does not need many more rows than a small one, and then in smaller ones and
-    plain, which needs fewer packs."""
+    """The font, first in the largest size that does not need many more rows than a small one, and then in smaller ones
+    and plain, which needs fewer packs."""
     style, asked = wishes.style, wishes.size or wishes.style.size
     one = first_font(wishes)
     fonts = [one.sized(size) for size in ([asked] if asked else SIZES)]
@@ -314,7 +316,8 @@ def fonts_for(song: Song, wishes: Wishes, notes: list[str]) -> list[Font]:
     @functools.cache
     def rows(font: Font) -> int:
         return sum(
-            len(filled(unbroken_words(line, font.of(line.voice)), font.of(line.voice), ROOM)) for line in song.lines
+            len(filled_rows(unbroken_words(line, font.of(line.voice)), font.of(line.voice), ROOM))
+            for line in song.lines
         )
 
     first = fonts[first_of(fonts, lambda font: rows(font) <= MORE_ROWS * rows(fonts[-1]))]
@@ -340,8 +343,8 @@ def unbroken(song: Song, lines: list[Line], font: Font, notes: list[str], is_ask
 
 
 def lines_of(steps: Sequence[Step], raster: Raster) -> list[str]:
-    """The lines of a picture, which then stands on the raster: only the rows that its steps change are looked at."""
-    parts = [step for step in steps if isinstance(step, Part)]
+    """The lines of a picture, which the raster then has: only the rows that its steps change are compared."""
+    parts = [step for step in steps if isinstance(step, ColumnStep)]
     if len(parts) < len(steps):
         before = raster.copy()
         for step in steps:
@@ -353,12 +356,12 @@ def lines_of(steps: Sequence[Step], raster: Raster) -> list[str]:
         old = {number: bytes(raster.rows[number]) for number, _ in rows} | old
         part.draw(raster, rows)
     found = [span for number, row in sorted(old.items()) for span in spans([row], [raster.rows[number]], number)]
-    return list(joined(found))
+    return list(span_lines(found))
 
 
-def merged(parts: Sequence[Part]) -> list[Part]:
+def merged(parts: Sequence[ColumnStep]) -> list[ColumnStep]:
     """The same steps with one in place of those of one kind and one place whose columns are side by side."""
-    kept: list[Part] = []
+    kept: list[ColumnStep] = []
     for part in parts:
         last = kept[-1] if kept else None
         is_alike = last is not None and last.placed is part.placed and type(last) is type(part)
@@ -387,7 +390,7 @@ def filled_with(word: str, ground: Raster) -> Raster | None:
 @dataclass
 class Verse:
     """Lines between two pictures: the pages of them, when they are lit, and the picture in front of them: its show, and
-    the blocks between which it stands."""
+    the blocks between which it is shown."""
 
     lines: list[Line]
     what: str = ""
@@ -395,13 +398,13 @@ class Verse:
     shows: tuple[Show, Show] | None = None
     begin: int = 0
     until: int = 0
-    pages: list[Page] = field(default_factory=list)
+    pages: list[SongPage] = field(default_factory=list)
     dues: list[Due] = field(default_factory=list)
 
 
 def verses_of(song: Song, between: Sequence[str]) -> list[Verse]:
-    """The verses of a song: a picture of the file divides lines at its place, or at its time; others stand in the long
-    rests that have none, one after the other."""
+    """The verses of a song: a picture of the file divides lines at its place, or at its time; others are shown in the
+    long rests that have none, one after the other."""
     starts = [line.start for line in song.lines]
     found: dict[int, tuple[str, int]] = {}
     for one in song.inserts:
@@ -444,19 +447,19 @@ class Maker:
         self.shows = self.title_steps()
 
     @property
-    def pages(self) -> list[Page]:
+    def pages(self) -> list[SongPage]:
         return [page for verse in self.verses for page in verse.pages]
 
     @property
     def dues(self) -> list[Due]:
         return [due for verse in self.verses for due in verse.dues]
 
-    def dues_in(self, pages: list[Page]) -> list[Due]:
+    def dues_in(self, pages: list[SongPage]) -> list[Due]:
         sung = (placed for page in pages for placed in page.placed if placed.is_sung)
         return sorted((due for placed in sung for due in dues_of(placed, self.wishes.sweep)), key=lambda due: due.block)
 
     def with_pictures(self, verses: list[Verse]) -> list[Verse]:
-        """The verses with the pictures in front of them; where there is no room for one, two verses are one."""
+        """The verses with the pictures in front of them; without room for one, two verses become one."""
         kept: list[Verse] = []
         for verse in verses:
             if not verse.what:
@@ -479,7 +482,7 @@ class Maker:
         self.notes.append(f"{self.song.path}: {place}{what}")
 
     def has_room(self, before: list[Verse], verse: Verse) -> bool:
-        """Whether the picture of a verse stands long enough between the lines in front of it and its own."""
+        """Whether the picture of a verse is shown long enough between the lines in front of it and its own."""
         end = max(line.stays for one in before for line in one.lines)
         verse.begin = times.nearest_block(end) + STAYS + BLOCKS // 2
         last = self.wishes.end or FOREVER
@@ -524,8 +527,8 @@ class Maker:
         return [*found, ("both" if self.song.voices == 2 else "all", BOTH, 0)] if self.song.has_both else found
 
     def title_steps(self) -> list[Show]:
-        """The title, in as many colours and details as there is room for it, and a legend; or none. A title that is a text
-        has the legend below it."""
+        """The title, in as many colours and details as there is room for it, and a legend; or none. A title that is a
+        text has the legend below it."""
         image, path = self.title, self.song.path
         has_legend = self.wishes.legend and self.song.voices > 1
         if self.wishes.legend and not has_legend:
@@ -573,7 +576,7 @@ class Maker:
         needs: int = sum(TITLE_STANDS + blocks_for([show]) for show in shows)
         return self.page_begin - BEGIN - needs - blocks_for([self.empty])
 
-    def arranged(self, lead: float | None, stays: bool, is_paired: bool) -> tuple[list[Picture], Told]:
+    def arranged(self, lead: float | None, stays: bool, is_paired: bool) -> tuple[list[SentPicture], Told]:
         """All steps on a line of time, as far as their needs are known."""
         line = Timeline(BEGIN)
         begin = self.page_begin - blocks_for([self.empty])
@@ -594,14 +597,14 @@ class Maker:
                 told.add(Arranger(line, tasks, grouped(dues)).run())
         return line.pictures, told
 
-    def script(self, pictures: list[Picture], end: int | None) -> list[str]:
+    def script(self, pictures: list[SentPicture], end: int | None) -> list[str]:
         """The lines of the script; what comes after the end of the audio is left out where it only clears the page."""
         lines = [f"# {shown(str(self.song.path))}, by the lines of its lyrics.", THROUGH_PAUSE]
         raster = Raster()
         for number, picture in enumerate(pictures):
             lines += lines_of(picture.steps, raster)
             hold = pictures[number + 1].start if number + 1 < len(pictures) else max(picture.ready, end or 0)
-            lines.append(f"show {clock(picture.ready)} {clock(hold)}")
+            lines.append(f"show {spelled(picture.ready)} {spelled(hold)}")
         return lines
 
     def in_time(self, lead: float | None, stays: bool, is_paired: bool) -> tuple[list[str], Told]:
@@ -642,7 +645,7 @@ class Maker:
             page.is_quick = False
         return made
 
-    def note_quick(self, pages: list[Page]) -> None:
+    def note_quick(self, pages: list[SongPage]) -> None:
         firsts = [next(placed.letters for placed in page.placed if placed.letters).line.number for page in pages]
         of, follow = ("page of line", "follows") if len(firsts) == 1 else ("pages of lines", "follow")
         numbers = ", ".join(map(str, firsts))
@@ -677,7 +680,7 @@ def dues_of_rows(rows: list[Placed]) -> dict[Placed, int]:
     return due
 
 
-def tasks_of(pages: list[Page], begin: int, style: Style, lead: float | None, stays: bool = True) -> list[Task]:
+def tasks_of(pages: list[SongPage], begin: int, style: Style, lead: float | None, stays: bool = True) -> list[Task]:
     """What is to be drawn, and from when on: in the order of singing; not before what stood there is sung; a page ahead at
     most, and nothing of a page before the page in front of it begins; and no longer than the lead before it is sung. What
     stays without need goes. With pages that go as a whole, one that follows quickly comes row by row. If lines whose end is a guess do not stay, their places are free when they are lit.
@@ -722,7 +725,7 @@ def tasks_of(pages: list[Page], begin: int, style: Style, lead: float | None, st
                 continue
             goes = max(begin, gone if waits else times.nearest_block(placed.end + GOES))
             if placed.before and not placed.before.is_sung:
-                # What only stands goes before the first line of the verse comes.
+                # What is not sung goes before the first line of the verse comes.
                 goes = max(begin, times.nearest_block(placed.end))
                 tasks.append(Task(placed, list(placed.draws), goes, goes))
             elif placed in follows:
@@ -736,14 +739,14 @@ def tasks_of(pages: list[Page], begin: int, style: Style, lead: float | None, st
     return tasks
 
 
-def within(pictures: list[Picture], end: int | None, told: Told) -> list[Picture]:
+def within(pictures: list[SentPicture], end: int | None, told: Told) -> list[SentPicture]:
     """Without what comes after the end of the audio; where that is more than what clears the page or ends the song, its
-    lines are told."""
+    lines are reported."""
     if end is None:
         return pictures
     for picture in pictures:
         for step in picture.steps if picture.ready > end else ():
-            if isinstance(step, Part) and step.placed.letters and step.placed.is_sung:
+            if isinstance(step, ColumnStep) and step.placed.letters and step.placed.is_sung:
                 told.cut.setdefault(step.placed)
     return [picture for picture in pictures if picture.ready <= end]
 
@@ -754,9 +757,9 @@ def end_with_sound(song: Song, end: int) -> None:
     causes = []
     for line in song.lines:
         if line.start >= seconds:
-            what = f"at {line.written} begins after the sound, which ends at {spelled(seconds)}"
+            what = f"at {line.written} begins after the sound, which ends at {song_time(seconds)}"
         elif line.syllables[-1].start >= seconds:
-            what = f"at {line.written} is sung until {spelled(line.end)}, and the sound ends at {spelled(seconds)}"
+            what = f"at {line.written} is sung until {song_time(line.end)}, and the sound ends at {song_time(seconds)}"
         else:
             continue
         causes.append(f"line {line.number} {what}: {shortened(line.text)}")
@@ -776,7 +779,7 @@ def best(song: Song, wishes: Wishes, known: Known | None = None) -> Made:
     notes = without_missing(song, wishes)
     if wishes.end:
         end_with_sound(song, wishes.end)
-    for font in fonts_for(song, wishes, notes):
+    for font in progress(fonts_for(song, wishes, notes), None, "layouts"):
         maker = Maker(song, wishes, font, known)
         maker.notes = notes + maker.notes
         made.append(maker.made())

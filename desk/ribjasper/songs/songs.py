@@ -1,10 +1,10 @@
-"""Lyrics with their times: lines, syllables and voices, whatever kind of file holds them."""
+"""Lyrics with their times: lines, syllables and voices, the same for every kind of file."""
 import re
 import unicodedata
 from dataclasses import dataclass, field
 from pathlib import Path
 
-# How long the last word of a line is sung at most, where nothing tells it. A line whose words have no times is swept
+# How long the last word of a line is sung at most, if the file does not say. A line whose words have no times is swept
 # over in at most so many letters a second, and is taken as sung until the next one if that comes within ten seconds.
 LONGEST_WORD = 3.0
 SLOWEST_LETTERS, SHORTEST_SWEEP = 12.0, 1.0
@@ -117,7 +117,7 @@ class Song:
         self.faults.append(f"line {number}: {shortened(what)}")
 
     def voice_of(self, name: str, number: int) -> int:
-        """The voice of a singer, in the order in which they come; one with two names is that of both."""
+        """The voice of a singer, in the order in which they come; a name with two singers in it is both."""
         name = name.strip()
         if not name:
             return FIRST
@@ -165,7 +165,7 @@ def letters_in(text: str) -> int:
 
 
 def open_line(line: Line, following: float | None) -> Line:
-    """A line with one time whose end no file tells, and which is swept over as fast as its letters may be sung."""
+    """A line with one time and no known end: it is swept over as fast as its letters may be sung."""
     start = line.start
     longest = max(SHORTEST_SWEEP, letters_in(line.text) / SLOWEST_LETTERS)
     end = start + longest if following is None else min(start + longest, following)
@@ -178,6 +178,6 @@ def seconds(minutes: str, whole: str, part: str | None) -> float:
     return 60 * int(minutes) + int(whole) + (float(f"0.{part}") if part else 0.0)
 
 
-def spelled(time: float) -> str:
+def song_time(time: float) -> str:
     """A time as lyrics spell it."""
     return f"{int(time) // 60:02}:{time % 60:05.2f}"

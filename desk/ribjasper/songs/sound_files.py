@@ -23,7 +23,7 @@ def sound_of(arguments: argparse.Namespace) -> Path:
     with reading(arguments.song):
         # Lyrics that are missing are reported before a sound that is.
         os.stat(arguments.song)
-    sound = arguments.audio or audio.beside(arguments.song)
+    sound = arguments.audio or audio.sound_beside(arguments.song)
     if not sound:
         endings = ", ".join(audio.ENDINGS)
         raise Refusal(arguments.song, f"has no sound of its name beside it ({endings}); --audio names one")
@@ -33,7 +33,7 @@ def sound_of(arguments: argparse.Namespace) -> Path:
 def write_sound(outputs: Outputs, name: str, sound: Path, song: Song, ending: str) -> None:
     """Writes the sound under a name with this ending: as it is, or converted by ffmpeg."""
     if sound.suffix.lower() != ending:
-        convert(sound, song, outputs.path(name), ending)
+        convert_sound(sound, song, outputs.path(name), ending)
         return
     out = outputs.open(name)
     with open(sound, "rb") as file:
@@ -41,7 +41,7 @@ def write_sound(outputs: Outputs, name: str, sound: Path, song: Song, ending: st
             out.write(part)
 
 
-def convert(sound: Path, song: Song, out: str, ending: str) -> None:
+def convert_sound(sound: Path, song: Song, out: str, ending: str) -> None:
     """Writes the sound in the form of an ending, with its title and singer."""
     if ending == ".mp3":
         make_mp3(sound, song, out)
@@ -88,6 +88,6 @@ def write_zip(outputs: Outputs, name: str, packs: bytes, sound: Path, song: Song
         together.writestr(graphics, packs)
         if sound.suffix.lower() != ending:
             made = audio.new_file(ending)
-            convert(sound, song, os.fspath(made), ending)
+            convert_sound(sound, song, os.fspath(made), ending)
             sound = made
         together.write(sound, f"{stem}{ending}")

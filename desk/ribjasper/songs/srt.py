@@ -10,12 +10,12 @@ MARKS = re.compile(r"<[^<>]*>|\{[^{}]*\}")
 
 
 def read_srt(text: str, song: Song) -> None:
-    """The lines of a stretch are sung one after the other, as long as their letters tell."""
+    """The lines of a stretch are sung one after the other, each in proportion to its letters."""
     lines = text.splitlines()
     for number, line in enumerate(lines, 1):
         found = TIMES.match(line)
         if found:
-            start, end = time_of(found.groups()[:4]), time_of(found.groups()[4:])
+            start, end = srt_time(found.groups()[:4]), srt_time(found.groups()[4:])
             texts = [(number + 1 + place, MARKS.sub("", one).strip()) for place, one in enumerate(below(lines, number))]
             add_texts(song, [(place, one) for place, one in texts if one], start, end, line.split("-->")[0].strip())
         elif "-->" in line:
@@ -23,7 +23,7 @@ def read_srt(text: str, song: Song) -> None:
     song.lines.sort(key=lambda one: one.start)
 
 
-def time_of(parts: tuple[str, ...]) -> float:
+def srt_time(parts: tuple[str, ...]) -> float:
     hours, minutes, whole, thousandths = parts
     return 3600 * int(hours) + 60 * int(minutes) + int(whole) + float(f"0.{thousandths}")
 

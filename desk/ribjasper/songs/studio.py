@@ -15,7 +15,7 @@ from ..drawing.styles import shipped
 from . import audio, hyphens
 from .albums import NEW, entry_of
 from .audio import Treatment
-from .document import Document, beside, document_of, quoted
+from .document import Document, beside, document_of, toml_value
 from .edits import BadEdit, Edit
 from .exports import EXPORTS
 from .finishing import PairFiles
@@ -24,7 +24,7 @@ from .known_needs import Known
 from .peaks import peaks_of
 from .rehearsal import Rehearsal, Rehearsed, rehearsed
 from .scores import Score, document_for, score_of, score_of_text, song_of
-from .song_files import song_of as read_from
+from .song_files import parsed_song as read_from
 
 LYRICS = (".lrc", ".txt", ".ass", ".ssa", ".srt", ".vtt", ".kar", ".mid")
 PICTURES = (".png", ".jpg", ".jpeg", ".gif", ".bmp", ".webp")
@@ -102,7 +102,7 @@ def files_of(song: Path, sound: Path | None) -> Files:
     lyrics = lyrics_in(song) if song.is_dir() else song
     if not lyrics.is_file():
         raise Refusal(lyrics, "is no file" if lyrics.exists() else "no such file or directory")
-    found = sound or audio.beside(lyrics) or only_sound(lyrics.parent if song.is_dir() else None)
+    found = sound or audio.sound_beside(lyrics) or only_sound(lyrics.parent if song.is_dir() else None)
     if not found:
         raise Refusal(lyrics, f"has no sound of its name beside it ({', '.join(audio.ENDINGS)}); --audio names one")
     return Files(lyrics, found)
@@ -380,7 +380,7 @@ class Studio:
         """The look of the song as rows of its entry."""
         table = self.score.look.table()
         rows = {IN_ALBUM[name]: value for name, value in table.items() if name in IN_ALBUM}
-        return "".join(f"{name} = {quoted(value)}\n" for name, value in rows.items())
+        return "".join(f"{name} = {toml_value(value)}\n" for name, value in rows.items())
 
     def begin_job(self, what: str, work: Callable[[Job], None]) -> None:
         """Makes something in a thread of its own, one thing at a time."""

@@ -2,13 +2,12 @@
 from dataclasses import dataclass, field, replace
 from typing import Iterator, Sequence
 
-from ..common.library import BLOCKS_A_SECOND
+from ..common.library import BLOCKS_A_SECOND, PACKS_A_BLOCK
 from ..common.times import nearest_block
 from ..drawing.raster import TILE_WIDTH
 from .pages import DotOut, Draw, Light, Placed, Step
-from .setting import Letters, Part
+from .setting import Letters, SungPart
 
-PACKS_A_BLOCK = 4
 # By how many blocks a word may be lit before its time at most, so that others are lit at theirs.
 EARLY = 8
 # What is late by no more blocks is not seen.
@@ -21,7 +20,7 @@ def blocks_for(steps: Sequence[Step]) -> int:
 
 
 @dataclass(eq=False)
-class Picture:
+class SentPicture:
     """Steps that are sent together: from one block on, and whole at another."""
 
     steps: list[Step]
@@ -31,7 +30,7 @@ class Picture:
 
 @dataclass(eq=False)
 class Due:
-    """What is lit together, and the block at which it is to stand."""
+    """What is lit together, and the block at which it is complete."""
 
     steps: list[Light | DotOut]
     block: int
@@ -56,21 +55,21 @@ class Timeline:
     """Pictures one after the other."""
 
     now: int
-    pictures: list[Picture] = field(default_factory=list)
+    pictures: list[SentPicture] = field(default_factory=list)
 
     def put(self, steps: Sequence[Step], start: int) -> int:
-        """Sends steps from a block on, or as soon as the line is free; returns when they stand."""
+        """Sends steps from a block on, or as soon as the line is free; returns when they are complete."""
         steps = [step for step in steps if step.need]
         if not steps:
             return self.now
         start = max(start, self.now)
         self.now = start + blocks_for(steps)
-        self.pictures.append(Picture(steps, start, self.now))
+        self.pictures.append(SentPicture(steps, start, self.now))
         return self.now
 
 
 def latest_starts(dues: list[Due]) -> list[int]:
-    """When each has to be sent at the latest, so that it and all after it stand at their blocks."""
+    """When each has to be sent at the latest, so that it and all after it are complete at their blocks."""
     starts, limit = [], FOREVER
     for due in reversed(dues):
         limit = min(due.block, limit) - blocks_for(due.steps)
@@ -105,8 +104,8 @@ def paired(dues: Sequence[Due]) -> list[Due]:
 
 @dataclass
 class Told:
-    """By how many blocks lines are drawn and words are lit after their times, the lines that are not sung out when others
-    have to come in their place, and those that are not wholly lit before the audio ends."""
+    """By how many blocks lines are drawn and words are lit after their times, the lines that are not sung out when
+    others have to come in their place, and those that are not wholly lit before the audio ends."""
 
     drawn_late: dict[Placed, int] = field(default_factory=dict)
     lit_late: dict[Placed, int] = field(default_factory=dict)
@@ -120,7 +119,7 @@ class Told:
         self.cut |= other.cut
 
     def rows(self) -> set[Placed]:
-        """The rows of which something is told."""
+        """The rows with a note."""
         return {*self.drawn_late, *self.lit_late, *self.lost, *self.cut}
 
     def total(self) -> int:
@@ -166,8 +165,8 @@ class Arranger:
         return [task for task in self.tasks.values() if task.steps and task.release < until and self.may_come(task)]
 
     def may_come(self, task: Task) -> bool:
-        """Whether the row in front of it is drawn, and what stood in its place is sung, and is cleared where letters are to
-        come."""
+        """Whether the row in front of it is drawn, and what stood in its place is sung, and is cleared where letters
+        are to come."""
         before, follows = task.placed.before, task.placed.follows
         if task.placed.letters and follows in self.tasks and self.tasks[follows].steps:
             return False
@@ -230,7 +229,7 @@ class Arranger:
         return None
 
     def clear_for(self, placed: Placed) -> None:
-        """Clears a place at once, whether what stands there is sung or not."""
+        """Clears a place at once, whether its letters are sung or not."""
         clearing = self.tasks.get(placed.before) if placed.before else None
         if not clearing or not clearing.steps:
             return
@@ -259,8 +258,8 @@ def fitting(steps: list[Draw], blocks: int) -> int:
 
 
 def dues_of(placed: Placed, sweep: bool) -> list[Due]:
-    """When the parts of a line are lit: each syllable at its time, or column by column while it is sung; and when the dots
-    go out that count it in."""
+    """When the parts of a line are lit: each syllable at its time, or column by column while it is sung; and when the
+    dots go out that count it in."""
     dues = [
         Due([DotOut(placed, left, left + TILE_WIDTH)], nearest_block(placed.start) - BLOCKS_A_SECOND * after)
         for after, left in zip(range(len(placed.dots) - 1, -1, -1), placed.dots)
@@ -277,15 +276,15 @@ def dues_of(placed: Placed, sweep: bool) -> list[Due]:
     return dues
 
 
-def swept(letters: Letters) -> list[Part]:
+def swept(letters: Letters) -> list[SungPart]:
     """The stretches of one direction in a row whose words have no times: each is swept over as long as it is wide."""
-    stretches: list[Part] = []
+    stretches: list[SungPart] = []
     for part in letters.parts:
         last = stretches[-1] if stretches else None
         if last and last.is_leftward == part.is_leftward:
             last.left, last.right = min(last.left, part.left), max(last.right, part.right)
         else:
-            stretches.append(Part(replace(part.syllable), part.left, part.right, part.is_leftward))
+            stretches.append(SungPart(replace(part.syllable), part.left, part.right, part.is_leftward))
     if not stretches:
         return []
     start, end = letters.syllables[0].start, letters.syllables[-1].end
@@ -297,7 +296,7 @@ def swept(letters: Letters) -> list[Part]:
     return stretches
 
 
-def lights_of(placed: Placed, part: Part, sweep: bool) -> Iterator[tuple[int, Light]]:
+def lights_of(placed: Placed, part: SungPart, sweep: bool) -> Iterator[tuple[int, Light]]:
     """The steps that light a syllable, with their blocks: at once, or tile by tile in the direction of reading."""
     left, right, syllable = part.left, part.right, part.syllable
     if not sweep:

@@ -2,22 +2,21 @@
 bring its pictures from every screen."""
 from pathlib import Path
 
+from ..common.cue_sheets import ONE_TRACK
 from ..common.failures import Failure, LATE, Refusal
-from ..common.library import PACK, PACKS_A_BLOCK, RAW, convert
+from ..common.library import PACK, PACKS_A_BLOCK, RAW, SLOTS, packs_of_blocks
 from ..common.program import author
 from ..common.times import PAUSE
-from ..drawing.images import ONE_TRACK
 from .song_script import BEGIN, THROUGH_PAUSE
 
-# A pack is spread over eight slots: one that ends with the first slot of the audio is number 593 of the program.
-LATE_PACKS = 7
-FIRST_OF_AUDIO = PACKS_A_BLOCK * PAUSE - LATE_PACKS
+# The pack that ends with the first slot of the audio is number 593 of the program.
+FIRST_OF_AUDIO = PACKS_A_BLOCK * PAUSE - (SLOTS - 1)
 # Presets of the memory and the border, and the two packs of colours, with which a first picture begins.
 PRESETS = 4
-# Where they stand in a track: the first pack of all whose slots are the track's is number 7, the first of a block 8.
+# Their place in a track: the first pack of all whose slots are the track's is number 7, the first of a block 8.
 PRESETS_AT = 8
 # The first pack that a script may use behind the picture that is held through the pause.
-FREE_FROM = PACKS_A_BLOCK * BEGIN - LATE_PACKS
+FREE_FROM = PACKS_A_BLOCK * BEGIN - (SLOTS - 1)
 
 
 class LateScript(Failure):
@@ -26,7 +25,7 @@ class LateScript(Failure):
     status = LATE
 
 
-def packs_of(path: Path, script: bytes, blocks: int) -> bytes:
+def track_packs(path: Path, script: bytes, blocks: int) -> bytes:
     """The packs of a track of so many blocks, four a block: eight idle ones, so that nothing of it is sent before the
     track; the presets and colours of the first picture; and all others at the times of the script."""
     packs = authored(path, script, blocks)
@@ -41,13 +40,13 @@ def packs_of(path: Path, script: bytes, blocks: int) -> bytes:
 
 def authored(path: Path, script: bytes, blocks: int) -> bytes | None:
     """All packs of a disc with this track alone; nothing where its first picture is more than presets and colours, or
-    does not stand until the track begins."""
+    is not complete until the track begins."""
     stream, status, told = author(ONE_TRACK, script, 0, blocks)
     if status == LATE:
         raise LateScript(f"{path}: {told}")
     if status:
         raise Refusal(path, told)
-    packs, _ = convert(stream, RAW, 0)
+    packs, _ = packs_of_blocks(stream, RAW, 0)
     return None if any(packs[PACK * PRESETS : PACK * FREE_FROM]) else packs
 
 

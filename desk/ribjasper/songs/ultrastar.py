@@ -4,7 +4,7 @@ import math
 import re
 from dataclasses import dataclass, field
 
-from .songs import BOTH, FIRST, Line, SECOND, Song, Syllable, spelled
+from .songs import BOTH, FIRST, Line, SECOND, Song, Syllable, song_time
 
 HEADER = re.compile(r"#(\w+):(.*)")
 NOTE = re.compile(r"([:*FRG])\s*(-?\d{1,9})\s+(-?\d{1,9})\s+(-?\d{1,9})(?: (.*))?$")
@@ -16,12 +16,12 @@ VOICES = {"1": FIRST, "2": SECOND, "3": BOTH}
 BEATS = 4
 # What holds the syllable before it.
 HELD = "~"
-# The most beats a minute, and milliseconds before the first beat, that a file may tell.
+# The most beats a minute, and milliseconds before the first beat, that a file may name.
 FASTEST, LONGEST_GAP = 100_000, 10_000_000
 
 
 @dataclass
-class Clock:
+class Beats:
     """Turns beats into seconds; the tempo may change at some beats, which are in order."""
 
     beats_a_minute: float = 0.0
@@ -30,7 +30,7 @@ class Clock:
     changes: list[tuple[int, float]] = field(default_factory=list)
 
     def seconds(self, beat: int) -> float:
-        """The time of a beat: the beats in front of it, each as long as its tempo tells."""
+        """The time of a beat: the beats in front of it, each as long as its tempo says."""
         time, until = self.gap / 1000, self.base + beat
         tempos = [(0, self.beats_a_minute), *(change for change in self.changes if 0 < change[0] < until)]
         for (first, tempo), (following, _) in itertools.pairwise([*tempos, (until, 0.0)]):
@@ -39,13 +39,13 @@ class Clock:
 
 
 def read_ultrastar(text: str, song: Song) -> None:
-    clock, voice, is_relative, line = Clock(), FIRST, False, Line(0, [])
+    clock, voice, is_relative, line = Beats(), FIRST, False, Line(0, [])
     names: dict[str, str] = {}
 
     def close() -> None:
         nonlocal line
         if any(syllable.text.strip() for syllable in line.syllables):
-            line.written = spelled(line.start)
+            line.written = song_time(line.start)
             song.lines.append(line)
         line = Line(0, [])
 
@@ -81,7 +81,7 @@ def read_ultrastar(text: str, song: Song) -> None:
             song.tell(number, f"is no note, and is left out: {row.strip()}")
     close()
     song.singers = [names.get("1", ""), names.get("2", "")] if names else []
-    song.lines = joined(song.lines)
+    song.lines = merged_voices(song.lines)
 
 
 def tempo_of(song: Song, row: str, number: int) -> tuple[int, float] | None:
@@ -89,22 +89,22 @@ def tempo_of(song: Song, row: str, number: int) -> tuple[int, float] | None:
     found = TEMPO.match(row)
     if not found:
         return None
-    tempo = number_of(found[2])
+    tempo = decimal_of(found[2])
     if not 1 <= tempo <= FASTEST:
         song.fault(number, f"the tempo {found[2]} is no number of beats a minute")
         return None
     return int(found[1]), tempo
 
 
-def number_of(word: str) -> float:
+def decimal_of(word: str) -> float:
     try:
         return float(word.replace(",", "."))
     except ValueError:
         return math.nan
 
 
-def set_clock(song: Song, clock: Clock, name: str, value: str, number: int) -> None:
-    amount = number_of(value)
+def set_clock(song: Song, clock: Beats, name: str, value: str, number: int) -> None:
+    amount = decimal_of(value)
     if name == "BPM" and 1 <= amount <= FASTEST:
         clock.beats_a_minute = amount
     elif name == "GAP" and abs(amount) <= LONGEST_GAP:
@@ -122,7 +122,7 @@ def add_syllable(line: Line, text: str, start: float, end: float, voice: int) ->
         line.syllables.append(Syllable(text.replace(HELD, ""), start, end, voice))
 
 
-def joined(lines: list[Line]) -> list[Line]:
+def merged_voices(lines: list[Line]) -> list[Line]:
     """In the order of the times; a line that both sing at once is one of both."""
     lines = sorted(lines, key=lambda one: one.start)
     kept: list[Line] = []

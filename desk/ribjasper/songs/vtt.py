@@ -31,18 +31,18 @@ def read_vtt(text: str, song: Song) -> None:
         elif NO_CUES.match(line) and (number == 1 or not lines[number - 2].strip()):
             is_block = True
         elif not is_block and (found := TIMES.match(line)):
-            add_cue(song, number, below(lines, number), time_of(found.groups()[:4]), time_of(found.groups()[4:]))
+            add_cue(song, number, below(lines, number), vtt_time(found.groups()[:4]), vtt_time(found.groups()[4:]))
         elif not is_block and "-->" in line:
             song.fault(number, f"{line.strip()} is no time like 00:12.500 --> 00:15.000")
     song.lines.sort(key=lambda one: one.start)
 
 
-def time_of(parts: tuple[str, ...]) -> float:
+def vtt_time(parts: tuple[str, ...]) -> float:
     hours, minutes, whole, thousandths = parts
     return 3600 * int(hours or 0) + 60 * int(minutes) + int(whole) + float(f"0.{thousandths}")
 
 
-def plain(text: str) -> str:
+def plain_text(text: str) -> str:
     text = MARKS.sub("", text)
     for escape, letter in ESCAPES:
         text = text.replace(escape, letter)
@@ -55,10 +55,10 @@ def add_cue(song: Song, number: int, texts: list[str], start: float, end: float)
     voice, rows = FIRST, list[tuple[int, str, int]]()
     for place, text in enumerate(texts, number + 1):
         if found := VOICE.search(text):
-            voice = song.voice_of(plain(found[1]), place)
+            voice = song.voice_of(plain_text(found[1]), place)
         rows.append((place, text, voice))
     if not is_timed:
-        kept = [(place, plain(text).strip(), one) for place, text, one in rows]
+        kept = [(place, plain_text(text).strip(), one) for place, text, one in rows]
         before = len(song.lines)
         add_texts(song, [(place, text) for place, text, _ in kept if text], start, end, written)
         for line, (_, _, one) in zip(song.lines[before:], (it for it in kept if it[1])):
@@ -69,9 +69,9 @@ def add_cue(song: Song, number: int, texts: list[str], start: float, end: float)
     for place, text, one in rows:
         line, at = Line(place, [], False, written), 0
         for stamp in STAMP.finditer(text):
-            line.syllables.append(Syllable(plain(text[at : stamp.start()]), sung, sung, one))
-            sung, at = time_of(stamp.groups()), stamp.end()
-        line.syllables.append(Syllable(plain(text[at:]), sung, end, one))
+            line.syllables.append(Syllable(plain_text(text[at : stamp.start()]), sung, sung, one))
+            sung, at = vtt_time(stamp.groups()), stamp.end()
+        line.syllables.append(Syllable(plain_text(text[at:]), sung, end, one))
         # A line that begins with a time has nothing in front of it.
         if len(line.syllables) > 1 and not line.syllables[0].text.strip():
             del line.syllables[0]

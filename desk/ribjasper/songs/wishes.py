@@ -14,13 +14,13 @@ from .scores import Look, look_of
 from .song_files import companion_of, pictures_of
 from .song_script import BOXES, LEAVE, Wishes
 
-# How long before its time a line may be asked to stand.
+# How long before its time a line may be shown.
 LONGEST_LEAD = 60
 LONGEST_INTRO = 600
 
 
 def add_wishes(parser: argparse.ArgumentParser) -> None:
-    """The words that tell how a song is to look."""
+    """The options that say how a song looks."""
     parser.add_argument("--title", type=Path, metavar="IMAGE", help="a picture that stands before the first words")
     parser.add_argument("--style", metavar="STYLE", help=f"{', '.join(shipped())}, or a file STYLE.toml (night)")
     parser.add_argument(

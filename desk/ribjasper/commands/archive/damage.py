@@ -1,18 +1,18 @@
 """Where a dump is damaged: runs of blocks, jumps of its time, a map, and what is to be read again."""
 import argparse
-from typing import Any
 
 from ...common import kinds
 from ...common.failures import FOUND, Refusal, shown
 from ...common.library import BLOCK, RAW
 from ...common.output import Outputs, add_force, add_json, tell
+from ...common.words import Commands
 from ...dumps import again
 from ...dumps.drive_errors import drive_errors
-from ...dumps.damages import NAMES, damages_of, draw_map, unread
-from ...dumps.loading import Loaded, add_options, asked, load
+from ...dumps.damages import NAMES, damages_of, draw_map, unread_damages
+from ...dumps.loading import Loaded, add_options, asked, read_dump
 
 
-def add_parser(commands: Any) -> None:
+def add_parser(commands: Commands) -> None:
     parser = commands.add_parser(
         "damage",
         help="list the damaged places of a dump",
@@ -42,12 +42,12 @@ def run(arguments: argparse.Namespace) -> int:
         arguments.error("--again-as needs --again")
     writes = [(arguments.map, kinds.PNG), (arguments.again, kinds.AGAIN)]
     with Outputs([arguments.file], writes, arguments.force) as outputs:
-        loaded = load(arguments.file, asked(arguments))
+        loaded = read_dump(arguments.file, asked(arguments))
         found = damages_of(loaded)
         if arguments.again:
             outputs.write(arguments.again, list_to_read_again(loaded, arguments.again_as or "table").encode())
         table = outputs.table(NAMES, arguments.json)
-        for damage in sorted([*found, *unread(loaded.survey)], key=lambda it: it.first):
+        for damage in sorted([*found, *unread_damages(loaded.survey)], key=lambda it: it.first):
             table.row(damage)
         for note in loaded.notes():
             tell(f"{shown(arguments.file)}: {note}")
@@ -57,9 +57,9 @@ def run(arguments: argparse.Namespace) -> int:
 
 
 def list_to_read_again(loaded: Loaded, form: str) -> str:
-    """The list of sectors that are to be read again; what it goes by is told."""
+    """The list of sectors to read again. Notes say what it is made from."""
     if loaded.form.library != RAW or not loaded.survey.has_q:
-        raise Refusal(loaded.path, "has no Q channel, which tells where its sectors are")
+        raise Refusal(loaded.path, "has no Q channel, which says where its sectors are")
     errors = drive_errors(loaded.path, len(loaded.stream) // BLOCK)
     wanted = again.wanted(loaded, errors)
     path = shown(loaded.path)
@@ -67,7 +67,7 @@ def list_to_read_again(loaded: Loaded, form: str) -> str:
         inside = errors.within(loaded.survey.first, loaded.survey.end)
         tell(f"{path}: {inside} sectors were doubtful to the drive ({', '.join(map(shown, errors.names))})")
     if wanted.unplaced:
-        tell(f"{path}: {wanted.unplaced} damaged runs are not in the list: nothing tells their addresses")
+        tell(f"{path}: {wanted.unplaced} damaged runs are not in the list: no frame says their addresses")
     tell(
         f"{path}: {sum(it.last - it.first + 1 for it in wanted.parts)} sectors in {len(wanted.parts)} runs to read again"
     )

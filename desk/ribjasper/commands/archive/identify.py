@@ -1,19 +1,20 @@
 """What a dump is: its form, its lead-in, and what it carries."""
 import argparse
-from typing import Any
 
 from ...common import library
 from ...common.failures import REFUSED, Refusal, shown
-from ...common.output import Table, add_json, tell
+from ...common.output import Table, add_json, complain
+from ...common.progress import progress
+from ...common.words import Commands
 from ...dumps.identity import identity, yes
-from ...dumps.loading import Asked, Unknown, add_options, asked, load_found
+from ...dumps.loading import DumpOptions, Unknown, add_options, asked, load_found
 from ...dumps.q_disc import sessions_in
 from ...dumps.sessions import notes as session_notes
 
 NAMES = ("file", "form", "lead-in", "graphics", "texts", "q-good", "notes")
 
 
-def add_parser(commands: Any) -> None:
+def add_parser(commands: Commands) -> None:
     parser = commands.add_parser(
         "identify",
         help="print the form of dumps, their lead-in, and what they carry",
@@ -33,13 +34,13 @@ def add_parser(commands: Any) -> None:
     parser.set_defaults(run=run)
 
 
-def cells(path: str, words: Asked, is_detailed: bool) -> tuple[object, ...]:
+def cells(path: str, words: DumpOptions, is_detailed: bool) -> tuple[object, ...]:
     """The line of a dump, or a refusal."""
     loaded = load_found(path, words)
     if isinstance(loaded, Unknown):
-        tell(f"{shown(path)}: {loaded.cause}")
+        complain(f"{shown(path)}: {loaded.cause}")
         for reason in loaded.against if is_detailed else ():
-            tell(f"{shown(path)}: {reason}")
+            complain(f"{shown(path)}: {reason}")
         return (path, "none", *"-----")
     found = identity(loaded)
     texts = any(line.split(" ", 1)[0] != "packs" for line in found.texts.splitlines())
@@ -51,11 +52,11 @@ def run(arguments: argparse.Namespace) -> int:
     status = 0
     library.loaded()
     table = Table(NAMES, arguments.json)
-    for path in arguments.files:
+    for path in progress(arguments.files, len(arguments.files), "files"):
         try:
             row = cells(path, asked(arguments), arguments.verbose)
         except Refusal as refusal:
-            tell(str(refusal))
+            complain(str(refusal))
             status = REFUSED
             continue
         table.row(row)

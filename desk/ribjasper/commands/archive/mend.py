@@ -1,21 +1,24 @@
 """The packs or the stream of any number of readings of a disc, the best of each word."""
 import argparse
 import os
-from typing import Any, Callable, Iterator, NamedTuple, Sequence
+from typing import Callable, Iterator, NamedTuple, Sequence
 
 from ...common import kinds, library
 from ...common.failures import FOUND, Nothing, Refusal, shown
 from ...common.library import BLOCK, PACK
 from ...common.output import Outputs, Table, add_json, tell
+from ...common.progress import progress
 from ...common.times import spelled
+from ...common.words import Commands
 from ...dumps import mending
 from ...dumps.drive_errors import drive_errors
 from ...dumps.forms import to_planar
 from ...dumps.loading import add_options, asked
-from ...dumps.readings import Laid, Reading, read, side_by_side
+from ...dumps.readings import Laid, Reading, read_reading, side_by_side
 from ...dumps.rescue_maps import areas, domain, unread_units
-from ...dumps.survey import Clock, Run
-from ...dumps.text_packs import packs_of
+from ...dumps.columns import Run
+from ...dumps.survey import Clock
+from ...dumps.text_packs import text_packs_in
 
 NAMES = ("reading", "words", "of-reading", "left-out", "lost")
 DIFFERENCES = ("first", "last", "from", "to")
@@ -29,7 +32,7 @@ TOO_FEW, COMPARED = 12, 200
 PLANAR_AT_ONCE = 4096 * BLOCK
 
 
-def add_parser(commands: Any) -> None:
+def add_parser(commands: Commands) -> None:
     parser = commands.add_parser(
         "mend",
         help="make one .cdg file or stream of two readings or more",
@@ -70,7 +73,7 @@ def is_stream(path: str) -> bool:
     return ending_of(path) in (*STREAMS, PLANAR)
 
 
-def kind_of(path: str) -> kinds.Kind:
+def kind_of_output(path: str) -> kinds.Kind:
     return kinds.STREAM if is_stream(path) else kinds.CDG
 
 
@@ -80,7 +83,7 @@ def at_time(laid: Laid, block: int) -> str:
 
 def odd_ones(laid: Laid) -> Iterator[str]:
     """Pairs of readings that are not of one disc, and why."""
-    for (a, b), own in mending.shared(laid).items():
+    for (a, b), own in mending.in_common(laid).items():
         # Parts that claim a place twice are of the same file.
         if laid.readings[a].is_beside or laid.readings[b].is_beside:
             continue
@@ -133,7 +136,8 @@ def write_stream(content: memoryview, path: str, write: Callable[[bytes], object
 
 
 class Units(NamedTuple):
-    """What maps of an output count: its blocks or its packs, the bytes of each, and how many stand before the program."""
+    """What maps of an output count: its blocks or its packs, the bytes of each, and how many come before the
+    program."""
 
     name: str
     size: int
@@ -149,7 +153,7 @@ class Units(NamedTuple):
         return (place - self.before) * self.size // BLOCK
 
 
-def table(laid: Laid, units: Units, lost: list[Run]) -> bytes:
+def loss_table(laid: Laid, units: Units, lost: list[Run]) -> bytes:
     rows = [
         f"{run.first}\t{at_time(laid, laid.lead_in + units.block(run.first))}\t{run.last - run.first + 1}\n"
         for run in lost
@@ -157,22 +161,22 @@ def table(laid: Laid, units: Units, lost: list[Run]) -> bytes:
     return "".join([f"{units.name}\ttime\t{units.name}s\n", *rows]).encode()
 
 
-def lead_in_of(laid: Laid) -> tuple[int, bytes]:
-    """The lead-in of the reading with the fewest words lost that has texts, or else of the one that has a lead-in that was
-    read: the number of the reading, and the blocks."""
+def best_lead_in(laid: Laid) -> tuple[int, bytes]:
+    """The lead-in of the reading with the fewest words lost that has texts, or else of the one that has a lead-in that
+    was read: the number of the reading, and the blocks."""
     found = []
-    for number in mending.in_order(laid):
+    for number in mending.best_first(laid):
         reading = laid.readings[number]
         survey = reading.loaded.survey
         if laid.time == 0 and survey.first < survey.lead_in:
             blocks = b"".join(content for _, content in reading.blocks(survey.first, survey.lead_in))
             found.append((number + 1, blocks))
-    with_texts = (it for it in found if packs_of(it[1]))
+    with_texts = (it for it in found if text_packs_in(it[1]))
     return next(with_texts, found[0] if found else (0, b""))
 
 
-def report(laid: Laid, mended: mending.Mended, table: Table) -> int:
-    """The table of what came of which reading, and what was lost; the exit number."""
+def report_mended(laid: Laid, mended: mending.Mended, table: Table) -> int:
+    """Prints what came from each reading and what was lost; returns the exit status."""
     for reading, counts in zip(laid.readings, mended.counts):
         table.row((reading.path, len(mended.sources), *counts))
     if mended.agreed:
@@ -181,9 +185,7 @@ def report(laid: Laid, mended: mending.Mended, table: Table) -> int:
         tell(f"{mended.none} words have no codeword")
     for number, counts in enumerate(mended.counts, 1):
         if counts.left_out:
-            tell(
-                f"{counts.left_out} words of reading {number} count for nothing: it lacks graphics there, or gives doubtful ones"
-            )
+            tell(f"{counts.left_out} words of reading {number} are ignored: it has no graphics there, or doubtful ones")
         if counts.lost:
             tell(f"{counts.lost} words that reading {number} gives with no symbol wrong are not what came out")
     return FOUND if mended.none or any(counts.lost for counts in mended.counts) else 0
@@ -202,7 +204,7 @@ def run(arguments: argparse.Namespace) -> int:
         raise Refusal(arguments.output, f"its ending names nothing that is mended ({', '.join(ENDINGS)})")
     files = [(arguments.map, kinds.TABLE_OF_BLOCKS), (arguments.ddrescue_map, kinds.DDRESCUE)]
     if arguments.output:
-        files.append((arguments.output, kind_of(arguments.output)))
+        files.append((arguments.output, kind_of_output(arguments.output)))
     with Outputs([*arguments.files, *arguments.unread], files, arguments.force) as outputs:
         laid = side_by_side(read_all(arguments))
         if len(laid.readings) > library.READINGS:
@@ -219,12 +221,13 @@ def run(arguments: argparse.Namespace) -> int:
             tell(line)
         if not is_stream(arguments.output) and not mending.has_graphics(laid):
             raise Nothing("there is nothing to mend: no reading has graphics")
-        return mend(arguments, laid, outputs)
+        return write_mended(arguments, laid, outputs)
 
 
 def read_all(arguments: argparse.Namespace) -> list[Reading]:
     """The readings of a call, and notes on them. Nothing but what is returned keeps their streams."""
-    readings = [read(path, asked(arguments)) for path in arguments.files]
+    files = progress(arguments.files, len(arguments.files), "readings")
+    readings = [read_reading(path, asked(arguments)) for path in files]
     for path in arguments.unread:
         leave_unread(readings, path)
     for reading in readings:
@@ -257,33 +260,33 @@ def leave_unread(readings: Sequence[Reading], path: str) -> None:
         tell(f"{shown(reading.path)}: {blocks} blocks were not read, as {shown(path)} says")
 
 
-def mend(arguments: argparse.Namespace, laid: Laid, outputs: Outputs) -> int:
+def write_mended(arguments: argparse.Namespace, laid: Laid, outputs: Outputs) -> int:
     out = outputs.open(arguments.output)
     wants_blocks = is_stream(arguments.output)
     before = 0
     if wants_blocks:
-        number, lead_in = lead_in_of(laid)
+        number, lead_in = best_lead_in(laid)
         before = len(lead_in) // BLOCK
         if before:
             write_stream(memoryview(lead_in), arguments.output, out.write)
             tell(f"the lead-in of {before} blocks is that of reading {number}")
-    mended = mending.mend(laid, wants_blocks)
+    mended = mending.mend_laid(laid, wants_blocks)
     write_stream(mended.content, arguments.output, out.write)
     units = Units("block", BLOCK, before) if wants_blocks else Units("pack", PACK, 0)
     tell(f"{units.name} {before} of {shown(arguments.output)} is of the absolute time {at_time(laid, laid.lead_in)}")
     lost = units.lost(mended)
     if arguments.map:
-        outputs.write(arguments.map, table(laid, units, lost))
+        outputs.write(arguments.map, loss_table(laid, units, lost))
     if arguments.ddrescue_map:
         size = units.size * before + len(mended.content)
         bytes_lost = [(units.size * run.first, units.size * (run.last + 1)) for run in lost]
         outputs.write(arguments.ddrescue_map, domain(size, bytes_lost, "stream" if wants_blocks else "packs"))
-    return report(laid, mended, outputs.table(NAMES, arguments.json))
+    return report_mended(laid, mended, outputs.table(NAMES, arguments.json))
 
 
 def compare(laid: Laid, odd: list[str], table: Table) -> int:
-    """Whether two dumps are of one disc, by how many blocks they are offset, and where they differ. Where one has no graphics
-    at all only P and Q are compared."""
+    """Whether two dumps are of one disc, by how many blocks they are offset, and where they differ. Where one has no
+    graphics at all only P and Q are compared."""
     tell(odd[0] if odd else "the dumps seem to be of one disc")
     has = [reading.has_graphics for reading in laid.readings[:2]]
     has_both = has[0] == has[1]
@@ -294,7 +297,8 @@ def compare(laid: Laid, odd: list[str], table: Table) -> int:
         offset = second.parts[0].shift - first.parts[0].shift
         tell(f"block n of the first is block n {'-' if offset >= 0 else '+'} {abs(offset)} of the second")
     differing = 0
-    for begin in range(0, laid.blocks, mending.AT_ONCE):
+    begins = range(0, laid.blocks, mending.AT_ONCE)
+    for begin in progress(begins, len(begins), "parts"):
         end = min(laid.blocks, begin + mending.AT_ONCE)
         a, b = (bytes(laid.window(reading, begin, end)) for reading in (first, second))
         if not has_both:

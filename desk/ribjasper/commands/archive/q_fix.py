@@ -1,11 +1,13 @@
-"""Fills in bad Q frames between good ones where only one frame can stand, keeps frames that were changed by design, and checks
-P and the indexes against Q."""
+"""Fills in bad Q frames between good ones where only one frame can stand, keeps frames that were changed by design, and
+checks P and the indexes against Q."""
 import argparse
 from typing import Any
 
 from ...common import kinds
 from ...common.failures import FOUND, Refusal, reading, shown
 from ...common.output import Outputs, add_force, add_json, tell
+from ...common.progress import progress
+from ...common.words import Commands
 from ...dumps.dump import READ_AT_ONCE
 from ...dumps.forms import Coding, Form, in_order, subcode, to_planar, to_pq
 from ...dumps.loading import Loaded, add_options, asked, load_raw
@@ -26,8 +28,8 @@ def write_copy(loaded: Loaded, frames: dict[int, bytes], out: Any) -> None:
     at_once = READ_AT_ONCE // form.unit
     with reading(loaded.path), open(loaded.path, "rb") as file:
         out.write(file.read(start))
-        first = 0
-        while units := file.read(at_once * form.unit):
+        first, parts = 0, iter(lambda: file.read(at_once * form.unit), b"")
+        for units in progress(parts, -(-loaded.survey.blocks // at_once), "parts"):
             changed = bytearray(units)
             for block in range(first, first + len(units) // form.unit):
                 if block in frames:
@@ -38,7 +40,7 @@ def write_copy(loaded: Loaded, frames: dict[int, bytes], out: Any) -> None:
             first += at_once
 
 
-def add_parser(commands: Any) -> None:
+def add_parser(commands: Commands) -> None:
     parser = commands.add_parser(
         "q-fix",
         help="fill in bad Q frames between good ones, in a copy of a dump",

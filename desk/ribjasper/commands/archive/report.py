@@ -5,19 +5,20 @@ import hashlib
 import json
 import os
 import re
-import sys
 from pathlib import Path
-from typing import Any, BinaryIO, Iterator, NamedTuple, Sequence
+from typing import BinaryIO, Iterator, NamedTuple, Sequence
 
 from ...common import kinds, library
 from ...common.failures import REFUSED, Refusal, cause, reading, shown, writing
-from ...common.output import Outputs, Table, add_force, package, tell, write_file
+from ...common.output import Outputs, Table, add_force, complain, package, tell, write_file
+from ...common.progress import progress
 from ...common.targets import DASH
+from ...common.words import Commands
 from ...dumps import report_page, submission
 from ...dumps.checksums import Sums, dat, plain as plain_name
 from ...dumps.examine import COLUMNS, Examined, ReportRow, UNREAD
-from ...dumps.loading import add_options, asked, load
-from ...dumps.workers import How, Task, by_cluster, here, processors, unread
+from ...dumps.loading import add_options, asked, read_dump
+from ...dumps.workers import How, FileTask, by_cluster, here, processors, lost_row
 
 # What a journal holds changes with this number; rows of another are read again.
 LAYOUT = 3
@@ -29,7 +30,7 @@ OWN_NAME = re.compile(r"[0-9a-f]{20}-(first\.png|map\.png|places\.tsv)")
 LONGEST_CELL = 32_000
 
 
-class Part(NamedTuple):
+class Share(NamedTuple):
     """Of how many machines which this one is, from 1."""
 
     number: int
@@ -40,15 +41,15 @@ class Part(NamedTuple):
         return int.from_bytes(digest[:8], "big") % self.of == self.number - 1
 
 
-def part(word: str) -> Part:
+def share(word: str) -> Share:
     """K/M of the command line."""
     number, _, of = word.partition("/")
     if number.isdecimal() and of.isdecimal() and 1 <= int(number) <= int(of):
-        return Part(int(number), int(of))
+        return Share(int(number), int(of))
     raise argparse.ArgumentTypeError(f"{word} is not K/M with K from 1 to M")
 
 
-def add_parser(commands: Any) -> None:
+def add_parser(commands: Commands) -> None:
     parser = commands.add_parser(
         "report",
         help="make a report on all dumps below a folder",
@@ -67,7 +68,6 @@ def add_parser(commands: Any) -> None:
     )
     parser.add_argument("--json", action="store_true", help="with --submission: as JSON")
     parser.add_argument("--jobs", type=jobs, default=processors(), metavar="N", help="files at a time")
-    parser.add_argument("--quiet", action="store_true", help="no progress bar on a terminal")
     parser.add_argument(
         "--no-pictures", action="store_true", help="no pictures and no maps, for which Pillow is needed"
     )
@@ -77,7 +77,10 @@ def add_parser(commands: Any) -> None:
     several = parser.add_mutually_exclusive_group()
     several.add_argument("--cluster", metavar="ADDRESS", help="send the files to the workers of a Dask scheduler")
     several.add_argument(
-        "--part", type=part, metavar="K/M", help="look at part K of M alone, and leave the table to a later run without"
+        "--part",
+        type=share,
+        metavar="K/M",
+        help="look at part K of M alone, and leave the table to a later run without",
     )
     parser.set_defaults(run=run, error=parser.error)
 
@@ -91,19 +94,19 @@ def jobs(word: str) -> int:
 class Below(NamedTuple):
     """What there is below a folder: files, and folders that cannot be looked into with the reason."""
 
-    files: list[Task]
+    files: list[FileTask]
     closed: list[tuple[str, str]]
 
 
 def files_below(folder: str, out: str, follow_links: bool) -> Below:
-    """All files below a folder in the order of their names, but for those of the report. Links to folders are followed where
-    that is asked for, each folder once."""
+    """All files below a folder in the order of their names, but for those of the report. Links to folders are followed
+    where that is asked for, each folder once."""
     if not os.path.isdir(folder):
         raise Refusal(folder, "is not a folder" if os.path.exists(folder) else "no such folder")
     below, seen = Below([], []), {os.path.realpath(out)}
 
     def closed(error: OSError) -> None:
-        tell(f"{shown(error.filename)}: {cause(error)}")
+        complain(f"{shown(error.filename)}: {cause(error)}")
         below.closed.append((os.path.relpath(error.filename, folder), cause(error)))
 
     for at, folders, names in os.walk(folder, onerror=closed, followlinks=follow_links):
@@ -111,7 +114,7 @@ def files_below(folder: str, out: str, follow_links: bool) -> Below:
             seen.add(os.path.realpath(at))
         folders[:] = sorted(it for it in folders if os.path.realpath(os.path.join(at, it)) not in seen)
         below.files.extend(
-            Task(path, os.path.relpath(path, folder)) for path in (os.path.join(at, name) for name in names)
+            FileTask(path, os.path.relpath(path, folder)) for path in (os.path.join(at, name) for name in names)
         )
     below.files.sort()
     return below
@@ -145,29 +148,22 @@ class Names(NamedTuple):
     places: str
 
 
-def names_of(name: str) -> Names:
+def file_names(name: str) -> Names:
     digest = hashlib.sha256(os.fsencode(name)).hexdigest()[:20]
     return Names(f"pictures/{digest}-first.png", f"pictures/{digest}-map.png", f"places/{digest}-places.tsv")
 
 
 def is_whole(out: Path, row: ReportRow, wants_pictures: bool) -> bool:
     """Whether the files of a row are there: the map, where one is wanted, and the list of places, where it has some."""
-    names = names_of(row["file"])
+    names = file_names(row["file"])
     has_map = not wants_pictures or row["form"] is None or (out / names.map).exists()
     return has_map and (not row["damage"] or (out / names.places).exists())
 
 
-def progress(found: Iterator[Examined], total: int, is_quiet: bool) -> Iterator[Examined]:
-    if is_quiet or not sys.stderr.isatty():
-        return found
-    shown_as: Iterator[Examined] = package("tqdm", "python3-tqdm").tqdm(found, total=total, unit="file")
-    return shown_as
-
-
-def keep(out: Path, journal: BinaryIO, entry: Examined, stamped: str) -> None:
+def keep_entry(out: Path, journal: BinaryIO, entry: Examined, stamped: str) -> None:
     """Writes the files of a dump and then its line of the journal."""
     contents = (entry.first_picture, entry.map, entry.places)
-    for name, content, kind in zip(names_of(entry.row["file"]), contents, (PICTURE, PICTURE, kinds.LIST_OF_PLACES)):
+    for name, content, kind in zip(file_names(entry.row["file"]), contents, (PICTURE, PICTURE, kinds.LIST_OF_PLACES)):
         if content is None:
             (out / name).unlink(missing_ok=True)
         else:
@@ -182,7 +178,7 @@ def append(journal: BinaryIO, line: bytes) -> None:
 
 
 def look_at_all(
-    arguments: argparse.Namespace, tasks: list[Task], known: dict[str, tuple[str, ReportRow]], out: Path
+    arguments: argparse.Namespace, tasks: list[FileTask], known: dict[str, tuple[str, ReportRow]], out: Path
 ) -> dict[str, ReportRow]:
     """The rows of all files: those that are known and did not change, and the others looked at."""
     how = How(not arguments.no_pictures, asked(arguments))
@@ -207,39 +203,40 @@ def look_at_all(
         journal = open(out / own, "ab")
     with journal:
         append(journal, b"\n" if journal.tell() else b"")
-        for entry in progress(found, len(todo), arguments.quiet):
+        for entry in progress(found, len(todo), "files"):
             name = entry.row["file"]
             # What could not be looked at is tried again by the next run.
-            keep(out, journal, entry, "" if entry.was_lost else stamps[name])
+            keep_entry(out, journal, entry, "" if entry.was_lost else stamps[name])
             rows[name] = entry.row
     tell(f"{len(todo)} files read, {len(tasks) - len(todo)} known")
     return rows
 
 
 def cell(value: object) -> str:
-    """A value in the table: a dash for none, the parts of a list with semicolons between, and no more than a cell takes."""
+    """A value in the table: a dash for none, the parts of a list with semicolons between, and no more than a cell
+    takes."""
     if value is None or value == []:
         return "-"
     text = "; ".join(map(str, value)) if isinstance(value, list) else str(value)
     return text if len(text) <= LONGEST_CELL else f"{text[:LONGEST_CELL]} .."
 
 
-def plain(row: ReportRow) -> ReportRow:
+def plain_row(row: ReportRow) -> ReportRow:
     """A row for other programs: bytes of a name that are no text are written as \\xHH."""
     return row | {"file": os.fsencode(row["file"]).decode("utf-8", "backslashreplace")}
 
 
 def clear_files(out: Path, rows: Sequence[ReportRow]) -> None:
     """Removes the pictures and lists of dumps that are gone, and nothing else."""
-    wanted = {name for row in rows for name in names_of(row["file"])}
+    wanted = {name for row in rows for name in file_names(row["file"])}
     for folder in ("pictures", "places"):
         for path in (out / folder).iterdir():
             if OWN_NAME.fullmatch(path.name) and f"{folder}/{path.name}" not in wanted:
                 path.unlink()
 
 
-def tables(out: Path, force: bool) -> Outputs:
-    """The files of a report that every run writes anew."""
+def report_outputs(out: Path, force: bool) -> Outputs:
+    """The files of a report that every run writes again."""
     writes = (
         (out / "table.tsv", kinds.TABLE),
         (out / "table.jsonl", kinds.ROWS),
@@ -253,8 +250,8 @@ def write_tables(outputs: Outputs, out: Path, rows: Sequence[ReportRow]) -> None
     lines = ["\t".join(COLUMNS), *("\t".join(shown(cell(row[name])) for name in COLUMNS) for row in rows)]
     table = "".join(f"{line}\n" for line in lines).encode(errors="surrogateescape")
     outputs.write(out / "table.tsv", table)
-    outputs.write(out / "table.jsonl", "".join(json.dumps(plain(row)) + "\n" for row in rows).encode())
-    outputs.write(out / "index.html", report_page.html([(row, names_of(row["file"])) for row in rows], out))
+    outputs.write(out / "table.jsonl", "".join(json.dumps(plain_row(row)) + "\n" for row in rows).encode())
+    outputs.write(out / "index.html", report_page.html([(row, file_names(row["file"])) for row in rows], out))
     summed = [(row["file"], Sums(*(row[field] for field in Sums._fields))) for row in rows if row["sha256"]]
     outputs.write(out / "dumps.dat", dat("dumps", summed))
 
@@ -266,16 +263,16 @@ def run(arguments: argparse.Namespace) -> int:
         arguments.error("--json goes with --submission" if arguments.json else "a report needs -o DIR")
     out = Path(folder_of(arguments.output))
     check_folder(out, arguments.folder, arguments.force)
-    with tables(out, arguments.force) as outputs:
-        return report(arguments, outputs, out)
+    with report_outputs(out, arguments.force) as outputs:
+        return make_report(arguments, outputs, out)
 
 
 def write_submission(arguments: argparse.Namespace) -> int:
     """The description of one disc, as text or as JSON."""
     path, out = arguments.folder, arguments.output or DASH
     with Outputs([path], [(out, kinds.SUBMISSION)], arguments.force) as outputs:
-        found = submission.submission(load(path, asked(arguments)), plain_name(os.path.basename(path)))
-        text = json.dumps(found.plain(), indent=2) + "\n" if arguments.json else submission.text_of(found)
+        found = submission.submission(read_dump(path, asked(arguments)), plain_name(os.path.basename(path)))
+        text = json.dumps(found.plain(), indent=2) + "\n" if arguments.json else submission.submission_text(found)
         outputs.write(out, text.encode())
     return 0
 
@@ -295,7 +292,7 @@ def check_folder(out: Path, folder: str, force: bool) -> None:
             raise Refusal(out, "has files in it and is no folder of a report; --force puts one there")
 
 
-def report(arguments: argparse.Namespace, outputs: Outputs, out: Path) -> int:
+def make_report(arguments: argparse.Namespace, outputs: Outputs, out: Path) -> int:
     below = files_below(arguments.folder, arguments.output, arguments.follow_links)
     tasks = [task for task in below.files if not arguments.part or arguments.part.has(task.name)]
     if not arguments.no_pictures:
@@ -306,7 +303,7 @@ def report(arguments: argparse.Namespace, outputs: Outputs, out: Path) -> int:
     except OSError as error:
         raise Refusal(out, cause(error)) from None
     rows = look_at_all(arguments, tasks, known_rows(out), out)
-    closed = [unread(name, f"the folder cannot be looked into: {why}").row for name, why in below.closed]
+    closed = [lost_row(name, f"the folder cannot be looked into: {why}").row for name, why in below.closed]
     ordered = sorted([*(rows[task.name] for task in tasks), *closed], key=lambda row: os.fsencode(row["file"]))
     if not arguments.part:
         clear_files(out, ordered)
@@ -315,6 +312,6 @@ def report(arguments: argparse.Namespace, outputs: Outputs, out: Path) -> int:
     for status in sorted({row["status"] for row in ordered}):
         table.row((status, sum(row["status"] == status for row in ordered)))
     if not arguments.part and not any(row["form"] for row in ordered):
-        tell(f"{shown(arguments.folder)}: has no dump")
+        complain(f"{shown(arguments.folder)}: has no dump")
         return REFUSED
     return REFUSED if any(row["status"] == UNREAD for row in ordered) else 0

@@ -1,35 +1,34 @@
 """The sheet of a dump: what its Q channel and its lead-in say, as the program's `author`, cdrdao or CloneCD take it."""
 import argparse
 import os
-import re
-from typing import Any, Iterator
+from typing import Iterator
 
 from ...common import kinds
-from ...common.cue_sheets import COMMANDS, COPY, FLAGS, FOUR_CHANNELS, PRE_EMPHASIS, quoted
+from ...common.cue_sheets import COMMANDS, COPY, DATA, FOUR_CHANNELS, MENTIONED, PRE_EMPHASIS, CueWriter, spelled_name
 from ...common.failures import FOUND, Refusal, shown
 from ...common.output import Outputs, add_force, add_json, read_file, tell
 from ...common.times import PAUSE, spelled
-from ...common.words import number_in
+from ...common.words import Commands, number_in
 from ...dumps import comparing
 from ...dumps.loading import Loaded, add_options, asked, load_raw
 from ...dumps.comparing import TimeBase, time_at
-from ...dumps.q_disc import CATALOGUE, DATA, Disc, ISRC, Source, Track, disc
+from ...dumps.companions import LEAD_OUT
+from ...dumps.q_disc import CATALOGUE, Disc, ISRC, Source, Track, disc
 from ...dumps.sessions import BY_GAP, Session, notes as session_notes
 from ...dumps.survey import Clock
 
-MENTIONED = {"composer": b"COMPOSER", "arranger": b"ARRANGER", "message": b"MESSAGE"}
-# The absolute time of the first sector of an image, and the points of the table of contents beside tracks.
-FIRST_SECTOR, FIRST_TRACK, LAST_TRACK, LEAD_OUT = 150, 0xA0, 0xA1, 0xA2
+# Points of the table of contents that are no tracks.
+FIRST_TRACK, LAST_TRACK = 0xA0, 0xA1
 
 
-class Sheet:
+class SheetWriter:
     """A disc with the name of its audio file, whether texts are written in Latin-1, and what times count from."""
 
     def __init__(
         self, source: Source, found: Disc, name: bytes, is_latin_1: bool, base: TimeBase = TimeBase.FILE
     ) -> None:
         self.source, self.disc, self.is_latin_1, self.base = source, found, is_latin_1, base
-        self.file = re.sub(rb'["\x00-\x1f\x7f]', b"_", name)
+        self.file = spelled_name(name)
 
     def at(self, time: int) -> int:
         """The time of a sheet at an absolute time."""
@@ -39,56 +38,46 @@ class Sheet:
         """A text of a disc, which is Latin-1, as the sheet has it."""
         return text if self.is_latin_1 else text.decode("latin-1").encode("utf-8")
 
-    def text_lines(self, number: int, margin: bytes) -> Iterator[bytes]:
-        """The texts of a track, or of the album; those that a sheet cannot say are mentioned."""
-        for kind, command in {**COMMANDS, **MENTIONED}.items():
+    def add_texts(self, sheet: CueWriter, number: int) -> None:
+        """Adds the texts of a track, or of the album; those that a sheet cannot say are mentioned."""
+        for kind in (*COMMANDS, *MENTIONED):
             text = self.disc.texts.get((kind, number))
-            if not text:
-                continue
-            spelling = quoted(self.encoded(text))
-            if spelling is None:
+            if text and not sheet.text(kind, self.encoded(text)):
                 tell(f"the {kind} of track {number:02} cannot be spelled in a sheet: {text!r}")
-            else:
-                remark = b"" if kind in COMMANDS else b"REM "
-                yield b"%b%b%b %b" % (margin, remark, command, spelling)
 
-    def track_lines(self, track: Track, margin: bytes = b"  ") -> Iterator[bytes]:
-        kind = b"MODE1/2352" if track.control & DATA else b"AUDIO"
-        yield b"%bTRACK %02d %b" % (margin, track.number, kind)
-        inner = 2 * margin
-        yield from self.text_lines(track.number, inner)
-        flags = [name for bit, name in FLAGS if track.control & bit]
-        if flags:
-            yield b"%bFLAGS %b" % (inner, b" ".join(flags))
+    def add_track(self, sheet: CueWriter, track: Track) -> None:
+        sheet.track(track.number, b"MODE1/2352" if track.control & DATA else b"AUDIO")
+        self.add_texts(sheet, track.number)
+        sheet.flags(track.control)
         if ISRC.fullmatch(track.code):
-            yield b"%bISRC %b" % (inner, track.code)
+            sheet.isrc(track.code)
         first = self.at(track.indices[1])
         for index, time in track.indices.items():
-            at = self.at(time)
             # The pause of two seconds before the file is in every disc.
-            if index or at < first:
-                yield b"%bINDEX %02d %b" % (inner, index, spelled(at).encode())
+            if index or self.at(time) < first:
+                sheet.index(index, self.at(time))
 
     def cue(self) -> bytes:
-        """The lines of a cue sheet. A remark tells what else `author` wants to be told."""
+        """The cue sheet. A remark has the options that `author` needs for it."""
+        sheet = CueWriter()
         length = spelled(max(self.disc.blocks - PAUSE, 0))
-        lines = [f"REM ribjasper author --lead-in {self.source.survey.lead_in} --length {length}".encode()]
-        lines.append(self.base.remark)
+        sheet.remark(f"ribjasper author --lead-in {self.source.survey.lead_in} --length {length}".encode())
+        sheet.remark(self.base.remark)
         if CATALOGUE.fullmatch(self.disc.catalogue):
-            lines.append(b"CATALOG " + self.disc.catalogue)
-        lines += self.text_lines(0, b"")
-        lines.append(b'FILE "%b" WAVE' % self.file)
-        sessions = {track.session for track in self.disc.tracks}
-        session = 0
+            sheet.catalogue(self.disc.catalogue)
+        self.add_texts(sheet, 0)
+        sheet.file(self.file, b"WAVE")
+        is_of_several, session = len({track.session for track in self.disc.tracks}) > 1, 0
         for track in self.disc.tracks:
-            if len(sessions) > 1 and track.session != session:
+            if is_of_several and track.session != session:
                 session = track.session
-                lines.append(b"REM SESSION %02d" % session)
-            lines += self.track_lines(track)
-        return b"".join(line + b"\n" for line in lines)
+                sheet.remark(b"SESSION %02d" % session)
+            self.add_track(sheet, track)
+        return sheet.content()
 
     def toc(self, session: int = 1) -> bytes:
-        """A sheet for cdrdao, which is of one session, and whose audio file begins with the first sector of the dump."""
+        """A sheet for cdrdao, which is of one session, and whose audio file begins with the first sector of the
+        dump."""
         lines = [b"CD_DA" if not any(track.control & DATA for track in self.disc.tracks) else b"CD_ROM"]
         if CATALOGUE.fullmatch(self.disc.catalogue):
             lines.append(b'CATALOG "%b"' % self.disc.catalogue)
@@ -145,7 +134,7 @@ class Sheet:
             first = next(track for track in self.disc.tracks if track.session == session)
             lines += [f"[Session {session}]", f"PreGapMode={int(bool(first.control & DATA))}", "PreGapSubC=0"]
         for number, (session, point, bits, (minute, second, frame)) in enumerate(entries):
-            place = 4500 * minute + 75 * second + frame - FIRST_SECTOR
+            place = 4500 * minute + 75 * second + frame - PAUSE
             lines += [
                 f"[Entry {number}]",
                 f"Session={session}",
@@ -159,22 +148,20 @@ class Sheet:
             lines += [f"[TRACK {track.number}]", f"MODE={int(bool(track.control & DATA))}"]
             if ISRC.fullmatch(track.code):
                 lines.append(f"ISRC={track.code.decode()}")
-            lines += [
-                f"INDEX {index}={time - FIRST_SECTOR}" for index, time in track.indices.items() if time >= FIRST_SECTOR
-            ]
+            lines += [f"INDEX {index}={time - PAUSE}" for index, time in track.indices.items() if time >= PAUSE]
         return "".join(f"{line}\r\n" for line in lines).encode()
 
     def entries(self, session: Session) -> Iterator[tuple[int, int, int, tuple[int, int, int]]]:
-        """The entries of a table of contents: session, point, control bits, and a time or what stands in its place."""
+        """The entries of a table of contents: session, point, control bits, and a time or its three bytes."""
         own = [track for track in self.disc.tracks if track.session == session.number]
         yield session.number, FIRST_TRACK, own[0].control, (own[0].number, 0, 0)
         yield session.number, LAST_TRACK, own[-1].control, (own[-1].number, 0, 0)
-        yield session.number, LEAD_OUT, own[-1].control, parts_of(session.lead_out)
+        yield session.number, LEAD_OUT, own[-1].control, minute_second_frame(session.lead_out)
         for track in own:
-            yield session.number, track.number, track.control, parts_of(track.indices[1])
+            yield session.number, track.number, track.control, minute_second_frame(track.indices[1])
 
 
-def parts_of(time: int) -> tuple[int, int, int]:
+def minute_second_frame(time: int) -> tuple[int, int, int]:
     return time // 4500, time // 75 % 60, time % 75
 
 
@@ -204,7 +191,7 @@ def remarks(loaded: Loaded, source: Source, found: Disc) -> Iterator[str]:
 
 
 def cuts(source: Source, found: Disc) -> Iterator[str]:
-    """Where the dump lacks a part of the disc."""
+    """Where a part of the disc is missing in the dump."""
     begin = source.pieces[0].shift + source.survey.first
     if source.pieces[0].shift > PAUSE:
         yield f"the file begins at the absolute time {spelled(begin)}"
@@ -216,7 +203,7 @@ def cuts(source: Source, found: Disc) -> Iterator[str]:
         yield f"the file ends at the absolute time {spelled(last)}, before the lead-out at {spelled(found.end)}"
 
 
-def add_parser(commands: Any) -> None:
+def add_parser(commands: Commands) -> None:
     parser = commands.add_parser(
         "sheet",
         help="write the cue sheet of a dump",
@@ -293,7 +280,7 @@ def run(arguments: argparse.Namespace) -> int:
             )
         stem = os.path.splitext(os.path.basename(path))[0]
         base = TimeBase(arguments.times or TimeBase.FILE)
-        sheet = Sheet(source, found, os.fsencode(f"{stem}.wav"), arguments.latin_1, base)
+        sheet = SheetWriter(source, found, os.fsencode(f"{stem}.wav"), arguments.latin_1, base)
         if any(not text.isascii() for text in found.texts.values()):
             tell(
                 f"{shown(path)}: texts are written in {'Latin-1' if arguments.latin_1 else 'UTF-8; author wants --latin-1'}"

@@ -1,12 +1,13 @@
-"""Checksums of files or of the tracks of a disc image, as catalogues of dumps have them, and lists of them in the form of
-Logiqx."""
+"""Checksums of files or of the tracks of a disc image, as catalogues of dumps have them, and lists of them in the form
+of Logiqx."""
 import argparse
 import os
-from typing import Any, Sequence
+from typing import Sequence
 
 from ...common import kinds
 from ...common.failures import FOUND, shown
 from ...common.output import Outputs, Table, add_force, add_json, tell
+from ...common.words import Commands
 from ...dumps import cutting
 from ...dumps.checksums import Listed, NAMES, Sums, dat, plain, read_dat, read_games, sums_of
 from ...dumps.cutting import Hashed
@@ -18,7 +19,7 @@ TRACK_NAMES = ("track", "type", "first", "sectors", "size", "crc32", "md5", "sha
 SAME, WRONG, UNLISTED, MISSING = "same", "differs", "not listed", "missing"
 
 
-def add_parser(commands: Any) -> None:
+def add_parser(commands: Commands) -> None:
     parser = commands.add_parser(
         "sums",
         help="print checksums of files, and compare them with a list",
@@ -60,8 +61,8 @@ def offset(word: str) -> int:
     return number
 
 
-def checked(path: str, found: Sums, listed: Sequence[Listed]) -> tuple[str, set[str]]:
-    """What a list says of a file, and the names in the list that it stands for."""
+def checked_file(path: str, found: Sums, listed: Sequence[Listed]) -> tuple[str, set[str]]:
+    """What a list says of a file, and which names of the list the file is."""
     same_name = [it for it in listed if os.path.basename(it.name.replace("\\", "/")) == plain(os.path.basename(path))]
     for it in same_name:
         if not it.differs(found):
@@ -103,7 +104,7 @@ def sums_of_tracks(arguments: argparse.Namespace, outputs: Outputs) -> int:
                 any(it != cutting.SAME for it in verdicts) or found.game is None or found.same < len(found.game.tracks)
             )
             tell(f"{shown(path)}: {said_of(found, len(hashed))}")
-        rows(table, hashed, verdicts)
+        track_rows(table, hashed, verdicts)
         differs |= any(it.edc.bad for it in hashed if it.edc)
         files += [(cutting.file_name(cut.name, it.track, len(hashed)), it.sums) for it in hashed]
     if arguments.dat:
@@ -119,7 +120,7 @@ def said_of(found: cutting.Comparison, count: int) -> str:
     return f"is {found.game.name}: {found.same} of {count} tracks are the same{lacks}"
 
 
-def rows(table: Table, tracks: Sequence[Hashed], verdicts: Sequence[str] | None) -> None:
+def track_rows(table: Table, tracks: Sequence[Hashed], verdicts: Sequence[str] | None) -> None:
     for place, (track, sums, edc) in enumerate(tracks):
         bad = "-" if edc is None else len(edc.bad)
         kind = "data" if track.is_data else "audio"
@@ -136,7 +137,7 @@ def sums_of_files(arguments: argparse.Namespace, outputs: Outputs) -> int:
         files.append((os.path.basename(path), found))
         verdict: tuple[str, ...] = ()
         if listed is not None:
-            said, names = checked(path, found, listed)
+            said, names = checked_file(path, found, listed)
             seen |= names
             differs |= not said.startswith(SAME)
             verdict = (said,)

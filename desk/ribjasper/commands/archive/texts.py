@@ -1,15 +1,15 @@
 """The text packs of a lead-in, as other tools take them, and back."""
 import argparse
 import ctypes
-from typing import Any
 
 from ...common import kinds, library
 from ...common.failures import Refusal, shown
 from ...common.library import BLOCK, PACKS_A_BLOCK, TEXT_PACK
 from ...common.output import Outputs, add_force, add_json, read_file, tell, write_text
+from ...common.words import Commands
 from ...dumps import text_packs
-from ...dumps.loading import Asked, add_options, asked, load_raw
-from ...dumps.text_packs import TIMES, packs_of
+from ...dumps.loading import DumpOptions, add_options, asked, load_raw
+from ...dumps.text_packs import TIMES, text_packs_in
 
 # Some tools write four bytes in front of the packs: how many follow these two, and two zeros.
 HEADER = 4
@@ -43,7 +43,7 @@ def lead_in_of_packs(packs: bytes) -> bytes:
     return b"".join(slots[place % len(slots)] for place in range(count))
 
 
-def add_parser(commands: Any) -> None:
+def add_parser(commands: Commands) -> None:
     parser = commands.add_parser(
         "texts",
         help="list the texts of a lead-in, and copy its packs for other tools and back",
@@ -67,14 +67,14 @@ def add_parser(commands: Any) -> None:
     parser.set_defaults(run=run, error=parser.error)
 
 
-def lead_in_of_dump(path: str, words: Asked) -> bytes:
+def lead_in_of_dump(path: str, words: DumpOptions) -> bytes:
     loaded = load_raw(path, words, "lead-in")
     return loaded.stream[BLOCK * loaded.survey.first : BLOCK * loaded.survey.lead_in]
 
 
 def write_all(outputs: Outputs, packs: list[bytes], as_json: bool) -> None:
     """The table of all that packs say."""
-    names = {language.number: language.name for language in text_packs.languages(packs)}
+    names = {language.number: language.name for language in text_packs.languages_of(packs)}
     table = outputs.table(("language", "kind", "track", "text"), as_json)
     for said in text_packs.said(packs):
         table.row((names[said.language], said.kind, f"{said.track:02}", said.text))
@@ -91,7 +91,7 @@ def run(arguments: argparse.Namespace) -> int:
             blocks = lead_in_of_packs(without_header(arguments.file, read_file(arguments.file)))
         else:
             blocks = lead_in_of_dump(arguments.file, asked(arguments))
-        found = packs_of(blocks)
+        found = text_packs_in(blocks)
         if not found:
             tell(f"{shown(arguments.file)}: there is no text pack")
         if arguments.packs:

@@ -10,7 +10,7 @@ from ...common.failures import FOUND
 from ...common.library import BLOCKS_A_SECOND
 from ...common.output import Outputs, Table, add_force, add_json, stem_of, tell
 from ...common.targets import DASH
-from ...common.times import clock
+from ...common.times import spelled
 from ...common.words import Commands
 from ...songs import audio
 
@@ -82,7 +82,7 @@ def add_parser(commands: Commands) -> None:
 
 def run(arguments: argparse.Namespace) -> int:
     if arguments.new:
-        return begin(arguments)
+        return begin_list(arguments)
     if len(arguments.files) > 1 or not (arguments.output or arguments.check):
         arguments.parser.error("one list and -o DISC are needed, or --check, or --new")
     album = read_album(arguments.files[0])
@@ -96,7 +96,7 @@ def run(arguments: argparse.Namespace) -> int:
     disc_files = [f"{name}.bin", f"{name}.toc", f"{name}.cue", f"{name}.raw", f"{name}-sheet.cue"]
     disc_kinds = [kinds.IMAGE, kinds.TOC, kinds.CUE, kinds.STREAM, kinds.CUE]
     writes = [*zip(disc_files, disc_kinds), *((script, kinds.SCRIPT) for script in scripts.values())]
-    with Outputs(reads_of(album), writes, arguments.force) as outputs:
+    with Outputs(album_reads(album), writes, arguments.force) as outputs:
         ready = [made_ready(track) for track in album.tracks]
         check_capacity(album, ready, arguments.capacity)
         sung = sing_all(album, ready)
@@ -106,12 +106,12 @@ def run(arguments: argparse.Namespace) -> int:
     return 0
 
 
-def reads_of(album: Album) -> list[Path | None]:
+def album_reads(album: Album) -> list[Path | None]:
     """The files that the album is made from."""
     found: list[Path | None] = [album.path]
     for track in album.tracks:
         between = [Path(word) for word in track.wishes.between if not word.startswith("#")]
-        beside = audio.beside(track.lyrics) if track.is_pair and not track.sound else None
+        beside = audio.sound_beside(track.lyrics) if track.is_pair and not track.sound else None
         pictures = [] if track.is_pair else pictures_of(track.lyrics)
         found += [
             track.lyrics,
@@ -137,17 +137,17 @@ def check(album: Album, most: int, as_json: bool) -> int:
             song = read_song(track.lyrics, track.wishes.encoding, track.treatment.later)
             title, singer = title or song.title, singer or song.performer or album.singer
         end = at + one.blocks
-        left = clock(most - end) if end <= most else f"-{clock(end - most)}"
+        left = spelled(most - end) if end <= most else f"-{spelled(end - most)}"
         kind = "pair" if track.is_pair else "lyrics"
-        table.row((number, kind, clock(at), clock(one.blocks), left, title, singer, track.lyrics))
+        table.row((number, kind, spelled(at), spelled(one.blocks), left, title, singer, track.lyrics))
         at = end + album.gap
     length = length_of(album, [one.blocks for one in ready])
-    left = f"{clock(most - length)} is left" if length <= most else f"it is {clock(length - most)} too long"
-    tell(f"{len(ready)} tracks, {clock(length)} of {clock(most)}: {left}")
+    left = f"{spelled(most - length)} is left" if length <= most else f"it is {spelled(length - most)} too long"
+    tell(f"{len(ready)} tracks, {spelled(length)} of {spelled(most)}: {left}")
     return 0 if length <= most else FOUND
 
 
-def begin(arguments: argparse.Namespace) -> int:
+def begin_list(arguments: argparse.Namespace) -> int:
     """Writes a list of songs, with what their lyrics tell of them."""
     out = arguments.output or Path(DASH)
     folder = out.parent if arguments.output else Path(".")
@@ -159,11 +159,11 @@ def begin(arguments: argparse.Namespace) -> int:
         lines = NEW.format(name=name, title=title, singer=quoted(singer)[1:-1])
         for path, song in songs:
             if song is None:
-                if path.suffix.lower() == CDG and not audio.beside(path):
+                if path.suffix.lower() == CDG and not audio.sound_beside(path):
                     tell(f"{path}: no sound of that name stands beside it; `sound = ...` names one")
                 lines += NEW_PAIR.format(pair=quoted(os.path.relpath(path, folder)), title=quoted(path.stem))
                 continue
-            sound = audio.beside(path)
+            sound = audio.sound_beside(path)
             if not sound:
                 tell(f"{path}: no sound of that name stands beside it; the list names {path.with_suffix('.wav').name}")
             lines += entry_of(path, sound or path.with_suffix(".wav"), song, folder)

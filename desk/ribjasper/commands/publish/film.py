@@ -10,12 +10,13 @@ from ...common import kinds
 from ...common.failures import Refusal
 from ...common.library import HEIGHT, WIDTH
 from ...common.output import Outputs, add_force, package, tell
+from ...common.progress import progress
 from ...common.words import Commands, number_in
 from ...dumps.streams import Stream, open_stream
 from ...songs import audio
 from ...songs.films import FilmForm, film_of
 
-# A picture that stands so long, in seconds, has a place on a page of stills.
+# A picture that is shown for so many seconds gets a place on a page of stills.
 STANDS = 0.2
 MOST_STILLS = 1_000
 # A sound that is shorter than the pictures by no more seconds is as long as they are.
@@ -51,7 +52,7 @@ def add_parser(commands: Commands) -> None:
 
 
 def audio_seconds(path: Path | None) -> float:
-    """How long an audio is; 0 where there is none, or where ffmpeg alone could tell and is not there."""
+    """How long an audio is; 0 where there is none, or where only ffmpeg could measure it and is not installed."""
     if not path:
         return 0
     wave = audio.wave_of(path)
@@ -61,14 +62,14 @@ def audio_seconds(path: Path | None) -> float:
 
 
 class Still(NamedTuple):
-    """A picture, and the second at which it stands first."""
+    """A picture, and the second at which it first appears."""
 
     second: float
     picture: bytes
 
 
 class Stills:
-    """The pictures that a page is to show: those that stand for a while, or one for each so many seconds."""
+    """The pictures that a page is to show: those that are shown for a while, or one every so many seconds."""
 
     def __init__(self, rate: int, every: float | None):
         self.rate, self.every = rate, every
@@ -109,7 +110,7 @@ def stills_page(stills: list[Still]) -> Any:
 
 
 def show_all(stream: Stream, arguments: argparse.Namespace, count: int, out: IO[bytes] | None, stills: Stills) -> None:
-    for picture in stream.frames(arguments.rate, count):
+    for picture in progress(stream.frames(arguments.rate, count), count, "frames"):
         if out:
             out.write(picture)
         stills.see(picture)

@@ -8,10 +8,12 @@ from ...common import kinds, latin1
 from ...common.disc_files import SHORTEST_TRACK, cue_of, toc_of
 from ...common.discs import SheetDisc, read_disc
 from ...common.failures import LATE, Refusal
-from ...common.library import BLOCK, PACK, PACKS_A_BLOCK, Player, RAW, convert, texts
-from ...common.output import Outputs, add_force, read_file, stem_of, tell
+from ...common.library import BLOCK, PACK, PACKS_A_BLOCK, RAW, packs_of_blocks, texts
+from ...common.player import Player
+from ...common.output import Outputs, add_force, complain, read_file, stem_of, tell
+from ...common.progress import progress
 from ...common.program import author
-from ...common.times import PAUSE, clock
+from ...common.times import PAUSE, spelled
 from ...common.words import Commands
 from ...dumps.streams import open_stream
 from ...songs import audio
@@ -37,7 +39,7 @@ def add_parser(commands: Commands) -> None:
         "--hold-through-pause",
         type=Path,
         metavar="SCRIPT",
-        help="author the stream anew from its script, with a black picture held through the pause",
+        help="author the stream again from its script, with a black picture held through the pause",
     )
     parser.add_argument("--latin-1", action="store_true", help="write the texts in Latin-1, as players read them")
     parser.add_argument("-o", "--output", type=Path, required=True, metavar="DISC", help="the name without an ending")
@@ -45,7 +47,7 @@ def add_parser(commands: Commands) -> None:
     parser.set_defaults(run=run)
 
 
-def checked(arguments: argparse.Namespace, disc: SheetDisc) -> bytes:
+def checked_program(arguments: argparse.Namespace, disc: SheetDisc) -> bytes:
     """The program of the stream: its blocks from the first pause on, as the sheet and the audio ask for."""
     stream = open_stream(arguments.stream)
     if stream.is_packs():
@@ -56,7 +58,7 @@ def checked(arguments: argparse.Namespace, disc: SheetDisc) -> bytes:
         raise Refusal(
             arguments.stream,
             f"has {len(program) // BLOCK} blocks, and the sheet with this audio "
-            f"{disc.blocks}: author it with --length {clock(length)}",
+            f"{disc.blocks}: author it with --length {spelled(length)}",
         )
     expected = disc.stream[BLOCK * disc.lead_in :]
     if program.translate(P_AND_Q) != expected.translate(P_AND_Q):
@@ -66,7 +68,7 @@ def checked(arguments: argparse.Namespace, disc: SheetDisc) -> bytes:
             if program[BLOCK * number : BLOCK * (number + 1)].translate(P_AND_Q)
             != disc.block(number).translate(P_AND_Q)
         )
-        raise Refusal(arguments.stream, f"is not of this sheet: they differ at {clock(number)}")
+        raise Refusal(arguments.stream, f"is not of this sheet: they differ at {spelled(number)}")
     return program
 
 
@@ -74,7 +76,7 @@ def loses_pictures(program: bytes) -> str | None:
     """Why pictures are not whole on the image, if the packs that begin in the pause and are not whole on it leave more
     than a black screen. What is to be done is another thing for a .cdg file that was pressed: it sends nothing earlier.
     """
-    packs, _ = convert(program[: BLOCK * (PAUSE + 2)], RAW, 0)
+    packs, _ = packs_of_blocks(program[: BLOCK * (PAUSE + 2)], RAW, 0)
     with Player() as player:
         player.draw(packs[: PACK * PACKS_A_BLOCK * PAUSE])
         if not any(player.screen()) and not any(player.colours()):
@@ -91,7 +93,7 @@ def loses_pictures(program: bytes) -> str | None:
 
 
 def tell_texts(arguments: argparse.Namespace, disc: SheetDisc) -> None:
-    """Tells if the texts of the sheet, which the image gets, are not those of the stream."""
+    """Warns if the texts of the sheet, which the image gets, differ from those of the stream."""
     stream = open_stream(arguments.stream)
     if not stream.lead_in:
         return
@@ -116,17 +118,19 @@ def held(arguments: argparse.Namespace, disc: SheetDisc) -> bytes:
     length = audio.length(arguments.audio)
     stream, status, told = author(sheet, HOLD_THROUGH_PAUSE + script, disc.lead_in, length)
     if status == LATE:
-        raise Late(f"{arguments.hold_through_pause}: with a picture held through the pause: {told}, counted with it")
+        raise LatePicture(
+            f"{arguments.hold_through_pause}: with a picture held through the pause: {told}, counted with it"
+        )
     if status:
         raise Refusal(arguments.hold_through_pause, f"with one line more in front: {told}")
     return stream[BLOCK * disc.lead_in :]
 
 
-class Late(Exception):
+class LatePicture(Exception):
     """A picture cannot be ready."""
 
 
-def sectors(disc: SheetDisc, program: bytes, path: Path) -> Iterator[bytes]:
+def image_sectors(disc: SheetDisc, program: bytes, path: Path) -> Iterator[bytes]:
     """The sectors of the image: audio, or silence where the sheet has a gap, and the block."""
     silent = disc.silence()
     samples = audio.sectors(path)
@@ -136,7 +140,7 @@ def sectors(disc: SheetDisc, program: bytes, path: Path) -> Iterator[bytes]:
         yield sound + program[BLOCK * number : BLOCK * (number + 1)]
 
 
-def warn(arguments: argparse.Namespace, disc: SheetDisc, program: bytes) -> None:
+def warn_of_image(arguments: argparse.Namespace, disc: SheetDisc, program: bytes) -> None:
     if lost := loses_pictures(program):
         tell(f"{arguments.stream}: {lost}")
     tell_texts(arguments, disc)
@@ -159,19 +163,20 @@ def write_image(arguments: argparse.Namespace, outputs: Outputs, binary: str, to
     else:
         latin1.warn(arguments.sheet, sheet)
     disc = read_disc(arguments.sheet, sheet, audio.length(arguments.audio))
-    program = checked(arguments, disc)
+    program = checked_program(arguments, disc)
     if arguments.hold_through_pause:
         try:
             program = held(arguments, disc)
-        except Late as late:
-            tell(str(late))
+        except LatePicture as late:
+            complain(str(late))
             return LATE
-    warn(arguments, disc, program)
+    warn_of_image(arguments, disc, program)
     name = os.path.basename(binary)
     out = outputs.open(binary)
-    for sector in sectors(disc, program, arguments.audio):
+    every = image_sectors(disc, program, arguments.audio)
+    for sector in progress(every, disc.blocks - PAUSE, "sectors"):
         out.write(sector)
     outputs.write(toc, toc_of(disc, name).encode())
     outputs.write(cue, cue_of(disc, name))
-    tell(f"{disc.blocks - PAUSE} sectors, {clock(disc.blocks - PAUSE)}; `cdrdao write --swap {toc}` burns them")
+    tell(f"{disc.blocks - PAUSE} sectors, {spelled(disc.blocks - PAUSE)}; `cdrdao write --swap {toc}` burns them")
     return 0

@@ -13,8 +13,10 @@ from pathlib import Path
 from typing import Any, Iterator
 
 from ...common import kinds
-from ...common.library import BLOCKS_A_SECOND, COLOURS, HEIGHT, PACK, PACKS_A_BLOCK, Player, WIDTH
+from ...common.library import BLOCKS_A_SECOND, COLOURS, HEIGHT, PACK, PACKS_A_BLOCK, WIDTH
 from ...common.output import Outputs, add_force, tell
+from ...common.player import Player
+from ...common.progress import progress
 from ...common.web import web as web
 from ...common.words import Commands
 from ...songs import audio
@@ -54,7 +56,8 @@ def changes_of(packs: bytes) -> Iterator[bytes]:
     step = PACK * PACKS_A_BLOCK * EVERY
     before, colours = bytes(WIDTH * HEIGHT), [0] * COLOURS
     with Player() as player:
-        for number, at in enumerate(range(0, len(packs), step), 1):
+        places = range(0, len(packs), step)
+        for number, at in enumerate(progress(places, len(places), "pictures"), 1):
             part = packs[at : at + step]
             if not any(part):
                 continue
@@ -73,7 +76,7 @@ def changes_of(packs: bytes) -> Iterator[bytes]:
 
 
 def box_of(before: bytes, after: bytes) -> tuple[int, int, int, int]:
-    """The rectangle outside of which nothing differs: left, top, right and bottom; an empty one where nothing does."""
+    """The smallest rectangle with all differences: left, top, right and bottom; empty if nothing differs."""
     rows = [y for y in range(HEIGHT) if before[WIDTH * y : WIDTH * (y + 1)] != after[WIDTH * y : WIDTH * (y + 1)]]
     if not rows:
         return 0, 0, 0, 0
@@ -85,7 +88,7 @@ def box_of(before: bytes, after: bytes) -> tuple[int, int, int, int]:
     return WIDTH - len(marks.lstrip(b"\0")), rows[0], len(marks.rstrip(b"\0")), rows[-1] + 1
 
 
-def song_of(sung: Sung) -> dict[str, Any]:
+def song_data(sung: Sung) -> dict[str, Any]:
     """What the page knows of the song."""
     late: dict[int, str] = {}
     for told in sung.made.warnings():
@@ -139,8 +142,8 @@ def packed(content: bytes) -> str:
 
 
 def picture_parts(packs: bytes) -> dict[str, str]:
-    """What draws the picture: its changes; and before them the library and the packs, where it is built, since not every
-    browser knows modules with addresses of 64 bits."""
+    """What draws the picture: its changes; and before them the library and the packs, where it is built, since not
+    every browser knows modules with addresses of 64 bits."""
     parts = {"module": "", "wasm": "", "packs": "", "changes": packed(b"".join(changes_of(packs)))}
     if found := web():
         parts |= {
@@ -155,8 +158,8 @@ def page_of(sung: Sung) -> str:
     parts = picture_parts(as_pair(sung.packs)) | {
         "title": html.escape(sung.song.title or sung.track.lyrics.stem),
         "sound": sound_word(sung),
-        # What would end the script that it stands in is spelled otherwise.
-        "song": json.dumps(song_of(sung)).replace("<", "\\u003c"),
+        # A `<` could end the script that contains it, so it is escaped.
+        "song": json.dumps(song_data(sung)).replace("<", "\\u003c"),
         "script": (FOLDER / "look.js").read_text(encoding="utf-8"),
     }
     page = (FOLDER / "look.html").read_text(encoding="utf-8")

@@ -3,6 +3,7 @@ import argparse
 from pathlib import Path
 
 from ...common import kinds
+from ...common.cue_sheets import ONE_TRACK
 from ...common.library import BLOCKS_A_SECOND
 from ...common.output import Outputs, add_force, tell
 from ...common.planning import plan
@@ -10,7 +11,7 @@ from ...common.targets import DASH
 from ...common.words import Commands, number_in
 from ...drawing import colours as colouring
 from ...drawing.colours import Colour
-from ...drawing.images import ONE_TRACK, PLAIN, Reading, fitted, flat_of, image_package, placed_lines, read, whole
+from ...drawing.images import PLAIN, ImageOptions, fitted, flat_of, image_package, placed_lines, read_image, whole
 from ...drawing.raster import COLOURS, COLUMNS, HEIGHT, ROWS, Raster, TILE_HEIGHT, TILE_WIDTH, WIDTH, lines_between
 
 
@@ -79,15 +80,15 @@ def add_parser(commands: Commands) -> None:
     parser.set_defaults(run=run)
 
 
-def lines_of(arguments: argparse.Namespace) -> list[str]:
+def image_lines(arguments: argparse.Namespace) -> list[str]:
     most = min(arguments.colours or COLOURS, COLOURS - arguments.first)
-    how = Reading(arguments.frame, arguments.crop)
+    how = ImageOptions(arguments.frame, arguments.crop)
     if not arguments.at and not arguments.first:
         return lines_between(
             Raster(), whole(arguments.image, most, arguments.simple, arguments.dither, how, arguments.border)
         )
     column, row = arguments.at or (0, 0)
-    image = read(arguments.image, how)
+    image = read_image(arguments.image, how)
     room = WIDTH - TILE_WIDTH * column, HEIGHT - TILE_HEIGHT * row
     if how.crop:
         image = fitted(image, *room, crop=True)
@@ -99,7 +100,7 @@ def lines_of(arguments: argparse.Namespace) -> list[str]:
     return placed_lines(flat_of(image, most, arguments.simple, arguments.dither), column, row, arguments.first)
 
 
-def packs_of(lines: list[str]) -> int:
+def packs_needed(lines: list[str]) -> int:
     """The packs that a first picture needs."""
     script = "".join(f"{line}\n" for line in [*lines, "show 00:01:00 00:01:00"])
     return plan(ONE_TRACK, script.encode(), 60 * BLOCKS_A_SECOND).rows[0].need
@@ -108,8 +109,8 @@ def packs_of(lines: list[str]) -> int:
 def run(arguments: argparse.Namespace) -> int:
     out = arguments.output or DASH
     with Outputs([arguments.image], [(out, kinds.SCRIPT)], arguments.force) as outputs:
-        lines = lines_of(arguments)
+        lines = image_lines(arguments)
         outputs.write(out, "".join(f"{line}\n" for line in lines).encode())
-    packs = packs_of(lines)
+    packs = packs_needed(lines)
     tell(f"as a first picture it needs {packs} packs, {packs / 300:.1f} seconds")
     return 0

@@ -6,22 +6,23 @@ from ...common import kinds, latin1, times
 from ...common.failures import LATE, Refusal, shown
 from ...common.output import Outputs, add_force, read_file, tell, add_json
 from ...common.planning import NoPlan, Plan, least_lead_in, plan, refused_lines
-from ...common.times import clock
+from ...common.times import spelled
 from ...common.words import Commands
 from ...drawing.charts import draw_plan
 from ...songs import audio
+from ...songs.recognition import check_sheet_and_script
 
 NAMES = ("picture", "line", "ready", "hold", "need", "free", "first", "late")
 
 
 def add_length(parser: argparse.ArgumentParser) -> None:
-    """The words that tell how long the audio is."""
+    """The options that say how long the audio is."""
     length = parser.add_mutually_exclusive_group(required=True)
     length.add_argument("--length", type=times.blocks, metavar="MM:SS:FF", help="how long the audio is")
     length.add_argument("--audio", type=Path, metavar="WAV", help="the audio, whose length is taken")
 
 
-def length_of(arguments: argparse.Namespace) -> int:
+def audio_blocks(arguments: argparse.Namespace) -> int:
     told: int = audio.length(arguments.audio) if arguments.audio else arguments.length
     return told
 
@@ -54,6 +55,7 @@ def planned(sheet: Path, script: Path, length: int) -> Plan:
     try:
         return plan(sheet_text, script_text, length)
     except NoPlan as none:
+        check_sheet_and_script(sheet, sheet_text, script, script_text)
         causes = refused_lines(sheet_text, script_text, length, none)
         raise Refusal(script if none.is_of_script() else sheet, *causes) from None
 
@@ -62,7 +64,7 @@ def run(arguments: argparse.Namespace) -> int:
     reads = [arguments.sheet, arguments.script, arguments.audio]
     writes = [(arguments.chart, kinds.PNG), (arguments.latin_1, kinds.CUE)]
     with Outputs(reads, writes, arguments.force) as outputs:
-        length = length_of(arguments)
+        length = audio_blocks(arguments)
         found = planned(arguments.sheet, arguments.script, length)
         sheet = read_file(arguments.sheet)
         if arguments.latin_1:
@@ -71,13 +73,13 @@ def run(arguments: argparse.Namespace) -> int:
             latin1.warn(arguments.sheet, sheet)
         table = outputs.table(NAMES, arguments.json)
         for number, row in enumerate(found.rows):
-            first = clock(row.first // 4)
+            first = spelled(row.first // 4)
             table.row(
                 (
                     number,
                     row.line,
-                    clock(row.ready),
-                    clock(row.hold),
+                    spelled(row.ready),
+                    spelled(row.hold),
                     row.need,
                     row.free,
                     first,
@@ -89,6 +91,6 @@ def run(arguments: argparse.Namespace) -> int:
     names = shown(str(arguments.latin_1 or arguments.sheet)), shown(str(arguments.script))
     tell(
         f"{len(found.rows)} pictures, {len(found.late())} of them late; the disc is authored by ribjasper author "
-        f"--lead-in {least_lead_in(sheet, length)} --length {clock(length)} -- {' '.join(names)}"
+        f"--lead-in {least_lead_in(sheet, length)} --length {spelled(length)} -- {' '.join(names)}"
     )
     return LATE if found.late() else 0

@@ -1,0 +1,1 @@
+"""What `import ribjasper` offers to programs and notebooks."""

@@ -1,0 +1,54 @@
+"""A progress bar on a terminal, for what takes longer than two seconds; none without tqdm, with `-q` or elsewhere."""
+import contextlib
+import sys
+from typing import Any, Callable, Iterable, Iterator, TypeVar
+
+from . import output
+
+Item = TypeVar("Item")
+# Seconds before a bar is shown.
+DELAY = 2.0
+
+
+_is_off = False
+
+
+def turn_off() -> None:
+    """Shows no bar in this process, as in those that look at files for another one."""
+    global _is_off
+    _is_off = True
+
+
+def bar(total: int | None, unit: str, is_scaled: bool = False) -> Any:
+    """A bar of tqdm, or none where none is to be shown; there is one at a time."""
+    if _is_off or output.is_quiet() or output.shown_bar() or sys.stderr is None or not sys.stderr.isatty():
+        return None
+    with contextlib.suppress(ImportError):
+        tqdm: Any = __import__("tqdm").tqdm
+        return tqdm(
+            total=total, unit=unit, delay=DELAY, file=sys.stderr, leave=False, dynamic_ncols=True, unit_scale=is_scaled
+        )
+    return None
+
+
+def progress(items: Iterable[Item], total: int | None, unit: str) -> Iterator[Item]:
+    """Items one by one, and how many of them are done."""
+    with counted(total, f" {unit}") as advance:
+        for item in items:
+            yield item
+            advance(1)
+
+
+@contextlib.contextmanager
+def counted(total: int | None, unit: str, is_scaled: bool = False) -> Iterator[Callable[[int], object]]:
+    """What is called with how much more is done."""
+    shown = bar(total, unit, is_scaled)
+    if shown is None:
+        yield lambda _: None
+        return
+    output.show_bar(shown)
+    try:
+        yield shown.update
+    finally:
+        output.show_bar(None)
+        shown.close()

@@ -1,0 +1,58 @@
+"use strict";
+// The page of a report: it sorts by a heading or by the form, and hides the rows that the form leaves out. Without this script all
+// rows are shown as they are.
+
+// The order of two cells' values: numbers by size, texts by alphabet, and empty cells last. `turn` is 1 or -1.
+function order(x, y, turn) {
+  if (x === "" || y === "") return (x === "") - (y === "");
+  return turn * (isNaN(x) || isNaN(y) ? x.localeCompare(y) : x - y);
+}
+
+// Whether a row is shown: its status, the share of its good Q frames (empty if it has no Q) and its name fit the form.
+function isShown(row, form) {
+  const least = form.least === "" ? 0 : Number(form.least), most = form.most === "" ? 100 : Number(form.most);
+  const share = row.share === "" ? null : 100 * row.share;
+  const within = share === null ? form.least === "" && form.most === "" : share >= least && share <= most;
+  return (form.state === "" || row.status === form.state) && within && row.name.toLowerCase().includes(form.name.toLowerCase());
+}
+
+function begin() {
+  const body = document.querySelector("tbody"), form = document.querySelector("form"), told = document.querySelector("#told");
+  const rows = [...body.rows];
+  const value = (row, place) => row.cells[place].dataset.value ?? row.cells[place].textContent;
+  function sort(head, turn) {
+    document.querySelectorAll("th").forEach((other) => other.removeAttribute("aria-sort"));
+    head.setAttribute("aria-sort", turn > 0 ? "ascending" : "descending");
+    const place = head.cellIndex;
+    body.append(...rows.sort((a, b) => order(value(a, place), value(b, place), turn)));
+  }
+  document.querySelectorAll("th button").forEach((button) => {
+    const head = button.parentElement;
+    button.addEventListener("click", () => sort(head, head.ariaSort === "ascending" ? -1 : 1));
+    for (const [turn, mark] of [[1, "\u25B2"], [-1, "\u25BC"]]) {
+      form.sort.add(new Option(`${button.textContent} ${mark}`, `${head.cellIndex} ${turn}`));
+    }
+  });
+  form.sort.addEventListener("input", () => {
+    const [place, turn] = form.sort.value.split(" ");
+    if (turn) sort(document.querySelectorAll("th")[place], Number(turn));
+  });
+  function filter() {
+    const asked = { state: form.state.value, name: form.name.value, least: form.least.value, most: form.most.value };
+    let shown = 0;
+    for (const row of rows) {
+      row.hidden = !isShown(row.dataset, asked);
+      shown += !row.hidden;
+    }
+    told.textContent = shown === rows.length ? "" : `${shown} of ${rows.length} are shown`;
+  }
+  form.hidden = false;
+  form.addEventListener("input", filter);
+  form.addEventListener("submit", (event) => event.preventDefault());
+  form.addEventListener("reset", () => setTimeout(filter));
+  filter();
+}
+
+// The tests call the functions in Node; a page begins at once.
+if (typeof module === "object") module.exports = { order, isShown };
+else begin();
