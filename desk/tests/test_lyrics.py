@@ -1,4 +1,6 @@
 """`lyrics`: that each script is in time, that its letters can be read, and that words are lit when they are sung."""
+import itertools
+import math
 import unittest
 from pathlib import Path
 from typing import Any, Iterator
@@ -34,6 +36,17 @@ def rgb(colour: Colour) -> tuple[int, int, int]:
     return 17 * colour.red, 17 * colour.green, 17 * colour.blue
 
 
+def lab(colour: Colour) -> tuple[float, float, float]:
+    """A colour in CIELAB, by the formulas of IEC 61966-2-1 and of CIE for the white of D65: a distance of 2 can be seen."""
+    parts = [part / 15 for part in colour]
+    red, green, blue = (part / 12.92 if part <= 0.04045 else ((part + 0.055) / 1.055) ** 2.4 for part in parts)
+    x = (0.4124 * red + 0.3576 * green + 0.1805 * blue) / 0.95047
+    y = 0.2126 * red + 0.7152 * green + 0.0722 * blue
+    z = (0.0193 * red + 0.1192 * green + 0.9505 * blue) / 1.08883
+    x, y, z = (part ** (1 / 3) if part > 0.008856 else 7.787 * part + 16 / 116 for part in (x, y, z))
+    return 116 * y - 16, 500 * (x - y), 200 * (y - z)
+
+
 class StylesTest(FolderTest):
     def test_letters_can_be_read_in_each_style(self) -> None:
         for name in shipped():
@@ -43,6 +56,12 @@ class StylesTest(FolderTest):
                 self.assertGreaterEqual(contrast(voice.sung, style.ground), 4.5, name)
                 for other in style.voices:
                     self.assertGreaterEqual(contrast(voice.sung, other.unsung), 3, name)
+
+    def test_voices_can_be_told_apart(self) -> None:
+        for name in shipped():
+            for one, other in itertools.combinations(read_style(name).voices, 2):
+                self.assertGreater(math.dist(lab(one.unsung), lab(other.unsung)), 30, (name, one, other))
+                self.assertGreater(math.dist(lab(one.sung), lab(other.sung)), 45, (name, one, other))
 
     def test_contrast(self) -> None:
         # By the formula of WCAG 2: black and white, and the grey of #777, which is known for its 4.48.
