@@ -1,6 +1,6 @@
 -- When it is said that no memory was found.
 use Rattle.std.proofs.Common.{◌≡◌, ◌≢◌, ◌≤◌, ◌==◌, ◌⊎◌, inl, inr, ℕ, Bool, true, false, Result, Ok, Err, refl, sym, ap, subst, arith, if◌then◌else◌}
-use Rattle.cdg_io.specs.Causes.{HasCause, Rose, TellsFault}
+use Rattle.cdg_io.specs.Causes.{Rose, TellsFault}
 use Rattle.cdg_io.specs.declared.whole.ReadStop.{ReadStop}
 use Rattle.cdg_io.specs.declared.whole.ReadStop.TheVariants as read
 use Rattle.cue_sheet.specs.declared.fault.CueStop.{CueStop}
@@ -57,12 +57,19 @@ stopped {A} status n n' told = record {
 
 -- memory was found before anything was done, or was not
 module _ {A E : Type 0} (n n' : ℕ) where
-  pub found_first : (value : A) (status : Status) → HasCause {E = E} n n' (Ok value) → status ≢ NoMemory
-      → IsTold NoMemory (count n n') status
-  found_first value status cause silence = silent NoMemory status n n' cause.later silence cause.same
+  pub found_first : (lack : E) (value : A) (status : Status) → TellsFault lack n n' (Ok value)
+      → status ≢ NoMemory → IsTold NoMemory (count n n') status
+  found_first lack value status noted silence =
+      silent NoMemory status n n' noted.later silence (noted.same (λ e. cc))
 
-  pub lacked_first : (stop : E) → HasCause {T = A} n n' (Err stop) → IsTold NoMemory (count n n') NoMemory
-  lacked_first stop cause = told NoMemory n n' cause.later cause.failed
+  pub lacked_first : (lack stop : E) → stop ≡ lack → TellsFault {T = A} lack n n' (Err stop)
+      → IsTold NoMemory (count n n') NoMemory
+  lacked_first lack stop is noted =
+      told NoMemory n n' noted.later (noted.rose (ap (λ (e : E). Err e) is))
+
+  -- the count is as it was where memory was found
+  pub kept_first : (lack : E) (value : A) → TellsFault lack n n' (Ok value) → n' ≡ n
+  kept_first lack value noted = noted.same (λ e. cc)
 
 -- of a call that was reached with the count as it was
 pub reached : (status : Status) (n n' n'' : ℕ) → n' ≡ n → IsTold NoMemory (count n' n'') status

@@ -17,6 +17,7 @@ pub mod Resumes
 pub mod Spelling
 pub mod Splitting
 pub mod Thinned
+pub mod Stopped
 pub mod Stops
 pub mod Told
 pub mod Turns

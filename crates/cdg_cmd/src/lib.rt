@@ -1,13 +1,13 @@
 //! The commands of the workshop over sources and sinks: their words, what they answer, and the line that says it.
 #![tactic(auto)]
 
+mod calls;
 mod command;
 mod laws;
 mod making;
-mod memory;
-mod no_memory;
 mod packs;
 mod status;
+mod stopped;
 mod streams;
 mod top;
 

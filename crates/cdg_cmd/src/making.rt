@@ -14,51 +14,52 @@ ghost use Rattle.cdg_cmd.specs.Stops.{author_status, press_status};
 ghost use Rattle.cdg_workload.specs.Script.{generated_script, most_generated};
 ghost use Rattle.cdg_cmd.specs.Answer.{Generates, Tries};
 
-use crate::memory::CountedMemory;
+use crate::calls::{author, press, read_text};
 use crate::status::{author_status, press_status, script_status, sheet_status};
 use crate::{Command, Status, Which};
 use cdg_io::{Failed, Sink, Source};
 use cdg_workload::write_script;
 use cue_sheet::Sheet;
 use picture_script::Script;
-use stream_trial::TrialStop;
+use stream_trial::{TrialStop, trial};
+use subcode_author::Heap;
 
 // The cue sheet of the first input, or the status that says why there is none.
 #[tactic(auto, using(crate::proofs::TextReads::refused_sheet))]
-fn read_sheet<S: Source>(memory: &mut CountedMemory, first: &mut S) -> Result<Sheet, Status>
+fn read_sheet<S: Source>(heap: &mut Heap, first: &mut S) -> Result<Sheet, Status>
     ensures ok { IfOk result (ReadsSheet (change S.left first.old first.new)) }
     ensures err { IfErr result (IsSheetStop (S.left first.old)) }
     ensures taken { IfErr result (TakesAtStop (change S.left first.old first.new)) }
     ensures fault { TellsFault (Status.ReadFault Which.First)
         (S.faults first.old) (S.faults first.new) result }
-    ensures wants { TellsFault Status.NoMemory memory.old memory.new result }
+    ensures wants { TellsFault Status.NoMemory heap.old heap.new result }
     ensures told { TellsText (input S.Source first.old first.new) result }
 {
-    let text = match memory.read_text(Which::First, first) {
+    let text = match read_text(heap, Which::First, first) {
         Ok(text) => text,
         Err(status) => return Err(status),
     };
-    match memory.sheet(&text) {
+    match heap.sheet(&text) {
         Ok(sheet) => Ok(sheet),
         Err(stop) => Err(sheet_status(stop)),
     }
 }
 
 // The picture script of the second input, or the status that says why there is none.
-fn read_script<S: Source>(memory: &mut CountedMemory, second: &mut S) -> Result<Script, Status>
+fn read_script<S: Source>(heap: &mut Heap, second: &mut S) -> Result<Script, Status>
     ensures ok { IfOk result (ReadsScript (change S.left second.old second.new)) }
     ensures err { IfErr result (IsScriptStop (S.left second.old)) }
     ensures taken { IfErr result (TakesAtStop (change S.left second.old second.new)) }
     ensures fault { TellsFault (Status.ReadFault Which.Second)
         (S.faults second.old) (S.faults second.new) result }
-    ensures wants { TellsFault Status.NoMemory memory.old memory.new result }
+    ensures wants { TellsFault Status.NoMemory heap.old heap.new result }
     ensures told { TellsText (input S.Source second.old second.new) result }
 {
-    let text = match memory.read_text(Which::Second, second) {
+    let text = match read_text(heap, Which::Second, second) {
         Ok(text) => text,
         Err(status) => return Err(status),
     };
-    match memory.script(&text) {
+    match heap.script(&text) {
         Ok(script) => Ok(script),
         Err(stop) => Err(script_status(stop)),
     }
@@ -66,7 +67,7 @@ fn read_script<S: Source>(memory: &mut CountedMemory, second: &mut S) -> Result<
 
 /// Writes the stream of a cue sheet, which is the first input, and a picture script, which is the second.
 pub(crate) fn run_author<S: Source, T: Source, K: Sink>(
-    memory: &mut CountedMemory,
+    heap: &mut Heap,
     lead_in: u32,
     length: u32,
     first: &mut S,
@@ -85,22 +86,22 @@ pub(crate) fn run_author<S: Source, T: Source, K: Sink>(
         (first.new, second.new, out.new)) result }
     ensures ended { TextsEnd IsScriptStop author_status (input S.Source first.old first.new)
         (input T.Source second.old second.new) result }
-    ensures wants { TellsWant memory.old memory.new result }
+    ensures wants { TellsWant heap.old heap.new result }
 {
-    let sheet = match read_sheet(memory, first) {
+    let sheet = match read_sheet(heap, first) {
         Ok(sheet) => sheet,
         Err(status) => return status,
     };
-    let script = match read_script(memory, second) {
+    let script = match read_script(heap, second) {
         Ok(script) => script,
         Err(status) => return status,
     };
-    author_status(memory.author(&sheet, &script, lead_in, length, out))
+    author_status(author(heap, &sheet, &script, lead_in, length, out))
 }
 
 /// Writes the stream of a cue sheet, which is the first input, and a file of packs, which is the second.
 pub(crate) fn run_press<S: Source, T: Source, K: Sink>(
-    memory: &mut CountedMemory,
+    heap: &mut Heap,
     lead_in: u32,
     length: u32,
     first: &mut S,
@@ -119,17 +120,17 @@ pub(crate) fn run_press<S: Source, T: Source, K: Sink>(
         (first.new, second.new, out.new)) result }
     ensures ended { TextsEnd IsFileStop press_status (input S.Source first.old first.new)
         (input T.Source second.old second.new) result }
-    ensures wants { TellsWant memory.old memory.new result }
+    ensures wants { TellsWant heap.old heap.new result }
 {
-    let sheet = match read_sheet(memory, first) {
+    let sheet = match read_sheet(heap, first) {
         Ok(sheet) => sheet,
         Err(status) => return status,
     };
-    let file = match memory.read_text(Which::Second, second) {
+    let file = match read_text(heap, Which::Second, second) {
         Ok(file) => file,
         Err(status) => return status,
     };
-    press_status(memory.press(&sheet, &file, lead_in, length, out))
+    press_status(press(heap, &sheet, &file, lead_in, length, out))
 }
 
 /// Writes the script of a seed.
@@ -148,20 +149,15 @@ pub(crate) fn run_gen<K: Sink>(seed: u64, pictures: u32, out: &mut K) -> Status
 
 /// Writes the lines of a trial of a seed.
 #[tactic(auto, using(crate::proofs::Written::told_done, crate::proofs::Written::told_cut, crate::proofs::Written::told_nothing))]
-pub(crate) fn run_trial<K: Sink>(
-    memory: &mut CountedMemory,
-    seed: u64,
-    pictures: u32,
-    out: &mut K,
-) -> Status
+pub(crate) fn run_trial<K: Sink>(heap: &mut Heap, seed: u64, pictures: u32, out: &mut K) -> Status
     requires { (1 ≤ pictures) × (pictures ≤ most_generated) }
     ensures does { result ≢ Status.NoMemory → Tries seed pictures (change K.held out.old out.new) result }
     ensures never { (result ≡ Status.Done) ⊎ (result ≡ Status.WriteFault) ⊎ (result ≡ Status.NoMemory) }
     ensures no_memory { result ≡ Status.NoMemory → out.new ≡ out.old }
     ensures faults { IsTold Status.WriteFault (change K.faults out.old out.new) result }
-    ensures wants { TellsWant memory.old memory.new result }
+    ensures wants { TellsWant heap.old heap.new result }
 {
-    match memory.try_out(seed, pictures, out) {
+    match trial(heap, seed, pictures, out) {
         Ok(()) => Status::Done,
         Err(TrialStop::WriteFault) => Status::WriteFault,
         Err(TrialStop::NoMemory) => Status::NoMemory,

@@ -12,14 +12,16 @@ ghost use Rattle.cdg_cmd.specs.Stops.{pump_status, thin_status};
 ghost use Rattle.cdg_io.specs.Pump.{TellsEndOf};
 ghost use Rattle.cdg_checkpoint.specs.Saved.{EndsAsSaved};
 
-use crate::memory::CountedMemory;
 use crate::status::{merge_status, pump_status, resume_status, thin_status};
 use crate::{Command, Status};
+use cdg_checkpoint::Checkpointer;
 use cdg_io::{Sink, Source, pump};
+use cdg_press::Thinner;
 use cdg_workload::scratch;
 use q_channel::{BlockForms, PlanarForms};
 use raw_subcode::MOST_UNITS;
 use rw_merge::Merger;
+use subcode_author::Heap;
 
 /// Writes the packs on which two readings of a stream agree, as their blocks are read.
 pub(crate) fn run_merge<S: Source, T: Source, K: Sink>(
@@ -44,11 +46,7 @@ pub(crate) fn run_merge<S: Source, T: Source, K: Sink>(
 
 /// Writes the thin form of a file of packs as they are read.
 #[tactic(auto, using(crate::proofs::ThinTold::told_one, crate::proofs::Played::told_none, crate::proofs::ThinTold::never_memory, crate::proofs::Ended::ended_as))]
-pub(crate) fn run_thin<S: Source, K: Sink>(
-    memory: &mut CountedMemory,
-    source: &mut S,
-    out: &mut K,
-) -> Status
+pub(crate) fn run_thin<S: Source, K: Sink>(heap: &mut Heap, source: &mut S, out: &mut K) -> Status
     ensures does { result ≢ Status.NoMemory → Does Command.Thin
         (one_input S.left K.held (source.old, out.old) (source.new, out.new)) result }
     ensures no_memory { result ≡ Status.NoMemory → (source.new ≡ source.old) × (out.new ≡ out.old) }
@@ -56,9 +54,9 @@ pub(crate) fn run_thin<S: Source, K: Sink>(
         (change K.faults out.old out.new) result }
     ensures ended { result ≢ Status.NoMemory
         → EndsAs thin_status TellsEndOf (input S.Source source.old source.new) result }
-    ensures wants { TellsWant memory.old memory.new result }
+    ensures wants { TellsWant heap.old heap.new result }
 {
-    match memory.thinner() {
+    match heap.asked(Thinner::start) {
         Ok(mut thinner) => thin_status(thinner.run(source, out)),
         Err(_) => Status::NoMemory,
     }
@@ -67,7 +65,7 @@ pub(crate) fn run_thin<S: Source, K: Sink>(
 /// Writes the checkpoint after a stream.
 #[tactic(auto, using(crate::proofs::Played::told_none))]
 pub(crate) fn run_save<S: Source, K: Sink>(
-    memory: &mut CountedMemory,
+    heap: &mut Heap,
     lead_in: u32,
     source: &mut S,
     out: &mut K,
@@ -81,9 +79,9 @@ pub(crate) fn run_save<S: Source, K: Sink>(
         (change K.faults out.old out.new) result }
     ensures ended { result ≢ Status.NoMemory
         → EndsAs pump_status EndsAsSaved (input S.Source source.old source.new) result }
-    ensures wants { TellsWant memory.old memory.new result }
+    ensures wants { TellsWant heap.old heap.new result }
 {
-    match memory.checkpointer() {
+    match heap.asked(Checkpointer::start) {
         Ok(mut checkpointer) => pump_status(checkpointer.save(lead_in, source, out)),
         Err(_) => Status::NoMemory,
     }
@@ -92,7 +90,7 @@ pub(crate) fn run_save<S: Source, K: Sink>(
 /// Writes the picture at a moment of a stream of which a checkpoint, which is the first input, and the rest are given.
 #[tactic(auto, using(crate::proofs::MergeTold::told_none, crate::proofs::ResumeTold::never_memory, crate::proofs::ResumeTold::never_usage))]
 pub(crate) fn run_resume<S: Source, T: Source, K: Sink>(
-    memory: &mut CountedMemory,
+    heap: &mut Heap,
     at: u32,
     first: &mut S,
     second: &mut T,
@@ -111,9 +109,9 @@ pub(crate) fn run_resume<S: Source, T: Source, K: Sink>(
         (first.new, second.new, out.new)) result }
     ensures ended { result ≢ Status.NoMemory → ResumeEnds at (input S.Source first.old first.new)
         (input T.Source second.old second.new) result }
-    ensures wants { TellsWant memory.old memory.new result }
+    ensures wants { TellsWant heap.old heap.new result }
 {
-    match memory.checkpointer() {
+    match heap.asked(Checkpointer::start) {
         Ok(mut checkpointer) => resume_status(checkpointer.resume(at, first, second, out)),
         Err(_) => Status::NoMemory,
     }

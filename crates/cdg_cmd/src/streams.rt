@@ -11,12 +11,13 @@ ghost use Rattle.cdg_cmd.specs.Faults.{TellsOne, TellsWant};
 ghost use Rattle.cdg_cmd.specs.Keeps.{MayWrite};
 ghost use Rattle.cdg_cmd.specs.Stops.{play_status};
 
-use crate::memory::CountedMemory;
+use crate::calls::list_texts;
 use crate::status::play_status;
 use crate::{Command, Status};
 use cdg_io::{Sink, Source};
 use raw_subcode::Form;
-use stream_stages::{Checker, Converter, list_frames};
+use stream_stages::{Checker, Converter, TextLister, Viewer, list_frames};
+use subcode_author::Heap;
 
 /// Writes the packs of a stream as its blocks are read.
 pub(crate) fn run_convert<S: Source, K: Sink>(
@@ -77,7 +78,7 @@ pub(crate) fn run_q<S: Source, K: Sink>(
 /// Writes the texts of the lead-in of a stream, after all of it is read.
 #[tactic(auto, using(crate::proofs::Played::told_none))]
 pub(crate) fn run_text<S: Source, K: Sink>(
-    memory: &mut CountedMemory,
+    heap: &mut Heap,
     lead_in: u32,
     form: Form,
     source: &mut S,
@@ -88,18 +89,16 @@ pub(crate) fn run_text<S: Source, K: Sink>(
     ensures does { result ≢ Status.NoMemory → Does (Command.Text lead_in form)
         (one_input S.left K.held (source.old, out.old) (source.new, out.new)) result }
     // Where there is no memory nothing was read, or all of a whole input, whose lead-in gives texts.
-    ensures lacks { result ≡ Status.NoMemory → LacksMemory (Command.Text lead_in form)
+    ensures no_memory { result ≡ Status.NoMemory → LacksMemory (Command.Text lead_in form)
         (one_input S.left K.held (source.old, out.old) (source.new, out.new)) }
     ensures untouched { ¬ (MayWrite result) → out.new ≡ out.old }
     ensures faults { TellsOne (change S.faults source.old source.new)
         (change K.faults out.old out.new) result }
     ensures ended { EndsAsListed (input S.Source source.old source.new) result }
-    ensures wants { TellsWant memory.old memory.new result }
+    ensures wants { TellsWant heap.old heap.new result }
 {
-    match memory.lister() {
-        Ok(mut lister) => {
-            play_status(memory.list_texts(&mut lister, lead_in, form, source, out))
-        }
+    match heap.asked(TextLister::start) {
+        Ok(mut lister) => { play_status(list_texts(heap, &mut lister, lead_in, form, source, out)) }
         Err(_) => Status::NoMemory,
     }
 }
@@ -107,7 +106,7 @@ pub(crate) fn run_text<S: Source, K: Sink>(
 /// Writes the picture at a moment of a stream.
 #[tactic(auto, using(crate::proofs::Played::told_none))]
 pub(crate) fn run_screen<S: Source, K: Sink>(
-    memory: &mut CountedMemory,
+    heap: &mut Heap,
     lead_in: u32,
     form: Form,
     at: u32,
@@ -124,9 +123,9 @@ pub(crate) fn run_screen<S: Source, K: Sink>(
         (change K.faults out.old out.new) result }
     ensures ended { result ≢ Status.NoMemory
         → EndsAs play_status EndFirst (input S.Source source.old source.new) result }
-    ensures wants { TellsWant memory.old memory.new result }
+    ensures wants { TellsWant heap.old heap.new result }
 {
-    match memory.viewer() {
+    match heap.asked(Viewer::start) {
         Ok(mut viewer) => play_status(viewer.screen_at(lead_in, form, at, source, out)),
         Err(_) => Status::NoMemory,
     }
@@ -135,7 +134,7 @@ pub(crate) fn run_screen<S: Source, K: Sink>(
 /// Writes the state of the screen at a moment of a stream.
 #[tactic(auto, using(crate::proofs::Played::told_none))]
 pub(crate) fn run_state<S: Source, K: Sink>(
-    memory: &mut CountedMemory,
+    heap: &mut Heap,
     lead_in: u32,
     form: Form,
     at: u32,
@@ -152,9 +151,9 @@ pub(crate) fn run_state<S: Source, K: Sink>(
         (change K.faults out.old out.new) result }
     ensures ended { result ≢ Status.NoMemory
         → EndsAs play_status EndFirst (input S.Source source.old source.new) result }
-    ensures wants { TellsWant memory.old memory.new result }
+    ensures wants { TellsWant heap.old heap.new result }
 {
-    match memory.viewer() {
+    match heap.asked(Viewer::start) {
         Ok(mut viewer) => play_status(viewer.state_at(lead_in, form, at, source, out)),
         Err(_) => Status::NoMemory,
     }

@@ -30,13 +30,13 @@ ghost use Rattle.cdg_cmd.specs.Unpresses.{Unpresses};
 
 use crate::laws::commands_are_answered;
 use crate::making::{run_author, run_gen, run_press, run_trial};
-use crate::memory::CountedMemory;
 use crate::packs::{run_merge, run_planar, run_raw, run_resume, run_save, run_scratch, run_thin};
 use crate::status::tell;
 use crate::streams::{run_check, run_convert, run_q, run_screen, run_state, run_text};
 use crate::{Command, Split, Status, read_words};
 use cdg_io::{Sink, Source};
 use std::alloc::Global;
+use subcode_author::Heap;
 
 // The number of words before the first `--`.
 fn words_before(line: &[String]) -> Option<usize>
@@ -168,15 +168,15 @@ pub fn run<S: Source, T: Source, K: Sink, E: Sink>(
         × Appends (K.held out.old) (K.held out.new) text) }
 {
     commands_are_answered();
-    let status = answer(&mut CountedMemory::new(alloc), words, first, second, out);
+    let status = answer(&mut Heap::new(alloc), words, first, second, out);
     // A failure there changes nothing.
     let _told = tell(err, status);
     status
 }
 
-// The same without the error output, with memory that is counted.
+// The same without the error output, with a heap.
 fn answer<S: Source, T: Source, K: Sink>(
-    memory: &mut CountedMemory,
+    heap: &mut Heap,
     words: &[String],
     first: &mut S,
     second: &mut T,
@@ -191,16 +191,16 @@ fn answer<S: Source, T: Source, K: Sink>(
         (first.new, second.new, out.new) result }
     ensures faults { TellsFaults (call S.faults T.faults K.faults (first.old, second.old, out.old)
         (first.new, second.new, out.new)) result }
-    ensures wants { TellsWant memory.old memory.new result }
+    ensures wants { TellsWant heap.old heap.new result }
 {
     match read_words(words) {
-        Some(command) => perform(memory, command, first, second, out),
+        Some(command) => perform(heap, command, first, second, out),
         None => Status::Usage,
     }
 }
 
 fn perform<S: Source, T: Source, K: Sink>(
-    memory: &mut CountedMemory,
+    heap: &mut Heap,
     command: Command,
     first: &mut S,
     second: &mut T,
@@ -214,29 +214,29 @@ fn perform<S: Source, T: Source, K: Sink>(
         (first.new, second.new, out.new) result }
     ensures faults { TellsFaults (call S.faults T.faults K.faults (first.old, second.old, out.old)
         (first.new, second.new, out.new)) result }
-    ensures wants { TellsWant memory.old memory.new result }
+    ensures wants { TellsWant heap.old heap.new result }
 {
     match command {
         Command::Convert { lead_in, form } => run_convert(lead_in, form, first, out),
-        Command::Screen { lead_in, form, at } => run_screen(memory, lead_in, form, at, first, out),
-        Command::State { lead_in, form, at } => run_state(memory, lead_in, form, at, first, out),
+        Command::Screen { lead_in, form, at } => run_screen(heap, lead_in, form, at, first, out),
+        Command::State { lead_in, form, at } => run_state(heap, lead_in, form, at, first, out),
         Command::Check { lead_in, form } => run_check(lead_in, form, first, out),
         Command::Q { lead_in, form } => run_q(lead_in, form, first, out),
-        Command::Text { lead_in, form } => run_text(memory, lead_in, form, first, out),
+        Command::Text { lead_in, form } => run_text(heap, lead_in, form, first, out),
         Command::Author { lead_in, length } => {
-            run_author(memory, lead_in, length, first, second, out)
+            run_author(heap, lead_in, length, first, second, out)
         }
         Command::Planar => run_planar(first, out),
         Command::Raw => run_raw(first, out),
         Command::Scratch { lead_in, seed } => run_scratch(lead_in, seed, first, out),
         Command::Gen { seed, pictures } => run_gen(seed, pictures, out),
-        Command::Trial { seed, pictures } => run_trial(memory, seed, pictures, out),
+        Command::Trial { seed, pictures } => run_trial(heap, seed, pictures, out),
         Command::Merge { lead_in } => run_merge(lead_in, first, second, out),
-        Command::Thin => run_thin(memory, first, out),
+        Command::Thin => run_thin(heap, first, out),
         Command::Press { lead_in, length } => {
-            run_press(memory, lead_in, length, first, second, out)
+            run_press(heap, lead_in, length, first, second, out)
         }
-        Command::Save { lead_in } => run_save(memory, lead_in, first, out),
-        Command::Resume { at } => run_resume(memory, at, first, second, out),
+        Command::Save { lead_in } => run_save(heap, lead_in, first, out),
+        Command::Resume { at } => run_resume(heap, at, first, second, out),
     }
 }

@@ -4,13 +4,11 @@ ghost use Rattle.cdg_io.specs.Causes.{TellsFault};
 ghost use Rattle.cue_sheet.specs.CueSheet.{index_line_of, track_of, is_capital_code, is_catalogue_number};
 ghost use Rattle.disc_plan.specs.SheetRows.{sheet_row, sheet_rows, track_rows, flag_of, or_zeros, AreRowsOf, IsRowsStop};
 
-use crate::reading::parse_sheet;
 use crate::stops::SheetStop;
 use crate::told::{ToldSheet, told_sheet};
 use cue_sheet::{CueStop, Sheet};
 use disc_time::{CATALOGUE_DIGITS, ISRC_CHARACTERS};
-use std::alloc::Global;
-use subcode_author::NoMemoryCount;
+use subcode_author::Heap;
 use text_lines::MOST_TEXT_BYTES;
 
 /// An index line of a sheet, with what the sheet says of its track. Times are blocks, 75 a second.
@@ -35,24 +33,22 @@ pub struct SheetRow {
     pub isrc: [u8; ISRC_CHARACTERS],
 }
 
-/// Writes a row for each index line of the text of a cue sheet to the front of some rows. `NoMemory` comes only if an
-/// answer was counted that said so.
+/// Writes a row for each index line of the text of a cue sheet to the front of some rows.
 pub fn sheet_rows(
-    alloc: Global,
-    lacks: &mut NoMemoryCount,
+    heap: &mut Heap,
     text: &[u8],
     rows: &mut [SheetRow],
 ) -> Result<ToldSheet, SheetStop>
     ensures rows { IfOk result (AreRowsOf text.now rows.old rows.new) }
     ensures stop { IfErr result (IsRowsStop text.now (length rows.old)) }
     ensures untouched { OnErr result (rows.new ≡ rows.old) }
-    // A call that asks for memory said that none was found, and no other call did.
-    ensures wants { TellsFault SheetStop.NoMemory lacks.old lacks.new result }
+    // The answer is `NoMemory` exactly if a request for memory failed.
+    ensures wants { TellsFault SheetStop.NoMemory heap.old heap.new result }
 {
     if text.len() > MOST_TEXT_BYTES {
         return Err(SheetStop::TooLong);
     }
-    let sheet = match parse_sheet(alloc, lacks, text) {
+    let sheet = match heap.sheet(text) {
         Ok(sheet) => sheet,
         Err(CueStop::Fault { line, why }) => return Err(SheetStop::Fault { line, why }),
         Err(CueStop::NoMemory) => return Err(SheetStop::NoMemory),

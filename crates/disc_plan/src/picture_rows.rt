@@ -9,8 +9,8 @@ ghost use Rattle.disc_plan.specs.PictureRows.{is_late, told_row, AreToldRows};
 
 use pack_schedule::{PlanRow, Planner};
 use picture_script::{Script, ShowLines, each_picture_has_a_line};
-use std::alloc::{AllocError, Global};
-use subcode_author::NoMemoryCount;
+use std::alloc::AllocError;
+use subcode_author::Heap;
 
 /// A picture of a script in a plan, as programs in C hold it. Times are blocks of the program.
 #[repr(C)]
@@ -50,8 +50,7 @@ fn told_row(line: u32, plan: &PlanRow) -> PlannedRow
 /// Writes a row for each picture of a script that is read from this text to the front of some rows, and tells how many
 /// pictures are late. Where there is no memory it writes nothing.
 pub(crate) fn write_rows(
-    alloc: Global,
-    lacks: &mut NoMemoryCount,
+    heap: &mut Heap,
     script: &Script,
     text: &[u8],
     rows: &mut [PlannedRow],
@@ -63,10 +62,10 @@ pub(crate) fn write_rows(
     ensures rest { drop (pictures script.now) rows.new ≡ drop (pictures script.now) rows.old }
     ensures late { IfOk result (λ late. late ≡ count_by is_late (take (pictures script.now) rows.new)) }
     ensures untouched { OnErr result (rows.new ≡ rows.old) }
-    ensures counted { HasCause lacks.old lacks.new result }
+    ensures counted { HasCause heap.old heap.new result }
 {
     each_picture_has_a_line();
-    let mut planner = start_planner(alloc, lacks, script)?;
+    let mut planner = start_planner(heap, script)?;
     let mut lines = ShowLines::of(text);
     let mut late = 0u32;
     for k in 0..script.pictures() as usize {
@@ -85,16 +84,10 @@ pub(crate) fn write_rows(
 }
 
 // The planner of a script, before its first picture.
-fn start_planner<'a>(
-    alloc: Global,
-    lacks: &mut NoMemoryCount,
-    script: &'a Script,
-) -> Result<Planner<'a>, AllocError>
+fn start_planner<'a>(heap: &mut Heap, script: &'a Script) -> Result<Planner<'a>, AllocError>
     ensures script { IfOk result (λ p. p.script ≡ script.now) }
     ensures given { IfOk result (λ p. p.given ≡ 0) }
-    ensures counted { HasCause lacks.old lacks.new result }
+    ensures counted { HasCause heap.old heap.new result }
 {
-    let planner = Planner::start(alloc, script);
-    lacks.note_answer(&planner);
-    planner
+    heap.asked(|alloc| Planner::start(alloc, script))
 }

@@ -7,8 +7,7 @@ ghost use Rattle.disc_plan.specs.Discs.{planned_disc, IsPlan, IsPlanScriptStop, 
 use crate::picture_rows::{PlannedRow, write_rows};
 use crate::reading::{read_script, read_sheet};
 use crate::stops::PlanStop;
-use std::alloc::Global;
-use subcode_author::{NoMemoryCount, accept_disc};
+use subcode_author::{Heap, accept_disc};
 
 #[derive(Clone, Copy)]
 pub struct PlannedDisc {
@@ -26,10 +25,9 @@ pub struct PlannedDisc {
 ///
 /// The reasons of `PlanStop` in their order, which is that in which the program refuses to write the disc. Those of the
 /// texts are found without memory. `Disc` and `NoRoom` are found only where there is memory for both texts: `NoMemory`
-/// may come in their place, and only if an answer was counted that said so. Then no row is written.
+/// may come in their place. Then no row is written.
 pub fn plan_disc(
-    alloc: Global,
-    lacks: &mut NoMemoryCount,
+    heap: &mut Heap,
     sheet: &[u8],
     script: &[u8],
     lead_in: u32,
@@ -42,18 +40,18 @@ pub fn plan_disc(
     ensures stop { IfErr result (IsPlanStop (planned_disc sheet.now script.now lead_in audio)
         (length rows.old)) }
     ensures untouched { OnErr result (rows.new ≡ rows.old) }
-    // A call that asks for memory said that none was found.
-    ensures wants { result ≡ Err PlanStop.NoMemory → Rose lacks.old lacks.new }
-    // Where there is a plan no call did.
-    ensures found { OnOk result (lacks.new ≡ lacks.old) }
-    ensures later { lacks.old ≤ lacks.new }
+    // `NoMemory` comes only if a request for memory failed.
+    ensures wants { result ≡ Err PlanStop.NoMemory → Rose heap.old heap.new }
+    // Where there is a plan, none failed.
+    ensures found { OnOk result (heap.new ≡ heap.old) }
+    ensures later { heap.old ≤ heap.new }
 {
-    let cues = match read_sheet(alloc, lacks, sheet) {
+    let cues = match read_sheet(heap, sheet) {
         Ok(cues) => cues,
-        Err(PlanStop::NoMemory) => return Err(stop_of_script(alloc, lacks, script)),
+        Err(PlanStop::NoMemory) => return Err(stop_of_script(heap, script)),
         Err(stop) => return Err(stop),
     };
-    let drawings = match read_script(alloc, lacks, script) {
+    let drawings = match read_script(heap, script) {
         Ok(drawings) => drawings,
         Err(stop) => return Err(stop),
     };
@@ -65,7 +63,7 @@ pub fn plan_disc(
     if pictures as usize > rows.len() {
         return Err(PlanStop::NoRoom { pictures, blocks });
     }
-    match write_rows(alloc, lacks, &drawings, script, rows) {
+    match write_rows(heap, &drawings, script, rows) {
         Ok(late) => Ok(PlannedDisc {
             pictures,
             blocks,
@@ -76,12 +74,12 @@ pub fn plan_disc(
 }
 
 // Why a script is refused; where it is not, want of memory.
-fn stop_of_script(alloc: Global, lacks: &mut NoMemoryCount, script: &[u8]) -> PlanStop
+fn stop_of_script(heap: &mut Heap, script: &[u8]) -> PlanStop
     ensures stop { IsPlanScriptStop script.now result }
-    ensures counted { (lacks.new ≡ lacks.old) ⊎ Rose lacks.old lacks.new }
-    ensures later { lacks.old ≤ lacks.new }
+    ensures counted { (heap.new ≡ heap.old) ⊎ Rose heap.old heap.new }
+    ensures later { heap.old ≤ heap.new }
 {
-    match read_script(alloc, lacks, script) {
+    match read_script(heap, script) {
         Ok(drawings) => {
             drop(drawings);
             PlanStop::NoMemory

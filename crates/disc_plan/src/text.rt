@@ -4,19 +4,15 @@ ghost use Rattle.cdg_io.specs.Causes.{TellsFault};
 ghost use Rattle.cue_sheet.specs.CueSheet.{text_at};
 ghost use Rattle.disc_plan.specs.SheetRows.{IsTextOf, IsTextStop};
 
-use crate::reading::parse_sheet;
 use crate::stops::TextStop;
 use cue_sheet::{CueStop, CueText};
-use std::alloc::Global;
-use subcode_author::NoMemoryCount;
+use subcode_author::Heap;
 use text_lines::MOST_TEXT_BYTES;
 
 /// Writes a text of a cue sheet to the front of some bytes, and answers how many it has: at place 0 that of the album, at
-/// place k that of the k-th track, counted from 1. It is empty where none is given. `NoMemory` comes only if an answer was
-/// counted that said so.
+/// place k that of the k-th track, counted from 1. It is empty where none is given.
 pub fn sheet_text(
-    alloc: Global,
-    lacks: &mut NoMemoryCount,
+    heap: &mut Heap,
     text: &[u8],
     kind: CueText,
     place: usize,
@@ -25,13 +21,13 @@ pub fn sheet_text(
     ensures text { IfOk result (IsTextOf kind place text.now out.old out.new) }
     ensures stop { IfErr result (IsTextStop kind place text.now (length out.old)) }
     ensures untouched { OnErr result (out.new ≡ out.old) }
-    // A call that asks for memory said that none was found, and no other call did.
-    ensures wants { TellsFault TextStop.NoMemory lacks.old lacks.new result }
+    // The answer is `NoMemory` exactly if a request for memory failed.
+    ensures wants { TellsFault TextStop.NoMemory heap.old heap.new result }
 {
     if text.len() > MOST_TEXT_BYTES {
         return Err(TextStop::TooLong);
     }
-    let sheet = match parse_sheet(alloc, lacks, text) {
+    let sheet = match heap.sheet(text) {
         Ok(sheet) => sheet,
         Err(CueStop::Fault { line, why }) => return Err(TextStop::Fault { line, why }),
         Err(CueStop::NoMemory) => return Err(TextStop::NoMemory),

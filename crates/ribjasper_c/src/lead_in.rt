@@ -21,8 +21,7 @@ use cdtext_packs::{LeadInTexts, TextFault, TextMap, lead_in_packs_are_read, writ
 use disc_time::MOST_LEAD_IN;
 use raw_subcode::{BLOCK_BYTES, Block, Form, MOST_UNITS};
 use std::alloc::{AllocError, Global};
-use std::mem;
-use subcode_author::NoMemoryCount;
+use subcode_author::Heap;
 
 /// What is told of the texts of a lead-in.
 #[repr(C)]
@@ -69,14 +68,12 @@ pub extern "C" fn ribjasper_texts(
 ) -> i32
     ensures { WritesTextsOfLeadIn stream.now form lead_in out.old out.new told.old told.new result }
 {
-    let mut lacks = NoMemoryCount::none();
-    texts_counted(alloc, &mut lacks, stream, form, lead_in, out, told)
+    texts_in(&mut Heap::new(alloc), stream, form, lead_in, out, told)
 }
 
-// The same with a count of the answers that said that no memory was found: 7 comes only if one did.
-fn texts_counted(
-    alloc: Global,
-    lacks: &mut NoMemoryCount,
+// The same with a heap: 7 comes only if a request for memory failed.
+fn texts_in(
+    heap: &mut Heap,
     stream: &[u8],
     form: u32,
     lead_in: u32,
@@ -84,9 +81,9 @@ fn texts_counted(
     told: &mut Listed,
 ) -> i32
     ensures writes { WritesTextsOfLeadIn stream.now form lead_in out.old out.new told.old told.new result }
-    // A call that asks for memory said that none was found, and no other call did.
-    ensures wants { result ≡ pos 7 → Rose lacks.old lacks.new }
-    ensures found { result ≢ pos 7 → lacks.new ≡ lacks.old }
+    // The answer is 7 exactly if a request for memory failed.
+    ensures wants { result ≡ pos 7 → Rose heap.old heap.new }
+    ensures found { result ≢ pos 7 → heap.new ≡ heap.old }
 {
     if form == 1 || form > 2 || lead_in > MOST_LEAD_IN {
         return USAGE;
@@ -95,7 +92,7 @@ fn texts_counted(
     if !is_whole(form, stream) {
         return REFUSED;
     }
-    let lines = match lines_of(alloc, lacks, form, lead_in, stream) {
+    let lines = match lines_of(heap, form, lead_in, stream) {
         Ok(lines) => lines,
         Err(fault) => return refuse(fault, told),
     };
@@ -153,21 +150,15 @@ fn tell(told: &mut Listed, seq: u8, byte: u8)
     };
 }
 
-fn lines_of(
-    alloc: Global,
-    lacks: &mut NoMemoryCount,
-    form: Form,
-    lead_in: u32,
-    stream: &[u8],
-) -> Result<Vec<u8>, TextFault>
+fn lines_of(heap: &mut Heap, form: Form, lead_in: u32, stream: &[u8]) -> Result<Vec<u8>, TextFault>
     requires { lead_in ≤ most_lead_in }
     ensures lines { IfOk result (λ lines. IsTextListed form lead_in stream.now lines.items 0) }
     ensures fault { IfErr result (λ fault. IsTextFault fault (texts_of_lead_in form lead_in stream.now)) }
-    ensures wants { TellsFault TextFault.NoMemory lacks.old lacks.new result }
+    ensures wants { TellsFault TextFault.NoMemory heap.old heap.new result }
 {
     let mut texts = LeadInTexts::start();
     read_lead_in(&mut texts, form, lead_in, stream);
-    let lines = write_texts(alloc, lacks, &texts);
+    let lines = write_texts(heap, &texts);
     drop(texts);
     lines
 }
@@ -186,21 +177,17 @@ fn read_lead_in(texts: &mut LeadInTexts, form: Form, lead_in: u32, stream: &[u8]
 }
 
 // Writes the lines of the texts that were read.
-fn write_texts(
-    alloc: Global,
-    lacks: &mut NoMemoryCount,
-    texts: &LeadInTexts,
-) -> Result<Vec<u8>, TextFault>
+fn write_texts(heap: &mut Heap, texts: &LeadInTexts) -> Result<Vec<u8>, TextFault>
     ensures lines { IfOk result (λ lines. (map : Texts) × (read_texts texts.now.reader ≡ Ok map)
         × (lines.items ≡ counted_lines map texts.now.good texts.now.bad texts.now.other)) }
     ensures fault { IfErr result (λ fault. IsTextFault fault (read_texts texts.now.reader)) }
-    ensures wants { TellsFault TextFault.NoMemory lacks.old lacks.new result }
+    ensures wants { TellsFault TextFault.NoMemory heap.old heap.new result }
 {
-    let map = match finish(alloc, lacks, texts) {
+    let map = match finish(heap, texts) {
         Ok(map) => map,
         Err(fault) => return Err(fault),
     };
-    let lines = write_map(alloc, lacks, texts, &map);
+    let lines = write_map(heap, texts, &map);
     drop(map);
     match lines {
         Ok(lines) => Ok(lines),
@@ -209,46 +196,27 @@ fn write_texts(
 }
 
 // The map of the texts that were read.
-fn finish(
-    alloc: Global,
-    lacks: &mut NoMemoryCount,
-    texts: &LeadInTexts,
-) -> Result<TextMap, TextFault>
+fn finish(heap: &mut Heap, texts: &LeadInTexts) -> Result<TextMap, TextFault>
     ensures texts { IfOk result (λ map. read_texts texts.now.reader ≡ Ok map) }
     ensures fault { IfErr result (λ fault. IsTextFault fault (read_texts texts.now.reader)) }
-    ensures wants { TellsFault TextFault.NoMemory lacks.old lacks.new result }
+    ensures wants { TellsFault TextFault.NoMemory heap.old heap.new result }
 {
-    match texts.reader.finish(alloc) {
-        Ok(map) => Ok(map),
-        Err(TextFault::NoMemory) => {
-            lacks.note(&AllocError);
-            Err(TextFault::NoMemory)
-        }
-        Err(fault) => Err(fault),
-    }
+    heap.asked(|alloc| texts.reader.finish(alloc))
 }
 
 // Writes the lines of a map of texts.
-fn write_map(
-    alloc: Global,
-    lacks: &mut NoMemoryCount,
-    texts: &LeadInTexts,
-    map: &TextMap,
-) -> Result<Vec<u8>, AllocError>
+fn write_map(heap: &mut Heap, texts: &LeadInTexts, map: &TextMap) -> Result<Vec<u8>, AllocError>
     ensures lines { IfOk result (λ lines.
         lines.items ≡ counted_lines map.now texts.now.good texts.now.bad texts.now.other) }
-    ensures counted { HasCause lacks.old lacks.new result }
+    ensures counted { HasCause heap.old heap.new result }
 {
     let mut lines = LineSink {
-        bytes: Vec::new(alloc),
-        lacks: mem::replace(lacks, NoMemoryCount::none()),
+        bytes: heap.empty_vec(),
+        heap: heap.take(),
     };
     let written = write_lines(map, texts.good, texts.bad, texts.other, &mut lines);
-    let LineSink {
-        bytes,
-        lacks: count,
-    } = lines;
-    *lacks = count;
+    let LineSink { bytes, heap: left } = lines;
+    *heap = left;
     match written {
         Ok(()) => Ok(bytes),
         Err(Failed) => {
@@ -262,21 +230,23 @@ fn write_map(
 #[derive(Drop)]
 struct LineSink {
     bytes: Vec<u8>,
-    lacks: NoMemoryCount,
+    heap: Heap,
 }
 
 impl Sink for LineSink {
     ghost held = { λ s. Some s.bytes.items };
 
-    ghost faults = { λ s. s.lacks };
+    ghost faults = { λ s. s.heap };
 
     fn put(&mut self, piece: &[u8]) -> Result<usize, Failed> {
-        match self.bytes.extend_from_slice(piece) {
+        let grown = self
+            .heap
+            .asked_with(&mut self.bytes, &mut (), |_, bytes, _| {
+                bytes.extend_from_slice(piece)
+            });
+        match grown {
             Ok(()) => Ok(piece.len()),
-            Err(error) => {
-                self.lacks.note(&error);
-                Err(Failed)
-            }
+            Err(AllocError) => Err(Failed),
         }
     }
 }

@@ -12,7 +12,7 @@ use cdg_instructions::{PIXELS, Tile};
 use disc_plan::{PlanStop, PlannedRow, ToldPlan, plan_disc, told_plan, told_stop};
 use disc_time::{MOST_LEAD_IN, MOST_PROGRAM};
 use std::alloc::Global;
-use subcode_author::NoMemoryCount;
+use subcode_author::Heap;
 use tile_author::weight;
 
 /// Plans the pictures of a disc with a lead-in and an audio of so many blocks: writes a row for each picture to the front
@@ -29,14 +29,20 @@ pub extern "C" fn ribjasper_plan(
 ) -> i32
     ensures { Plans sheet.now script.now lead_in audio rows.old rows.new told.old told.new result }
 {
-    let mut lacks = NoMemoryCount::none();
-    plan_counted(alloc, &mut lacks, sheet, script, lead_in, audio, rows, told)
+    plan_in(
+        &mut Heap::new(alloc),
+        sheet,
+        script,
+        lead_in,
+        audio,
+        rows,
+        told,
+    )
 }
 
-// The same with a count of the answers that said that no memory was found: 7 comes only if one did.
-fn plan_counted(
-    alloc: Global,
-    lacks: &mut NoMemoryCount,
+// The same with a heap: 7 comes only if a request for memory failed.
+fn plan_in(
+    heap: &mut Heap,
     sheet: &[u8],
     script: &[u8],
     lead_in: u32,
@@ -45,15 +51,15 @@ fn plan_counted(
     told: &mut ToldPlan,
 ) -> i32
     ensures plans { Plans sheet.now script.now lead_in audio rows.old rows.new told.old told.new result }
-    // A call that asks for memory said that none was found.
-    ensures wants { result ≡ pos 7 → Rose lacks.old lacks.new }
-    // Where there is a plan no call did.
-    ensures found { (result ≡ pos 0) ⊎ (result ≡ pos 4) → lacks.new ≡ lacks.old }
+    // 7 comes only if a request for memory failed.
+    ensures wants { result ≡ pos 7 → Rose heap.old heap.new }
+    // Where there is a plan, none failed.
+    ensures found { (result ≡ pos 0) ⊎ (result ≡ pos 4) → heap.new ≡ heap.old }
 {
     if lead_in > MOST_LEAD_IN || audio > MOST_PROGRAM {
         return USAGE;
     }
-    match plan_disc(alloc, lacks, sheet, script, lead_in, audio, rows) {
+    match plan_disc(heap, sheet, script, lead_in, audio, rows) {
         Ok(disc) => {
             *told = told_plan(&disc);
             if disc.late == 0 { DONE } else { LATE }

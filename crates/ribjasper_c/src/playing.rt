@@ -19,7 +19,7 @@ use raw_subcode::{BLOCK_BYTES, Form};
 use rw_code::SYMBOLS;
 use std::alloc::{AllocError, Global};
 use std::mem;
-use subcode_author::NoMemoryCount;
+use subcode_author::Heap;
 
 /// What C keeps of a player. All zero it is closed.
 #[repr(C)]
@@ -108,41 +108,38 @@ impl Playing {
 pub extern "C" fn ribjasper_player_open(alloc: Global, player: &mut Playing) -> i32
     ensures { OpensPlayer player.old.is_open player.new.is_open player.new.handle.players result }
 {
-    let mut lacks = NoMemoryCount::none();
-    open_counted(alloc, &mut lacks, player)
+    open_in(&mut Heap::new(alloc), player)
 }
 
-// The same with a count of the answers that said that no memory was found: -1 comes only if one did.
-fn open_counted(alloc: Global, lacks: &mut NoMemoryCount, player: &mut Playing) -> i32
+// The same with a heap: -1 comes only if a request for memory failed.
+fn open_in(heap: &mut Heap, player: &mut Playing) -> i32
     ensures opens { OpensPlayer player.old.is_open player.new.is_open player.new.handle.players result }
-    // A call that asks for memory said that none was found, and no other call did.
-    ensures wants { result ≡ negsuc 0 → Rose lacks.old lacks.new }
-    ensures found { result ≡ pos 0 → lacks.new ≡ lacks.old }
+    // The answer is -1 exactly if a request for memory failed.
+    ensures wants { result ≡ negsuc 0 → Rose heap.old heap.new }
+    ensures found { result ≡ pos 0 → heap.new ≡ heap.old }
 {
     if player.is_open {
         player.handle.lend().begin(0, Form::Raw);
         return DONE;
     }
-    match opened(alloc, lacks) {
+    match opened(heap) {
         Ok(live) => {
             player.put_back(live);
             DONE
         }
         Err(AllocError) => {
-            *player = Playing::closed(alloc);
+            *player = Playing::closed(player.alloc);
             NOT_DONE
         }
     }
 }
 
 // A player of a raw stream, where there is memory.
-fn opened(alloc: Global, lacks: &mut NoMemoryCount) -> Result<Box<LivePlayer>, AllocError>
+fn opened(heap: &mut Heap) -> Result<Box<LivePlayer>, AllocError>
     ensures begun { IfOk result (λ live. HasPlayed Form.Raw 0 [] live.value) }
-    ensures counted { HasCause lacks.old lacks.new result }
+    ensures counted { HasCause heap.old heap.new result }
 {
-    let player = LivePlayer::start(alloc);
-    lacks.note_answer(&player);
-    player
+    heap.asked(LivePlayer::start)
 }
 
 /// Closes a player, and frees what it holds.

@@ -18,7 +18,7 @@ use disc_time::MOST_LEAD_IN;
 use live_player::{LivePlayer, a_saved_player_goes_on};
 use raw_subcode::{Form, MOST_UNITS};
 use std::alloc::{AllocError, Global};
-use subcode_author::NoMemoryCount;
+use subcode_author::Heap;
 
 /// Writes the file of the checkpoint at which an open player is. 0, or -1 where the player is closed or cannot be
 /// saved, or 7 where no memory is left.
@@ -30,50 +30,39 @@ pub extern "C" fn ribjasper_player_save(
 ) -> i32
     ensures { SavesPlayer player.old player.new file.old file.new result }
 {
-    let mut lacks = NoMemoryCount::none();
-    save_counted(alloc, &mut lacks, player, file)
+    save_in(&mut Heap::new(alloc), player, file)
 }
 
-// The same with a count of the answers that said that no memory was found: 7 comes only if one did.
-fn save_counted(
-    alloc: Global,
-    lacks: &mut NoMemoryCount,
-    player: &mut Playing,
-    file: &mut [u8; FILE_BYTES],
-) -> i32
+// The same with a heap: 7 comes only if a request for memory failed.
+fn save_in(heap: &mut Heap, player: &mut Playing, file: &mut [u8; FILE_BYTES]) -> i32
     ensures saves { SavesPlayer player.old player.new file.old file.new result }
-    // A call that asks for memory said that none was found, and no other call did.
-    ensures wants { result ≡ pos 7 → Rose lacks.old lacks.new }
-    ensures found { result ≢ pos 7 → lacks.new ≡ lacks.old }
+    // The answer is 7 exactly if a request for memory failed.
+    ensures wants { result ≡ pos 7 → Rose heap.old heap.new }
+    ensures found { result ≢ pos 7 → heap.new ≡ heap.old }
 {
     a_saved_player_goes_on();
     if !player.is_open {
         return NOT_DONE;
     }
-    save(alloc, lacks, player.handle.lend(), file)
+    save(heap, player.handle.lend(), file)
 }
 
 // Writes the file of a player.
-fn save(
-    alloc: Global,
-    lacks: &mut NoMemoryCount,
-    live: &LivePlayer,
-    file: &mut [u8; FILE_BYTES],
-) -> i32
+fn save(heap: &mut Heap, live: &LivePlayer, file: &mut [u8; FILE_BYTES]) -> i32
     ensures saved { result ≡ pos 0 → IsSavedAs file.new live.now }
     ensures refused { result ≡ negsuc 0 → CannotBeSaved live.now }
     ensures packs { live.now.words.form ≢ Form.Raw → result ≡ negsuc 0 }
     ensures long { IsTooLong live.now → result ≡ negsuc 0 }
     ensures answer { IsSaveAnswer result }
     ensures untouched { result ≢ pos 0 → file.new ≡ file.old }
-    // A call that asks for memory said that none was found, and no other call did.
-    ensures wants { result ≡ pos 7 → Rose lacks.old lacks.new }
-    ensures found { result ≢ pos 7 → lacks.new ≡ lacks.old }
+    // The answer is 7 exactly if a request for memory failed.
+    ensures wants { result ≡ pos 7 → Rose heap.old heap.new }
+    ensures found { result ≢ pos 7 → heap.new ≡ heap.old }
 {
     if !matches!(live.words.form, Form::Raw) || is_too_long(live) {
         return NOT_DONE;
     }
-    let Ok(mut saved) = take_file(alloc, lacks) else {
+    let Ok(mut saved) = take_file(heap) else {
         return NO_MEMORY;
     };
     live.save(&mut saved.plain);
@@ -113,22 +102,15 @@ pub extern "C" fn ribjasper_player_load(
 ) -> i32
     ensures { LoadsPlayer file.now player.old player.new byte.old byte.new result }
 {
-    let mut lacks = NoMemoryCount::none();
-    load_counted(alloc, &mut lacks, player, file, byte)
+    load_in(&mut Heap::new(alloc), player, file, byte)
 }
 
-// The same with a count of the answers that said that no memory was found: 7 comes only if one did.
-fn load_counted(
-    alloc: Global,
-    lacks: &mut NoMemoryCount,
-    player: &mut Playing,
-    file: &[u8; FILE_BYTES],
-    byte: &mut u32,
-) -> i32
+// The same with a heap: 7 comes only if a request for memory failed.
+fn load_in(heap: &mut Heap, player: &mut Playing, file: &[u8; FILE_BYTES], byte: &mut u32) -> i32
     ensures loads { LoadsPlayer file.now player.old player.new byte.old byte.new result }
-    // A call that asks for memory said that none was found, and no other call did.
-    ensures wants { result ≡ pos 7 → Rose lacks.old lacks.new }
-    ensures found { result ≢ pos 7 → lacks.new ≡ lacks.old }
+    // The answer is 7 exactly if a request for memory failed.
+    ensures wants { result ≡ pos 7 → Rose heap.old heap.new }
+    ensures found { result ≢ pos 7 → heap.new ≡ heap.old }
 {
     a_saved_player_goes_on();
     if !player.is_open {
@@ -138,7 +120,7 @@ fn load_counted(
         *byte = bad;
         return REFUSED;
     }
-    let Ok(saved) = read_file(alloc, lacks, file) else {
+    let Ok(saved) = read_file(heap, file) else {
         return NO_MEMORY;
     };
     go_to(player.handle.lend(), &saved);
@@ -154,15 +136,11 @@ fn go_to(live: &mut LivePlayer, file: &CheckpointFile)
 }
 
 // The file of these bytes, where there is memory.
-fn read_file(
-    alloc: Global,
-    lacks: &mut NoMemoryCount,
-    bytes: &[u8; FILE_BYTES],
-) -> Result<CheckpointFile, AllocError>
+fn read_file(heap: &mut Heap, bytes: &[u8; FILE_BYTES]) -> Result<CheckpointFile, AllocError>
     ensures file { IfOk result (λ file. file ≡ bytes.now) }
-    ensures counted { HasCause lacks.old lacks.new result }
+    ensures counted { HasCause heap.old heap.new result }
 {
-    let mut file = take_file(alloc, lacks)?;
+    let mut file = take_file(heap)?;
     let mut source = SteadySource::new(bytes);
     let Ok(()) = file.read(&mut source) else {
         unreachable!();
@@ -171,13 +149,11 @@ fn read_file(
 }
 
 // The memory of a file.
-fn take_file(alloc: Global, lacks: &mut NoMemoryCount) -> Result<CheckpointFile, AllocError>
+fn take_file(heap: &mut Heap) -> Result<CheckpointFile, AllocError>
     ensures empty { IfOk result (λ file. file ≡ []) }
-    ensures counted { HasCause lacks.old lacks.new result }
+    ensures counted { HasCause heap.old heap.new result }
 {
-    let file = CheckpointFile::start(alloc);
-    lacks.note_answer(&file);
-    file
+    heap.asked(CheckpointFile::start)
 }
 
 /// Makes one open player show and gather from here on what another does. 0, or -1 where one of them is closed.

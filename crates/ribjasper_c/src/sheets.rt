@@ -7,7 +7,7 @@ use crate::answers::{DONE, NO_MEMORY, REFUSED, USAGE, WRITE_FAULT};
 use cue_sheet::CueText;
 use disc_plan::{SheetRow, SheetStop, TextStop, ToldSheet, sheet_rows, sheet_text, told_refusal};
 use std::alloc::Global;
-use subcode_author::NoMemoryCount;
+use subcode_author::Heap;
 
 /// Writes a row for each index line of a cue sheet to the front of some rows, and answers by an exit number of the
 /// program.
@@ -20,24 +20,17 @@ pub extern "C" fn ribjasper_sheet(
 ) -> i32
     ensures { WritesRowsOfSheet sheet.now rows.old rows.new told.old told.new result }
 {
-    let mut lacks = NoMemoryCount::none();
-    sheet_counted(alloc, &mut lacks, sheet, rows, told)
+    sheet_in(&mut Heap::new(alloc), sheet, rows, told)
 }
 
-// The same with a count of the answers that said that no memory was found: 7 comes only if one did.
-fn sheet_counted(
-    alloc: Global,
-    lacks: &mut NoMemoryCount,
-    sheet: &[u8],
-    rows: &mut [SheetRow],
-    told: &mut ToldSheet,
-) -> i32
+// The same with a heap: 7 comes only if a request for memory failed.
+fn sheet_in(heap: &mut Heap, sheet: &[u8], rows: &mut [SheetRow], told: &mut ToldSheet) -> i32
     ensures writes { WritesRowsOfSheet sheet.now rows.old rows.new told.old told.new result }
-    // A call that asks for memory said that none was found, and no other call did.
-    ensures wants { result ≡ pos 7 → Rose lacks.old lacks.new }
-    ensures found { result ≢ pos 7 → lacks.new ≡ lacks.old }
+    // The answer is 7 exactly if a request for memory failed.
+    ensures wants { result ≡ pos 7 → Rose heap.old heap.new }
+    ensures found { result ≢ pos 7 → heap.new ≡ heap.old }
 {
-    match sheet_rows(alloc, lacks, sheet, rows) {
+    match sheet_rows(heap, sheet, rows) {
         Ok(said) => {
             *told = said;
             DONE
@@ -68,14 +61,12 @@ pub extern "C" fn ribjasper_sheet_text(
 ) -> i32
     ensures { WritesTextOfSheet sheet.now kind place out.old out.new bytes.old bytes.new result }
 {
-    let mut lacks = NoMemoryCount::none();
-    text_counted(alloc, &mut lacks, sheet, kind, place, out, bytes)
+    text_in(&mut Heap::new(alloc), sheet, kind, place, out, bytes)
 }
 
-// The same with a count of the answers that said that no memory was found: 7 comes only if one did.
-fn text_counted(
-    alloc: Global,
-    lacks: &mut NoMemoryCount,
+// The same with a heap: 7 comes only if a request for memory failed.
+fn text_in(
+    heap: &mut Heap,
     sheet: &[u8],
     kind: u32,
     place: u32,
@@ -83,14 +74,14 @@ fn text_counted(
     bytes: &mut u32,
 ) -> i32
     ensures writes { WritesTextOfSheet sheet.now kind place out.old out.new bytes.old bytes.new result }
-    // A call that asks for memory said that none was found, and no other call did.
-    ensures wants { result ≡ pos 7 → Rose lacks.old lacks.new }
-    ensures found { result ≢ pos 7 → lacks.new ≡ lacks.old }
+    // The answer is 7 exactly if a request for memory failed.
+    ensures wants { result ≡ pos 7 → Rose heap.old heap.new }
+    ensures found { result ≢ pos 7 → heap.new ≡ heap.old }
 {
     if kind > 2 {
         return USAGE;
     }
-    match sheet_text(alloc, lacks, sheet, text_kind(kind), place as usize, out) {
+    match sheet_text(heap, sheet, text_kind(kind), place as usize, out) {
         Ok(count) => {
             *bytes = count;
             DONE

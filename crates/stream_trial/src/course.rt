@@ -12,8 +12,8 @@ use pack_schedule::scheduled_pictures_are_shown;
 use picture_script::Script;
 use raw_subcode::{BLOCK_BYTES, SLOTS_A_BLOCK};
 use rw_interleave::{Gather, gather_gives_words};
-use std::alloc::{AllocError, Global};
-use subcode_author::NoMemoryCount;
+use std::alloc::AllocError;
+use subcode_author::Heap;
 
 /// Goes over a stream with no lead-in block by block: each block is scratched, its words are corrected and played, and
 /// the screen is compared with the next picture of a script when that is ready. It holds a window of slots, a screen and
@@ -30,24 +30,20 @@ pub(crate) struct Course {
 
 impl Course {
     /// Before the first block, with the scratches of a seed.
-    pub(crate) fn start(
-        alloc: Global,
-        lacks: &mut NoMemoryCount,
-        seed: u64,
-    ) -> Result<Course, AllocError>
+    pub(crate) fn start(heap: &mut Heap, seed: u64) -> Result<Course, AllocError>
         ensures blocks { IfOk result (λ course. course.blocks ≡ 0) }
         ensures steady { IfOk result (λ course. (script : List Drawing) → IsSteady script course) }
         ensures gone_over { IfOk result (λ course. (script : List Drawing) (bytes : List ℕ)
             → HasGoneOver script seed bytes course) }
-        ensures counted { HasCause lacks.old lacks.new result }
+        ensures counted { HasCause heap.old heap.new result }
     {
         // For the scratches: before the first block.
         scratches_go_block_by_block();
         Ok(Course {
             scratches: Scratches::start(0, seed),
             gather: Gather::new(),
-            replay: Replay::start(alloc, lacks)?,
-            gallery: Gallery::start(alloc, lacks)?,
+            replay: Replay::start(heap)?,
+            gallery: Gallery::start(heap)?,
             blocks: 0,
         })
     }

@@ -9,8 +9,8 @@ use crate::comparing::agrees;
 use cdg_screen::Screen;
 use picture_script::{Canvas, Script};
 use raw_subcode::SLOTS_A_BLOCK;
-use std::alloc::{AllocError, Global};
-use subcode_author::NoMemoryCount;
+use std::alloc::AllocError;
+use subcode_author::Heap;
 
 /// The pictures that are still to be shown, and how many were shown when they were ready.
 #[derive(Drop)]
@@ -22,16 +22,14 @@ pub(crate) struct Gallery {
 
 impl Gallery {
     /// Before the first picture.
-    pub(crate) fn start(alloc: Global, lacks: &mut NoMemoryCount) -> Result<Gallery, AllocError>
+    pub(crate) fn start(heap: &mut Heap) -> Result<Gallery, AllocError>
         ensures canvas { IfOk result
             (λ gallery. (script : List Drawing) → StandsBefore script 0 gallery.canvas) }
         ensures counts { IfOk result (λ gallery. (gallery.next ≡ 0) × (gallery.equal ≡ 0)) }
-        ensures counted { HasCause lacks.old lacks.new result }
+        ensures counted { HasCause heap.old heap.new result }
     {
-        let canvas = Canvas::start(alloc);
-        lacks.note_answer(&canvas);
         Ok(Gallery {
-            canvas: canvas?,
+            canvas: heap.asked(Canvas::start)?,
             next: 0,
             equal: 0,
         })

@@ -13,8 +13,7 @@ use cdg_io::Failed;
 use cdg_workload::{generated_scripts_are_read, generated_scripts_are_short, write_script};
 use cue_sheet::{CueStop, Sheet};
 use picture_script::{Script, ScriptStop};
-use std::alloc::{AllocError, Global};
-use subcode_author::NoMemoryCount;
+use subcode_author::Heap;
 
 // The most bytes of the lines of colours in a generated script.
 const COLOURS_BYTES: usize = 230;
@@ -27,29 +26,21 @@ const SHEET: &[u8] = b"\
     TRACK 01 AUDIO\n\
     INDEX 01 00:00:00\n";
 
-pub(crate) fn parse_script(
-    alloc: Global,
-    lacks: &mut NoMemoryCount,
-    seed: u64,
-    pictures: u32,
-) -> Result<Script, TrialStop>
+pub(crate) fn parse_script(heap: &mut Heap, seed: u64, pictures: u32) -> Result<Script, TrialStop>
     requires { (1 ≤ pictures) × (pictures ≤ most_generated) }
     ensures script { IfOk result (λ script. script ≡ generated_drawings seed pictures) }
     ensures err { IfErr result (λ stop. stop ≡ NoMemory) }
-    ensures counted { HasCause lacks.old lacks.new result }
+    ensures counted { HasCause heap.old heap.new result }
 {
     // For the grammar, which refuses no generated script, and for the length of its text.
     generated_scripts_are_read();
     generated_scripts_are_short();
     let room = COLOURS_BYTES + PICTURE_BYTES * pictures as usize + 1;
-    let mut text = ScriptText::start(alloc, lacks, room)?;
+    let mut text = ScriptText::start(heap, room)?;
     write_text(seed, pictures, &mut text);
-    match Script::parse(alloc, text.bytes()) {
+    match heap.script(text.bytes()) {
         Ok(script) => Ok(script),
-        Err(ScriptStop::NoMemory) => {
-            lacks.note(&AllocError);
-            Err(TrialStop::NoMemory)
-        }
+        Err(ScriptStop::NoMemory) => Err(TrialStop::NoMemory),
         Err(ScriptStop::Fault { .. }) => unreachable!(),
     }
 }
@@ -67,19 +58,16 @@ fn write_text(seed: u64, pictures: u32, text: &mut ScriptText)
     }
 }
 
-pub(crate) fn parse_sheet(alloc: Global, lacks: &mut NoMemoryCount) -> Result<Sheet, TrialStop>
+pub(crate) fn parse_sheet(heap: &mut Heap) -> Result<Sheet, TrialStop>
     ensures sheet { IfOk result (λ sheet. sheet ≡ trial_sheet) }
     ensures err { IfErr result (λ stop. stop ≡ NoMemory) }
-    ensures counted { HasCause lacks.old lacks.new result }
+    ensures counted { HasCause heap.old heap.new result }
 {
     // For the grammar, which does not refuse the sheet.
     trial_sheet_is_read();
-    match Sheet::parse(alloc, SHEET) {
+    match heap.sheet(SHEET) {
         Ok(sheet) => Ok(sheet),
-        Err(CueStop::NoMemory) => {
-            lacks.note(&AllocError);
-            Err(TrialStop::NoMemory)
-        }
+        Err(CueStop::NoMemory) => Err(TrialStop::NoMemory),
         Err(CueStop::Fault { .. }) => unreachable!(),
     }
 }

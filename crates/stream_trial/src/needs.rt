@@ -11,13 +11,11 @@ use crate::generated_scripts_are_ready;
 use crate::trying::TrialStop;
 use pack_schedule::{Survey, SurveyRoom, survey_in};
 use picture_script::Script;
-use std::alloc::Global;
-use subcode_author::NoMemoryCount;
+use subcode_author::Heap;
 
 /// The planned changes of a generated script, which fits in so many blocks.
 pub(crate) fn plan_changes(
-    alloc: Global,
-    lacks: &mut NoMemoryCount,
+    heap: &mut Heap,
     script: &Script,
     blocks: u32,
 ) -> Result<Survey, TrialStop>
@@ -27,13 +25,12 @@ pub(crate) fn plan_changes(
     ensures planned { IfOk result (IsSurvey script.now) }
     ensures within { OnOk result (IsWithin script.now blocks) }
     ensures err { IfErr result (λ stop. stop ≡ NoMemory) }
-    ensures counted { HasCause lacks.old lacks.new result }
+    ensures counted { HasCause heap.old heap.new result }
 {
     // For the survey, which refuses no generated script.
     generated_scripts_are_ready();
-    let room = SurveyRoom::start(alloc, script.pictures());
-    lacks.note_answer(&room);
-    match survey_in(room?, script, blocks) {
+    let room = heap.asked(|alloc| SurveyRoom::start(alloc, script.pictures()))?;
+    match survey_in(room, script, blocks) {
         Ok(planned) => Ok(planned),
         Err(_) => unreachable!(),
     }

@@ -14,8 +14,8 @@ use cdg_instructions::read;
 use cdg_screen::{Screen, instructions_in_turn};
 use rw_code::{Word, correct, only_one_codeword_is_near};
 use rw_interleave::gather_gives_words;
-use std::alloc::{AllocError, Global};
-use subcode_author::NoMemoryCount;
+use std::alloc::AllocError;
+use subcode_author::Heap;
 
 /// Words are corrected, and what their packs say is carried out.
 #[derive(Drop)]
@@ -31,15 +31,13 @@ pub(crate) struct Replay {
 
 impl Replay {
     /// No word was taken.
-    pub(crate) fn start(alloc: Global, lacks: &mut NoMemoryCount) -> Result<Replay, AllocError>
+    pub(crate) fn start(heap: &mut Heap) -> Result<Replay, AllocError>
         ensures screen { IfOk result (λ replay. replay.screen ≡ blank) }
         ensures counts { IfOk result (λ replay. (replay.one ≡ 0) × (replay.two ≡ 0) × (replay.bad ≡ 0)) }
-        ensures counted { HasCause lacks.old lacks.new result }
+        ensures counted { HasCause heap.old heap.new result }
     {
-        let screen = Screen::start(alloc);
-        lacks.note_answer(&screen);
         Ok(Replay {
-            screen: screen?,
+            screen: heap.asked(Screen::start)?,
             one: 0,
             two: 0,
             bad: 0,

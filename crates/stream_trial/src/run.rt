@@ -13,8 +13,8 @@ use cdg_io::{Failed, History, Sink};
 use cdg_workload::scratches_are_bursts;
 use picture_script::Script;
 use raw_subcode::{BLOCK_BYTES, MOST_UNITS};
-use std::alloc::{AllocError, Global};
-use subcode_author::NoMemoryCount;
+use std::alloc::AllocError;
+use subcode_author::Heap;
 
 /// What was counted.
 #[derive(Clone, Copy)]
@@ -50,8 +50,7 @@ pub(crate) struct TrialRun<'a> {
 impl<'a> TrialRun<'a> {
     /// Before the first byte.
     pub(crate) fn start(
-        alloc: Global,
-        lacks: &mut NoMemoryCount,
+        heap: &mut Heap,
         script: &'a Script,
         seed: u64,
         pictures: u32,
@@ -59,13 +58,13 @@ impl<'a> TrialRun<'a> {
         requires { script.now ≡ generated_drawings seed pictures }
         ensures of { IfOk result (λ run. (run.seed ≡ seed) × (run.pictures ≡ pictures)) }
         ensures nothing { IfOk result (λ run. run.history.bytes ≡ []) }
-        ensures counted { HasCause lacks.old lacks.new result }
+        ensures counted { HasCause heap.old heap.new result }
     {
         Ok(TrialRun {
             script,
             seed,
             pictures,
-            course: Course::start(alloc, lacks, seed)?,
+            course: Course::start(heap, seed)?,
             block: [0; BLOCK_BYTES],
             filled: 0,
             faults: 0,

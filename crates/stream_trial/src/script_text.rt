@@ -3,8 +3,8 @@ ghost use Rattle.std.specs.Prelude.{◌≡◌, ◌<◌, ◌∷◌, [], Some, len
 ghost use Rattle.cdg_io.specs.Causes.{HasCause};
 
 use cdg_io::{Failed, MemSink, Sink};
-use std::alloc::{AllocError, Global};
-use subcode_author::NoMemoryCount;
+use std::alloc::AllocError;
+use subcode_author::Heap;
 
 /// The text of a script, in room that is taken at the start. A write fails only if that is full.
 #[derive(Drop)]
@@ -16,18 +16,13 @@ pub(crate) struct ScriptText {
 
 impl ScriptText {
     /// An empty text with room for so many bytes.
-    pub(crate) fn start(
-        alloc: Global,
-        lacks: &mut NoMemoryCount,
-        room: usize,
-    ) -> Result<ScriptText, AllocError>
+    pub(crate) fn start(heap: &mut Heap, room: usize) -> Result<ScriptText, AllocError>
         ensures empty { IfOk result (λ text. text.sink.held ≡ []) }
         ensures room { IfOk result (λ text. text.sink.room ≡ room) }
-        ensures counted { HasCause lacks.old lacks.new result }
+        ensures counted { HasCause heap.old heap.new result }
     {
-        let sink = MemSink::new(alloc, room, Vec::new(alloc), Vec::new(alloc));
-        lacks.note_answer(&sink);
-        Ok(ScriptText { sink: sink? })
+        let sink = heap.asked(|alloc| MemSink::new(alloc, room, Vec::new(alloc), Vec::new(alloc)))?;
+        Ok(ScriptText { sink })
     }
 
     pub(crate) fn bytes(&self) -> &[u8]

@@ -22,14 +22,12 @@ use cue_sheet::Sheet;
 use disc_time::PAUSE_BLOCKS;
 use pack_schedule::Survey;
 use picture_script::Script;
-use std::alloc::Global;
-use subcode_author::{AuthorStop, NoMemoryCount, accepted_scripts_have_streams, author_planned};
+use subcode_author::{AuthorStop, Heap, accepted_scripts_have_streams, author_planned};
 
 /// Writes the stream of the script of a seed, whose changes are planned, and plays each of its blocks, with scratches of
 /// the same seed, as soon as it is written.
 pub(crate) fn play_stream(
-    alloc: Global,
-    lacks: &mut NoMemoryCount,
+    heap: &mut Heap,
     script: &Script,
     planned: Survey,
     seed: u64,
@@ -44,21 +42,20 @@ pub(crate) fn play_stream(
         × IsPlayedOut script.now (trial_blocks pictures) (program_symbols Raw bytes 0)
         (program_symbols Raw (scratched 0 seed bytes) 0) found) }
     ensures err { IfErr result (λ stop. stop ≡ NoMemory) }
-    ensures counted { HasCause lacks.old lacks.new result }
+    ensures counted { HasCause heap.old heap.new result }
 {
     // For what scratches leave of the stream, and the sheet that it is written with.
     scratches_are_bursts();
     scratches_are_damage();
     trial_sheet_is_read();
-    let mut run = TrialRun::start(alloc, lacks, script, seed, pictures)?;
-    write_stream(alloc, lacks, script, planned, pictures, &mut run)?;
+    let mut run = TrialRun::start(heap, script, seed, pictures)?;
+    write_stream(heap, script, planned, pictures, &mut run)?;
     Ok(run.found())
 }
 
 // Writes the stream of the sheet with one track and of a generated script, with no lead-in, to a run that has begun.
 fn write_stream(
-    alloc: Global,
-    lacks: &mut NoMemoryCount,
+    heap: &mut Heap,
     script: &Script,
     planned: Survey,
     pictures: u32,
@@ -74,12 +71,12 @@ fn write_stream(
         packs) }
     ensures of { OnOk result ((run.new.seed ≡ run.old.seed) × (run.new.pictures ≡ run.old.pictures)) }
     ensures err { IfErr result (λ stop. stop ≡ NoMemory) }
-    ensures counted { HasCause lacks.old lacks.new result }
+    ensures counted { HasCause heap.old heap.new result }
 {
     // For the author, which refuses neither the sheet nor the script.
     trial_sheet_is_read();
-    let sheet = parse_sheet(alloc, lacks)?;
-    let written = author_run(alloc, lacks, &sheet, script, planned, pictures, run);
+    let sheet = parse_sheet(heap)?;
+    let written = author_run(heap, &sheet, script, planned, pictures, run);
     drop(sheet);
     match written {
         Ok(()) => Ok(()),
@@ -90,8 +87,7 @@ fn write_stream(
 
 // The same with the sheet at hand. A run takes more blocks than the stream has, so no write fails.
 fn author_run(
-    alloc: Global,
-    lacks: &mut NoMemoryCount,
+    heap: &mut Heap,
     sheet: &Sheet,
     script: &Script,
     planned: Survey,
@@ -109,7 +105,7 @@ fn author_run(
         packs) }
     ensures of { OnOk result ((run.new.seed ≡ run.old.seed) × (run.new.pictures ≡ run.old.pictures)) }
     ensures stop { IfErr result (λ stop. stop ≡ AuthorStop.NoMemory) }
-    ensures wants { TellsFault AuthorStop.NoMemory lacks.old lacks.new result }
+    ensures wants { TellsFault AuthorStop.NoMemory heap.old heap.new result }
 {
     // For the author, which refuses neither, and for what a failed write would leave.
     trial_sheet_is_read();
@@ -117,7 +113,7 @@ fn author_run(
     sheet.tracks_are_in_order();
     script.times_rise_and_colours_are_in_range();
     let audio = count_audio(pictures);
-    author_planned(alloc, lacks, sheet, script, planned, 0, audio, run)
+    author_planned(heap, sheet, script, planned, 0, audio, run)
 }
 
 /// How many blocks the audio has.

@@ -14,8 +14,8 @@ use crate::trial_sheet_is_read;
 use cdg_io::{Failed, Sink, put_all};
 use cdg_workload::{generated_scripts_are_read, generated_scripts_have_times};
 use rw_interleave::whole_packs;
-use std::alloc::{AllocError, Global};
-use subcode_author::NoMemoryCount;
+use std::alloc::AllocError;
+use subcode_author::Heap;
 
 /// Why the lines of a trial were not written, or not whole.
 #[derive(Clone, Copy, PartialEq, Eq, Debug)]
@@ -57,18 +57,17 @@ impl From<Failed> for TrialStop {
 ///
 /// `NoMemory` before anything is written. After `WriteFault` a prefix of the lines was written.
 pub fn trial<K: Sink>(
-    alloc: Global,
-    lacks: &mut NoMemoryCount,
+    heap: &mut Heap,
     seed: u64,
     pictures: u32,
     out: &mut K,
 ) -> Result<(), TrialStop>
     requires { (1 ≤ pictures) × (pictures ≤ most_generated) }
     ensures written { WritesTrial K.held K.faults seed pictures out.old out.new result }
-    // A call that asks for memory said so, and no other call did.
-    ensures wants { TellsFault TrialStop.NoMemory lacks.old lacks.new result }
+    // The answer is `NoMemory` exactly if a request for memory failed.
+    ensures wants { TellsFault TrialStop.NoMemory heap.old heap.new result }
 {
-    let report = make_report(alloc, lacks, seed, pictures)?;
+    let report = make_report(heap, seed, pictures)?;
     let lines = report.lines();
     match put_all(out, lines.as_str().as_bytes()) {
         Ok(()) => Ok(()),
@@ -77,26 +76,21 @@ pub fn trial<K: Sink>(
 }
 
 // What the lines of a trial say.
-fn make_report(
-    alloc: Global,
-    lacks: &mut NoMemoryCount,
-    seed: u64,
-    pictures: u32,
-) -> Result<Report, TrialStop>
+fn make_report(heap: &mut Heap, seed: u64, pictures: u32) -> Result<Report, TrialStop>
     requires { (1 ≤ pictures) × (pictures ≤ most_generated) }
     ensures report { IfOk result (λ report. IsTrial seed pictures (told report)) }
     ensures err { IfErr result (λ stop. stop ≡ NoMemory) }
-    ensures counted { HasCause lacks.old lacks.new result }
+    ensures counted { HasCause heap.old heap.new result }
 {
     // For what the text of the script and of the sheet says.
     generated_scripts_are_read();
     generated_scripts_have_times();
     trial_sheet_is_read();
-    let script = parse_script(alloc, lacks, seed, pictures)?;
+    let script = parse_script(heap, seed, pictures)?;
     let blocks = count_blocks(pictures);
-    let planned = plan_changes(alloc, lacks, &script, blocks)?;
+    let planned = plan_changes(heap, &script, blocks)?;
     let changes = count_changes(&script, &planned);
-    let found = play_stream(alloc, lacks, &script, planned, seed, pictures)?;
+    let found = play_stream(heap, &script, planned, seed, pictures)?;
     Ok(Report {
         seed,
         pictures: u64::from(pictures),

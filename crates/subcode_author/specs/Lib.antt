@@ -3,3 +3,4 @@ pub mod Authored
 pub mod Stops
 pub mod AuthorAnswer
 pub mod Calls
+pub mod Requests

@@ -8,7 +8,7 @@ ghost use Rattle.subcode_author.specs.Authored.{disc_of};
 ghost use Rattle.subcode_author.specs.Calls.{AnswersDisc, WritesDisc};
 ghost use Rattle.subcode_author.specs.AuthorAnswer.{HasRoom, HoldsPictures};
 
-use crate::no_memory::NoMemoryCount;
+use crate::heap::Heap;
 use crate::parts::{plan_script, take_layout, take_spread, take_texts, weave};
 use crate::plans::accept_disc;
 use crate::scheduled::Scheduled;
@@ -46,14 +46,12 @@ pub fn author_stream<K: Sink>(
     ensures written { WritesDisc K.held K.faults (disc_of sheet.now script.now lead_in length) out.old out.new
         result }
 {
-    let mut lacks = NoMemoryCount::none();
-    author_counted(alloc, &mut lacks, sheet, script, lead_in, length, out)
+    author_in(&mut Heap::new(alloc), sheet, script, lead_in, length, out)
 }
 
-/// The same with a count of the answers that said that no memory was found: `NoMemory` comes only if one did.
-pub fn author_counted<K: Sink>(
-    alloc: Global,
-    lacks: &mut NoMemoryCount,
+/// The same with a heap: `NoMemory` comes only if a request for memory failed.
+pub fn author_in<K: Sink>(
+    heap: &mut Heap,
     sheet: &Sheet,
     script: &Script,
     lead_in: u32,
@@ -65,15 +63,15 @@ pub fn author_counted<K: Sink>(
     ensures answer { AnswersDisc (disc_of sheet.now script.now lead_in length) result }
     ensures written { WritesDisc K.held K.faults (disc_of sheet.now script.now lead_in length) out.old out.new
         result }
-    // A call that asks for memory said that none was found, and no other call did.
-    ensures wants { TellsFault AuthorStop.NoMemory lacks.old lacks.new result }
+    // The answer is `NoMemory` exactly if a request for memory failed.
+    ensures wants { TellsFault AuthorStop.NoMemory heap.old heap.new result }
 {
     // For the proof alone: a late picture cannot be ready.
     needs_are_fewest();
     script.times_rise_and_colours_are_in_range();
     let blocks = accept_disc(sheet, script, lead_in, length)?;
-    let planned = plan_script(alloc, lacks, script, blocks)?;
-    author_planned(alloc, lacks, sheet, script, planned, lead_in, length, out)
+    let planned = plan_script(heap, script, blocks)?;
+    author_planned(heap, sheet, script, planned, lead_in, length, out)
 }
 
 /// Writes the subcode of a disc as `author_stream` does, where it has room for everything and the changes of its pictures
@@ -83,8 +81,7 @@ pub fn author_counted<K: Sink>(
 ///
 /// `NoMemory` before anything is written. After `WriteFault` a prefix of the stream was written, as after `author_stream`.
 pub fn author_planned<K: Sink>(
-    alloc: Global,
-    lacks: &mut NoMemoryCount,
+    heap: &mut Heap,
     sheet: &Sheet,
     script: &Script,
     planned: Survey,
@@ -101,16 +98,16 @@ pub fn author_planned<K: Sink>(
     ensures stop { IfErr result (λ stop. (stop ≡ AuthorStop.NoMemory) ⊎ (stop ≡ AuthorStop.WriteFault)) }
     ensures written { WritesDisc K.held K.faults (disc_of sheet.now script.now lead_in length) out.old out.new
         result }
-    // A call that asks for memory said that none was found, and no other call did.
-    ensures wants { TellsFault AuthorStop.NoMemory lacks.old lacks.new result }
+    // The answer is `NoMemory` exactly if a request for memory failed.
+    ensures wants { TellsFault AuthorStop.NoMemory heap.old heap.new result }
 {
     packs_are_a_schedule();
     // What holds of every script: its pictures are in order, and have sixteen colours.
     script.times_rise_and_colours_are_in_range();
-    let layout = take_layout(alloc, lacks, sheet, length)?;
-    let texts = take_texts(alloc, lacks, sheet, lead_in)?;
-    let mut spread = take_spread(alloc, lacks)?;
-    let weaver = weave(alloc, lacks, script, planned)?;
+    let layout = take_layout(heap, sheet, length)?;
+    let texts = take_texts(heap, sheet, lead_in)?;
+    let mut spread = take_spread(heap)?;
+    let weaver = weave(heap, script, planned)?;
     let mut source = Scheduled { weaver };
     write_stream(&layout, &texts, lead_in, &mut source, &mut spread, out)?;
     Ok(())

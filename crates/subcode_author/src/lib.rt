@@ -2,18 +2,18 @@
 #![tactic(auto)]
 
 mod author;
+mod heap;
 mod laws;
-mod no_memory;
 mod parts;
 mod plans;
 mod scheduled;
 mod stops;
 
-pub use author::{author_counted, author_planned, author_stream};
+pub use author::{author_in, author_planned, author_stream};
+pub use heap::{Heap, MemoryStop};
 pub use laws::{
     accepted_scripts_are_in_order, accepted_scripts_have_streams, authored_streams_are_one,
     each_disc_has_one_answer, parts_are_prefixes,
 };
-pub use no_memory::NoMemoryCount;
 pub use plans::{accept_disc, plans_tell_what_an_author_tells};
 pub use stops::AuthorStop;

@@ -1,4 +1,4 @@
-use Rattle.std.proofs.Common.{ap}
+use Rattle.std.proofs.Common.{ap, refl}
 use Rattle.cdg_io.specs.Reads.{input}
 use Rattle.cdg_cmd.proofs.ResumeTold.{never_memory, reads_second, told, untouched}
 use Rattle.cdg_cmd.proofs.Wants as wants
@@ -52,8 +52,8 @@ returns-in-Ok-clause-faults g c =
 
 pub returns-in-Ok-clause-wants : goal.returns-in-Ok-clause-wants
 returns-in-Ok-clause-wants g c =
-    wants.found_first _ _ c.in-Ok.checkpointer _ c.in-Ok.ensures
+    wants.found_first _ _ _ c.in-Ok.checkpointer _ c.in-Ok.ensures.counted
     (never_memory c.resume.result _ c.resume_status.ensures)
 
 pub returns-in-Err-clause-wants : goal.returns-in-Err-clause-wants
-returns-in-Err-clause-wants g c = wants.lacked_first _ _ _ c.in-Err.ensures
+returns-in-Err-clause-wants g c = wants.lacked_first _ _ _ _ refl c.in-Err.ensures.counted

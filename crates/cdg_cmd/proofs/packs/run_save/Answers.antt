@@ -1,3 +1,4 @@
+use Rattle.std.proofs.Common.{refl}
 use Rattle.cdg_cmd.proofs.Pumped.{never_memory, told_one}
 use Rattle.cdg_cmd.proofs.SaveTold.{untouched}
 use Rattle.cdg_cmd.proofs.Wants as wants
@@ -32,8 +33,8 @@ returns-in-Ok-clause-ended g c = λ found.
 
 pub returns-in-Ok-clause-wants : goal.returns-in-Ok-clause-wants
 returns-in-Ok-clause-wants g c =
-    wants.found_first _ _ c.in-Ok.checkpointer _ c.in-Ok.ensures
+    wants.found_first _ _ _ c.in-Ok.checkpointer _ c.in-Ok.ensures.counted
     (never_memory c.save.result _ c.pump_status.ensures)
 
 pub returns-in-Err-clause-wants : goal.returns-in-Err-clause-wants
-returns-in-Err-clause-wants g c = wants.lacked_first _ _ _ c.in-Err.ensures
+returns-in-Err-clause-wants g c = wants.lacked_first _ _ _ _ refl c.in-Err.ensures.counted

@@ -1,3 +1,4 @@
+use Rattle.std.proofs.Common.{refl}
 use Rattle.cdg_cmd.proofs.Played.{shown_never_memory, told_one, untouched}
 use Rattle.cdg_cmd.proofs.Wants as wants
 use Rattle.cdg_cmd.proofs.streams.run_state.Goals as goal
@@ -37,8 +38,8 @@ returns-in-Ok-clause-ended g c = λ found.
 
 pub returns-in-Ok-clause-wants : goal.returns-in-Ok-clause-wants
 returns-in-Ok-clause-wants g c =
-    wants.found_first _ _ c.in-Ok.viewer _ c.in-Ok.ensures
+    wants.found_first _ _ _ c.in-Ok.viewer _ c.in-Ok.ensures.counted
     (shown_never_memory c.state_at.result _ c.play_status.ensures c.state_at.ensures.plays.plays.stops)
 
 pub returns-in-Err-clause-wants : goal.returns-in-Err-clause-wants
-returns-in-Err-clause-wants g c = wants.lacked_first _ _ _ c.in-Err.ensures
+returns-in-Err-clause-wants g c = wants.lacked_first _ _ _ _ refl c.in-Err.ensures.counted

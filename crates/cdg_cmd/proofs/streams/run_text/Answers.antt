@@ -38,16 +38,16 @@ returns-in-Ok-clause-ended g c =
 pub returns-in-Err-clause-ended : goal.returns-in-Err-clause-ended
 returns-in-Err-clause-ended g c = inl (refl, refl, refl)
 
-pub returns-in-Ok-clause-lacks : goal.returns-in-Ok-clause-lacks
-returns-in-Ok-clause-lacks g c = λ none.
+pub returns-in-Ok-clause-no_memory : goal.returns-in-Ok-clause-no_memory
+returns-in-Ok-clause-no_memory g c = λ none.
     let played = c.list_texts.ensures.plays.plays in
     inr (lacks_memory c.list_texts.result _ c.args.form c.args.lead_in _ _ c.play_status.ensures
     played.puts.plays.ended played.answer none)
 
 pub returns-in-Ok-clause-wants : goal.returns-in-Ok-clause-wants
 returns-in-Ok-clause-wants g c =
-    wants.reached _ _ _ _ c.in-Ok.ensures.same
+    wants.reached _ _ _ _ (wants.kept_first _ _ _ _ c.in-Ok.ensures.counted)
     (wants.told_listed _ _ c.list_texts.result _ c.play_status.ensures c.list_texts.ensures.counted)
 
 pub returns-in-Err-clause-wants : goal.returns-in-Err-clause-wants
-returns-in-Err-clause-wants g c = wants.lacked_first _ _ _ c.in-Err.ensures
+returns-in-Err-clause-wants g c = wants.lacked_first _ _ _ _ refl c.in-Err.ensures.counted

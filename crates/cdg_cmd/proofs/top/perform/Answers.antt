@@ -128,7 +128,7 @@ returns-in-Text-clause-performs g c =
       keeps = record { first = λ unread. absurd unread; second = inl refl; out = λ last. done.untouched };
       memory = wants_later (λ takes. takes) (λ first. first) (λ none. done.untouched (wrote_nothing none));
       does = done.does;
-      lacks = done.lacks;
+      lacks = done.no_memory;
       ends = λ found. (done.ended, refl);
     })
 

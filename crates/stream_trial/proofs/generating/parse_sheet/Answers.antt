@@ -3,7 +3,7 @@ use Rattle.stream_trial.proofs.Sheets.{read_so}
 use Rattle.stream_trial.proofs.generating.parse_sheet.Goals as goal
 
 pub returns-in-Ok-clause-sheet : goal.returns-in-Ok-clause-sheet
-returns-in-Ok-clause-sheet c = read_so c.in-Ok.sheet _ c.trial_sheet_is_read.ensures.read c.in-Ok.ensures
+returns-in-Ok-clause-sheet c = read_so c.in-Ok.sheet _ c.trial_sheet_is_read.ensures.read c.in-Ok.ensures.read
 
 pub returns-in-Ok-clause-err : goal.returns-in-Ok-clause-err
 returns-in-Ok-clause-err c = tt

@@ -1,7 +1,6 @@
 use Rattle.cdg_io.specs.Reads.{input}
 use Rattle.cdg_cmd.proofs.TextReads.{no_text, takes_unread, text_ends, unread, unread_fault}
-use Rattle.cdg_cmd.proofs.Wants as wants
-use Rattle.cdg_cmd.proofs.memory.CountedMemory.read_text.Goals as goal
+use Rattle.cdg_cmd.proofs.calls.read_from.Goals as goal
 
 pub returns-in-Err-clause-err : goal.returns-in-Err-clause-err
 returns-in-Err-clause-err g c =
@@ -31,9 +30,3 @@ returns-in-Err-clause-told g c =
 pub returns-in-Err-clause-fault : goal.returns-in-Err-clause-fault
 returns-in-Err-clause-fault g c =
     unread_fault c.args.which c.in-Err.stop _ _ _ c.read_status.ensures c.in-Err.ensures.failed
-
-pub returns-in-Err-clause-wants : goal.returns-in-Err-clause-wants
-returns-in-Err-clause-wants g c =
-    wants.counted_from _ _ _ _ c.self.view_is
-    (wants.unread _ _ c.note.ensures.later c.args.which c.in-Err.stop _ c.read_status.ensures
-    c.note.ensures.lacks c.note.ensures.other)

@@ -1,7 +1,7 @@
 use Rattle.std.proofs.Common.{sym, ◌∙◌, rules}
 use Rattle.ribjasper_c.specs.Saving.{IsTooLong}
 use Rattle.ribjasper_c.proofs.Saves.{can, of_held, of_packs, passed_on}
-use Rattle.ribjasper_c.proofs.saving.save_counted.Goals as goal
+use Rattle.ribjasper_c.proofs.saving.save_in.Goals as goal
 
 pub returns-clause-saves : goal.returns-clause-saves
 returns-clause-saves c = record {

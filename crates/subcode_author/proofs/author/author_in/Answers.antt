@@ -3,7 +3,7 @@ use Rattle.std.proofs.lemmas.Result.{err_from_is_err_and, on_ok_weaker, IfErr-we
 use Rattle.pack_schedule.specs.Survey.{IsPastEnd, IsWithin}
 use Rattle.subcode_author.proofs.Schedules.{is_accepted}
 use Rattle.subcode_author.proofs.PictureStops.{late_told, picture_stop, written_stop}
-use Rattle.subcode_author.proofs.author.author_counted.Goals as goal
+use Rattle.subcode_author.proofs.author.author_in.Goals as goal
 
 pub plan_script-requires-clause-blocks : goal.plan_script-requires-clause-blocks
 plan_script-requires-clause-blocks g c =

@@ -1,6 +1,6 @@
 use Rattle.std.proofs.Common.{refl, rules}
 use Rattle.ribjasper_c.proofs.Saves.{plays_on}
-use Rattle.ribjasper_c.proofs.saving.load_counted.Goals as goal
+use Rattle.ribjasper_c.proofs.saving.load_in.Goals as goal
 
 pub returns-clause-loads : goal.returns-clause-loads
 returns-clause-loads c = record {

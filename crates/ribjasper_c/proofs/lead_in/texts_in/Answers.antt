@@ -3,7 +3,7 @@ use Rattle.raw_subcode.specs.declared.form.Form.{Form}
 use Rattle.stream_stages.specs.TextListing.{texts_of_lead_in, IsTextFault}
 use Rattle.ribjasper_c.specs.Conversions.{stream_form}
 use Rattle.ribjasper_c.proofs.Listing.{fault_or_short, gives_texts, refused_texts, passed_on}
-use Rattle.ribjasper_c.proofs.lead_in.texts_counted.Goals as goal
+use Rattle.ribjasper_c.proofs.lead_in.texts_in.Goals as goal
 
 pub returns-in-Err-clause-writes : goal.returns-in-Err-clause-writes
 returns-in-Err-clause-writes c =
