@@ -79,6 +79,8 @@ class Font:
         self._plain: set[str] = set()
         self._widths: dict[tuple[str, int], float] = {}
         self._runs: dict[tuple[str, int], list[LetterRun]] = {}
+        self._parts: dict[tuple[str, int, int], float] = {}
+        self._boxes: dict[tuple[str, int], list[tuple[int, int, int, int]]] = {}
         self.face(0, size)
 
     def of(self, voice: int) -> "Font":
@@ -173,8 +175,10 @@ class Font:
         if place in (run.first, run.last):
             return run.width if place == run.last else 0.0
         joined = unicodedata.bidirectional(text[place - 1]) == "AL" and text[place].isalpha()
-        before = text[run.first : place] + JOINER * joined
-        return min(run.width, float(self.face(run.face, size).getlength(before)))
+        key = text[run.first : place] + JOINER * joined, run.face, size
+        if key not in self._parts:
+            self._parts[key] = float(self.face(run.face, size).getlength(key[0]))
+        return min(run.width, self._parts[key])
 
     def width(self, text: str, size: int) -> float:
         if (text, size) not in self._widths:
@@ -183,12 +187,17 @@ class Font:
 
     def heights(self, texts: Iterable[str], size: int) -> tuple[int, int]:
         """How far the letters reach above and below their base line."""
-        boxes = [
-            self.face(run.face, size).getbbox(text[run.first : run.last], anchor="ls")
-            for text in texts
-            for run in self.runs(text, size)
-        ]
+        boxes = [box for text in texts for box in self.boxes(text, size)]
         return max((-box[1] for box in boxes), default=0), max((box[3] for box in boxes), default=0)
+
+    def boxes(self, text: str, size: int) -> list[tuple[int, int, int, int]]:
+        """The extent of the letters of each run around the line that they stand on."""
+        if (text, size) not in self._boxes:
+            self._boxes[text, size] = [
+                self.face(run.face, size).getbbox(text[run.first : run.last], anchor="ls")
+                for run in self.runs(text, size)
+            ]
+        return self._boxes[text, size]
 
     def drawn(self, text: str, size: int, left: int, above: int, height: int) -> bytes:
         """The light of each pixel, from 0 to 255."""

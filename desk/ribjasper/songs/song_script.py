@@ -5,7 +5,7 @@ import itertools
 import math
 from dataclasses import dataclass, field
 from pathlib import Path
-from typing import Callable, Iterable, Sequence
+from typing import Callable, Iterable, Iterator, Sequence
 
 from ..common import times
 from ..common.cue_sheets import ONE_TRACK
@@ -17,7 +17,7 @@ from ..common.times import spelled
 from ..drawing.colours import read_colour
 from ..drawing.images import PLAIN, fitted, flat_of, raster_of, read_image, whole
 from ..drawing.lettering import Font, font_of, named
-from ..drawing.raster import COLOURS, HEIGHT, Raster, TILE_HEIGHT, WIDTH, span_lines, lines_between, spans
+from ..drawing.raster import COLOURS, HEIGHT, Raster, Span, TILE_HEIGHT, WIDTH, span_lines, lines_between, spans
 from ..drawing.styles import INKS, Style
 
 from .known_needs import Known, ask_known
@@ -350,13 +350,29 @@ def lines_of(steps: Sequence[Step], raster: Raster) -> list[str]:
         for step in steps:
             step.apply(raster)
         return lines_between(before, raster)
+    parts = merged(parts)
+    if len(parts) == 1:
+        return list(span_lines(list(changed_by(parts[0], raster))))
     old: dict[int, bytes] = {}
-    for part in merged(parts):
+    for part in parts:
         rows = part.differing(raster)
         old = {number: bytes(raster.rows[number]) for number, _ in rows} | old
         part.draw(raster, rows)
     found = [span for number, row in sorted(old.items()) for span in spans([row], [raster.rows[number]], number)]
     return list(span_lines(found))
+
+
+def changed_by(part: ColumnStep, raster: Raster) -> Iterator[Span]:
+    """Brings the columns of a step, and gives for each row the stretch that changes."""
+    for number, row in part.rows():
+        stands, new = raster.rows[number], row[part.left : part.right]
+        old = bytes(stands[part.left : part.right])
+        if old != new:
+            stands[part.left : part.right] = new
+            differ = int.from_bytes(old, "big") ^ int.from_bytes(new, "big")
+            marks = differ.to_bytes(len(old), "big")
+            first, last = len(old) - len(marks.lstrip(b"\0")), len(marks.rstrip(b"\0"))
+            yield Span(part.left + first, number, new[first:last])
 
 
 def merged(parts: Sequence[ColumnStep]) -> list[ColumnStep]:
