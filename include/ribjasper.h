@@ -214,8 +214,8 @@ int32_t ribjasper_player_take(ribjasper_player *player, const uint8_t block[RIBJ
 int32_t ribjasper_player_draw(ribjasper_player *player, const uint8_t pack[24]);
 
 /* The part of the screen that may have changed. The pixels are those from column `left` to `right` - 1 of rows `top` to
-   `bottom` - 1, or none if `left` is 300. `colours` and `levels` are 1 if colours of the table or levels may have changed,
-   or 0. If colours or levels changed, any pixel may look different, although its number is the same. Nothing else changed.
+   `bottom` - 1, or none if `left` is 300. `colours` is 1 if the colour table may have changed, otherwise 0;
+   `levels` is 1 if the levels may have changed, otherwise 0. If colours or levels changed, any pixel may look different, although its number is the same. Nothing else changed.
    */
 typedef struct ribjasper_change {
     uint32_t left;
@@ -423,8 +423,8 @@ int32_t ribjasper_player_seek_packs(ribjasper_player *player, const uint8_t *pac
 
 /* Reports what the instruction of a pack can change on any screen. Nothing else changes.
      pack: 24 bytes
-   Returns a number that is not an answer of the list above. It is 0 to 899 for a tile of the memory: 50 times its row plus
-   its column. Otherwise it is one of the numbers above. */
+   Returns 0 to 899 for a tile of the memory (50 times its row plus its column), or one of RIBJASPER_TOUCHES_NOTHING to
+   RIBJASPER_TOUCHES_LEVELS. The result is not a ribjasper_answer. */
 int32_t ribjasper_pack_touches(const uint8_t pack[24]);
 
 /* Writes what may change on the screen if a pack is drawn. The pixels of a tile at row r and column c are
@@ -766,8 +766,8 @@ typedef struct ribjasper_planned {
 #define RIBJASPER_NOT_PLANNED 3 /* `result` has the reason, and no row is written */
 #define RIBJASPER_LATE 4        /* pictures are late; their rows have `late` 1 */
 
-/* Plans a disc: one row for each picture of a script. A row is about its own picture, even if earlier ones are late. The
-   program's `author` reports the first late picture.
+/* Plans a disc: one row for each picture of a script. `late` in a row is only about the picture of
+   this row; delays of earlier pictures do not count. The program's `author` reports the first late picture.
      sheet, sheet_length, script, script_length: the texts of the cue sheet and of the script, and their bytes
      lead_in: lead-in blocks, at most 450,000
      audio: audio blocks, at most 449,999
