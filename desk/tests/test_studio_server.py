@@ -4,6 +4,7 @@ import functools
 import http.client
 import json
 import re
+import shutil
 import signal
 import struct
 import subprocess
@@ -71,7 +72,10 @@ class StudioTest(FolderTest):
         return self.write(name, content)
 
     def studio(self, song: Path, force: bool = False) -> Studio:
-        studio = Studio(files_of(song, None), None, force)
+        return self.studio_of(song, None, force)
+
+    def studio_of(self, song: Path, sound: Path | None, force: bool = False) -> Studio:
+        studio = Studio(files_of(song, sound), None, force)
         self.addCleanup(studio.close)
         return studio
 
@@ -271,6 +275,26 @@ class FilesTest(StudioTest):
             self.studio(song)
         self.assertEqual(song.read_text(), "[00:01.00]Mine\n")
         self.assertEqual(self.studio(song, force=True).score.lines[0].text, "Mine")
+
+    def test_a_write_protected_song_stays(self) -> None:
+        song = self.song()
+        studio = self.studio(song)
+        studio.do({"do": "head", "title": "B"})
+        song.chmod(0o444)
+        with self.assertRaisesRegex(Refusal, "is write-protected"):
+            studio.save()
+        self.assertEqual(song.read_bytes(), LRC.encode())
+
+    def test_other_sounds_are_decoded(self) -> None:
+        if not shutil.which("ffmpeg"):
+            self.skipTest("ffmpeg is not installed")
+        song = self.song("x.lrc", LRC, 3)
+        words = ["ffmpeg", "-v", "error", "-i", str(self.folder / "x.wav"), str(self.folder / "y.mp3")]
+        subprocess.run(words, check=True)
+        (self.folder / "x.wav").unlink()
+        studio = self.studio_of(song, self.folder / "y.mp3")
+        self.assertAlmostEqual(studio.seconds, 3, delta=0.1)
+        self.assertAlmostEqual(len(studio.sound_peaks()) / 200, 3, delta=0.1)
 
     def test_a_saved_song_that_changed_begins_again(self) -> None:
         song = self.song()

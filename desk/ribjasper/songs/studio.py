@@ -11,6 +11,7 @@ from ..common.failures import Failure, Refusal, failure_of
 from ..common.kinds import Kind
 from ..common.library import BLOCKS_A_SECOND
 from ..common.output import Outputs, read_file, tell
+from ..common.targets import WRITABLE
 from ..drawing.styles import shipped
 from . import audio, hyphens
 from .albums import NEW, entry_of
@@ -290,6 +291,8 @@ class Studio:
             written = {self.target: lrc, **({self.more: more} if more is not None else {})}
             same = {path for path, content in written.items() if path.is_file() and read_file(path) == content}
             is_ours = self.is_ours()
+            if locked := [path for path in written if path not in same and path.exists() and not is_writable(path)]:
+                raise Refusal(locked[0], "is write-protected")
             writes: list[tuple[Path, Kind]] = [(self.target, kinds.LYRICS), (self.more, kinds.LYRICS_MORE)]
             writes = [one for one in writes if one[0] in written and one[0] not in same]
             with Outputs([self.sound], writes, is_ours) as outputs:
@@ -445,6 +448,11 @@ class Studio:
     def close(self) -> None:
         self.rehearsal.end()
         self.lock.free()
+
+
+def is_writable(path: Path) -> bool:
+    """Whether a file may be replaced; its permissions hold for the administrator too."""
+    return bool(path.stat().st_mode & WRITABLE) and os.access(path, os.W_OK)
 
 
 def export_name(lyrics: Path, ending: str) -> Path:
