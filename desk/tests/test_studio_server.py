@@ -14,6 +14,7 @@ import time
 import unittest
 from pathlib import Path
 from typing import Any, Iterator, NamedTuple
+from unittest import mock
 
 from fixtures import (
     DESK,
@@ -171,6 +172,15 @@ class ServerTest(StudioTest):
             self.assertEqual(self.ask(server, "export", {"ending": "/../x"}).status, 409)
             self.assertEqual(self.ask(server, "packs?revision=x").status, 200)
         self.assertEqual(self.names(), {"a.lrc", "a.wav"})
+
+    def test_a_fault_is_answered(self) -> None:
+        """A page learns of a fault of the desk, and the server goes on."""
+        studio = self.studio(self.song())
+        with self.served(studio) as server, mock.patch.object(studio, "undo", side_effect=ZeroDivisionError("x")):
+            found = self.ask(server, "undo", {})
+            self.assertEqual(found.status, 500)
+            self.assertIn("a fault of the desk", found.table["error"])
+            self.assertEqual(self.ask(server, "song").status, 200)
 
     def test_the_sound_in_parts(self) -> None:
         song = self.song(seconds=1)

@@ -10,7 +10,7 @@ from pathlib import Path
 from typing import Any, BinaryIO, Callable, NamedTuple
 from urllib.parse import parse_qsl, urlsplit
 
-from .failures import Failure
+from .failures import Failure, failure_of
 
 HOST = "127.0.0.1"
 # The most bytes of a request, and how many of a file are sent at a time.
@@ -138,6 +138,8 @@ class Handler(http.server.BaseHTTPRequestHandler):
             answer = self.server.site(Asked(path, dict(parse_qsl(found.query)), table))
         except Failure as failure:
             answer = as_json({"error": "; ".join(failure.lines)}, 409)
+        except Exception as error:
+            answer = as_json({"error": "; ".join(failure_of(error, f"/{path}").lines)}, 500)
         self.send(answer or as_json({"error": "there is nothing of this name"}, 404))
 
     def send(self, answer: Answer) -> None:

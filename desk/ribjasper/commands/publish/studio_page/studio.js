@@ -181,6 +181,8 @@ function renderSong() {
   options($("image"), [["", "the title as text"], ...images], look.title ?? "");
   options($("between"), [["", "nothing"], ...images], look.between?.[0] ?? "");
   options($("picture"), [["", "choose …"], ...images], $("picture").value);
+  for (const id of ["size", "lead"]) fill($(id), look[id] ?? "");
+  fill($("intro"), look.intro ?? 0);
   $("sweep").checked = look.sweep ?? false;
   $("legend").checked = look.legend ?? false;
   $("rests").checked = look.rests ?? true;
@@ -198,7 +200,7 @@ function renderSong() {
 /** A value that the user is typing stays. */
 function fill(field, value) {
   if (document.activeElement !== field || field.dataset.filled === field.value) field.value = value;
-  field.dataset.filled = value;
+  field.dataset.filled = String(value);
 }
 
 function options(list, pairs, value) {
@@ -453,6 +455,7 @@ function wireSong() {
   onChange("rows", (field) => look({ rows: field.value ? Number(field.value) : null }));
   onChange("image", (field) => look({ title: field.value }));
   onChange("between", (field) => look({ between: field.value ? [field.value] : [] }));
+  for (const id of ["size", "lead", "intro"]) onChange(id, (field) => look({ [id]: field.value === "" ? null : Number(field.value) }));
   for (const id of ["sweep", "legend", "rests"]) onChange(id, (field) => look({ [id]: field.checked }));
   $("place").addEventListener("click", () => {
     if ($("picture").value) edit({ do: "picture", what: $("picture").value, at: Math.round(100 * sound.currentTime) / 100 });
