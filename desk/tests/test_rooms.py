@@ -13,6 +13,7 @@ BELOW = {
     "drawing": {"common", "drawing"},
     "songs": {"common", "drawing", "songs"},
     "commands": {"common", "dumps", "drawing", "songs"},
+    "api": {"common", "dumps", "songs", "api"},
 }
 
 

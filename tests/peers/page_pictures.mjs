@@ -37,7 +37,7 @@ function damaged() {
     const stream = run(join(TOP, "bin", "ribjasper"), ...words).subarray(BLOCK * LEAD_IN);
     for (let at = 0; at < stream.length; at += 1) {
         const isScratch = at >= BLOCK * 900 && at < BLOCK * 960;
-        if (isScratch || chance(90) === 0) {
+        if (isScratch || chance(150) === 0) {
             stream[at] ^= 1 + chance(63);
         }
     }
@@ -77,7 +77,7 @@ async function song(browser) {
     writeFileSync(sound, silence(54));
     const lyrics = join(TOP, "examples", "album", "duet.lrc");
     run(join(TOP, "desk", "ribjasper-desk"), "look", lyrics, "--audio", sound, "-o", page);
-    await browser.look(930, 600, "light");
+    await browser.look(930, 690, "light");
     await browser.send("Page.navigate", { url: pathToFileURL(page).href });
     await browser.until("document.querySelector('audio')?.readyState > 0");
     await browser.value("document.querySelector('audio').currentTime = 15.2");
