@@ -6,7 +6,7 @@ from fixtures import FolderTest, has, needs_program
 
 from ribjasper.common import library
 from ribjasper.common.cue_sheets import COPY
-from ribjasper.common.discs import SheetDisc, SheetTrack, read_disc, tracks_of
+from ribjasper.common.discs import SheetDisc, Track, read_disc, tracks_of
 from ribjasper.common.library import SheetRow
 from ribjasper.common.failures import Refusal
 from ribjasper.common.planning import ScriptWhy, SheetWhy, Why, without_line
@@ -24,9 +24,9 @@ class TracksTest(unittest.TestCase):
     """An index stands at 150, its time, and all silence up to it."""
 
     def test_one_track(self) -> None:
-        self.assertEqual(tracks_of([row(7, 1, 0)]), [SheetTrack(7, 0, [150], 0, 0, 0)])
+        self.assertEqual(tracks_of([row(7, 1, 0)]), [Track(7, 0, {0: 0, 1: 150})])
         self.assertEqual(
-            tracks_of([row(1, 0, 0), row(1, 1, 75), row(1, 2, 300)]), [SheetTrack(1, 0, [225, 450], 0, 0, 0)]
+            tracks_of([row(1, 0, 0), row(1, 1, 75), row(1, 2, 300)]), [Track(1, 0, {0: 0, 1: 225, 2: 450})]
         )
 
     def test_gaps(self) -> None:
@@ -37,23 +37,24 @@ class TracksTest(unittest.TestCase):
             row(3, 1, 1000, pregap=150),
         ]
         first, second, third = tracks_of(rows)
-        self.assertEqual((first.begin, first.indices, first.postgap), (0, [150], 75))
-        self.assertEqual((second.begin, second.indices, second.pregap), (150 + 400 + 75, [150 + 500 + 75 + 20], 20))
-        self.assertEqual((third.begin, third.indices), (150 + 1000 + 95, [150 + 1000 + 95 + 150]))
+        self.assertEqual((first.begin, first.indices, first.postgap), (0, {0: 0, 1: 150}, 75))
+        self.assertEqual((second.begin, second.pregap), (150 + 400 + 75, 20))
+        self.assertEqual(second.indices, {0: 150 + 400 + 75, 1: 150 + 500 + 75 + 20})
+        self.assertEqual(third.indices, {0: 150 + 1000 + 95, 1: 150 + 1000 + 95 + 150})
 
     def test_indices_at_one_time_are_one(self) -> None:
         (track,) = tracks_of([row(1, 1, 0), row(1, 2, 100), row(1, 3, 100), row(1, 4, 200)])
-        self.assertEqual(track.indices, [150, 250, 350])
+        self.assertEqual(track.indices, {0: 0, 1: 150, 2: 250, 3: 350})
 
     def test_control_and_codes(self) -> None:
         first, second = tracks_of([row(1, 1, 0, control=COPY, code=b"GBAAA2600001"), row(2, 1, 300)])
-        self.assertEqual(
-            (first.control, first.texts, second.control, second.texts), (COPY, {"code": b"GBAAA2600001"}, 0, {})
-        )
+        self.assertEqual((first.control, first.code, second.control, second.code), (COPY, b"GBAAA2600001", 0, b""))
 
     def test_silence(self) -> None:
-        tracks = [SheetTrack(1, 0, [300], 1000, 150, 75), SheetTrack(2, 1000, [1020], 2000, 20, 0)]
-        silent = SheetDisc(tracks, {}, bytes(96 * 2000), 0).silence()
+        first = Track(1, 0, {0: 0, 1: 300}, pregap=150, postgap=75)
+        disc = SheetDisc([first, Track(2, 0, {0: 1000, 1: 1020}, pregap=20)], 2000, b"", {}, bytes(96 * 2000), 0)
+        self.assertEqual([disc.end_of(track) for track in disc.tracks], [1000, 2000])
+        silent = disc.silence()
         self.assertEqual(silent, {*range(150, 300), *range(925, 1000), *range(1000, 1020)})
 
 
@@ -79,11 +80,13 @@ INDEX 01 00:05:00
 class ReadTest(FolderTest):
     def test_a_whole_sheet(self) -> None:
         disc = read_disc(self.folder / "a.cue", SHEET, 75 * 10)
-        self.assertEqual(disc.texts, {"title": b"All", "performer": b"Somebody", "code": b"4006381333931"})
+        texts = {("title", 0): b"All", ("performer", 0): b"Somebody", ("title", 1): b"One", ("songwriter", 2): b"Else"}
+        self.assertEqual((disc.texts, disc.catalogue), (texts, b"4006381333931"))
         self.assertEqual(disc.blocks, 150 + 750 + 10)
         first, second = disc.tracks
-        self.assertEqual(first, SheetTrack(1, 0, [150], 460, 0, 10, COPY, {"title": b"One", "code": b"GBAAA2600001"}))
-        self.assertEqual(second, SheetTrack(2, 460, [535], 910, 0, 0, 0, {"songwriter": b"Else"}))
+        self.assertEqual(first, Track(1, COPY, {0: 0, 1: 150}, b"GBAAA2600001", postgap=10))
+        self.assertEqual(second, Track(2, 0, {0: 460, 1: 535}))
+        self.assertEqual([disc.end_of(track) for track in disc.tracks], [460, 910])
 
     def test_a_long_text(self) -> None:
         """One that is longer than what the desk gives room for at first: more than a disc holds, so the sheet is

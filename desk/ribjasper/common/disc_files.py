@@ -2,7 +2,7 @@
 import os
 
 from .cue_sheets import COMMANDS, COPY, FOUR_CHANNELS, PRE_EMPHASIS, CueWriter
-from .discs import SheetDisc, SheetTrack
+from .discs import Disc, SheetDisc, Track
 from .library import SECTOR
 from .times import PAUSE, spelled
 
@@ -16,24 +16,24 @@ def in_quotes(text: bytes) -> str:
     return '"' + "".join(chr(byte) if 32 <= byte < 127 else f"\\{byte:03o}" for byte in spelled) + '"'
 
 
-def toc_texts(disc: SheetDisc, texts: dict[str, bytes], of_album: bool) -> list[str]:
+def toc_texts(disc: Disc, number: int, code: bytes) -> list[str]:
     """The texts of the album or of a track; of each kind that any of them has, since burners want it of all."""
-    everywhere = [disc.texts, *(track.texts for track in disc.tracks)]
+    kinds = {kind for kind, _ in disc.texts}
     lines = [
-        f"    {name.decode()} {in_quotes(texts.get(kind, b''))}"
+        f"    {name.decode()} {in_quotes(disc.texts.get((kind, number), b''))}"
         for kind, name in COMMANDS.items()
-        if any(kind in one for one in everywhere)
+        if kind in kinds
     ]
-    if any("code" in one for one in everywhere):
-        lines.append(f"    {'UPC_EAN' if of_album else 'ISRC'} {in_quotes(texts.get('code', b''))}")
+    if disc.catalogue or any(track.code for track in disc.tracks):
+        lines.append(f"    {'ISRC' if number else 'UPC_EAN'} {in_quotes(code)}")
     if not lines:
         return []
-    languages = ["  LANGUAGE_MAP { 0 : EN }"] * of_album
+    languages = [] if number else ["  LANGUAGE_MAP { 0 : EN }"]
     return ["CD_TEXT {", *languages, "  LANGUAGE 0 {", *lines, "  }", "}"]
 
 
-def toc_track(disc: SheetDisc, track: SheetTrack, name: str) -> list[str]:
-    begin = max(track.begin, PAUSE)
+def toc_track(disc: SheetDisc, track: Track, name: str) -> list[str]:
+    begin, first = max(track.begin, PAUSE), track.indices[1]
     control = track.control
     lines = [
         "",
@@ -43,46 +43,46 @@ def toc_track(disc: SheetDisc, track: SheetTrack, name: str) -> list[str]:
         "PRE_EMPHASIS" if control & PRE_EMPHASIS else "NO PRE_EMPHASIS",
         "FOUR_CHANNEL_AUDIO" if control & FOUR_CHANNELS else "TWO_CHANNEL_AUDIO",
     ]
-    if code := track.texts.get("code"):
-        lines.append(f"ISRC {in_quotes(code)}")
-    lines += toc_texts(disc, track.texts, False)
-    lines.append(f"DATAFILE {in_quotes(os.fsencode(name))} #{SECTOR * (begin - PAUSE)} {spelled(track.end - begin)}")
-    if track.indices[0] > begin:
-        lines.append(f"START {spelled(track.indices[0] - begin)}")
-    return lines + [f"INDEX {spelled(index - track.indices[0])}" for index in track.indices[1:]]
+    if track.code:
+        lines.append(f"ISRC {in_quotes(track.code)}")
+    lines += toc_texts(disc, track.number, track.code)
+    length = spelled(disc.end_of(track) - begin)
+    lines.append(f"DATAFILE {in_quotes(os.fsencode(name))} #{SECTOR * (begin - PAUSE)} {length}")
+    if first > begin:
+        lines.append(f"START {spelled(first - begin)}")
+    return lines + [f"INDEX {spelled(time - first)}" for index, time in track.indices.items() if index > 1]
 
 
 def toc_of(disc: SheetDisc, name: str) -> str:
     """What cdrdao reads. The first pause is not in it: a burner makes it."""
-    catalogue = [f"CATALOG {in_quotes(disc.texts['code'])}"] if disc.texts.get("code") else []
-    lines = ["CD_DA", *catalogue, *toc_texts(disc, disc.texts, True)]
+    catalogue = [f"CATALOG {in_quotes(disc.catalogue)}"] if disc.catalogue else []
+    lines = ["CD_DA", *catalogue, *toc_texts(disc, 0, disc.catalogue)]
     for track in disc.tracks:
         lines += toc_track(disc, track, name)
     return "".join(f"{line}\n" for line in lines)
 
 
-def write_texts(sheet: CueWriter, texts: dict[str, bytes]) -> None:
+def write_texts(sheet: CueWriter, disc: Disc, number: int) -> None:
     for kind in COMMANDS:
-        if kind in texts:
-            sheet.text(kind, texts[kind])
+        if (kind, number) in disc.texts:
+            sheet.text(kind, disc.texts[kind, number])
 
 
-def cue_of(disc: SheetDisc, name: str) -> bytes:
+def cue_of(disc: Disc, name: str) -> bytes:
     """A sheet of the image: tracks of sectors with subcode, whose gaps are in the file."""
     sheet = CueWriter()
-    if code := disc.texts.get("code"):
-        sheet.catalogue(code)
-    write_texts(sheet, disc.texts)
+    if disc.catalogue:
+        sheet.catalogue(disc.catalogue)
+    write_texts(sheet, disc, 0)
     sheet.file(os.fsencode(name), b"BINARY")
     for track in disc.tracks:
         sheet.track(track.number, b"CDG")
         sheet.flags(track.control)
-        write_texts(sheet, track.texts)
-        if code := track.texts.get("code"):
-            sheet.isrc(code)
-        begin = max(track.begin, PAUSE)
-        if begin < track.indices[0]:
-            sheet.index(0, begin - PAUSE)
-        for number, time in enumerate(track.indices, 1):
-            sheet.index(number, time - PAUSE)
+        write_texts(sheet, disc, track.number)
+        if track.code:
+            sheet.isrc(track.code)
+        for index, time in track.indices.items():
+            # The first pause is not in the file.
+            if index or max(time, PAUSE) < track.indices[1]:
+                sheet.index(index, max(time, PAUSE) - PAUSE)
     return sheet.content()

@@ -1,7 +1,7 @@
-"""What a cue sheet says of its disc. The library reads the sheet, and the stream that the program authors of it has the
-frames that a stream of this disc has to have."""
+"""A disc and its tracks, whether a cue sheet or a dump names them; and what a cue sheet says of its disc. The library reads the
+sheet, and the stream that the program authors of it has the frames that a stream of this disc has to have."""
 import itertools
-from dataclasses import dataclass, field
+from dataclasses import dataclass
 from pathlib import Path
 
 from . import library
@@ -16,39 +16,51 @@ ROOM_FOR_TABLE = 4 * 3 * 102
 
 
 @dataclass
-class SheetTrack:
-    """A track: blocks of the program for where it begins, for its indices from 01 on, and for where it ends; the
-    silence before and behind it; the control bits of its frames; and its texts by their kinds."""
+class Track:
+    """A track: its control bits; the absolute time at which each index begins, index 0 being its pause; its recording code, or
+    nothing; its session; and the blocks of silence before and behind it that no file has."""
 
     number: int
-    begin: int
-    indices: list[int]
-    end: int
-    pregap: int
-    postgap: int
-    control: int = 0
-    texts: dict[str, bytes] = field(default_factory=dict)
+    control: int
+    indices: dict[int, int]
+    code: bytes = b""
+    session: int = 1
+    pregap: int = 0
+    postgap: int = 0
+
+    @property
+    def begin(self) -> int:
+        return min(self.indices.values())
 
 
 @dataclass
-class SheetDisc:
-    """The tracks, the texts of the album, the stream of the sheet with no pictures, and how many of its blocks are
-    lead-in."""
+class Disc:
+    """A disc: its tracks, the blocks of its program, its catalogue number, or nothing, and its texts by kind and track, track
+    0 being the album."""
 
-    tracks: list[SheetTrack]
-    texts: dict[str, bytes]
+    tracks: list[Track]
+    blocks: int
+    catalogue: bytes
+    texts: dict[tuple[str, int], bytes]
+
+
+@dataclass
+class SheetDisc(Disc):
+    """The disc of a cue sheet, with the stream of the sheet without pictures, and how many of its blocks are lead-in."""
+
     stream: bytes
     lead_in: int
 
-    @property
-    def blocks(self) -> int:
-        return len(self.stream) // BLOCK - self.lead_in
+    def end_of(self, track: Track) -> int:
+        """Where a track ends: where the next one begins, or with the disc."""
+        return min((other.begin for other in self.tracks if other.begin > track.begin), default=self.blocks)
 
     def silence(self) -> set[int]:
-        """The blocks whose sound no file has: before each track that has a pregap, of the first one behind the pause,
-        and behind each that has a postgap."""
+        """The blocks whose sound no file has: before each track that has a pregap, of the first one behind the pause, and
+        behind each that has a postgap."""
         befores = (range(max(track.begin, PAUSE), max(track.begin, PAUSE) + track.pregap) for track in self.tracks)
-        behinds = (range(track.end - track.postgap, track.end) for track in self.tracks)
+        ends = ((self.end_of(track), track.postgap) for track in self.tracks)
+        behinds = (range(end - postgap, end) for end, postgap in ends)
         return {block for gap in (*befores, *behinds) for block in gap}
 
     def block(self, number: int) -> bytes:
@@ -68,28 +80,25 @@ def read_disc(path: Path, sheet: bytes, audio: int) -> SheetDisc:
     said = library.sheet(sheet)
     if said.why:
         raise Refusal(path, NoPlan(Why.SHEET_REFUSED, said.line, said.why).cause())
-    disc = SheetDisc(tracks_of(said.rows), sheet_texts(sheet, 0, said.catalogue), stream, lead_in)
-    for place, track in enumerate(disc.tracks, 1):
-        track.texts |= sheet_texts(sheet, place, b"")
-    for track, following in zip(disc.tracks, disc.tracks[1:]):
-        track.end = following.begin
-    disc.tracks[-1].end = disc.blocks
-    return disc
+    tracks = tracks_of(said.rows)
+    texts = sheet_texts(sheet, tracks)
+    return SheetDisc(tracks, len(stream) // BLOCK - lead_in, said.catalogue, texts, stream, lead_in)
 
 
-def tracks_of(rows: list[SheetRow]) -> list[SheetTrack]:
-    """The tracks of the index lines of a sheet, as far as these say. Two indices at one time are one, as on the
-    disc."""
-    tracks: list[SheetTrack] = []
+def tracks_of(rows: list[SheetRow]) -> list[Track]:
+    """The tracks of the index lines of a sheet. Two indices at one time are one, as on the disc."""
+    tracks: list[Track] = []
     gaps = 0
     for _, lines in itertools.groupby(rows, key=row_track):
         first, *others = lines
         here = PAUSE + gaps + first.pregap
         times = sorted({here + row.time for row in (first, *others) if row.index})
+        indices = dict(enumerate(times, 1))
         begin = PAUSE + gaps + first.time if tracks else 0
-        track = SheetTrack(first.track, begin, times, 0, first.pregap, first.postgap, first.control)
-        if first.has_isrc:
-            track.texts["code"] = bytes(first.isrc)
+        if begin < times[0]:
+            indices = {0: begin, **indices}
+        code = bytes(first.isrc) if first.has_isrc else b""
+        track = Track(first.track, first.control, indices, code, pregap=first.pregap, postgap=first.postgap)
         tracks.append(track)
         gaps += first.pregap + first.postgap
     return tracks
@@ -100,7 +109,12 @@ def row_track(row: SheetRow) -> int:
     return number
 
 
-def sheet_texts(sheet: bytes, place: int, code: bytes) -> dict[str, bytes]:
-    """The texts of the album, or of a track, and its code."""
-    found = {kind: library.sheet_text(sheet, number, place) for number, kind in enumerate(library.SHEET_TEXTS)}
-    return {kind: text for kind, text in {**found, "code": code}.items() if text}
+def sheet_texts(sheet: bytes, tracks: list[Track]) -> dict[tuple[str, int], bytes]:
+    """The texts of the album and of the tracks. The library counts tracks by their places in the sheet."""
+    numbers = [0, *(track.number for track in tracks)]
+    found = {
+        (kind, number): library.sheet_text(sheet, which, place)
+        for place, number in enumerate(numbers)
+        for which, kind in enumerate(library.SHEET_TEXTS)
+    }
+    return {key: text for key, text in found.items() if text}

@@ -10,7 +10,7 @@ from ..common.failures import Refusal
 from ..common.library import AUDIO, SECTOR
 from ..common.output import Table, tell
 from ..common.times import PAUSE, spelled
-from .q_disc import CATALOGUE, Disc, ISRC, Source
+from .q_disc import CATALOGUE, ISRC, QDisc, Source
 
 NAMES = ("track", "what", "contents", "q", "cue", "times")
 TIME = re.compile(r"(\d+):(\d\d):(\d\d)")
@@ -137,7 +137,7 @@ class Difference(NamedTuple):
     times: str
 
 
-def differences(source: Source, found: Disc, cue: Cue, base: TimeBase) -> list[Difference]:
+def differences(source: Source, found: QDisc, cue: Cue, base: TimeBase) -> list[Difference]:
     """What differs: of the album, and of each track its beginning, its indexes, its code and its session."""
     result: list[Difference] = []
 
@@ -180,7 +180,7 @@ def differences(source: Source, found: Disc, cue: Cue, base: TimeBase) -> list[D
     return result
 
 
-def write_differences(table: Table, source: Source, found: Disc, cue: Cue, base: TimeBase) -> bool:
+def write_differences(table: Table, source: Source, found: QDisc, cue: Cue, base: TimeBase) -> bool:
     """The table of what differs; whether anything does."""
     found_rows = differences(source, found, cue, base)
     for row in found_rows:

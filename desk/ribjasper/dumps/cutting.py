@@ -19,7 +19,7 @@ from .dump import DumpFile
 from .edc import EdcCount
 from .forms import AUDIO
 from .loading import DumpOptions, Loaded, Unknown, load_found
-from .q_disc import Disc, Source, disc
+from .q_disc import disc, QDisc, Source
 
 SAMPLE = 4
 AT_ONCE = 512
@@ -94,7 +94,7 @@ class CutDisc:
     image: Image
     tracks: list[CutTrack]
     notes: list[str] = field(default_factory=list)
-    disc: Disc | None = None
+    disc: QDisc | None = None
     loaded: Loaded | None = None
 
 

@@ -5,6 +5,7 @@ from dataclasses import dataclass, field
 from typing import Iterator, NamedTuple
 
 from ..common import library
+from ..common.discs import Disc, Track
 from ..common.library import BLOCK, QFrame
 from ..common.times import PAUSE, spelled
 from . import sessions
@@ -30,30 +31,16 @@ class Vote(NamedTuple):
         return 2 * self.by > self.of
 
 
-class Track(NamedTuple):
-    number: int
-    control: int
-    indices: dict[int, int]  # the absolute time at which each index begins
-    code: bytes  # the recording code, or nothing
-    session: int = 1
-
-
 @dataclass
-class Disc:
-    """All that a sheet says, and how many frames said it."""
+class QDisc(Disc):
+    """The disc of a dump: all that a sheet says, and how many frames said it."""
 
-    tracks: list[Track]
-    blocks: int  # of the program
-    catalogue: bytes
-    texts: dict[tuple[str, int], bytes]  # by kind and track, 0 the album
     listed: dict[int, QFrame] = field(default_factory=dict)  # the tables of contents
     end: int | None = None  # where the last lead-out begins, if a frame or a file says so
     by_frames: dict[int, int] = field(default_factory=dict)  # where index 01 of each track begins by its frames
     votes: list[str] = field(default_factory=list)  # what was not said by all
     sessions: list[Session] = field(default_factory=list)
-    unsure: list[str] = field(
-        default_factory=list
-    )  # indexes that may begin earlier than the first frame that names them
+    unsure: list[str] = field(default_factory=list)  # indexes that may begin before the first frame that names them
 
 
 def changes(source: Source) -> Iterator[tuple[int, int, int]]:
@@ -256,7 +243,7 @@ def code_of(vote: Vote | None, text: bytes, name: str, votes: list[str]) -> byte
     return vote.value if vote and vote.holds() else text
 
 
-def disc(source: Source, companions: Companions | None = None) -> Disc:
+def disc(source: Source, companions: Companions | None = None) -> QDisc:
     """All that a sheet says, of the frames of the program and else of the lead-in; of sessions also by files beside."""
     layout, met, found_texts = Layout(source), index_starts(source), lead_in_texts(source)
     listed, isrc = listed_by(layout), codes(source)
@@ -284,7 +271,7 @@ def disc(source: Source, companions: Companions | None = None) -> Disc:
     found = sessions.sessions_of(layout, numbers, begins, last_time(source) + 1, companions)
     end = found[-1].lead_out if found else last_time(source) + 1
     end_by = end if found and found[-1].is_sure else None
-    return Disc(tracks, end, whole, found_texts, listed, end_by, by_frames, votes, found, unsure)
+    return QDisc(tracks, end, whole, found_texts, listed, end_by, by_frames, votes, found, unsure)
 
 
 def sessions_in(loaded: Loaded) -> list[Session]:

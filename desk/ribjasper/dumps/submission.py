@@ -11,7 +11,8 @@ from ..common.times import PAUSE, spelled
 from . import cutting, q_repair, text_packs
 from .loading import Loaded
 from .protection import CHECK, check_of
-from .q_disc import CATALOGUE, Disc, ISRC, Source, Track, disc
+from ..common.discs import Track
+from .q_disc import CATALOGUE, disc, ISRC, QDisc, Source
 from .sessions import BY_END, BY_GAP
 
 
@@ -148,7 +149,7 @@ def submitted_track(track: Track, end: int, hashed: cutting.Hashed | None) -> Su
     return own._replace(size=sums.size, crc32=sums.crc32, md5=sums.md5, sha1=sums.sha1, edc_bad=bad)
 
 
-def ends_of(found: Disc) -> Iterator[int]:
+def ends_of(found: QDisc) -> Iterator[int]:
     """Where each track ends: where the next one of its session begins, or at the lead-out."""
     lead_outs = {session.number: session.lead_out for session in found.sessions}
     for track, behind in zip(found.tracks, [*found.tracks[1:], None]):

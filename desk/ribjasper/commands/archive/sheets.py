@@ -13,7 +13,8 @@ from ...dumps import comparing
 from ...dumps.loading import Loaded, add_options, asked, load_raw
 from ...dumps.comparing import TimeBase, time_at
 from ...dumps.companions import LEAD_OUT
-from ...dumps.q_disc import CATALOGUE, Disc, ISRC, Source, Track, disc
+from ...common.discs import Track
+from ...dumps.q_disc import CATALOGUE, disc, ISRC, QDisc, Source
 from ...dumps.sessions import BY_GAP, Session, notes as session_notes
 from ...dumps.survey import Clock
 
@@ -25,7 +26,7 @@ class SheetWriter:
     """A disc with the name of its audio file, whether texts are written in Latin-1, and what times count from."""
 
     def __init__(
-        self, source: Source, found: Disc, name: bytes, is_latin_1: bool, base: TimeBase = TimeBase.FILE
+        self, source: Source, found: QDisc, name: bytes, is_latin_1: bool, base: TimeBase = TimeBase.FILE
     ) -> None:
         self.source, self.disc, self.is_latin_1, self.base = source, found, is_latin_1, base
         self.file = spelled_name(name)
@@ -165,7 +166,7 @@ def minute_second_frame(time: int) -> tuple[int, int, int]:
     return time // 4500, time // 75 % 60, time % 75
 
 
-def remarks(loaded: Loaded, source: Source, found: Disc) -> Iterator[str]:
+def remarks(loaded: Loaded, source: Source, found: QDisc) -> Iterator[str]:
     """What a sheet cannot say of a disc, what is missing, and what not all frames say."""
     numbers = [track.number for track in found.tracks]
     missing = sorted(set(range(numbers[0], numbers[-1] + 1)) - set(numbers))
@@ -190,7 +191,7 @@ def remarks(loaded: Loaded, source: Source, found: Disc) -> Iterator[str]:
     yield from cuts(source, found)
 
 
-def cuts(source: Source, found: Disc) -> Iterator[str]:
+def cuts(source: Source, found: QDisc) -> Iterator[str]:
     """Where a part of the disc is missing in the dump."""
     begin = source.pieces[0].shift + source.survey.first
     if source.pieces[0].shift > PAUSE:
@@ -236,7 +237,7 @@ def add_parser(commands: Commands) -> None:
     parser.set_defaults(run=run, error=parser.error)
 
 
-def toc_session(path: str, found: Disc, asked_for: int | None) -> int:
+def toc_session(path: str, found: QDisc, asked_for: int | None) -> int:
     """The session that a sheet for cdrdao describes; it takes one."""
     numbers = [session.number for session in found.sessions]
     if asked_for is None and len(numbers) > 1:

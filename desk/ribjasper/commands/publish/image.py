@@ -145,7 +145,7 @@ def warn_of_image(arguments: argparse.Namespace, disc: SheetDisc, program: bytes
         tell(f"{arguments.stream}: {lost}")
     tell_texts(arguments, disc)
     for track in disc.tracks:
-        if track.end - track.indices[0] < SHORTEST_TRACK:
+        if disc.end_of(track) - track.indices[1] < SHORTEST_TRACK:
             tell(f"{arguments.sheet}: track {track.number} is shorter than four seconds; burners may refuse it")
 
 
