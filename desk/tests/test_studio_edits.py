@@ -188,6 +188,16 @@ class WordsTest(unittest.TestCase):
     def test_syllables_are_proposed(self) -> None:
         self.assertEqual(hyphens.syllables_of("morning light", "en_US"), ["morn", "ing ", "light"])
 
+    def test_edits_that_are_undone_together(self) -> None:
+        history = History(score_of_plain())
+        edits: list[Edit] = [{"do": "tap", "line": 1, "at": 1.0}, {"do": "tap", "line": 2, "at": 2.0}]
+        history.do({"do": "several", "edits": edits})
+        self.assertEqual(history.score.untimed, [3])
+        self.assertEqual(history.undo(), score_of_plain())
+        for bad in ([*edits, {"do": "tap", "line": 9, "at": 1.0}], [{"do": "several", "edits": []}], 3):
+            with self.assertRaises(BadEdit):
+                history.do({"do": "several", "edits": bad})
+
     def test_syllables_without_a_dictionary(self) -> None:
         self.assertEqual(hyphens.syllables_of("morning light", "xx_XX"), ["morning ", "light"])
 

@@ -35,6 +35,7 @@ from ribjasper.common.failures import Refusal
 from ribjasper.common.serving import MOST_SENT, Server
 from ribjasper.common.web import web
 from ribjasper.drawing.styles import read_style
+from ribjasper.songs import hyphens
 from ribjasper.songs.albums import read_album
 from ribjasper.songs.edits import Edit
 from ribjasper.songs.rehearsal import rehearsed
@@ -252,6 +253,16 @@ class FilesTest(StudioTest):
         self.assertEqual([line.start for line in read_song(self.folder / "a.lrc").lines], [6.0, 8.0])
         self.assertEqual(song.read_text(), TEXT)
         self.assertEqual(self.names(), {"a.txt", "a.wav", "a.lrc", "a.txt.studio", ".ribjasper-desk"})
+
+    def test_proposed_syllables_are_one_edit(self) -> None:
+        studio = self.studio(self.song("a.txt", TEXT))
+        studio.do({"do": "tap", "line": 2, "word": 0, "at": 1.0})
+        with mock.patch.object(hyphens, "syllables_of", side_effect=lambda text, _: list(text)):
+            studio.divide(None, "en_US")
+        self.assertEqual([len(line.words) for line in studio.score.lines], [7, 2])
+        self.assertEqual(studio.state()["undo"], 2)
+        studio.undo()
+        self.assertEqual([len(line.words) for line in studio.score.lines], [2, 2])
 
     def test_nothing_is_saved_before_all_is_timed(self) -> None:
         studio = self.studio(self.song("a.txt", TEXT))

@@ -163,7 +163,7 @@ for example in album song; do
         [ ! -f "$file" ] || install -D -m 644 "$file" "$doc/$file"
     done
 done
-suggests="python3-distributed, python3-mido, python3-numpy"
+suggests="python3-distributed, python3-mido, python3-numpy, python3-pyphen"
 finish "whole jobs over dumps and songs of the subcode of Compact Discs" sound all \
     "libribjasper0 (>= $upstream), python3 (>= 3.11)" \
     "ribjasper, python3-pil, python3-tqdm, ffmpeg, fonts-dejavu-core" <<'END'

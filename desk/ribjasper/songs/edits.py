@@ -501,6 +501,15 @@ def unpicture(score: Score, edit: Edit) -> Score:
     return replace(score, pictures=(*score.pictures[:at], *score.pictures[at + 1 :]))
 
 
+def several(score: Score, edit: Edit) -> Score:
+    """Edits that are undone together."""
+    for one in edit["edits"]:
+        if one["do"] == "several":
+            raise BadEdit("edits that are undone together do not hold others")
+        score = edited(score, one)
+    return score
+
+
 CHANGES: dict[str, Callable[[Score, Edit], Score]] = {
     "tap": tap,
     "start": start,
@@ -518,4 +527,5 @@ CHANGES: dict[str, Callable[[Score, Edit], Score]] = {
     "look": look,
     "picture": picture,
     "unpicture": unpicture,
+    "several": several,
 }

@@ -265,11 +265,14 @@ class Studio:
     def divide(self, key: int | None, language: str) -> None:
         """Proposes the syllables of a line, or of all lines whose words have no times."""
         with self.guard:
-            lines = [line for line in self.score.lines if (line.key == key if key is not None else not line.start)]
-            for line in lines:
+            edits: list[Edit] = []
+            for line in self.score.lines:
+                is_meant = line.key == key if key is not None else line.start is None
                 texts = hyphens.syllables_of("".join(word.text for word in line.words), language)
-                if not line.is_whole and texts != [word.text for word in line.words]:
-                    self.do({"do": "text", "line": line.key, "texts": texts})
+                if is_meant and not line.is_whole and texts != [word.text for word in line.words]:
+                    edits.append({"do": "text", "line": line.key, "texts": texts})
+            if edits:
+                self.do({"do": "several", "edits": edits})
 
     # Saving
 
