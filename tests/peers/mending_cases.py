@@ -4,7 +4,8 @@
 The rule is written here a second time, with numpy, and no line is shared with the desk or the library. Each case is a
 stream of some blocks with busy and idle stretches, and two to five readings of it with damage of several kinds. With
 --desk the readings are files of several forms that the desk's command mends, and what it writes and reports has to be what
-the rule says. Ends with 1 where a perfect reading loses a word that no graphics pack contradicts, where the result has
+the rule says; of cases with blocks or R-W of another place or disc it counts why a reading is better than the result. Ends
+with 1 where a perfect reading loses a word that no graphics pack contradicts, where the result has
 fewer correct words than the best reading, or where a reported number is not true."""
 import argparse
 import binascii
@@ -434,6 +435,57 @@ def lost_of(heard: Sequence[Heard], result: Result) -> list[int]:
     return found
 
 
+def reason(heard: Sequence[Heard], best: int, result: Result, n: int) -> str:
+    """Why a word that the best reading has right is not what came out, by the rule."""
+    own, source = heard[best], result.sources[n]
+    if own.kind[n] != NEAR:
+        return "the best reading has no codeword, and its zeros are right"
+    if result.dropped[best, n]:
+        return "idle, or doubtful, beside another reading that contradicts it"
+    if source == NONE:
+        return "codewords with as few wrong symbols and as many votes"
+    if source < AGREED and heard[source].doubts[n] < own.doubts[n]:
+        return "another codeword has fewer wrong symbols"
+    if source < AGREED and heard[source].doubts[n] == own.doubts[n]:
+        return "another codeword has more votes"
+    return "unexplained"
+
+
+def compare_elsewhere(
+    totals: Counter[str],
+    show: bool,
+    names: list[list[str]],
+    told: Told,
+    heard: Sequence[Heard],
+    result: Result,
+    truth: Truth,
+) -> None:
+    """Counts, of cases with blocks or R-W of another place or disc, those in which the best reading is better, and why."""
+    if told.status not in (0, 1) or len(told.packs) != len(truth.words):
+        # Of a reading without Q the frames of stale blocks are all that tells where it belongs.
+        misled = any("no Q" in " ".join(done) and "stale" in " ".join(done) for done in names)
+        totals["elsewhere: the length that frames of stale blocks tell" if misled else "elsewhere: other length"] += 1
+        return
+    totals["elsewhere: cases"] += 1
+    whole = [(alone(own) == truth.words).all(axis=1) for own in heard]
+    best = max(range(len(heard)), key=lambda number: int(whole[number].sum()))
+    right = (told.packs == truth.words).all(axis=1)
+    if right.sum() >= whole[best].sum():
+        return
+    totals["elsewhere: fewer correct words than the best reading"] += 1
+    if "seem not to be of one disc" in told.lines:
+        totals["elsewhere: of these refused without --force"] += 1
+    placed = bool((told.packs != result.packs).any())
+    reasons = {
+        "the pieces of a reading stand where their frames say" if placed else reason(heard, best, result, n)
+        for n in np.flatnonzero(whole[best] & ~right)
+    }
+    for name in reasons:
+        totals[f"elsewhere: fewer, {name}"] += 1
+    if show:
+        print("elsewhere", int(whole[best].sum()), int(right.sum()), sorted(reasons), names)
+
+
 def case(chance: random.Random, totals: Counter[str], show: bool, folder: Optional[pathlib.Path]) -> None:
     blocks = chance.choice((30, 150, 400, 900)) if folder else chance.choice((2, 5, 30, 150, 400, 900))
     truth = truth_of(chance, blocks, chance.random() < 0.1)
@@ -455,12 +507,12 @@ def case(chance: random.Random, totals: Counter[str], show: bool, folder: Option
     result = mend(streams)
     packs = result.packs
     if folder:
-        if elsewhere:
-            totals["cases with what belongs elsewhere: not compared"] += 1
-            return
         result_of = of_desk(folder, [content for content, _ in files])
         if result_of.status == 9 or any(it in result_of.lines for it in NO_DUMP):
             totals["refused: nothing to mend" if result_of.status == 9 else "refused: no dump"] += 1
+            return
+        if elsewhere:
+            compare_elsewhere(totals, show, names, result_of, heard, result, truth)
             return
         if result_of.status not in (0, 1) or len(result_of.packs) != len(truth.words):
             totals[f"other length or status {result_of.status}"] += 1
@@ -537,7 +589,13 @@ def main() -> int:
                 shutil.rmtree(where)
     for name, count in sorted(totals.items()):
         print(f"{count:10} {name}")
-    failing = ("fewer correct", "of these without", "calls that report", "other length")
+    failing = (
+        "fewer correct",
+        "of these without",
+        "calls that report",
+        "other length",
+        "elsewhere: fewer, unexplained",
+    )
     return int(any(count for name, count in totals.items() if name.startswith(failing)))
 
 
