@@ -1,8 +1,10 @@
 """The desk behind the page of the studio: who may ask, what is written, and what a second studio does."""
 import contextlib
+import errno
 import functools
 import http.client
 import json
+import os
 import re
 import shutil
 import signal
@@ -296,6 +298,18 @@ class FilesTest(StudioTest):
             self.studio(song)
         self.assertEqual(song.read_text(), "[00:01.00]Mine\n")
         self.assertEqual(self.studio(song, force=True).score.lines[0].text, "Mine")
+
+    def test_a_change_that_cannot_be_kept_is_not_made(self) -> None:
+        studio = self.studio(self.song())
+        studio.do({"do": "head", "title": "B"})
+        studio.do({"do": "head", "title": "C"})
+        for act in (lambda: studio.do({"do": "head", "title": "D"}), studio.undo):
+            with mock.patch.object(os, "fsync", side_effect=OSError(errno.ENOSPC, "No space left on device")):
+                with self.assertRaisesRegex(Refusal, "no space left"):
+                    act()
+            self.assertEqual((studio.score.title, studio.state()["undo"], studio.state()["redo"]), ("C", 2, 0))
+        studio.close()
+        self.assertEqual(self.studio(studio.lyrics).score.title, "C")
 
     def test_a_write_protected_song_stays(self) -> None:
         song = self.song()

@@ -5,7 +5,7 @@ import hashlib
 import json
 from dataclasses import dataclass, field
 from pathlib import Path
-from typing import Any
+from typing import Any, NamedTuple
 
 from ..common.failures import Refusal
 from .edits import BadEdit, Edit, edited
@@ -24,6 +24,18 @@ def journal_of(song: Path) -> Path:
 
 def checksum(content: bytes | None) -> str | None:
     return None if content is None else hashlib.sha256(content).hexdigest()
+
+
+class Kept(NamedTuple):
+    """A history as it was."""
+
+    scores: list[Score]
+    edits: list[Edit]
+    at: int
+
+    @property
+    def score(self) -> Score:
+        return self.scores[self.at]
 
 
 class History:
@@ -49,6 +61,12 @@ class History:
             self.edits[self.at :] = [edit]
             self.at += 1
         return made
+
+    def kept(self) -> Kept:
+        return Kept(list(self.scores), list(self.edits), self.at)
+
+    def restore(self, kept: Kept) -> None:
+        self.scores, self.edits, self.at = list(kept.scores), list(kept.edits), kept.at
 
     def undo(self) -> Score:
         self.at = max(0, self.at - 1)

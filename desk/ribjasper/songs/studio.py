@@ -225,39 +225,42 @@ class Studio:
     # Edits
 
     def do(self, edit: Edit) -> None:
-        with self.guard:
-            before = self.score
-            try:
-                self.history.do(edit)
-            except BadEdit as error:
-                raise Refusal(self.lyrics, str(error)) from None
-            self.changed(before)
+        try:
+            self.act(lambda: self.history.do(edit))
+        except BadEdit as error:
+            raise Refusal(self.lyrics, str(error)) from None
 
     def undo(self) -> None:
-        with self.guard:
-            before = self.score
-            self.history.undo()
-            self.changed(before)
+        self.act(self.history.undo)
 
     def redo(self) -> None:
-        with self.guard:
-            before = self.score
-            self.history.redo()
-            self.changed(before)
+        self.act(self.history.redo)
 
-    def changed(self, before: Score) -> None:
-        """Keeps a change in the journal, and asks for its pictures."""
-        if self.score is before:
-            return
-        saved = self.journal.saved or 0
-        if saved > 0 and self.history.edits[:saved] != self.journal.edits[:saved]:
-            # What was saved is no longer among the edits.
-            self.journal.saved = -1
-        self.write_journal()
+    def act(self, change: Callable[[], Score]) -> None:
+        """Makes a change, keeps it in the journal, and plans its pictures meanwhile. A change that cannot be kept is not
+        made."""
+        with self.guard:
+            before = self.history.kept()
+            if change() is before.score:
+                return
+            self.show_score()
+            try:
+                self.write_journal()
+            except BaseException:
+                self.history.restore(before)
+                self.show_score()
+                raise
+
+    def show_score(self) -> None:
+        """Asks for the pictures of the score as it is now."""
         self.revision += 1
         self.rehearsal.ask(self.revision, self.score)
 
     def write_journal(self) -> None:
+        saved = self.journal.saved or 0
+        if saved > 0 and self.history.edits[:saved] != self.journal.edits[:saved]:
+            # What was saved is no longer among the edits.
+            self.journal.saved = -1
         self.journal.edits, self.journal.at = list(self.history.edits), self.history.at
         with Outputs([self.lyrics, self.sound], [(self.journal_path, kinds.JOURNAL)]) as outputs:
             outputs.write(self.journal_path, self.journal.content())
