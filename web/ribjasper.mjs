@@ -509,11 +509,18 @@ export class Player {
         const bytes = bytesOf("stream", stream);
         const unit = unitOf(form);
         const whole = bytes.length - (bytes.length % unit);
-        const [at, number] = [this.#at, FORMS.get(form)];
+        const at = this.#at;
         let fed = 0;
         for (let from = 0; from < whole; from += CHUNK_BYTES) {
             const piece = bytes.subarray(from, Math.min(whole, from + CHUNK_BYTES));
-            fed += Number(this.#room.call("feed_all", at, number, BigInt(this.#put(piece, form)), BigInt(piece.length)));
+            const place = BigInt(this.#put(piece, form));
+            if (form === "sectors") {
+                fed += Number(this.#room.call("feed_all", at, FORMS.get(form), place, BigInt(piece.length)));
+                continue;
+            }
+            // The same, and faster; what may have changed is not used.
+            this.#room.call("feed_changes", at, place, BigInt(piece.length / BLOCK_BYTES), BigInt(this.#work));
+            fed += piece.length / BLOCK_BYTES;
         }
         return fed;
     }
@@ -857,11 +864,8 @@ export class Seeker {
     #goOn(to) {
         const at = BigInt(this.#units.at + this.#unit * this.#position);
         const count = to - this.#position;
-        if (this.#form === "cdg") {
-            callOn(this.#player, "draw_all", at, BigInt(count), BigInt(this.#shared.work));
-        } else {
-            callOn(this.#player, "feed_all", 0, at, BigInt(BLOCK_BYTES * count));
-        }
+        const call = this.#form === "cdg" ? "draw_all" : "feed_changes";
+        callOn(this.#player, call, at, BigInt(count), BigInt(this.#shared.work));
     }
 
     #goTo(to) {
