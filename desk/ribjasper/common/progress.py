@@ -1,6 +1,7 @@
 """A progress bar on a terminal, for what takes longer than two seconds; none without tqdm, with `-q` or elsewhere."""
 import contextlib
 import sys
+import threading
 from typing import Any, Callable, Iterable, Iterator, TypeVar
 
 from . import output
@@ -20,8 +21,10 @@ def turn_off() -> None:
 
 
 def bar(total: int | None, unit: str, is_scaled: bool = False) -> Any:
-    """A bar of tqdm, or none where none is to be shown; there is one at a time."""
-    if _is_off or output.is_quiet() or output.shown_bar() or sys.stderr is None or not sys.stderr.isatty():
+    """A bar of tqdm, or none where none is to be shown; there is one at a time, and only the main thread has one."""
+    if _is_off or output.is_quiet() or output.shown_bar() or threading.current_thread() is not threading.main_thread():
+        return None
+    if sys.stderr is None or not sys.stderr.isatty():
         return None
     with contextlib.suppress(ImportError):
         tqdm: Any = __import__("tqdm").tqdm
