@@ -136,6 +136,7 @@ def without_parity(packs: bytes) -> bytes:
     return b"".join(pack[:2] + bytes(2) + pack[4:20] + bytes(4) for pack in parts)
 
 
+@functools.lru_cache(maxsize=16)
 def program(disc: Disc, first: int, end: int, density: float = 0.5) -> bytes:
     """The raw blocks of the program from one absolute time up to another."""
     symbols = symbols_of(density) if density else bytes(BLOCK)

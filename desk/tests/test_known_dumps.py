@@ -4,7 +4,10 @@ import functools
 import json
 import random
 import re
+import shutil
+import tempfile
 import unittest
+from pathlib import Path
 from typing import Callable, NamedTuple
 
 import known_dumps as known
@@ -204,25 +207,40 @@ FORMS: dict[str, Truth] = {
 class KnownDumpsTest(FolderTest):
     """`identify`, and the state that a report gives."""
 
-    def found(self, content: bytes, name: str = "dump", *words: Word) -> dict[str, str]:
-        ran = desk("identify", self.write(name, content), *words)
+    dumps: Path
+
+    @classmethod
+    def setUpClass(cls) -> None:
+        """All dumps, which are made once."""
+        cls.dumps = Path(tempfile.mkdtemp(prefix="ribjasper-test-"))
+        cls.addClassCleanup(shutil.rmtree, cls.dumps)
+        for number, truth in enumerate(FORMS.values()):
+            cls.dump(number, truth).write_bytes(truth.make())
+
+    @classmethod
+    def dump(cls, number: int, truth: Truth) -> Path:
+        return cls.dumps / f"{number:02}-{truth.name}"
+
+    def found(self, path: Path, *words: Word) -> dict[str, str]:
+        ran = desk("identify", path, *words)
         self.assertEqual(ran.status, 0, ran.told)
         (row,) = ran.rows()
         return row
 
     def test_forms(self) -> None:
-        for case, truth in FORMS.items():
+        for number, (case, truth) in enumerate(FORMS.items()):
             with self.subTest(case):
-                row = self.found(truth.make(), truth.name)
+                path = self.dump(number, truth)
+                row = self.found(path)
                 told = row["form"], int(row["lead-in"]), row["graphics"]
                 self.assertEqual(told, (truth.form, truth.lead_in, truth.graphics), row)
                 self.assertIn(truth.note, row["notes"])
-                self.check_sheet(case, truth)
+                self.check_sheet(case, truth, path)
 
-    def check_sheet(self, case: str, truth: Truth) -> None:
+    def check_sheet(self, case: str, truth: Truth, path: Path) -> None:
         """The tracks of the disc, by a sheet; dumps that have no Q, or a part of the disc, are refused or have a
         part."""
-        ran = desk("sheet", self.folder / truth.name)
+        ran = desk("sheet", path)
         has_q = "cooked" not in truth.form and "cdg" not in truth.form and "Q: not read" not in truth.note
         self.assertEqual(ran.status, 0 if has_q else 3, ran.told)
         if has_q and not any(word in case for word in PARTS):
@@ -261,10 +279,8 @@ class KnownDumpsTest(FolderTest):
         self.assertNotIn("header", ran.told)
 
     def test_states(self) -> None:
-        for number, truth in enumerate(FORMS.values()):
-            self.write(f"dumps/{number:02}-{truth.name}", truth.make())
         out = self.folder / "report"
-        ran = desk("report", self.folder / "dumps", "-o", out, "--no-pictures", "--quiet")
+        ran = desk("report", self.dumps, "-o", out, "--no-pictures", "--quiet")
         self.assertEqual(ran.status, 0, ran.told)
         rows = [json.loads(line) for line in (out / "table.jsonl").read_text().splitlines()]
         found = {case: (row["form"], row["lead-in"], row["status"]) for case, row in zip(FORMS, rows)}

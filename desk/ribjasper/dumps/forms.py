@@ -80,6 +80,8 @@ FORMS = {form.name: form for order in Order for form in (it.ordered(order) for i
 _REVERSED = bytes(int(f"{byte:08b}"[::-1], 2) for byte in range(256))
 # What is left of a byte without the bit of P.
 _P_ALONE = bytes(byte & 0x7F for byte in range(256))
+_NO_FRAME, _NO_CHECK = bytes(FRAME_WITHOUT_CHECK), bytes(PQ - FRAME_WITHOUT_CHECK)
+_ALL_P, _NO_P = b"\xff" * FRAME, bytes(FRAME)
 # The six bits of a symbol.
 SYMBOLS = bytes(byte & 63 for byte in range(256))
 
@@ -115,21 +117,19 @@ def to_planar(blocks: bytes) -> bytes:
     return turned(blocks, "ribjasper_block_to_planar")
 
 
-def with_check(unit: bytes) -> bytes:
-    """The frame of a unit of P and Q alone; where a drive left its check out, with it."""
-    content, rest = unit[:FRAME_WITHOUT_CHECK], unit[FRAME_WITHOUT_CHECK:]
-    if not any(content) or rest.translate(_P_ALONE) != bytes(len(rest)):
-        return unit[:FRAME]
-    return content + (binascii.crc_hqx(content, 0) ^ 0xFFFF).to_bytes(2, "big")
-
-
 def from_pq(content: bytes) -> bytes:
-    """The raw blocks of P and Q alone."""
+    """The raw blocks of P and Q alone; a frame whose check a drive left out has it again."""
     rest = bytes(BLOCK - 2 * FRAME)
-    parts = []
+    without_p = content.translate(_P_ALONE)
+    parts = list[bytes]()
     for start in range(0, len(content), PQ):
-        p = b"\xff" if content[start + PQ - 1] & 0x80 else b"\0"
-        parts.append(p * FRAME + with_check(content[start : start + PQ]) + rest)
+        behind = start + FRAME_WITHOUT_CHECK
+        frame = content[start:behind]
+        if frame == _NO_FRAME or without_p[behind : start + PQ] != _NO_CHECK:
+            frame = content[start : start + FRAME]
+        else:
+            frame += (binascii.crc_hqx(frame, 0) ^ 0xFFFF).to_bytes(2, "big")
+        parts += (_ALL_P if content[start + PQ - 1] & 0x80 else _NO_P, frame, rest)
     return from_planar(b"".join(parts))
 
 
