@@ -37,7 +37,7 @@ from ribjasper.common.failures import Refusal
 from ribjasper.common.serving import MOST_SENT, Server
 from ribjasper.common.web import web
 from ribjasper.drawing.styles import read_style
-from ribjasper.songs import hyphens
+from ribjasper.songs import audio, hyphens
 from ribjasper.songs.albums import read_album
 from ribjasper.songs.edits import Edit
 from ribjasper.songs.rehearsal import rehearsed
@@ -504,6 +504,31 @@ class PicturesTest(StudioTest):
         self.assertNotEqual((self.folder / "c.cdg").read_bytes(), packs)
         album = read_album(self.folder / "album.toml")
         self.assertEqual([track.wishes.style.path for track in album.tracks], [read_style("paper").path])
+
+    @needs_plan
+    @needs_program
+    @needs_pillow
+    @needs_font
+    def test_what_keeps_a_song_from_being_made(self) -> None:
+        """The page shows why there are no pictures, and later edits have pictures again."""
+        studio = self.studio(self.song())
+        studio.do({"do": "move", "lines": [2], "by": 50})
+        made = studio.rehearsal.wait(studio.revision, 60)
+        assert made
+        self.assertIn("begins after the sound", made.error)
+        with self.assertRaisesRegex(Refusal, "begins after the sound"):
+            studio.ready()
+        studio.do({"do": "look", "look": {"title": "none.png"}})
+        studio.undo()
+        studio.undo()
+        self.assertEqual(studio.ready().error, "")
+        with mock.patch.object(audio, "treated", side_effect=OSError(errno.ENOENT, "gone")):
+            studio.do({"do": "head", "title": "B"})
+            made = studio.rehearsal.wait(studio.revision, 60)
+        assert made
+        self.assertIn("gone", made.error)
+        studio.undo()
+        self.assertEqual(studio.ready().error, "")
 
     @needs_plan
     @needs_program

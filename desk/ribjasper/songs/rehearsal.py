@@ -94,6 +94,15 @@ def late_of(made: Made) -> list[Late]:
 
 def rehearsed(revision: int, score: Score, like: Song, sound: Path, known: Known | None = None) -> Rehearsed:
     """The packs of a score with its sound, or why there are none."""
+    try:
+        return score_pictures(revision, score, like, sound, known)
+    except Exception as error:
+        lines = (error if isinstance(error, Failure) else failure_of(error, like.path)).lines
+        return Rehearsed(revision, error="; ".join(lines))
+
+
+def score_pictures(revision: int, score: Score, like: Song, sound: Path, known: Known | None) -> Rehearsed:
+    """The pictures of a score, or a failure."""
     look = score.look
     song = song_of(score, like)
     song.shift(look.intro)
@@ -101,12 +110,8 @@ def rehearsed(revision: int, score: Score, like: Song, sound: Path, known: Known
     blocks = audio.length(audio.treated(sound, Treatment(intro=look.intro)))
     if not song.lines:
         return Rehearsed(revision, blocks=blocks, summary="no line has a time yet")
-    try:
-        made = best(song, wishes_for(look, like.path.parent, PAUSE + blocks), known)
-        packs = as_pair(track_packs(like.path, made.text(), blocks))
-    except Exception as error:
-        lines = (error if isinstance(error, Failure) else failure_of(error, like.path)).lines
-        return Rehearsed(revision, error="; ".join(lines), blocks=blocks)
+    made = best(song, wishes_for(look, like.path.parent, PAUSE + blocks), known)
+    packs = as_pair(track_packs(like.path, made.text(), blocks))
     return Rehearsed(revision, packs, late_of(made), made.maker.notes, made.summary(), "", blocks, song)
 
 
