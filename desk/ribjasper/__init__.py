@@ -6,8 +6,9 @@
 Blocks, packs, frames and corrections come from the proved library. Names are loaded when they are first used; numpy is needed
 only for `Survey.table` and `Player.array`. docs/API.md has examples."""
 import importlib
-from typing import TYPE_CHECKING, Any
 
+# True for checkers of types. To import it from `typing` would take ten times as long as all the rest.
+TYPE_CHECKING = False
 if TYPE_CHECKING:
     from .api.dumps import Dump, Frame, convert, load, mend
     from .common.failures import Failure, Missing, Refusal
@@ -39,12 +40,16 @@ _PLACES = {
 }
 
 
-def __getattr__(name: str) -> Any:
-    """A public name, whose module is loaded now."""
-    if name not in _PLACES:
-        raise AttributeError(f"module {__name__!r} has no attribute {name!r}")
-    found = globals()[name] = getattr(importlib.import_module(f".{_PLACES[name]}", __name__), name)
-    return found
+# Checkers of types see only the names above.
+if not TYPE_CHECKING:
+
+    def __getattr__(name: str) -> object:
+        """A public name, whose module is loaded now."""
+        if name not in _PLACES:
+            raise AttributeError(f"module {__name__!r} has no attribute {name!r}")
+        found: object = getattr(importlib.import_module(f".{_PLACES[name]}", __name__), name)
+        globals()[name] = found
+        return found
 
 
 def __dir__() -> list[str]:
