@@ -59,6 +59,9 @@ class DumpFile:
         try:
             with open(self.path, "rb") as file:
                 file.seek(self.skip + first * form.unit)
+                if form.is_plain():
+                    content = file.read(max(0, left) * form.unit)
+                    return content[: len(content) - len(content) % form.unit]
                 while left > 0:
                     units = file.read(min(left, at_once) * form.unit)
                     whole = len(units) // form.unit

@@ -56,6 +56,10 @@ class Form(NamedTuple):
         """How many blocks so many units are: of packs alone four are one."""
         return -(-units // PACKS_A_BLOCK) if self.coding is Coding.CDG else units
 
+    def is_plain(self) -> bool:
+        """Whether a file has the blocks as they are, one behind another."""
+        return self.coding is Coding.RAW and self.order is Order.PLAIN and not self.is_in_sectors()
+
     def is_in_sectors(self) -> bool:
         return self.unit > self.size
 

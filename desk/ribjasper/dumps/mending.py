@@ -3,7 +3,9 @@ the output of that call."""
 import ctypes
 import functools
 import itertools
+import mmap
 import re
+import sys
 from dataclasses import dataclass
 from typing import Iterator, NamedTuple, Sequence
 
@@ -93,10 +95,17 @@ def best_first(laid: Laid) -> list[int]:
     return sorted(range(len(laid.readings)), key=rank)
 
 
-def programs_of(laid: Laid, order: Sequence[int]) -> bytearray:
+def zeros(size: int) -> mmap.mmap:
+    """Memory of zeros, a byte at least. A page takes no room before something is written to it."""
+    if sys.platform == "win32":
+        return mmap.mmap(-1, max(1, size))
+    return mmap.mmap(-1, max(1, size), flags=mmap.MAP_PRIVATE | mmap.MAP_ANONYMOUS)
+
+
+def programs_of(laid: Laid, order: Sequence[int]) -> mmap.mmap:
     """The program of all readings, one behind another. What is known of their blocks, and the streams of files that no later
     reading needs, are let go."""
-    content = bytearray(laid.size * len(order))
+    content = zeros(laid.size * len(order))
     for place, number in enumerate(order):
         reading = laid.readings[number]
         laid.fill(reading, laid.lead_in, laid.blocks, memoryview(content)[laid.size * place : laid.size * (place + 1)])
@@ -112,13 +121,12 @@ def mend_laid(laid: Laid, as_stream: bool) -> Mended:
     content = programs_of(laid, order)
     words = whole_words(laid.blocks - laid.lead_in)
     name = "ribjasper_mend_stream_report" if as_stream else "ribjasper_mend_report"
-    room = laid.size if as_stream else PACK * words
-    # Memory that is set to zeros when it is first used.
-    out, sources, report = bytearray(max(1, room)), bytearray(max(1, words)), MendReported()
+    size, room = laid.size * len(order), laid.size if as_stream else PACK * words
+    out, sources, report = zeros(room), zeros(words), MendReported()
     byte = ctypes.c_uint8
     readings = (byte * len(content)).from_buffer(content)
     target, names = (byte * len(out)).from_buffer(out), (byte * len(sources)).from_buffer(sources)
-    status = library.call(name)(readings, len(content), len(order), 0, target, room, names, words, report)
+    status = library.call(name)(readings, size, len(order), 0, target, room, names, words, report)
     if status not in (library.DONE, library.DAMAGED):
         raise ValueError(f"{name} answers {status}")
     told = report.counts

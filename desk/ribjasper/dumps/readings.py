@@ -4,7 +4,6 @@ from typing import Iterator, Sequence
 
 from ..common.failures import Refusal
 from ..common.library import BLOCK
-from .forms import Coding, Form, Order
 from .loading import DumpOptions, Loaded, load_raw
 from .pieces import Piece, layers_of
 from .columns import Run
@@ -106,12 +105,7 @@ def read_reading(path: str, words: DumpOptions) -> Reading:
     """A reading as raw blocks, not yet put anywhere."""
     loaded = load_raw(path, words, "blocks that could be mended: its packs are gathered already")
     has_graphics = has_graphics_bits(loaded.stream)
-    return Reading(loaded._replace(stream=b"") if is_plain(loaded.form) else loaded, [], has_graphics)
-
-
-def is_plain(form: Form) -> bool:
-    """Whether a file has the blocks as they are, so that to read them again takes no time."""
-    return form.coding is Coding.RAW and form.order is Order.PLAIN
+    return Reading(loaded._replace(stream=b"") if loaded.form.is_plain() else loaded, [], has_graphics)
 
 
 def placed(reading: Reading) -> list[Reading]:
