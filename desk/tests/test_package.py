@@ -128,7 +128,7 @@ class PackageTest(FolderTest):
         extras = {
             need.split(">")[0] for needs in build_wheel.PROJECT["optional-dependencies"].values() for need in needs
         }
-        self.assertEqual(extras, {"Pillow", "tqdm", "distributed", "mido", "numpy", "pyphen"})
+        self.assertEqual(extras, {"Pillow", "tqdm", "distributed", "mido", "chardet", "numpy", "pyphen"})
 
     def test_source_archive(self) -> None:
         """The archive of the sources makes the same package, with no checkout around it."""
