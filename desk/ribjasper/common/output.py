@@ -436,9 +436,7 @@ def stem_of(name: Name) -> str:
 
 def add_force(parser: argparse.ArgumentParser) -> None:
     """The word that lets outputs replace any file."""
-    parser.add_argument(
-        "--force", action="store_true", help="let an output replace a file that is there, whatever it is"
-    )
+    parser.add_argument("--force", action="store_true", help="overwrite an existing output of any kind")
 
 
 def png(image: Any) -> bytes:

@@ -16,7 +16,7 @@ HOST = "127.0.0.1"
 # The most bytes of a request, and how many of a file are sent at a time.
 MOST_SENT, AT_ONCE = 1 << 22, 1 << 16
 RANGE = re.compile(r"bytes=(\d*)-(\d*)")
-# What a page of this server may load: nothing from elsewhere. Pages do not tell others where they are.
+# What a page of this server may load: nothing from elsewhere. Pages do not send their addresses to others.
 HEADERS = {
     "Cache-Control": "no-store",
     "Content-Security-Policy": "default-src 'self'; img-src 'self' data:; script-src 'self' 'wasm-unsafe-eval'; base-uri 'none'; "
@@ -116,7 +116,7 @@ class Handler(http.server.BaseHTTPRequestHandler):
         return found if isinstance(found, dict) else as_json({"error": "a JSON object is wanted"}, 400)
 
     def against(self) -> Answer | None:
-        """Why a request is refused: it is for another host, comes from another page, or lacks the token."""
+        """Why a request is refused: it is for another host, comes from another page, or has no token."""
         if self.headers.get_all("Host") != [self.server.host]:
             return as_json({"error": "another host"}, 403)
         if any(origin != f"http://{self.server.host}" for origin in self.headers.get_all("Origin", [])):
@@ -125,7 +125,7 @@ class Handler(http.server.BaseHTTPRequestHandler):
             return as_json({"error": "another site"}, 403)
         token = urlsplit(self.path).path.split("/")[1:2]
         if not hmac.compare_digest("".join(token).encode(), self.server.token.encode()):
-            return as_json({"error": "the address lacks its token"}, 403)
+            return as_json({"error": "the address has no token"}, 403)
         return None
 
     def serve(self, table: dict[str, Any] | None) -> None:

@@ -158,7 +158,7 @@ class Font:
         return runs
 
     def extents(self, text: str, size: int, first: int, last: int) -> list[tuple[int, int, float, float, bool]]:
-        """The pieces in which some letters of a text stand, in the order of reading: from and to a letter, from and to
+        """The pieces that some letters of a text are in, in the order of reading: from and to a letter, from and to
         a pixel, and whether the piece runs from right to left."""
         found = []
         for run in self.runs(text, size):
@@ -191,7 +191,7 @@ class Font:
         return max((-box[1] for box in boxes), default=0), max((box[3] for box in boxes), default=0)
 
     def boxes(self, text: str, size: int) -> list[tuple[int, int, int, int]]:
-        """The extent of the letters of each run around the line that they stand on."""
+        """The extent of the letters of each run around its base line."""
         if (text, size) not in self._boxes:
             self._boxes[text, size] = [
                 self.face(run.face, size).getbbox(text[run.first : run.last], anchor="ls")

@@ -127,7 +127,7 @@ def tracks_of_dump(loaded: Loaded) -> CutDisc:
         cut.append(CutTrack(track.number, is_data, source.block_of(begin), end, track.session))
     for _, before, after in source.clock.jumps():
         if source.is_in_order(after):
-            notes.append(f"the image lacks sectors between {spelled(before)} and {spelled(after.time)}")
+            notes.append(f"sectors are missing in the image between {spelled(before)} and {spelled(after.time)}")
     last = cut[-1]
     if last.end > image.sectors:
         notes.append(f"the image ends {last.end - image.sectors} sectors before the lead-out; they are taken as zeros")

@@ -64,7 +64,7 @@ class Loaded(NamedTuple):
         if self.dump.skip:
             yield f"header: {self.dump.skip} bytes in front"
         if self.form.order is Order.REVERSED:
-            yield "the bits of each byte stand in reverse"
+            yield "the bits of each byte are in reverse"
         if self.form.order is Order.SWAPPED:
             yield "the bytes of each pair are exchanged"
         first, behind = self.survey.first, self.survey.blocks - self.survey.end

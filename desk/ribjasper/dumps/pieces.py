@@ -80,7 +80,7 @@ def pieces_of(stretches: Sequence[Stretch]) -> list[Piece]:
 
 
 def layers_of(stretches: Sequence[Stretch]) -> list[list[Piece]]:
-    """The pieces of a dump in layers, in each of which no two claim one place of the disc. The pieces that go on from each
+    """The pieces of a dump in layers: no two pieces of a layer claim one place of the disc. The pieces that go on from each
     to the next keep their places, in the first layer. Another piece, as stale subcode, is in the first layer where its
     place is free; those with the most frames come first."""
     found = with_one_shift(stretches)

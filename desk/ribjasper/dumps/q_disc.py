@@ -231,7 +231,7 @@ class Parts(NamedTuple):
                 earliest = spelled(start.time - start.unsure)
                 unsure.append(
                     f"track {number:02}: index {index:02} begins between {earliest} and {spelled(start.time)} (absolute): "
-                    "no frame there tells an index"
+                    "no frame there names an index"
                 )
         return dict(sorted(found.items()))
 

@@ -1,4 +1,4 @@
-"""Readings of one disc, put side by side by the times that their Q frames tell."""
+"""Readings of one disc, side by side by the times of their Q frames."""
 from dataclasses import dataclass, field, replace
 from typing import Iterator, Sequence
 

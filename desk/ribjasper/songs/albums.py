@@ -29,7 +29,7 @@ from .tracks import track_packs
 
 MOST_TRACKS = 99
 LONGEST_GAP = 60.0
-NEW = """# An album: `ribjasper-desk album {name} -o DISC` makes a disc of it. Names of files are told from this folder on.
+NEW = """# An album: `ribjasper-desk album {name} -o DISC` makes a disc of it. Names of files are relative to this folder.
 title = "{title}"
 singer = "{singer}"
 # catalogue = "4006381333931"

@@ -42,7 +42,7 @@ class Spelling:
         done = "".join(self.instead.get(letter, letter) for letter in plain)
         if done != plain:
             self.song.told.append(
-                f"{self.song.path}: {place} has letters that {self.kind} cannot hold; others stand for them"
+                f"{self.song.path}: {place} has letters that {self.kind} cannot hold; others replace them"
             )
         return done
 

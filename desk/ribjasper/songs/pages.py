@@ -249,7 +249,7 @@ class Screen:
         return placed
 
     def first_for(self, group: Group) -> int:
-        """The first place of a page: so that it stands in the middle, or higher if a row would have too little time there
+        """The first place of a page: so that it is in the middle, or higher if a row would have too little time there
         after the row that it follows."""
         middle = (self.style.rows - len(group.rows)) // 2
         starts = [row[0][0].start for _, row in group.rows]

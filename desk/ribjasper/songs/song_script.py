@@ -36,8 +36,8 @@ BEGIN = times.PAUSE + 4
 THROUGH_PAUSE = f"show 00:00:20 {spelled(BEGIN)}"
 # The blocks of audio that the longest disc has behind its pause.
 LONGEST_AUDIO = 449_999 - times.PAUSE
-# A line stays this long when it is sung; a title and a legend stand so long at least, and are gone so long before the
-# first word; a last page comes where it can stand so long.
+# A line stays this long when it is sung; a title and a legend are shown so long at least, and are gone so long before
+# the first word; a last page comes if it can be shown so long.
 STAYS, TITLE_STANDS, BEFORE_FIRST = BLOCKS // 5, 2 * BLOCKS, 3 * BLOCKS
 LAST_STANDS = 3 * BLOCKS
 # More letters of a title than a page has room for.
@@ -562,7 +562,7 @@ class Maker:
             room = max(0, self.room_for([]) - TITLE_STANDS) / BLOCKS
             self.notes.append(
                 f"{image}: the title is left out: it needs {need / BLOCKS:.1f} seconds, and there is room for {room:.1f}, so "
-                f"that the first page stands before it is sung{self.more_room(shows)}"
+                f"that the first page is shown before it is sung{self.more_room(shows)}"
             )
         for lines in (texts + legend, legend, texts):
             shows = [self.page_of(lines)] if lines else []

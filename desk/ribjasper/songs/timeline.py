@@ -150,7 +150,7 @@ class Arranger:
         return self.told
 
     def fill(self, until: int) -> None:
-        """Draws what may be drawn before a block, that which is due first before others, column by column."""
+        """Draws what may be drawn before a block, what is due first before others, column by column."""
         while waiting := self.waiting(until):
             begin = max(self.line.now, min(task.release for task in waiting))
             task = min((task for task in waiting if task.release <= begin), key=lambda task: task.block)

@@ -21,7 +21,7 @@ LONGEST_INTRO = 600
 
 def add_wishes(parser: argparse.ArgumentParser) -> None:
     """The options that say how a song looks."""
-    parser.add_argument("--title", type=Path, metavar="IMAGE", help="a picture that stands before the first words")
+    parser.add_argument("--title", type=Path, metavar="IMAGE", help="a picture that is shown before the first words")
     parser.add_argument("--style", metavar="STYLE", help=f"{', '.join(shipped())}, or a file STYLE.toml (night)")
     parser.add_argument(
         "--font",
@@ -29,7 +29,7 @@ def add_wishes(parser: argparse.ArgumentParser) -> None:
         action="append",
         default=[],
         metavar="FILE",
-        help=f"a font ({DEFAULT_FONT.stem}); once more for letters that the first lacks",
+        help=f"a font ({DEFAULT_FONT.stem}); once more for letters that the first does not have",
     )
     parser.add_argument(
         "--size",

@@ -71,7 +71,7 @@ def add_parser(commands: Commands) -> None:
     parser.add_argument("--to", dest="end", type=place, metavar="PLACE", help="up to here, which is left out")
     parser.add_argument("--audio", metavar="FILE", help="samples for sectors: raw ones or a WAV file")
     parser.add_argument("--silent", action="store_true", help="sectors without sound")
-    parser.add_argument("--sheet", metavar="CUE", help="the sheet whose P and Q blocks that are pressed have")
+    parser.add_argument("--sheet", metavar="CUE", help="take P and Q of pressed blocks from this sheet")
     add_options(parser)
     add_force(parser)
     parser.set_defaults(run=run)

@@ -1,4 +1,4 @@
-"""Fills in bad Q frames between good ones where only one frame can stand, keeps frames that were changed by design, and
+"""Fills in bad Q frames between good ones where only one frame is possible, keeps frames that were changed by design, and
 checks P and the indexes against Q."""
 import argparse
 from typing import Any
@@ -44,8 +44,8 @@ def add_parser(commands: Commands) -> None:
     parser = commands.add_parser(
         "q-fix",
         help="fill in bad Q frames between good ones, in a copy of a dump",
-        description="Lists the bad Q frames of a dump. -o writes a copy in which bad frames are filled in that stand between "
-        "good frames of one index of one track, whose times go on: only one frame can stand there. Other bad frames are "
+        description="Lists the bad Q frames of a dump. -o writes a copy in which bad frames are filled in that are between "
+        "good frames of one index of one track, whose times go on: only one frame is possible there. Other bad frames are "
         "listed with the reason and stay as they are. So do frames that were changed by design: pairs as those of LibCrypt "
         "('changed'), frames that may belong to such a pair ('doubtful'), and frames that all differ from the right ones in "
         "the same way ('regular'). --sbi and --lsd write the pairs for emulators. P and the order of tracks and indexes are "

@@ -80,7 +80,7 @@ def add_parser(commands: Commands) -> None:
         "--part",
         type=share,
         metavar="K/M",
-        help="look at part K of M alone, and leave the table to a later run without",
+        help="look only at part K of M; a later run without --part writes the table",
     )
     parser.set_defaults(run=run, error=parser.error)
 
@@ -88,7 +88,7 @@ def add_parser(commands: Commands) -> None:
 def jobs(word: str) -> int:
     if word.isdecimal() and int(word) > 0:
         return int(word)
-    raise argparse.ArgumentTypeError(f"{word} is not a number from 1 on")
+    raise argparse.ArgumentTypeError(f"must be at least 1, and not {word}")
 
 
 class Below(NamedTuple):

@@ -210,7 +210,7 @@ def add_parser(commands: Commands) -> None:
         help="write the cue sheet of a dump",
         description="Writes a cue sheet of what the Q channel and the lead-in of a dump say: tracks, indices and pauses, "
         "flags, the catalogue number, recording codes, texts and sessions. The program's author takes it again, with the "
-        "words in its first line. Gaps that no file has stand as pauses within the file. --compare lists in what the table "
+        "words in its first line. Gaps that no file has become pauses within the file. --compare lists in what the table "
         "of contents, Q and a cue sheet differ, and ends with 1 if they do. Times count from where the audio of the file "
         "begins; with --times disc, from the first sector of the disc, 00:02:00. The sheet and the comparison name which.",
     )

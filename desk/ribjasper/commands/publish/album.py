@@ -148,7 +148,7 @@ def check(album: Album, most: int, as_json: bool) -> int:
 
 
 def begin_list(arguments: argparse.Namespace) -> int:
-    """Writes a list of songs, with what their lyrics tell of them."""
+    """Writes a list of songs, with the titles and singers of their lyrics."""
     out = arguments.output or Path(DASH)
     folder = out.parent if arguments.output else Path(".")
     with Outputs(arguments.files, [(out, kinds.ALBUM)], arguments.force) as outputs:
@@ -160,12 +160,12 @@ def begin_list(arguments: argparse.Namespace) -> int:
         for path, song in songs:
             if song is None:
                 if path.suffix.lower() == CDG and not audio.sound_beside(path):
-                    tell(f"{path}: no sound of that name stands beside it; `sound = ...` names one")
+                    tell(f"{path}: no sound of that name is beside it; `sound = ...` names one")
                 lines += NEW_PAIR.format(pair=quoted(os.path.relpath(path, folder)), title=quoted(path.stem))
                 continue
             sound = audio.sound_beside(path)
             if not sound:
-                tell(f"{path}: no sound of that name stands beside it; the list names {path.with_suffix('.wav').name}")
+                tell(f"{path}: no sound of that name is beside it; the list names {path.with_suffix('.wav').name}")
             lines += entry_of(path, sound or path.with_suffix(".wav"), song, folder)
         outputs.write(out, lines.encode())
     return 0

@@ -44,15 +44,15 @@ def add_parser(commands: Commands) -> None:
         "--stills",
         type=Path,
         metavar="OUT.png",
-        help="a page with each picture that stands for a fifth of a second, and its time",
+        help="a page with each picture that is shown for a fifth of a second, and its time",
     )
-    parser.add_argument("--every", type=float, metavar="SECONDS", help="a still for each so many seconds")
+    parser.add_argument("--every", type=float, metavar="SECONDS", help="make a still every so many seconds")
     add_force(parser)
     parser.set_defaults(run=run, parser=parser)
 
 
 def audio_seconds(path: Path | None) -> float:
-    """How long an audio is; 0 where there is none, or where only ffmpeg could measure it and is not installed."""
+    """How long an audio is; 0 if there is none, or if only ffmpeg could measure it and is not installed."""
     if not path:
         return 0
     wave = audio.wave_of(path)

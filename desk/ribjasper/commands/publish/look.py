@@ -40,7 +40,7 @@ def add_parser(commands: Commands) -> None:
         help="make a page that plays a song, to hear and see before the film",
         description="Makes one HTML page that plays a song: its sound, its picture as the proved player shows it, and "
         "its lines on a line of time, those that are late marked. A click jumps there, keys move a line or a syllable by "
-        "0.05 seconds, the space bar sets times anew, and the lyrics are saved as LRC with rests, line ends and names.",
+        "0.05 seconds, the space bar sets new times, and the lyrics are saved as LRC with rests, line ends and names.",
     )
     parser.add_argument("song", type=Path, metavar="SONG", help="the lyrics")
     parser.add_argument("--audio", type=Path, metavar="SOUND", help="the sound (the one beside SONG that has its name)")
