@@ -666,7 +666,8 @@ function measure(ribjasper, tour) {
     whole.feedAll(stream);
     same(withoutAlpha(whole.picture()), screenOf(stream, hour, "--lead-in", "0"), "the screen after an hour");
     const rows = [];
-    for (const [name, bytes, rounds] of [["an hour of the tour's stream", stream, 3], ["random bytes", random, 5]]) {
+    for (const [name, bytes, rounds] of [["an hour of the tour's stream", stream, 3], ["random bytes", random, 15],
+        ["zeros", new Uint8Array(random.length), 25]]) {
         const blocks = bytes.length / BLOCK_BYTES;
         const views = Array.from({ length: blocks }, (_, b) => bytes.subarray(BLOCK_BYTES * b, BLOCK_BYTES * (b + 1)));
         const [all, each, plain] = least(rounds,
@@ -676,11 +677,16 @@ function measure(ribjasper, tour) {
         rows.push([`a block of ${name}, all in one call`, (1e6 * all) / blocks, (1e6 * plain) / blocks]);
         rows.push([`a block of ${name}, a call for each`, (1e6 * each) / blocks, (1e6 * plain) / blocks]);
     }
-    // Packs: those of the tour, and idle ones, of which a file mostly consists.
+    // Packs: those of the tour, idle ones, of which a file mostly consists, and tiles that are set (6) or combined (38).
+    const tiles = (code) => Uint8Array.from({ length: PACK_BYTES * 36000 }, (_, k) => {
+        const [byte, place] = [random[k], k % PACK_BYTES];
+        return [9, code, 0, 0, byte % 16, byte % 16, byte % 18, byte % 50][place] ?? byte % 64;
+    });
     const packs = ribjasper.convert(stream).packs;
-    for (const [name, bytes] of [["the tour", packs], ["idle packs", new Uint8Array(packs.length)]]) {
+    for (const [name, bytes, rounds] of [["the tour", packs, 3], ["idle packs", new Uint8Array(PACK_BYTES * 36000), 25],
+        ["tiles that are set", tiles(6), 25], ["tiles that are combined", tiles(38), 25]]) {
         const views = Array.from({ length: bytes.length / PACK_BYTES }, (_, k) => bytes.subarray(PACK_BYTES * k, PACK_BYTES * (k + 1)));
-        const [all, each, plain] = least(3,
+        const [all, each, plain] = least(rounds,
             () => { const player = ribjasper.player(); player.drawAll(bytes); player.close(); },
             () => { const player = ribjasper.player(); views.forEach((pack) => player.draw(pack)); player.close(); },
             () => { const player = new PlainPlayer(); views.forEach((pack) => player.draw(pack)); });
