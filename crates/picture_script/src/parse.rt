@@ -44,6 +44,7 @@ impl Script {
     ///
     /// `Fault` at the first line that is refused, with its first reason, whether or not there is memory. `NoMemory` where
     /// no line is refused and there is no memory for the script.
+    #[inline(never)]
     pub fn parse(alloc: Global, text: &[u8]) -> Result<Script, ScriptStop>
         requires { length text.now ≤ most_text_bytes }
         ensures ok { IfOk result (λ script. read_script text.now ≡ Ok script) }

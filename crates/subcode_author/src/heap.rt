@@ -6,13 +6,11 @@ ghost use Rattle.cue_sheet.specs.Grammar.{read_cue};
 ghost use Rattle.picture_script.specs.ScriptGrammar.{read_script};
 ghost use Rattle.picture_script.specs.Stops.{StopsAt};
 ghost use Rattle.text_lines.specs.Text.{most_text_bytes};
-ghost use Rattle.cdg_io.specs.declared.whole.ReadStop.TheVariants as read;
 ghost use Rattle.cdtext_packs.specs.declared.kinds.TextFault.TheVariants as fault;
 ghost use Rattle.cue_sheet.specs.declared.fault.CueStop.TheVariants as sheet;
 ghost use Rattle.subcode_author.specs.Requests.{ReturnsWith};
 ghost use Rattle.picture_script.specs.declared.reasons.ScriptStop.TheVariants as script;
 
-use cdg_io::ReadStop;
 use cdtext_packs::TextFault;
 use cue_sheet::{CueStop, Sheet};
 use picture_script::{Script, ScriptStop};
@@ -34,14 +32,6 @@ impl MemoryStop for AllocError {
 
     fn is_no_memory(&self) -> bool {
         true
-    }
-}
-
-impl MemoryStop for ReadStop {
-    ghost no_memory = { read.NoMemory };
-
-    fn is_no_memory(&self) -> bool {
-        matches!(self, ReadStop::NoMemory)
     }
 }
 
