@@ -8,6 +8,10 @@ import unittest
 
 import known_dumps as known
 
+from ribjasper.common.failures import Refusal
+from ribjasper.dumps.loading import DumpOptions
+from ribjasper.dumps.readings import read_reading
+
 from fixtures import (
     BLOCK, LEAD_IN, PACK, PROGRAM_BLOCKS, FolderTest, Word, as_sectors, desk, has, hello, hello_packs, needs_library,
     program, with_bad_q, with_burst, with_zeros, without,
@@ -382,6 +386,15 @@ class MendedStreamTest(MendCase):
         self.assertEqual(self.mended(self.whole, other), program("convert", "--lead-in", 60, stdin=self.whole))
         self.assertRegex(self.ran.told, r"reading-0: 80 sectors were doubtful to the drive \(reading-0\.c2\)")
         self.assertRegex(self.ran.told, r"reading-1: 1 sectors were doubtful to the drive \(reading-1\.state\)")
+
+    def test_a_file_that_becomes_shorter(self) -> None:
+        """Blocks that are read again have to be there still."""
+        path = self.write("reading.raw", self.whole)
+        reading = read_reading(str(path), DumpOptions())
+        self.assertEqual(b"".join(content for _, content in reading.blocks(0, 700)), self.whole[: BLOCK * 700])
+        path.write_bytes(self.whole[: BLOCK * 699 + 95])
+        with self.assertRaisesRegex(Refusal, "became shorter"):
+            list(reading.blocks(0, 700))
 
     def test_q_of_a_reading_that_is_left_out(self) -> None:
         """A reading without graphics gives its Q where the other's is bad."""
