@@ -157,7 +157,7 @@ else
     find /usr/share/ribjasper-desk -name __pycache__ -prune -exec rm -rf {} +
 fi
 END
-documents docs/GUIDE.md docs/*.png
+documents docs/GUIDE.md docs/API.md docs/*.png
 for example in album song; do
     for file in examples/$example/*; do
         [ ! -f "$file" ] || install -D -m 644 "$file" "$doc/$file"
