@@ -87,7 +87,7 @@ def program_frame(source: Source, block: int, step: int) -> tuple[int, QFrame] |
 def gap_of(source: Source, run: Run) -> Gap:
     before, behind = program_frame(source, run.first - 1, -1), program_frame(source, run.last + 1, 1)
     if before is None or behind is None:
-        return Gap(run, [], "there is no good frame right before and right behind")
+        return Gap(run, [], "no good frame stands right before and right behind")
     (first, a), (last, b) = before, behind
     goes_on = moved(a, last - first)
     if a.absolute + last - first != b.absolute:
@@ -214,7 +214,7 @@ def moved_rows(source: Source) -> Iterator[Finding]:
     for distance, blocks in by_distance.items():
         if len(blocks) >= FEWEST_MOVED:
             for block, time in blocks:
-                what = f"a good frame has a time {abs(distance)} blocks {'later' if distance > 0 else 'earlier'}, as others do"
+                what = f"a good frame tells a time {abs(distance)} blocks {'later' if distance > 0 else 'earlier'}, as others do"
                 yield Finding(REGULAR, block, spelled(time), what)
 
 
