@@ -173,13 +173,18 @@ def spoiled(draw: st.DrawFn, content: bytes) -> bytes:
     return content
 
 
+def chosen(draw: st.DrawFn, contents: tuple[bytes, ...]) -> bytes:
+    """One of some contents, by its number: a strategy of the contents themselves spells each of them out."""
+    return contents[draw(st.integers(0, len(contents) - 1))]
+
+
 def an_input(draw: st.DrawFn, kind: str, is_careful: bool) -> bytes:
     """An input of a kind; where nobody takes care it is spoiled, and sometimes of another kind."""
     known = samples()
     if is_careful:
-        return draw(st.sampled_from((known[kind][0],) * 3 + known[kind]))
+        return chosen(draw, (known[kind][0],) * 3 + known[kind])
     kinds = st.sampled_from(sorted(known)) if draw(st.integers(0, 9)) == 0 else st.just(kind)
-    return spoiled(draw, draw(st.sampled_from(known[draw(kinds)])))
+    return spoiled(draw, chosen(draw, known[draw(kinds)]))
 
 
 class Option(NamedTuple):
