@@ -2,7 +2,8 @@
 # Installs, where it may, what the checks use beside Python itself, as root, by apt-get, within some minutes: packages of
 # Python, fonts, compilers, a browser, and the programs that ours are compared with. Whatever comes of it, it ends well: checks that
 # lack a package are skipped, and counted.
-packages="black pyflakes3 python3-venv python3-pil python3-tqdm python3-distributed python3-hypothesis python3-mido python3-numpy python3-pyphen hyphen-en-us python3-shtab zsh mypy fonts-dejavu-core
+packages="black pyflakes3 python3-venv python3-pil python3-tqdm python3-distributed python3-hypothesis python3-mido python3-numpy
+python3-pyphen hyphen-en-us python3-chardet python3-shtab zsh mypy fonts-dejavu-core
 fonts-vlgothic ffmpeg cdrdao cdrskin libburn-dev valgrind gcc g++ clang binutils pkg-config cmake lld nodejs chromium
 wine wine64 gcc-mingw-w64-x86-64 g++-mingw-w64-x86-64 qemu-user gcc-aarch64-linux-gnu g++-aarch64-linux-gnu libc6-dev-arm64-cross
 binaryen wabt esbuild libjavascriptcoregtk-4.0-bin lintian libunwind-dev libdw-dev libgstreamer-plugins-base1.0-dev
