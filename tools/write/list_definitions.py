@@ -57,27 +57,27 @@ ROMAN = "I II III IV V VI VII VIII IX".split()
 
 # How a clause is read. The signature of `run` and the variants of the named types come from the code.
 KEY = """
-`run` takes its inputs and outputs as types that a caller chooses: `S` and `T` are sources, `K` and `E` are sinks. A
+The caller chooses the types of the inputs and outputs of `run`: `S` and `T` are sources, `K` and `E` are sinks. A
 clause `ensures name { .. }` holds after every call. In it:
 
 | Sign | Means |
 |---|---|
 | `first.old`, `first.new` | an argument that the call may change, before and after the call |
 | `words.now` | an argument that the call only reads |
-| `result` | what the call answers |
+| `result` | the return value |
 | `x.0`, `x.1`, `x.name` | a part of a tuple, by its place, and a part of a record, by its name |
-| `S.left first.old` | the bytes that a source still gives, where it tells them: `Some` list or `None` |
-| `K.held out.old` | the bytes that a sink took so far, where it tells them |
-| `S.faults`, `S.ends` | how often a read has failed, and how often the end was told |
-| `S.Source` | all that a source tells, as one value: its bytes and its counts |
+| `S.left first.old` | the bytes that are still to be read from a source: `Some` list if they are known, else `None` |
+| `K.held out.old` | the bytes that were written to a sink, if they are known |
+| `S.faults`, `S.ends` | how many reads failed, and how many reported the end |
+| `S.Source` | the bytes and the counts of a source, as one value |
 | `(x : A) → P`, `(x y : A) → P` | for every x (and y) of A, P |
 | `(x : A) × P` | there is an x of A with P |
 | `a ≡ b`, `a ≢ b` | a equals b, a does not |
 | `a → b` | if a, then b; between types, a function |
-| `a × b`, `a ⊎ b`, `¬ a`, `a ↔ b` | and, or, not, exactly where |
-| `⊤`, `⊥` | what always holds, and what never does |
-| `λ x. e` | the function that gives e for x |
-| `ℕ`, `a - b` | the numbers from 0 on; a minus that would go below 0 gives 0 |
+| `a × b`, `a ⊎ b`, `¬ a`, `a ↔ b` | and, or, not, if and only if |
+| `⊤`, `⊥` | true, false |
+| `λ x. e` | the function that maps x to e |
+| `ℕ`, `a - b` | the natural numbers; a minus with a negative result is 0 |
 | `[]`, `x ∷ xs`, `xs ++ ys` | the empty list, a list with x in front, two lists joined |
 | `record`, `pub name : A` | several statements under one name, which hold together; or a value of several parts |
 | `record { name = e; .. }` | the value whose parts are these |
@@ -465,7 +465,7 @@ class Book:
             "# Definitions",
             "",
             "The headline is a set of clauses of the top call `run`. This document shows these clauses and every definition that",
-            "they rest on, as they stand in the code. The checker proves that the program meets its clauses. Only a reader can",
+            "they use, copied from the code. The checker proves that the program meets its clauses. Only a reader can",
             "judge whether the clauses say what is meant.",
             "",
             f"Acts I and II ({first + second} lines) are the headline's second half: packs and pictures come back. Act III ({third} lines) is",

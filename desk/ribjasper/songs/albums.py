@@ -23,7 +23,7 @@ from ..common.times import PAUSE, spelled
 from ..drawing.styles import TomlTable, read_style, read_table
 from .recognition import check_list
 from .song_files import read_song
-from .song_script import BOXES, LEAVE, Made, Wishes, best
+from .song_script import BOXES, LEAVE, Made, Wishes, best, count_of
 from .songs import Song
 from .tracks import track_packs
 
@@ -323,8 +323,8 @@ def write_disc(album: Album, sung: list[Sung], outputs: Outputs, names: list[str
     outputs.write(toc, toc_of(disc, os.path.basename(binary)).encode())
     outputs.write(cue, cue_of(disc, os.path.basename(binary)))
     tell(
-        f"{len(sung)} tracks, {length} sectors, {spelled(length)}, lead-in {lead_in}; "
-        f"{spelled(max(0, CAPACITY - length))} is left of a disc of 80 minutes; `cdrdao write --swap {toc}` burns them"
+        f"{count_of(len(sung), 'track')}, {length} sectors, {spelled(length)}, lead-in {lead_in}; "
+        f"{spelled(max(0, CAPACITY - length))} is left of a disc of 80 minutes; `cdrdao write --swap {toc}` burns the disc"
     )
 
 

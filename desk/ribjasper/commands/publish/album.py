@@ -19,6 +19,7 @@ from ...songs.albums import (
 )  # fmt: skip
 from ...songs.pairs import CDG, is_pair
 from ...songs.song_files import pictures_of, read_song
+from ...songs.song_script import count_of
 from ...songs.wishes import add_encoding
 
 COLUMNS = ("track", "kind", "start", "length", "left", "title", "singer", "file")
@@ -143,7 +144,7 @@ def check(album: Album, most: int, as_json: bool) -> int:
         at = end + album.gap
     length = length_of(album, [one.blocks for one in ready])
     left = f"{spelled(most - length)} is left" if length <= most else f"it is {spelled(length - most)} too long"
-    tell(f"{len(ready)} tracks, {spelled(length)} of {spelled(most)}: {left}")
+    tell(f"{count_of(len(ready), 'track')}, {spelled(length)} of {spelled(most)}: {left}")
     return 0 if length <= most else FOUND
 
 
