@@ -279,7 +279,7 @@ class DocumentTest(FolderTest):
         found = [(line.text, line.end) for line in again.lines]
         self.assertEqual((again.title, found), ("New", [("One", 4 / 3), ("2", 3.33)]))
         self.assertEqual(
-            [one.partition(": ")[2][:25] for one in again.told],
+            [one.partition(": ")[2][:25] for one in again.notes],
             ["the title was changed in ", "a line was changed in the"],
         )
 
@@ -395,7 +395,7 @@ class ExportTest(FolderTest):
                     for one, two in zip(line.syllables, other.syllables):
                         self.assertAlmostEqual(one.start, two.start, delta=0.00501)
                         self.assertAlmostEqual(one.end, two.end, delta=0.00501)
-                self.assertEqual(song.told, [])
+                self.assertEqual(song.notes, [])
 
     def test_lines_of_subrip(self) -> None:
         for seed in range(SONGS):
@@ -425,7 +425,7 @@ class ExportTest(FolderTest):
         ):
             song = Song([Line(7, [Syllable(text, 1.0, 2.0)])])
             self.assertEqual(self.again(song, ending).lines[0].text, read)
-            self.assertRegex(song.told[0], "line 7 has letters that")
+            self.assertRegex(song.notes[0], "line 7 has letters that")
 
 
 if __name__ == "__main__":

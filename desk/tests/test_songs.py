@@ -109,7 +109,7 @@ class LrcTest(SongTest):
     def test_a_line_that_comes_twice(self) -> None:
         song = self.song("[00:05.00][00:25.00]<00:05.00>La <00:06.00>la\n[00:10.00]Other\n")
         self.assertEqual(words(song), [[("La ", 5), ("la", 6)], [("Other", 10)], [("La ", 25), ("la", 26)]])
-        self.assertEqual(song.told, [])
+        self.assertEqual(song.notes, [])
 
     def test_offset_makes_earlier(self) -> None:
         self.assertEqual(words(self.song("[offset:+500]\n[00:05.00]La\n")), [[("La", 4.5)]])
@@ -117,8 +117,8 @@ class LrcTest(SongTest):
 
     def test_what_has_no_time_is_told(self) -> None:
         song = self.song("A title\n[00:05.00]La\n")
-        self.assertEqual(len(song.told), 1)
-        self.assertIn("line 1 has no time", song.told[0])
+        self.assertEqual(len(song.notes), 1)
+        self.assertIn("line 1 has no time", song.notes[0])
 
     def test_marks_of_voices_are_not_shown(self) -> None:
         song = self.song(
@@ -137,8 +137,8 @@ class LrcTest(SongTest):
         self.assertEqual(song.singers, ["Anna", "Ben", "Ann", "Dora", "Eva", "Annabell"])
         self.assertEqual(voices(song), [FIRST, SECOND, BOTH, FIRST, THIRD, FOURTH, FOURTH, FOURTH])
         self.assertEqual(song.voices, 4)
-        self.assertEqual(len(song.told), 1)
-        self.assertIn("line 13 has a fifth singer, Eva", song.told[0])
+        self.assertEqual(len(song.notes), 1)
+        self.assertIn("line 13 has a fifth singer, Eva", song.notes[0])
 
     def test_four_voices_by_their_marks(self) -> None:
         song = self.song("[00:01.00]v1: a\n[00:02.00]v2:b\n[00:03.00]v3: c\n[00:04.00]v4: d\n[00:05.00]D: e\n")
@@ -189,16 +189,16 @@ class LrcTest(SongTest):
         song = self.song("[offset:+2000]\n[00:00.00]Heading\n[00:01.00]Gone\n[00:01.50]Half\n[00:05.00]La\n")
         self.assertEqual(words(song), [[("Half", 0)], [("La", 3)]])
         self.assertEqual([line.stays for line in song.lines][:1], [3])
-        told = "\n".join(song.told)
+        told = "\n".join(song.notes)
         self.assertIn("line 2 at [00:00.00] would be sung before the audio begins, and is left out: Heading", told)
         self.assertIn("line 4 at [00:01.50] would begin 0.50 seconds before the audio", told)
 
     def test_order_is_told_with_the_times_as_they_are_written(self) -> None:
         song = self.song("[00:05.00]One\n[0:03.0]Two\n[00:05.00]Three\n[00:05.00]Four\n")
         self.assertEqual([line.text for line in song.lines], ["Two", "One", "Three", "Four"])
-        self.assertEqual(len(song.told), 2)
-        self.assertIn("line 2 is at [0:03.0], before line 1 at [00:05.00]", song.told[0])
-        self.assertIn("line 4 is at the same time as line 3, [00:05.00]", song.told[1])
+        self.assertEqual(len(song.notes), 2)
+        self.assertIn("line 2 is at [0:03.0], before line 1 at [00:05.00]", song.notes[0])
+        self.assertIn("line 4 is at the same time as line 3, [00:05.00]", song.notes[1])
 
     def test_refusals(self) -> None:
         self.assertIn("no line has a time", self.refused("La\n"))
@@ -221,8 +221,8 @@ class LettersTest(SongTest):
         ):
             song = self.song(text.encode(encoding))
             self.assertEqual(song.lines[0].text, "\u00dcber \u2019n See", encoding)
-            self.assertIn(told, "".join(song.told))
-            self.assertEqual(bool(song.told), bool(told))
+            self.assertIn(told, "".join(song.notes))
+            self.assertEqual(bool(song.notes), bool(told))
         told = self.refused(b"[00:01.00]a\n[00:05.00]\x81ber\n")
         self.assertIn("is not UTF-8 (line 2, byte 22), and its encoding cannot be guessed; --encoding names it", told)
 
@@ -230,7 +230,7 @@ class LettersTest(SongTest):
         for name in ("cp1251", "koi8-r", "utf-16", "shift_jis", "mac-cyrillic"):
             path = self.write("a.lrc", "[00:05.00]\u0420\u0435\u043a\u0430\n".encode(name))
             song = read_song(path, name)
-            self.assertEqual((song.lines[0].text, song.told), ("\u0420\u0435\u043a\u0430", []))
+            self.assertEqual((song.lines[0].text, song.notes), ("\u0420\u0435\u043a\u0430", []))
         with self.assertRaises(Refusal) as refused:
             read_song(self.write("a.lrc", b"[00:01.00]a\n[00:05.00]\xff\n"), "shift_jis")
         self.assertIn("is not encoded as shift_jis: line 2, byte 22", str(refused.exception))
@@ -248,7 +248,7 @@ class LettersTest(SongTest):
                     if not content.isascii():
                         song, seen = self.song(content), seen + 1
                         self.assertEqual([line.text for line in song.lines], some, (language, encoding))
-                        self.assertIn("a guess; --encoding names another encoding", song.told[0])
+                        self.assertIn("a guess; --encoding names another encoding", song.notes[0])
         self.assertGreater(seen, 200)
 
     def test_without_a_detector_letters_of_no_known_alphabet_are_refused(self) -> None:
@@ -308,7 +308,7 @@ class UltraStarTest(SongTest):
         # A tenth of a second a beat, then half of that, then two tenths.
         found = [[(round(one.start, 3), round(one.end, 3)) for one in line.syllables] for line in song.lines]
         self.assertEqual(found, [[(1.0, 1.8), (2.2, 2.8)], [(4.2, 5.0)]])
-        self.assertEqual(song.told, [])
+        self.assertEqual(song.notes, [])
         self.assertIn("line 2: the tempo 0 is no number", self.refused("#BPM:150\nB 16 0\n: 0 4 60 a\nE\n", "a.txt"))
 
     def test_notes(self) -> None:

@@ -275,7 +275,7 @@ def sing(album: Album, ready: Ready) -> Sung:
         return Sung(track, song, None, ready.blocks, b"".join(ready.packs), ready.sound)
     song = read_song(track.lyrics, track.wishes.encoding, track.treatment.later)
     song.title, song.performer = track.title or song.title, track.singer or song.performer or album.singer
-    for line in song.told:
+    for line in song.notes:
         tell(line)
     made = best(song, replace(track.wishes, end=PAUSE + ready.blocks, intro=track.treatment.intro))
     for line in made.warnings():

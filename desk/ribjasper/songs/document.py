@@ -338,7 +338,7 @@ def apply_heads(song: Song, table: dict[str, Any], path: Path) -> None:
         if name not in table:
             continue
         if table[name]["lrc"] != found:
-            song.told.append(f"{path}: the {name} was changed in the lyrics, and is as it is there")
+            song.notes.append(f"{path}: the {name} was changed in the lyrics, and is as it is there")
             continue
         value = table[name]["value"]
         if name == "inserts":
@@ -379,7 +379,7 @@ def apply_lines(song: Song, rows: list[str], entries: list[dict[str, Any]], path
         row, lrc = int(entry["row"]), word(entry["lrc"])
         places = [at for at, text in enumerate(rows, 1) if text == lrc and at not in taken]
         if not places:
-            song.told.append(f"{path}: a line was changed in the lyrics, and is as it is there: {lrc}")
+            song.notes.append(f"{path}: a line was changed in the lyrics, and is as it is there: {lrc}")
             continue
         at = min(places, key=lambda place: abs(place - row))
         taken.add(at)

@@ -41,7 +41,7 @@ class Spelling:
         plain = "".join(" " if letter.splitlines() == [""] else letter for letter in text)
         done = "".join(self.instead.get(letter, letter) for letter in plain)
         if done != plain:
-            self.song.told.append(
+            self.song.notes.append(
                 f"{self.song.path}: {place} has letters that {self.kind} cannot hold; others replace them"
             )
         return done
@@ -116,7 +116,9 @@ def as_ultrastar(song: Song) -> str:
     head = [f"#TITLE:{letters.spelled(song.title, 'the title').strip()}"]
     head += [f"#ARTIST:{letters.spelled(song.performer, 'the performer').strip()}", f"#BPM:{TEMPO}", "#GAP:0"]
     if any(line.voice in (THIRD, FOURTH) for line in lines):
-        song.told.append(f"{song.path}: UltraStar has two voices; the third and the fourth have those of the first two")
+        song.notes.append(
+            f"{song.path}: UltraStar has two voices; the third and the fourth have those of the first two"
+        )
     if all(line.voice == FIRST for line in lines):
         return "\n".join([*head, *notes_of(lines, letters), "E", ""])
     for number, voice in ((1, FIRST), (2, SECOND)):

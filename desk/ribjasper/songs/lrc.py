@@ -60,7 +60,7 @@ def read_lrc(text: str, song: Song) -> None:
                 for start, written in starts
             ]
         elif line:
-            song.tell(number, f"has no time and is left out: {line}")
+            song.note(number, f"has no time and is left out: {line}")
     tell_order(song, stamped)
     stamped.sort(key=lambda one: one.start)
     for one, following in zip(stamped, later_ones(stamped)):
@@ -89,13 +89,13 @@ def tell_order(song: Song, stamped: list[Stamped]) -> None:
     once = [one for one in stamped if counts[one.number] == 1 and not one.is_empty()]
     for before, one in zip(once, once[1:]):
         if one.start < before.start:
-            song.tell(
+            song.note(
                 one.number,
                 f"is at {one.written}, before line {before.number} at {before.written}: it is sung in "
                 "the order of the times",
             )
         elif one.start == before.start and one.voice == before.voice:
-            song.tell(one.number, f"is at the same time as line {before.number}, {one.written}")
+            song.note(one.number, f"is at the same time as line {before.number}, {one.written}")
 
 
 def offset_of(value: str, song: Song, number: int) -> float:

@@ -39,11 +39,11 @@ def encoding_for(content: bytes, song: Song, asked: str | None) -> str:
     if not decodes(content, guess.name):
         raise Refusal(song.path, f"is not encoded as {shown_name(guess.name)}: {why_not(content, guess.name)}")
     if guess.is_guess:
-        song.told.append(
+        song.notes.append(
             f"{song.path}: is read as {shown_name(guess.name)}, a guess; --encoding names another encoding"
         )
     elif guess.name not in UTF_8:
-        song.told.append(f"{song.path}: is read as {shown_name(guess.name)}")
+        song.notes.append(f"{song.path}: is read as {shown_name(guess.name)}")
     return guess.name
 
 
@@ -101,7 +101,7 @@ def parsed_song(path: Path, content: bytes, toml: bytes | None, encoding: str | 
         if is_lrc and toml is not None:
             apply(song, text, toml, beside(path))
     put_in_order(song)
-    song.told = first_of_many(song.told, MOST_MESSAGES, f"{path}: there are {{}} more notes like these")
+    song.notes = first_of_many(song.notes, MOST_MESSAGES, f"{path}: there are {{}} more notes like these")
     if song.faults:
         raise Refusal(path, *first_of_many(song.faults, MOST_MESSAGES, "there are {} more faults"))
     return song, is_lrc
@@ -159,13 +159,13 @@ def clip(song: Song) -> None:
     kept = []
     for line in song.lines:
         if line.end <= 0:
-            song.tell(
+            song.note(
                 line.number,
                 f"at {line.written} would be sung before the audio begins, and is left out: {line.text}",
             )
             continue
         if line.start < 0:
-            song.tell(
+            song.note(
                 line.number,
                 f"at {line.written} would begin {-line.start:.2f} seconds before the audio, and "
                 f"begins with it: {line.text}",

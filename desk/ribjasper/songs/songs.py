@@ -89,7 +89,7 @@ class Song:
     title: str = ""
     performer: str = ""
     singers: list[str] = field(default_factory=list)
-    told: list[str] = field(default_factory=list)
+    notes: list[str] = field(default_factory=list)
     faults: list[str] = field(default_factory=list)
     path: Path = Path("the lyrics")
     tags: dict[str, str] = field(default_factory=dict)
@@ -108,9 +108,9 @@ class Song:
         """Whether all sing some of it together."""
         return any(syllable.voice == BOTH for line in self.lines for syllable in line.syllables)
 
-    def tell(self, number: int, what: str) -> None:
+    def note(self, number: int, what: str) -> None:
         """A note on a line that is not as one would expect, and is used all the same."""
-        self.told.append(f"{self.path}: line {number} {shortened(what)}")
+        self.notes.append(f"{self.path}: line {number} {shortened(what)}")
 
     def fault(self, number: int, what: str) -> None:
         """Something that keeps the song from being used."""
@@ -128,7 +128,7 @@ class Song:
                 return BOTH
             self.singers.append(name)
             if len(self.singers) == SINGERS + 1:
-                self.tell(
+                self.note(
                     number, f"has a fifth singer, {name}: there are colours for four, and {name} has the fourth's"
                 )
         return min(self.singers.index(name), SINGERS - 1)

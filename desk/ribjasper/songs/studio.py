@@ -202,7 +202,7 @@ class Studio:
         kept = self.kept_journal(lyrics, more, force)
         self.journal = kept or Journal(lyrics, more)
         self.opened = opened_from(self.lyrics, self.journal.lyrics, self.journal.more, self.encoding)
-        for line in self.opened.document.song.told if self.opened.score.untimed == [] else ():
+        for line in self.opened.document.song.notes if self.opened.score.untimed == [] else ():
             tell(line)
         self.history = history_of(self.journal_path, self.opened.score, self.journal)
 
@@ -333,7 +333,7 @@ class Studio:
             content = EXPORTS[ending](song)
             with Outputs([self.lyrics, self.sound], [(out, kinds.EXPORT)]) as outputs:
                 outputs.write(out, content.encode())
-            return [out.name, *dict.fromkeys(song.told)]
+            return [out.name, *dict.fromkeys(song.notes)]
 
     # Finishing
 
@@ -503,4 +503,4 @@ def export_song(lyrics: Path, ending: str, encoding: str | None, out: Path | Non
     written = EXPORTS[ending](song)
     with Outputs([lyrics, more_path, journal], [(name, kinds.EXPORT)], force) as outputs:
         outputs.write(name, written.encode())
-    return [f"{name}: {len(score.lines)} lines", *dict.fromkeys(song.told)]
+    return [f"{name}: {len(score.lines)} lines", *dict.fromkeys(song.notes)]

@@ -78,7 +78,7 @@ def read_ultrastar(text: str, song: Song) -> None:
         elif row.strip() == "E":
             break
         elif row.strip() and not TEMPO.match(row):
-            song.tell(number, f"is no note, and is left out: {row.strip()}")
+            song.note(number, f"is no note, and is left out: {row.strip()}")
     close()
     song.singers = [names.get("1", ""), names.get("2", "")] if names else []
     song.lines = merged_voices(song.lines)

@@ -35,7 +35,7 @@ def run(arguments: argparse.Namespace) -> int:
     with Outputs(reads_of(arguments), [(arguments.output, kinds.SCRIPT)], arguments.force) as outputs:
         wishes = wishes_of(arguments, None)
         song = read_song(arguments.song, wishes.encoding, wishes.intro)
-        for line in song.told:
+        for line in song.notes:
             tell(line)
         end = times.PAUSE + audio.length_with(arguments.audio, wishes.intro) if arguments.audio else None
         made = best(song, replace(wishes, end=end))
