@@ -256,7 +256,7 @@ typedef struct ribjasper_counts {
     uint32_t bad;
 } ribjasper_counts;
 
-/* Writes the counts of a player. ribjasper_player_feed_counted counts more.
+/* Writes the counts of a player. For more detailed counts, use ribjasper_player_feed_counted.
      player: the player
      counts: the output
    Returns RIBJASPER_DONE, or RIBJASPER_REFUSED if the player is closed. */
@@ -577,7 +577,7 @@ typedef struct ribjasper_converted {
     uint32_t bad;
 } ribjasper_converted;
 
-/* The answers of calls on whole streams: the exit statuses of the program. */
+/* The return values of calls on whole streams. They equal the exit statuses of the program. */
 #define RIBJASPER_CONVERTED 0 /* done */
 #define RIBJASPER_DAMAGED 1   /* done, but packs are bad */
 #define RIBJASPER_USAGE 2     /* the form is above 2 or `lead_in` above 450,000 */

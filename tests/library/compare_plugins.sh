@@ -74,5 +74,19 @@ else
     mkdir "$work/vlc"
     make -s -C examples/vlc CFLAGS="-O2 -Werror" OUT="$work/vlc/libribjasper_plugin.so"
     echo "compare_plugins: the decoder for VLC is built"
+    if ! command -v cvlc >/dev/null || ! /usr/bin/python3 -c 'import PIL' 2>/dev/null; then
+        echo "compare_plugins: skipped the run in VLC, there is no cvlc (Debian: vlc-bin, vlc-plugin-base) or no PIL"
+    else
+        mkdir "$work/scenes"
+        chmod -R a+rX "$work"
+        chmod 777 "$work/scenes"
+        # VLC does not run as root.
+        as_user=
+        [ "$(id -u)" != 0 ] || as_user="setpriv --reuid=65534 --regid=65534 --clear-groups"
+        (cd "$work/scenes" && $as_user env HOME="$work/scenes" VLC_PLUGIN_PATH="$work/vlc" timeout 120 cvlc -q -I dummy --codec ribjasper \
+            --no-audio --no-drop-late-frames --no-skip-frames --vout=vdummy --video-filter=scene --scene-format=png --scene-ratio=1 --scene-path="$work/scenes" \
+            --play-and-exit "$work/song.cdg" >"$work/told" 2>&1) || { cat "$work/told" >&2; complain "VLC fails"; }
+        /usr/bin/python3 tests/library/compare_vlc.py bin/ribjasper "$work/shifted.cdg" "$work/scenes" || complain "VLC shows another picture"
+    fi
 fi
 exit "$failed"

@@ -7,7 +7,7 @@ python3-pyphen hyphen-en-us python3-chardet python3-shtab zsh mypy fonts-dejavu-
 fonts-vlgothic ffmpeg cdrdao cdrskin libburn-dev valgrind gcc g++ clang binutils pkg-config cmake lld nodejs chromium
 wine wine64 gcc-mingw-w64-x86-64 g++-mingw-w64-x86-64 qemu-user gcc-aarch64-linux-gnu g++-aarch64-linux-gnu libc6-dev-arm64-cross
 binaryen wabt esbuild libjavascriptcoregtk-4.0-bin lintian libunwind-dev libdw-dev libgstreamer-plugins-base1.0-dev
-gstreamer1.0-tools gstreamer1.0-plugins-base libvlccore-dev gddrescue"
+gstreamer1.0-tools gstreamer1.0-plugins-base libvlccore-dev vlc-bin vlc-plugin-base gddrescue"
 [ "$(id -u)" = 0 ] && command -v apt-get >/dev/null && command -v dpkg-query >/dev/null || exit 0
 # A Rust compiler from elsewhere does as well.
 command -v rustc >/dev/null || packages="$packages rustc"
