@@ -19,12 +19,15 @@ CORRECTIONS = (
 
 
 def with_files(of: argparse.ArgumentParser, file: Any) -> None:
-    """Names files as what completes the values that are names of files."""
+    """Names files as what completes the values that are names of files. shtab looks up choices by their place, so they
+    become lists."""
     for action in of._actions:
         if isinstance(action, argparse._SubParsersAction):
             for command in action.choices.values():
                 with_files(command, file)
-        elif action.nargs != 0 and action.choices is None and action.metavar not in NO_FILES:
+        elif action.choices is not None:
+            action.choices = list(action.choices)
+        elif action.nargs != 0 and action.metavar not in NO_FILES:
             action.complete = file  # type: ignore[attr-defined]
 
 
