@@ -155,12 +155,12 @@ def followed(words: Sequence[str] | None) -> int:
         output.flush()
         return status
     except Failure as failure:
-        return told(failure)
+        return report_failure(failure)
     except Exception as error:
-        return told(failure_of(error, called_on(arguments)))
+        return report_failure(failure_of(error, called_on(arguments)))
 
 
-def told(failure: Failure) -> int:
+def report_failure(failure: Failure) -> int:
     for line in failure.lines:
         output.complain(line)
     return failure.status

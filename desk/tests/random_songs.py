@@ -285,7 +285,7 @@ def main() -> int:
             path.write_text(random_song(dice))
             seen = watch(path, Wishes(read_style("night"), sweep=dice.random() < 0.2))
             told = [line for line in seen.made.warnings() if "no room" not in line]
-            late += bool(seen.made.told.rows())
+            late += bool(seen.made.lateness.rows())
             faults += bool(seen.faults)
             worst = max(worst, seen.worst)
             for line in [*seen.faults, *told]:

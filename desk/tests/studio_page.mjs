@@ -188,7 +188,7 @@ async function main() {
     found.late = await browser.value("[...studio.late]");
     found.times = await browser.value("studio.times");
     await control("s");
-    await browser.until("document.getElementById('told').textContent.startsWith('saved')");
+    await browser.until("document.getElementById('message').textContent.startsWith('saved')");
     await browser.value("document.querySelector('[data-finish=pair]').click()");
     await browser.until("document.getElementById('finished').textContent.startsWith('written') || document.getElementById('finished').textContent.includes('refus')");
     found.finished = await browser.value("document.getElementById('finished').textContent");
@@ -228,7 +228,7 @@ async function look() {
     // The space bar on a line that has the focus jumps to that line, and sets no time.
     await browser.value("document.querySelectorAll('#lines button')[0].focus()");
     await browser.press(" ", "Space", " ");
-    found.jumped = [await chosen(), await position(), await browser.value("document.getElementById('told').textContent")];
+    found.jumped = [await chosen(), await position(), await browser.value("document.getElementById('message').textContent")];
     await browser.value("document.getElementById('time').focus()");
     await browser.press("ArrowRight", "ArrowRight");
     found.slid = await position();

@@ -10,7 +10,12 @@ from ribjasper.common import library
 
 LIST = Path(__file__).resolve().parent.parent.parent / "tools" / "check" / "abi.txt"
 # Classes whose names differ from those of the header.
-NAMES = {"PlayerHandle": "ribjasper_player", "SurveyRow": "ribjasper_row", "ListedTexts": "ribjasper_listed"}
+NAMES = {
+    "PlayerHandle": "ribjasper_player",
+    "SurveyRow": "ribjasper_row",
+    "ListedTexts": "ribjasper_listed",
+    "SheetResult": "ribjasper_sheet_told",
+}
 
 Layout = dict[str, tuple[int, int]]
 

@@ -74,7 +74,7 @@ class OrderTest(FolderTest):
 
     def test_a_row_that_follows_soon_in_its_place(self) -> None:
         for text, sweep, size in ((SWEPT, True, 21), (DENSE, True, 20), (SHORT_AND_SOON, False, 16)):
-            self.assertFalse(self.watched(text, sweep=sweep, size=size).made.told.rows())
+            self.assertFalse(self.watched(text, sweep=sweep, size=size).made.lateness.rows())
 
     def test_a_page_that_follows_soon(self) -> None:
         """A page goes as a whole if that leaves time for the next one, and row by row otherwise, which is reported."""
@@ -82,7 +82,7 @@ class OrderTest(FolderTest):
             for lines in (8, 6) if gap else (8,):
                 with self.subTest(gap=gap, lines=lines):
                     seen = self.watched(paged(gap, lines), by_page=True)
-                    self.assertFalse(seen.made.told.rows())
+                    self.assertFalse(seen.made.lateness.rows())
                     notes = "\n".join(seen.made.warnings())
                     self.assertEqual("the page of line 5 follows too soon to come as a whole" in notes, not is_whole)
                     last, first = seen.rows[3], seen.rows[4]
@@ -96,7 +96,7 @@ class OrderTest(FolderTest):
             dice = random.Random(seed)
             with self.subTest(seed=seed):
                 seen = self.watched(random_song(dice), sweep=dice.random() < 0.2)
-                self.assertFalse(seen.made.told.rows())
+                self.assertFalse(seen.made.lateness.rows())
                 self.assertGreater(len(seen.rows), 3)
 
     def test_the_watch_sees_what_is_wrong(self) -> None:

@@ -74,9 +74,9 @@ def read_disc(path: Path, sheet: bytes, audio: int) -> SheetDisc:
         lead_in = least_lead_in(sheet, audio) + ROOM_FOR_TABLE
     except NoPlan as none:
         raise Refusal(path, none.cause()) from None
-    stream, status, told = author(sheet, b"", lead_in, audio)
+    stream, status, message = author(sheet, b"", lead_in, audio)
     if status:
-        raise Refusal(path, told)
+        raise Refusal(path, message)
     said = library.sheet(sheet)
     if said.why:
         raise Refusal(path, NoPlan(Why.SHEET_REFUSED, said.line, said.why).cause())

@@ -175,7 +175,7 @@ class SheetRow(Structure):
     ]
 
 
-class SheetTold(Structure):
+class SheetResult(Structure):
     _fields_ = [
         ("rows", c_uint32),
         ("tracks", c_uint32),
@@ -234,7 +234,7 @@ CALLS = {
         )
         for name in ("ribjasper_mend_report", "ribjasper_mend_stream_report")
     },
-    "ribjasper_sheet": ([_BYTES, c_size_t, POINTER(SheetRow), c_size_t, POINTER(SheetTold)], c_int32),
+    "ribjasper_sheet": ([_BYTES, c_size_t, POINTER(SheetRow), c_size_t, POINTER(SheetResult)], c_int32),
     "ribjasper_sheet_text": ([_BYTES, c_size_t, c_uint32, c_uint32, _BYTES, c_size_t, POINTER(c_uint32)], c_int32),
     "ribjasper_tile_weight": ([c_uint8 * TILE], c_int32),
     "ribjasper_plan": (
@@ -292,28 +292,28 @@ def version() -> str:
 
 def packs_of_blocks(stream: bytes, form: int, lead_in: int) -> tuple[bytes, Converted]:
     """The packs of a stream of whole blocks, and their counts."""
-    told = Converted()
+    counts = Converted()
     room = PACKS_A_BLOCK * PACK * (len(stream) // BLOCK)
     packs = ctypes.create_string_buffer(max(1, room))
-    status = call("ribjasper_convert")(stream, len(stream), form, lead_in, packs, room, told)
+    status = call("ribjasper_convert")(stream, len(stream), form, lead_in, packs, room, counts)
     if status == NO_MEMORY:
         raise MemoryError
     if status not in (DONE, DAMAGED):
         raise ValueError(f"ribjasper_convert answers {status}")
-    return ctypes.string_at(packs, told.bytes), told
+    return ctypes.string_at(packs, counts.bytes), counts
 
 
 def texts(stream: bytes, lead_in: int) -> str:
     """The lines of the texts of a raw lead-in, as the program's `text` writes them, or nothing where they are
     refused."""
-    told, room, status = ListedTexts(), TEXT_ROOM, NO_ROOM
+    result, room, status = ListedTexts(), TEXT_ROOM, NO_ROOM
     while status == NO_ROOM:
         lines = ctypes.create_string_buffer(room)
-        status = call("ribjasper_texts")(stream, len(stream), RAW, lead_in, lines, room, told)
+        status = call("ribjasper_texts")(stream, len(stream), RAW, lead_in, lines, room, result)
         room *= 4
     if status == NO_MEMORY:
         raise MemoryError
-    return ctypes.string_at(lines, told.bytes).decode("ascii") if status == DONE else ""
+    return ctypes.string_at(lines, result.bytes).decode("ascii") if status == DONE else ""
 
 
 def q_frame(block: bytes) -> QFrame | None:
@@ -325,14 +325,14 @@ def q_frame(block: bytes) -> QFrame | None:
 
 def sheet(text: bytes) -> Sheet:
     """What a cue sheet says, line by line of its indices."""
-    rows, told = (SheetRow * MOST_INDEX_LINES)(), SheetTold()
-    status = call("ribjasper_sheet")(text, len(text), rows, MOST_INDEX_LINES, told)
+    rows, result = (SheetRow * MOST_INDEX_LINES)(), SheetResult()
+    status = call("ribjasper_sheet")(text, len(text), rows, MOST_INDEX_LINES, result)
     if status == NO_MEMORY:
         raise MemoryError
     if status not in (DONE, TORN):
         raise ValueError(f"ribjasper_sheet answers {status}")
-    catalogue = bytes(told.catalogue) if told.has_catalogue else b""
-    return Sheet(rows[: told.rows], catalogue, told.line, told.why)
+    catalogue = bytes(result.catalogue) if result.has_catalogue else b""
+    return Sheet(rows[: result.rows], catalogue, result.line, result.why)
 
 
 def sheet_text(text: bytes, kind: int, place: int) -> bytes:

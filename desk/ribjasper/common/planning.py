@@ -115,20 +115,20 @@ class NoPlan(Exception):
 def plan(sheet: bytes, script: bytes, audio: int, lead_in: int = LONGEST_LEAD_IN) -> Plan:
     """The plan of a disc: a cue sheet, a picture script, and the length of the audio in blocks (75 a second). Raises
     NoPlan with the reason and the line of a text that is refused."""
-    rows, told = (PlanRow * MOST_PICTURES)(), Planned()
-    status = call("ribjasper_plan")(sheet, len(sheet), script, len(script), lead_in, audio, rows, MOST_PICTURES, told)
+    rows, result = (PlanRow * MOST_PICTURES)(), Planned()
+    status = call("ribjasper_plan")(sheet, len(sheet), script, len(script), lead_in, audio, rows, MOST_PICTURES, result)
     if status == NO_MEMORY:
         raise MemoryError
     if status == NOT_PLANNED:
-        raise NoPlan(told.why, told.line, told.number)
+        raise NoPlan(result.why, result.line, result.number)
     if status not in (PLANNED, LATE):
         raise ValueError(f"ribjasper_plan answers {status}")
-    listed = memoryview(rows).cast("B")[: ROW.size * told.pictures]
-    return Plan([PlannedPicture._make(row) for row in ROW.iter_unpack(listed)], told.blocks)
+    listed = memoryview(rows).cast("B")[: ROW.size * result.pictures]
+    return Plan([PlannedPicture._make(row) for row in ROW.iter_unpack(listed)], result.blocks)
 
 
 # At most so many refused lines of a text are reported.
-MOST_TOLD = 20
+MOST_CAUSES = 20
 # What later lines of a sheet depend on: if one of these is refused, what follows cannot be judged.
 NEEDED_LATER = (b"FILE", b"TRACK", b"INDEX")
 
@@ -137,7 +137,7 @@ def refused_lines(sheet: bytes, script: bytes, audio: int, first: NoPlan) -> lis
     """Each line of a sheet or of a script that is refused, the first one before the others: a line that was refused is
     left empty, and the library is asked again."""
     causes, none = [first.cause()], first
-    while none.why in (Why.SHEET_REFUSED, Why.SCRIPT_REFUSED) and len(causes) < MOST_TOLD:
+    while none.why in (Why.SHEET_REFUSED, Why.SCRIPT_REFUSED) and len(causes) < MOST_CAUSES:
         rest = without_line(script if none.is_of_script() else sheet, none.line)
         if rest is None:
             break

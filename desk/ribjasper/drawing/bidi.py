@@ -1,5 +1,5 @@
-"""The order in which letters stand, from left to right, where a text has two directions: the Unicode bidirectional
-algorithm (UAX #9) for one line. Explicit embeddings and isolates, which lyrics do not have, are ignored."""
+"""The order of letters from left to right in a text of two directions: the Unicode bidirectional algorithm (UAX #9)
+for one line. Explicit embeddings and isolates, which lyrics do not have, are ignored."""
 import unicodedata
 from typing import Sequence
 

@@ -52,7 +52,7 @@ class Cue:
     tracks: list[CueTrack] = field(default_factory=list)
     catalogue: str = ""
     missing: str = ""  # a file that is not there
-    untold: str = ""  # why the times of later files are not known
+    why_unknown: str = ""  # why the times of later files are not known
     base: TimeBase = TimeBase.FILE
     files: list[tuple[str, int, int]] = field(default_factory=list)  # with the bytes of a sector and how many there are
 
@@ -110,7 +110,7 @@ def read_cue(path: str, content: bytes) -> Cue:
             if time is None:
                 raise Refusal(path, f"line {number}: {words[2]} is no time")
             if before is None:
-                cue.untold = "the times of later files are not known: a file that the sheet names is not there"
+                cue.why_unknown = "the times of later files are not known: a file that the sheet names is not there"
             else:
                 cue.tracks[-1].indices[int(words[1])] = before + time
     if not cue.tracks:
@@ -141,10 +141,10 @@ def differences(source: Source, found: QDisc, cue: Cue, base: TimeBase) -> list[
     """What differs: of the album, and of each track its beginning, its indexes, its code and its session."""
     result: list[Difference] = []
 
-    def put(track: str, what: str, contents: str, q: str, told: str) -> None:
-        if len({contents, q, told} - {"-"}) > 1 or (told == "-") != (q == "-"):
+    def put(track: str, what: str, contents: str, q: str, sheet: str) -> None:
+        if len({contents, q, sheet} - {"-"}) > 1 or (sheet == "-") != (q == "-"):
             is_time = what.startswith("index")
-            result.append(Difference(track, what, contents, q, told, base.value if is_time else "-"))
+            result.append(Difference(track, what, contents, q, sheet, base.value if is_time else "-"))
 
     def at(time: int | None) -> str:
         return "-" if time is None else spelled(time_at(source, base, time))
@@ -160,17 +160,17 @@ def differences(source: Source, found: QDisc, cue: Cue, base: TimeBase) -> list[
             put(name, "track", "yes" if listed else "-", "yes" if q else "-", "yes" if c else "-")
             continue
         for index in sorted({*q.indices, *c.indices} | {1}):
-            told = listed and index == 1
+            is_listed = listed and index == 1
             in_cue = c.indices.get(index)
             by_frames = found.by_frames.get(number) if index == 1 else q.indices.get(index)
             if index == 0 and in_cue is None and number == found.tracks[0].number:
                 continue
-            if index == 1 and cue.untold and in_cue is None:
+            if index == 1 and cue.why_unknown and in_cue is None:
                 continue
             put(
                 name,
                 f"index {index:02}",
-                at(int(listed.absolute) if told and listed else None),
+                at(int(listed.absolute) if is_listed and listed else None),
                 at(by_frames),
                 "-" if in_cue is None else spelled(in_cue),
             )
@@ -185,6 +185,6 @@ def write_differences(table: Table, source: Source, found: QDisc, cue: Cue, base
     found_rows = differences(source, found, cue, base)
     for row in found_rows:
         table.row(row)
-    if cue.untold:
-        tell(cue.untold)
+    if cue.why_unknown:
+        tell(cue.why_unknown)
     return bool(found_rows)

@@ -51,9 +51,9 @@ def pressed(loaded: Loaded, sheet: str | None) -> bytes:
     """Raw blocks that carry packs, with P and Q of the disc of a sheet, or of one track; they begin at 00:00:00."""
     content = b"".join(packs(loaded, FORMS["cdg"]))
     length = -(-len(content) // PACK // PACKS_A_BLOCK) + 2 * SPREAD
-    stream, status, told = press(read_file(sheet) if sheet else ONE_TRACK, content, 0, length)
+    stream, status, message = press(read_file(sheet) if sheet else ONE_TRACK, content, 0, length)
     if status:
-        raise Refusal(sheet or loaded.path, told)
+        raise Refusal(sheet or loaded.path, message)
     return stream
 
 

@@ -123,10 +123,10 @@ def frame_signs(blocks: bytes) -> tuple[int, int, int]:
 
 def word_signs(blocks: bytes, form: int) -> tuple[int, int, int]:
     """How many words carry something, how many are not idle, and how many there are."""
-    packs, told = library.packs_of_blocks(blocks, form, 0)
+    packs, counts = library.packs_of_blocks(blocks, form, 0)
     firsts = packs[::PACK]
     carrying = len(firsts) - firsts.count(0)
-    return carrying, carrying + told.bad, len(firsts)
+    return carrying, carrying + counts.bad, len(firsts)
 
 
 def pack_signs(symbols: bytes) -> tuple[int, int, int]:
@@ -165,20 +165,20 @@ def best_form(candidates: Sequence[Found]) -> Found | None:
     """The form that explains most. Q decides before words do. Of forms that explain much the same share, those which
     explain most; of these the one with the fewest words, for packs behind silent audio are found without the sectors
     too."""
-    told = [(explained, found) for found in candidates if (explained := found.explained())]
-    by_q = [it for it in told if it[0].by_q]
-    by_words = [it for it in told if not it[0].by_q]
+    explaining = [(explained, found) for found in candidates if (explained := found.explained())]
+    by_q = [it for it in explaining if it[0].by_q]
+    by_words = [it for it in explaining if not it[0].by_q]
     if by_q and (max(it[0].share for it in by_q) >= LITTLE or not any(found.is_likely() for _, found in by_words)):
-        told = by_q
+        explaining = by_q
     else:
-        told = by_words
-    share = max((explained.share for explained, _ in told), default=0)
-    told = [it for it in told if it[0].share >= COMPARABLE * share]
-    size = max((explained.size for explained, _ in told), default=0)
-    told = [it for it in told if it[0].size >= AS_MUCH * size]
+        explaining = by_words
+    share = max((explained.share for explained, _ in explaining), default=0)
+    explaining = [it for it in explaining if it[0].share >= COMPARABLE * share]
+    size = max((explained.size for explained, _ in explaining), default=0)
+    explaining = [it for it in explaining if it[0].size >= AS_MUCH * size]
     order = {form: place for place, form in enumerate(FORMS.values())}
     last = min(
-        told,
+        explaining,
         key=lambda it: (it[1].signs.words + it[1].signs.frames, -round(it[0].share, 2), order[it[1].form], it[1].skip),
         default=None,
     )
@@ -237,8 +237,8 @@ def is_all_zeros(dump: DumpFile) -> bool:
 def past_header(dump: DumpFile, found: Found) -> Found:
     """The same form behind the whole of a header that is longer than a unit, where what comes first is unlikely to be
     damage."""
-    told = found.explained()
-    if not found.skip or found.form.unit != BLOCK or told is None or not told.by_q or told.share < SURE:
+    explained = found.explained()
+    if not found.skip or found.form.unit != BLOCK or explained is None or not explained.by_q or explained.share < SURE:
         return found
     blocks = subcode(dump.read(found.skip, MOST_HEADER // found.form.unit * found.form.unit), found.form)
     survey = Survey(blocks, RAW, 0, is_trimmed=False)

@@ -23,7 +23,7 @@ COLUMNS = (
 # What a row's status says.
 GOOD, DAMAGED, TORN, EMPTY, FOREIGN, UNREAD = "good", "damaged", "torn", "empty", "foreign", "unread"
 # A picture is complete when no pack of graphics comes for a second; else it is taken after ten.
-STANDS, LONGEST = 300, 3000
+QUIET, LONGEST = 300, 3000
 # So many packs of graphics are drawn at most until a picture shows.
 MOST_DRAWN = 30_000
 # A row has at most so many places; the list has all.
@@ -59,7 +59,7 @@ def first_picture(parts: Iterable[bytes]) -> bytes | None:
             while at < len(kinds) and drawn < MOST_DRAWN:
                 found = kinds.find(GRAPHICS, at)
                 waited += (found if found >= 0 else len(kinds)) - at
-                if since and (waited >= STANDS or since >= LONGEST):
+                if since and (waited >= QUIET or since >= LONGEST):
                     picture = player.picture()
                     if shows_something(picture):
                         return picture
@@ -85,7 +85,7 @@ def status_of(loaded: Loaded, found: list[Damage]) -> str:
 
 def report_row(loaded: Loaded, found: list[Damage]) -> ReportRow:
     """The columns of a dump whose form is known."""
-    survey, told = loaded.survey, identity(loaded)
+    survey, identified = loaded.survey, identity(loaded)
     runs = [it for it in found if it.kind == RUN]
     more = [f"and {len(found) - MOST_PLACES} more"] if len(found) > MOST_PLACES else []
     sessions = sessions_in(loaded)
@@ -96,9 +96,9 @@ def report_row(loaded: Loaded, found: list[Damage]) -> ReportRow:
         "lead-in": survey.lead_in,
         "blocks": survey.blocks,
         "rest": loaded.rest,
-        "graphics": told.graphics,
-        "texts": [line for line in told.texts.splitlines() if not line.startswith("packs ")],
-        "q-good": round(told.good / told.frames, 6) if told.frames else None,
+        "graphics": identified.graphics,
+        "texts": [line for line in identified.texts.splitlines() if not line.startswith("packs ")],
+        "q-good": round(identified.good / identified.frames, 6) if identified.frames else None,
         **{name: survey.total(name) for name in ("clean", "one", "two", "bad")},
         "q-bad": sum(survey.bad_frames),
         "empty": sum(survey.empty),

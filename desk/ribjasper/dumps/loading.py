@@ -103,10 +103,10 @@ def asked(arguments: argparse.Namespace) -> DumpOptions:
     return DumpOptions(arguments.form, arguments.lead_in, arguments.skip)
 
 
-def survey_of(stream: bytes, form: Form, told: int | None = None, companions: Companions | None = None) -> Survey:
+def survey_of(stream: bytes, form: Form, given: int | None = None, companions: Companions | None = None) -> Survey:
     """The survey of a stream, with the lead-in that is given, that its Q frames say, or that files beside it say."""
-    survey = Survey(stream, form.library, told or 0)
-    if told is not None or form.library != RAW:
+    survey = Survey(stream, form.library, given or 0)
+    if given is not None or form.library != RAW:
         return survey
     found = lead_in_of(survey)
     if found is None:

@@ -129,10 +129,12 @@ def mend_laid(laid: Laid, as_stream: bool) -> Mended:
     status = library.call(name)(readings, size, len(order), 0, target, room, names, words, report)
     if status not in (library.DONE, library.DAMAGED):
         raise ValueError(f"{name} answers {status}")
-    told = report.counts
+    totals = report.counts
     places = [order.index(number) for number in range(len(order))]
-    counts = [Counts(told.of_reading[k], told.dropped[k], report.lost[k]) for k in places]
-    return Mended(memoryview(out)[: told.bytes], bytes(memoryview(sources)[:words]), told.agreed, told.none, counts)
+    counts = [Counts(totals.of_reading[k], totals.dropped[k], report.lost[k]) for k in places]
+    return Mended(
+        memoryview(out)[: totals.bytes], bytes(memoryview(sources)[:words]), totals.agreed, totals.none, counts
+    )
 
 
 def has_graphics(laid: Laid) -> bool:

@@ -17,7 +17,7 @@ function isShown(row, form) {
 }
 
 function begin() {
-  const body = document.querySelector("tbody"), form = document.querySelector("form"), told = document.querySelector("#told");
+  const body = document.querySelector("tbody"), form = document.querySelector("form"), message = document.querySelector("#message");
   const rows = [...body.rows];
   const value = (row, place) => row.cells[place].dataset.value ?? row.cells[place].textContent;
   function sort(head, turn) {
@@ -44,7 +44,7 @@ function begin() {
       row.hidden = !isShown(row.dataset, asked);
       shown += !row.hidden;
     }
-    told.textContent = shown === rows.length ? "" : `${shown} of ${rows.length} are shown`;
+    message.textContent = shown === rows.length ? "" : `${shown} of ${rows.length} are shown`;
   }
   form.hidden = false;
   form.addEventListener("input", filter);

@@ -103,7 +103,7 @@ def filters(statuses: Sequence[str]) -> str:
         '<label>good Q from <input name="least" type="number" min="0" max="100" step="any" size="5"> to '
         '<input name="most" type="number" min="0" max="100" step="any" size="5"> %</label>'
         '<label>sort by <select name="sort"><option value="">name of the file</option></select></label>'
-        '<input type="reset" value="show all"><output id="told"></output></form>'
+        '<input type="reset" value="show all"><output id="message"></output></form>'
     )
 
 

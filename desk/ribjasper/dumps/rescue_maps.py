@@ -24,11 +24,11 @@ class Area(NamedTuple):
 def areas(path: str) -> list[Area]:
     """The areas of a map, or a refusal of what is no map of ddrescue."""
     lines = [line.split("#")[0] for line in read_file(path).decode("utf-8", "replace").splitlines()]
-    told = [line.strip() for line in lines if line.strip()]
-    if not told or not STATUS.fullmatch(told[0]):
+    rows = [line.strip() for line in lines if line.strip()]
+    if not rows or not STATUS.fullmatch(rows[0]):
         raise Refusal(path, "is no map of ddrescue")
     found: list[Area] = []
-    for line in told[1:]:
+    for line in rows[1:]:
         area = AREA.fullmatch(line)
         if area is None:
             raise Refusal(path, f"is no map of ddrescue: {line}")
@@ -59,10 +59,10 @@ def unread_bytes(found: Sequence[Area], size: int) -> Iterator[tuple[int, int]]:
         yield found[-1].end, size
 
 
-def domain(size: int, lost: Sequence[tuple[int, int]], told: str) -> bytes:
+def domain(size: int, lost: Sequence[tuple[int, int]], kind: str) -> bytes:
     """A map of a file with which ddrescue reads again what was lost, and nothing else (its option -m): `+` is what is
     to be read again, from the first byte up to the end, and `-` all other."""
-    lines = [f"# Mapfile of the mended {told}. Made by ribjasper-desk", "# current_pos  current_status  current_pass"]
+    lines = [f"# Mapfile of the mended {kind}. Made by ribjasper-desk", "# current_pos  current_status  current_pass"]
     lines += ["0x00000000     +               1", "#      pos        size  status"]
     at = 0
     for first, end in [*lost, (size, size)]:

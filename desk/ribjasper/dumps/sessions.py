@@ -169,13 +169,16 @@ class Layout:
 
 
 def numbers_of(
-    layout: Layout, blocks: Mapping[int, int | None], begins: Mapping[int, int], told: Mapping[int, int]
+    layout: Layout, blocks: Mapping[int, int | None], begins: Mapping[int, int], session_tracks: Mapping[int, int]
 ) -> dict[int, int]:
     """The session of each track, by a file beside the dump, or by the borders, or because it begins behind a lead-out
     that the table of contents names. Of each track are given the first block, if it was met, and the time at which it
     begins."""
-    if told:
-        return {number: max([1, *(session for session, first in told.items() if number >= first)]) for number in blocks}
+    if session_tracks:
+        return {
+            number: max([1, *(session for session, first in session_tracks.items() if number >= first)])
+            for number in blocks
+        }
     listed = {number: place for place, border in enumerate(layout.borders, 1) for number in border.contents.tracks}
     found: dict[int, int] = {}
     before = 1

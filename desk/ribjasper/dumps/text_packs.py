@@ -82,8 +82,8 @@ class Language:
     @property
     def name(self) -> str:
         """What is spoken."""
-        told = self.sizes[LANGUAGES + self.number] if self.sizes else 0
-        return LANGUAGE_NAMES.get(told, f"language {told:#04x}" if told else "unknown language")
+        language = self.sizes[LANGUAGES + self.number] if self.sizes else 0
+        return LANGUAGE_NAMES.get(language, f"language {language:#04x}" if language else "unknown language")
 
 
 def languages_of(packs: Iterable[bytes]) -> list[Language]:

@@ -311,9 +311,9 @@ def write_disc(album: Album, sung: list[Sung], outputs: Outputs, names: list[str
         lead_in = least_lead_in(sheet, length)
     except NoPlan as none:
         raise Refusal(album.path, f"makes no disc: {none.cause()}") from None
-    stream, status, told = press(sheet, joined_packs(album, sung), lead_in, length)
+    stream, status, message = press(sheet, joined_packs(album, sung), lead_in, length)
     if status:
-        raise Refusal(album.path, f"makes no disc: {told}")
+        raise Refusal(album.path, f"makes no disc: {message}")
     disc = read_disc(album.path, sheet, length)
     outputs.write(sheet_name, sheet)
     outputs.write(raw, stream)

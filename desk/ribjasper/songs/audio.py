@@ -68,7 +68,7 @@ class Wave(NamedTuple):
     def is_of_disc(self) -> bool:
         return self[:4] == (PLAIN, CHANNELS, RATE, 8 * SAMPLE_BYTES)
 
-    def told(self) -> str:
+    def description(self) -> str:
         return f"has {self.rate} Hz, {self.channels} channel{'s' * (self.channels != 1)}, {self.bits} bits"
 
 
@@ -128,11 +128,11 @@ def of_disc(path: Path) -> tuple[Path, Wave]:
     wave = wave_of(path)
     if wave and wave.is_of_disc:
         return path, wave
-    told = wave.told() if wave else "is no WAV file"
+    description = wave.description() if wave else "is no WAV file"
     if not shutil.which("ffmpeg"):
         raise Refusal(
             path,
-            f"{told}, and ffmpeg is not installed; a disc takes 44,100 Hz, 2 channels, 16 bits, and "
+            f"{description}, and ffmpeg is not installed; a disc takes 44,100 Hz, 2 channels, 16 bits, and "
             f"{remedy(path)} makes such a file",
         )
     out = Path(folder()) / f"{len(os.listdir(folder()))}.wav"
@@ -140,8 +140,8 @@ def of_disc(path: Path) -> tuple[Path, Wave]:
     done = subprocess.run(words, stdin=subprocess.DEVNULL, capture_output=True)
     if done.returncode:
         why = done.stderr.decode(errors="replace").strip().splitlines()
-        raise Refusal(path, f"{told}, and ffmpeg cannot convert it: {why[-1] if why else 'it says nothing'}")
-    tell(f"{path}: {told} and is converted by ffmpeg")
+        raise Refusal(path, f"{description}, and ffmpeg cannot convert it: {why[-1] if why else 'it says nothing'}")
+    tell(f"{path}: {description} and is converted by ffmpeg")
     wave = wave_of(out)
     if not wave or not wave.is_of_disc:
         raise Refusal(path, "ffmpeg made no such file of it as a disc takes")
@@ -240,8 +240,10 @@ def at_loudness(path: Path, samples: bytes, loudness: float) -> bytes:
     source, out = new_file(".wav"), Path(f"{new_file('')}-loud.wav")
     source.write_bytes(header(len(samples)) + samples)
     target = f"loudnorm=I={loudness:g}:TP={HIGHEST_PEAK}:LRA=20"
-    told = run_ffmpeg(path, ["-i", os.fspath(source), "-af", f"{target}:print_format=json", "-f", "null", "-"], "info")
-    found = [one for one in JSON.findall(told) if b"input_i" in one]
+    printed = run_ffmpeg(
+        path, ["-i", os.fspath(source), "-af", f"{target}:print_format=json", "-f", "null", "-"], "info"
+    )
+    found = [one for one in JSON.findall(printed) if b"input_i" in one]
     measured: dict[str, Any] = json.loads(found[-1]) if found else {}
     values = [
         str(measured.get(key, "")) for key in ("input_i", "input_tp", "input_lra", "input_thresh", "target_offset")

@@ -151,7 +151,7 @@ def fill_before(words: list[Word], place: int, time: float) -> None:
 
 
 def started(words: Sequence[Word], place: int, time: float) -> list[Word]:
-    """Words of which one begins at a time; the others give way, so that times never go back."""
+    """Moves one word to a time; the others give way, so that times never go back."""
     made = list(words)
     fill_before(made, place, time)
     before = made[place - 1] if place else None
@@ -305,7 +305,7 @@ def bounds(score: Score, moved: dict[int, set[int]]) -> tuple[float, float]:
 
 
 def shifted(line: ScoreLine, places: set[int], by: float) -> ScoreLine:
-    """A line of which some words move; the word in front of them ends where they begin if it did so before."""
+    """Moves some words of a line. If the word in front of a moved one ended where that one began, it still does."""
     if not places or not by:
         return line
     words = list(line.words)
@@ -357,7 +357,7 @@ def retimed(words: Sequence[Word], texts: Sequence[str]) -> list[Word]:
             made += shared(words, first, last, texts[begin:until])
     is_cut = False
     for at, word in enumerate(made):
-        # What stands behind a word without time has none either.
+        # Words behind one without a time have none either.
         is_cut = is_cut or not word.is_timed
         made[at] = replace(word, start=None, end=None) if is_cut else word
     return capped(made)
@@ -407,7 +407,7 @@ def remove(score: Score, edit: Edit) -> Score:
 
 
 def cut(score: Score, edit: Edit) -> Score:
-    """A line becomes two, the second of which begins with a word."""
+    """Splits a line in two; the second begins with a word."""
     place = score.place_of(key_of(edit["line"]))
     line = in_words(score.lines[place]) if score.lines[place].is_whole else score.lines[place]
     at = place_of(edit, len(line.words))

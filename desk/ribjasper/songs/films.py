@@ -9,7 +9,7 @@ from typing import IO, Iterator, NamedTuple
 from ..common.failures import Missing, Name, Refusal
 from ..common.library import HEIGHT, WIDTH
 
-# What x264 leaves out: frames between two others, and a long search for what moved. Pictures of tiles change where they stand.
+# What x264 leaves out: frames between two others, and a long search for what moved. Tiles change in place.
 PLAIN_SEARCH = "bframes=0:me=dia:subme=0:trellis=0"
 # Frames are small: more threads take longer, and more of the processors.
 READING = ["-threads", "1", "-filter_threads", "1"]
@@ -55,7 +55,7 @@ def film_words(form: FilmForm, out: str) -> list[str]:
 
 @contextlib.contextmanager
 def film_of(form: FilmForm, name: Name, part: str) -> Iterator[IO[bytes]]:
-    """Where frames are written to, of which ffmpeg makes a film; a failure names the output."""
+    """The input of an ffmpeg that makes a film of the frames written to it; a failure names the output."""
     with tempfile.TemporaryFile() as said:
         try:
             ffmpeg = subprocess.Popen(film_words(form, part), stdin=subprocess.PIPE, stderr=said)

@@ -59,7 +59,7 @@ class PairFiles:
         if not self.is_there:
             write_sound(outputs, self.sound, sound, song, self.ending)
 
-    def told(self) -> str:
+    def names(self) -> str:
         """The names of what is written."""
         if self.is_packed:
             return self.packed

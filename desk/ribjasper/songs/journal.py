@@ -1,5 +1,5 @@
 """The journal of a song that is edited: the files that it was opened from, all edits, and how many of them hold. It
-stands beside the song, and a studio that is opened again goes on from it."""
+lies beside the song, and a studio that is opened again goes on from it."""
 import base64
 import hashlib
 import json

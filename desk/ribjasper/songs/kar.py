@@ -7,7 +7,7 @@ from ..common.output import package
 from .songs import LONGEST_WORD, Line, Song, Syllable, song_time
 
 # What begins a new line or page in front of a text, and what begins a text that is no lyrics.
-NEW_LINE, TOLD = ("/", "\\", "\r", "\n"), "@"
+NEW_LINE, TAG = ("/", "\\", "\r", "\n"), "@"
 # Turns all texts of a file into letters.
 Decode = Callable[[list[bytes]], list[str]]
 
@@ -19,7 +19,7 @@ def read_kar(content: bytes, song: Song, decode: Decode) -> None:
     plain = [(time, text) for time, kind, text in texts if kind == "text"]
     titles = [text[2:].strip() for _, text in plain if text.startswith("@T")]
     song.title, song.performer = ([*titles, "", ""])[:2]
-    sung = [(time, text) for time, text in plain if not text.startswith(TOLD)]
+    sung = [(time, text) for time, text in plain if not text.startswith(TAG)]
     if sum(bool(text.strip()) for _, text in lyrics) >= sum(bool(text.strip()) for _, text in sung):
         sung = lyrics
     add_lines(song, sung)

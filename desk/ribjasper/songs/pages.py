@@ -12,7 +12,7 @@ from .songs import Line, Syllable
 
 # How long nothing is sung, in seconds, before a page that is not full is left; before the next line is counted in; and
 # before a page says how long it is.
-REST, COUNTED_REST, TOLD_REST = 3.0, 6.0, 12.0
+REST, COUNTED_REST, SHOWN_REST = 3.0, 6.0, 12.0
 # What is left of a page goes so long after its last word; a page after a long rest comes so long before its first.
 GOES, COMES = 2.0, 6.0
 # A row comes into a place so long after what was sung there, where a short page may choose.
@@ -151,9 +151,9 @@ class ColumnStep(Step):
         """The lines of a script that draw this on the screen, which then has it; only these rows can differ."""
         spans, left, right = [], self.left, self.right
         for number, row in rows:
-            pixels, stands = row[left:right], raster.rows[number]
-            if stands[left:right] != pixels:
-                stands[left:right] = pixels
+            pixels, drawn = row[left:right], raster.rows[number]
+            if drawn[left:right] != pixels:
+                drawn[left:right] = pixels
                 spans.append(Span(left, number, pixels))
         return list(span_lines(spans))
 
@@ -206,7 +206,7 @@ def groups_of(lines: list[Line], font: Font, style: Style, rests: bool = True, e
             pages.append(Group())
             if rests and rest > COUNTED_REST:
                 pages[-1].is_counted = True
-            if rests and rest >= TOLD_REST and number:
+            if rests and rest >= SHOWN_REST and number:
                 pages.insert(-1, rest_page(style.rest, end, line.start, font))
                 pages[-1].begin = line.start - COMES
         for row in rows:
@@ -255,8 +255,8 @@ class Screen:
         starts = [row[0][0].start for _, row in group.rows]
 
         def room(first: int) -> float:
-            stand = zip(starts, self.standing[first:])
-            return min((start - one.end for start, one in stand if one and one.letters), default=ROOM_BEFORE)
+            followed = zip(starts, self.standing[first:])
+            return min((start - one.end for start, one in followed if one and one.letters), default=ROOM_BEFORE)
 
         return next(
             (first for first in range(middle, -1, -1) if room(first) >= ROOM_BEFORE),

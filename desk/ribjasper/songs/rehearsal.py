@@ -80,14 +80,14 @@ def late_of(made: Made) -> list[Late]:
         if placed.letters:
             found.append(Late(placed.letters.line.number, what, round(blocks / BLOCKS_A_SECOND, 2)))
 
-    for placed in made.told.cut:
+    for placed in made.lateness.cut:
         add(placed, "cut")
-    for placed in made.told.lost:
+    for placed in made.lateness.lost:
         add(placed, "lost")
-    for placed, blocks in made.told.drawn_late.items():
+    for placed, blocks in made.lateness.drawn_late.items():
         add(placed, "drawn", blocks)
-    for placed, blocks in made.told.lit_late.items():
-        if placed not in made.told.drawn_late:
+    for placed, blocks in made.lateness.lit_late.items():
+        if placed not in made.lateness.drawn_late:
             add(placed, "lit", blocks)
     return found
 

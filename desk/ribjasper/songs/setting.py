@@ -177,17 +177,17 @@ def sung_later(rows: list[list[list[Syllable]]]) -> list[list[list[Syllable]]]:
     """The same rows; where words on several of them have one time, those on a later row are sung
     later, in proportion to the letters before them."""
     for number, row in enumerate(rows[:-1]):
-        told = row[-1][-1]
-        here = [syllable for word in row for syllable in word if syllable.start == told.start]
+        last = row[-1][-1]
+        here = [syllable for word in row for syllable in word if syllable.start == last.start]
         later = [
             syllable
             for below in rows[number + 1 :]
             for word in below
             for syllable in word
-            if syllable.start == told.start
+            if syllable.start == last.start
         ]
         done, left = (sum(len(syllable.text) for syllable in some) for some in (here, later))
-        time = told.start + (told.end - told.start) * done / (done + left)
+        time = last.start + (last.end - last.start) * done / (done + left)
         for syllable in here:
             syllable.end = time
         for syllable in later:

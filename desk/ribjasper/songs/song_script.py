@@ -23,11 +23,14 @@ from ..drawing.styles import INKS, Style
 from .known_needs import Known, ask_known
 
 from .pages import (
-    Draw, GOES, Group, Light, SongPage, ColumnStep, Placed, Show, Step, TOLD_REST, groups_of, laid_out, still_page, texts_of,
+    Draw, GOES, Group, Light, SongPage, ColumnStep, Placed, Show, Step, SHOWN_REST, groups_of, laid_out, still_page, texts_of,
 )  # fmt: skip
 from .setting import ROOM, Setter, filled_rows, fits_in_row, spelled_with, unbroken_words, wrapped
 from .songs import BOTH, FIRST, MOST_MESSAGES, Line, Song, Syllable, first_of_many, shortened, song_time
-from .timeline import FOREVER, Arranger, Due, SentPicture, Task, Timeline, Told, blocks_for, dues_of, grouped, paired
+
+from .timeline import (
+    FOREVER, Arranger, Due, Lateness, SentPicture, Task, Timeline, blocks_for, dues_of, grouped, paired,
+)  # fmt: skip
 
 BLOCKS = BLOCKS_A_SECOND
 # A black picture is held through the pause, so that all that is drawn comes with the audio; the four packs that set it
@@ -38,8 +41,8 @@ THROUGH_PAUSE = f"show 00:00:20 {spelled(BEGIN)}"
 LONGEST_AUDIO = 449_999 - times.PAUSE
 # A line stays this long when it is sung; a title and a legend are shown so long at least, and are gone so long before
 # the first word; a last page comes if it can be shown so long.
-STAYS, TITLE_STANDS, BEFORE_FIRST = BLOCKS // 5, 2 * BLOCKS, 3 * BLOCKS
-LAST_STANDS = 3 * BLOCKS
+STAYS, TITLE_STAYS, BEFORE_FIRST = BLOCKS // 5, 2 * BLOCKS, 3 * BLOCKS
+LAST_STAYS = 3 * BLOCKS
 # More letters of a title than a page has room for.
 LONGEST_TITLE = 1_000
 # Losses and numbers of colours that are tried until a title needs few enough packs, and the loss of a background.
@@ -99,7 +102,7 @@ class Made:
     """A script, what of the song is not shown at its time, and notes."""
 
     lines: list[str]
-    told: Told
+    lateness: Lateness
     maker: "Maker"
 
     def text(self) -> bytes:
@@ -114,14 +117,14 @@ class Made:
             number = placed.letters.line.number if placed.letters else 0
             return f"{path}: line {number} {what}: {placed.text()}"
 
-        for placed in self.told.cut:
+        for placed in self.lateness.cut:
             yield of(placed, "is not wholly lit before the sound ends")
-        for placed in self.told.lost:
+        for placed in self.lateness.lost:
             yield of(placed, "is not sung out when another has to come in its place")
-        for placed, blocks in self.told.drawn_late.items():
+        for placed, blocks in self.lateness.drawn_late.items():
             yield of(placed, f"is drawn {blocks / BLOCKS:.2f} seconds after it begins")
-        for placed, blocks in self.told.lit_late.items():
-            if placed not in self.told.drawn_late:
+        for placed, blocks in self.lateness.lit_late.items():
+            if placed not in self.lateness.drawn_late:
                 yield of(placed, f"has words that are lit up to {blocks / BLOCKS:.2f} seconds late")
 
     def summary(self) -> str:
@@ -130,7 +133,7 @@ class Made:
         pictures = sum(line.startswith("show") for line in self.lines)
         pages = sum(page.group.is_sung and bool(page.group.rows) for page in maker.pages)
         plain = "plain " * maker.font.is_plain
-        late = len(self.told.rows())
+        late = len(self.lateness.rows())
         return (
             f"{count_of(len(maker.song.lines), 'line')} on {count_of(pages, 'page')} in {plain}letters of "
             f"{maker.font.size} pixels, {words} words or parts of words, {pictures} pictures; "
@@ -365,10 +368,10 @@ def lines_of(steps: Sequence[Step], raster: Raster) -> list[str]:
 def changed_by(part: ColumnStep, raster: Raster) -> Iterator[Span]:
     """Brings the columns of a step, and gives for each row the stretch that changes."""
     for number, row in part.rows():
-        stands, new = raster.rows[number], row[part.left : part.right]
-        old = bytes(stands[part.left : part.right])
+        drawn, new = raster.rows[number], row[part.left : part.right]
+        old = bytes(drawn[part.left : part.right])
         if old != new:
-            stands[part.left : part.right] = new
+            drawn[part.left : part.right] = new
             differ = int.from_bytes(old, "big") ^ int.from_bytes(new, "big")
             marks = differ.to_bytes(len(old), "big")
             first, last = len(old) - len(marks.lstrip(b"\0")), len(marks.rstrip(b"\0"))
@@ -428,7 +431,7 @@ def verses_of(song: Song, between: Sequence[str]) -> list[Verse]:
         found[at] = one.what, one.number
     others, end = itertools.cycle(between), 0.0
     for at, line in enumerate(song.lines):
-        if between and at and at not in found and line.start - end >= TOLD_REST:
+        if between and at and at not in found and line.start - end >= SHOWN_REST:
             found[at] = next(others), 0
         end = max(end, line.stays)
     borders = sorted({0, *found, len(song.lines)})
@@ -510,10 +513,10 @@ class Maker:
             ask_shows(shows, self.ground)
             need = blocks_for(shows[:1])
             verse.until = until - blocks_for(shows[1:]) if verse.lines else until
-            if verse.begin + need + TITLE_STANDS <= verse.until:
+            if verse.begin + need + TITLE_STAYS <= verse.until:
                 verse.shows = shows
                 return True
-        room = max(0, verse.until - verse.begin - TITLE_STANDS) / BLOCKS
+        room = max(0, verse.until - verse.begin - TITLE_STAYS) / BLOCKS
         self.note_of(
             verse, f"{verse.what} is left out: it needs {need / BLOCKS:.1f} seconds, and there is room for {room:.1f}"
         )
@@ -529,7 +532,7 @@ class Maker:
             or not self.wishes.rests
             or not self.verses[-1].lines
             or end
-            and end < begin + LAST_STANDS + 2 * BLOCKS
+            and end < begin + LAST_STAYS + 2 * BLOCKS
         ):
             return []
         page = still_page(texts, sung + GOES, sung + GOES, self.font)
@@ -559,7 +562,7 @@ class Maker:
                 if self.room_for(shows) >= 0:
                     return shows
                 need = blocks_for([title])
-            room = max(0, self.room_for([]) - TITLE_STANDS) / BLOCKS
+            room = max(0, self.room_for([]) - TITLE_STAYS) / BLOCKS
             self.notes.append(
                 f"{image}: the title is left out: it needs {need / BLOCKS:.1f} seconds, and there is room for {room:.1f}, so "
                 f"that the first page is shown before it is sung{self.more_room(shows)}"
@@ -589,19 +592,19 @@ class Maker:
     def room_for(self, shows: list[Show]) -> int:
         """How many blocks are left where these pages and then the empty one come before the first words."""
         ask_shows([*shows, self.empty], Raster())
-        needs: int = sum(TITLE_STANDS + blocks_for([show]) for show in shows)
+        needs: int = sum(TITLE_STAYS + blocks_for([show]) for show in shows)
         return self.page_begin - BEGIN - needs - blocks_for([self.empty])
 
-    def arranged(self, lead: float | None, stays: bool, is_paired: bool) -> tuple[list[SentPicture], Told]:
+    def arranged(self, lead: float | None, stays: bool, is_paired: bool) -> tuple[list[SentPicture], Lateness]:
         """All steps on a line of time, as far as their needs are known."""
         line = Timeline(BEGIN)
         begin = self.page_begin - blocks_for([self.empty])
         if self.shows:
             line.put(self.shows[:1], BEGIN)
         for show in self.shows[1:]:
-            line.put([show], begin - TITLE_STANDS - blocks_for([show]))
+            line.put([show], begin - TITLE_STAYS - blocks_for([show]))
         line.put([self.empty], begin if self.shows else BEGIN)
-        told = Told()
+        lateness = Lateness()
         for verse in self.verses:
             if verse.shows:
                 line.put(verse.shows[:1], verse.begin)
@@ -610,8 +613,8 @@ class Maker:
             if verse.pages:
                 tasks = tasks_of(verse.pages, line.now, self.style, lead, stays)
                 dues = paired(verse.dues) if is_paired else verse.dues
-                told.add(Arranger(line, tasks, grouped(dues)).run())
-        return line.pictures, told
+                lateness.add(Arranger(line, tasks, grouped(dues)).run())
+        return line.pictures, lateness
 
     def script(self, pictures: list[SentPicture], end: int | None) -> list[str]:
         """The lines of the script; what comes after the end of the audio is left out where it only clears the page."""
@@ -623,11 +626,11 @@ class Maker:
             lines.append(f"show {spelled(picture.ready)} {spelled(hold)}")
         return lines
 
-    def in_time(self, lead: float | None, stays: bool, is_paired: bool) -> tuple[list[str], Told]:
+    def in_time(self, lead: float | None, stays: bool, is_paired: bool) -> tuple[list[str], Lateness]:
         """Schedules until the plan finds nothing late."""
         for _ in range(ROUNDS):
-            pictures, told = self.arranged(lead, stays, is_paired)
-            pictures = within(pictures, self.wishes.end, told)
+            pictures, lateness = self.arranged(lead, stays, is_paired)
+            pictures = within(pictures, self.wishes.end, lateness)
             # A script has one more, which is held through the pause.
             if len(pictures) >= MOST_PICTURES:
                 raise Refusal(
@@ -638,7 +641,7 @@ class Maker:
             lines = self.script(pictures, self.wishes.end)
             found = plan_of(lines)
             if not found.late():
-                return lines, told
+                return lines, lateness
             for number in found.late():
                 steps = pictures[number - 1].steps
                 steps[-1].need += found.rows[number].need - sum(step.need for step in steps)
@@ -648,13 +651,12 @@ class Maker:
         """The script. Pages that go as a whole leave no time for a row of the next one where that follows quickly: its
         rows then come one by one, which is reported."""
         made = self.by_lead()
-        quick = (
-            [page for page in self.pages if made.told.rows().intersection(page.placed)] if self.style.by_page else []
-        )
+        late = made.lateness.rows()
+        quick = [page for page in self.pages if late.intersection(page.placed)] if self.style.by_page else []
         for page in quick:
             page.is_quick = True
         again = self.by_lead() if quick else made
-        if again.told.total() < made.told.total():
+        if again.lateness.total() < made.lateness.total():
             self.note_quick(quick)
             return again
         for page in quick:
@@ -681,9 +683,9 @@ class Maker:
             if trial[-1] and not has_pairs:
                 continue
             tried.append(Made(*self.in_time(*trial), self))
-            if not tried[-1].told.rows():
+            if not tried[-1].lateness.rows():
                 break
-        return min(tried, key=lambda one: one.told.total())
+        return min(tried, key=lambda one: one.lateness.total())
 
 
 def dues_of_rows(rows: list[Placed]) -> dict[Placed, int]:
@@ -755,7 +757,7 @@ def tasks_of(pages: list[SongPage], begin: int, style: Style, lead: float | None
     return tasks
 
 
-def within(pictures: list[SentPicture], end: int | None, told: Told) -> list[SentPicture]:
+def within(pictures: list[SentPicture], end: int | None, lateness: Lateness) -> list[SentPicture]:
     """Without what comes after the end of the audio; where that is more than what clears the page or ends the song, its
     lines are reported."""
     if end is None:
@@ -763,7 +765,7 @@ def within(pictures: list[SentPicture], end: int | None, told: Told) -> list[Sen
     for picture in pictures:
         for step in picture.steps if picture.ready > end else ():
             if isinstance(step, ColumnStep) and step.placed.letters and step.placed.is_sung:
-                told.cut.setdefault(step.placed)
+                lateness.cut.setdefault(step.placed)
     return [picture for picture in pictures if picture.ready <= end]
 
 
@@ -800,6 +802,6 @@ def best(song: Song, wishes: Wishes, known: Known | None = None) -> Made:
         maker.notes = notes + maker.notes
         made.append(maker.made())
         rows = sum(bool(placed.letters) for page in maker.pages for placed in page.placed)
-        if len(made[-1].told.rows()) <= max(1, rows // FEW_LATE):
+        if len(made[-1].lateness.rows()) <= max(1, rows // FEW_LATE):
             return made[-1]
-    return min(made, key=lambda one: one.told.total())
+    return min(made, key=lambda one: one.lateness.total())

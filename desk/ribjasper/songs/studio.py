@@ -149,10 +149,16 @@ class Job:
     """What is being made of the song: its name, how much is done, and how it ended."""
 
     def __init__(self, what: str) -> None:
-        self.what, self.done, self.told, self.error, self.is_over = what, 0.0, "", "", False
+        self.what, self.done, self.message, self.error, self.is_over = what, 0.0, "", "", False
 
     def table(self) -> dict[str, Any]:
-        return {"what": self.what, "done": self.done, "told": self.told, "error": self.error, "over": self.is_over}
+        return {
+            "what": self.what,
+            "done": self.done,
+            "message": self.message,
+            "error": self.error,
+            "over": self.is_over,
+        }
 
 
 class Studio:
@@ -362,11 +368,11 @@ class Studio:
         made = self.ready()
         job.done = 0.5
         files = self.pair_files(is_mp3, is_packed)
-        told = files.told()
+        names = files.names()
         assert made.song
         with Outputs([self.lyrics, self.sound], files.writes()) as outputs:
             files.write(outputs, made.packs, self.treated(), made.song)
-        job.told = f"{told}: {made.blocks / BLOCKS_A_SECOND:.1f} seconds"
+        job.message = f"{names}: {made.blocks / BLOCKS_A_SECOND:.1f} seconds"
 
     def add_to_album(self, job: Job) -> None:
         """Adds the song to the list of its folder, or begins one. The lyrics that the list names are saved first."""
@@ -378,12 +384,12 @@ class Studio:
             before = read_file(path).decode() if path.exists() else ""
             begin = before or NEW.format(name=ALBUM, title="", singer="")
             if entry.splitlines()[2] in before.splitlines():
-                job.told = f"{ALBUM} has this song already"
+                job.message = f"{ALBUM} has this song already"
                 return
             # What the list holds stays, so it may be one that was changed by hand.
             with Outputs([self.lyrics, self.sound], [(path, kinds.ALBUM)], True) as outputs:
                 outputs.write(path, (begin + entry).encode())
-        job.told = f"{ALBUM} has the song now; `ribjasper-desk album {ALBUM} -o DISC` makes the disc"
+        job.message = f"{ALBUM} has the song now; `ribjasper-desk album {ALBUM} -o DISC` makes the disc"
 
     def look_rows(self) -> str:
         """The look of the song as rows of its entry."""

@@ -103,7 +103,7 @@ def paired(dues: Sequence[Due]) -> list[Due]:
 
 
 @dataclass
-class Told:
+class Lateness:
     """By how many blocks lines are drawn and words are lit after their times, the lines that are not sung out when
     others have to come in their place, and those that are not wholly lit before the audio ends."""
 
@@ -112,7 +112,7 @@ class Told:
     lost: list[Placed] = field(default_factory=list)
     cut: dict[Placed, None] = field(default_factory=dict)
 
-    def add(self, other: "Told") -> None:
+    def add(self, other: "Lateness") -> None:
         self.drawn_late |= other.drawn_late
         self.lit_late |= other.lit_late
         self.lost += other.lost
@@ -135,9 +135,9 @@ class Arranger:
         self.tasks = {task.placed: task for task in tasks}
         # What is still to be lit, and so is not to be drawn over.
         self.is_open = {due.placed for due in dues}
-        self.told = Told()
+        self.lateness = Lateness()
 
-    def run(self) -> Told:
+    def run(self) -> Lateness:
         """Words are lit in their order, each after its letters are drawn."""
         last = {due.placed: due for due in self.dues}
         for due, start in zip(self.dues, latest_starts(self.dues)):
@@ -147,7 +147,7 @@ class Arranger:
                 if last[due.placed] is due:
                     self.is_open.discard(due.placed)
         self.fill(FOREVER)
-        return self.told
+        return self.lateness
 
     def fill(self, until: int) -> None:
         """Draws what may be drawn before a block, what is due first before others, column by column."""
@@ -197,7 +197,7 @@ class Arranger:
 
     def note_drawn(self, task: Task, now: int) -> None:
         if not task.steps and task.placed.letters and task.placed.is_sung:
-            note(self.told.drawn_late, task.placed, now - task.block)
+            note(self.lateness.drawn_late, task.placed, now - task.block)
 
     def light(self, due: Due, start: int) -> None:
         task, placed = self.tasks[due.placed], due.placed
@@ -207,7 +207,7 @@ class Arranger:
             self.draw(task, len(task.steps), self.line.now)
         beside = self.beside(due, max(start, self.line.now))
         now = self.line.put([*due.steps, *(step for _, step in beside)], start)
-        note(self.told.lit_late, placed, now - due.block)
+        note(self.lateness.lit_late, placed, now - due.block)
         for task in {id(task): task for task, _ in beside}.values():
             self.note_drawn(task, now)
 
@@ -236,7 +236,7 @@ class Arranger:
         letters = clearing.placed.before
         if letters in self.is_open:
             self.is_open.discard(letters)
-            self.told.lost.append(letters)
+            self.lateness.lost.append(letters)
         self.take_over(clearing)
         self.draw(clearing, len(clearing.steps), self.line.now)
 

@@ -41,11 +41,11 @@ def track_packs(path: Path, script: bytes, blocks: int) -> bytes:
 def authored(path: Path, script: bytes, blocks: int) -> bytes | None:
     """All packs of a disc with this track alone; nothing where its first picture is more than presets and colours, or
     is not complete until the track begins."""
-    stream, status, told = author(ONE_TRACK, script, 0, blocks)
+    stream, status, message = author(ONE_TRACK, script, 0, blocks)
     if status == LATE:
-        raise LateScript(f"{path}: {told}")
+        raise LateScript(f"{path}: {message}")
     if status:
-        raise Refusal(path, told)
+        raise Refusal(path, message)
     packs, _ = packs_of_blocks(stream, RAW, 0)
     return None if any(packs[PACK * PRESETS : PACK * FREE_FROM]) else packs
 

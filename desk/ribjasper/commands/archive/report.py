@@ -182,8 +182,10 @@ def look_at_all(
 ) -> dict[str, ReportRow]:
     """The rows of all files: those that are known and did not change, and the others looked at."""
     how = How(not arguments.no_pictures, asked(arguments))
-    told = "".join(f" {word}" for word in how.words if word is not None)
-    stamps = {task.name: stamp(task.path, f"{LAYOUT} {library.version()} {how.with_pictures}{told}") for task in tasks}
+    options = "".join(f" {word}" for word in how.words if word is not None)
+    stamps = {
+        task.name: stamp(task.path, f"{LAYOUT} {library.version()} {how.with_pictures}{options}") for task in tasks
+    }
     rows = {
         task.name: known[task.name][1]
         for task in tasks

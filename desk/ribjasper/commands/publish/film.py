@@ -17,7 +17,7 @@ from ...songs import audio
 from ...songs.films import FilmForm, film_of
 
 # A picture that is shown for so many seconds gets a place on a page of stills.
-STANDS = 0.2
+LEAST_SHOWN = 0.2
 MOST_STILLS = 1_000
 # A sound that is shorter than the pictures by no more seconds is as long as they are.
 SHORT_SOUND = 1.0
@@ -86,8 +86,8 @@ class Stills:
         self.number += 1
 
     def close(self) -> None:
-        """Keeps the last picture where it stood long enough."""
-        if not self.every and self.number - self.since >= STANDS * self.rate:
+        """Keeps the last picture if it was shown long enough."""
+        if not self.every and self.number - self.since >= LEAST_SHOWN * self.rate:
             self.kept.append(Still(self.since / self.rate, self.last))
 
 

@@ -116,13 +116,13 @@ def held(arguments: argparse.Namespace, disc: SheetDisc) -> bytes:
     script = read_file(arguments.hold_through_pause).removeprefix(b"\xef\xbb\xbf")
     sheet = read_file(arguments.sheet)
     length = audio.length(arguments.audio)
-    stream, status, told = author(sheet, HOLD_THROUGH_PAUSE + script, disc.lead_in, length)
+    stream, status, message = author(sheet, HOLD_THROUGH_PAUSE + script, disc.lead_in, length)
     if status == LATE:
         raise LatePicture(
-            f"{arguments.hold_through_pause}: with a picture held through the pause: {told}, counted with it"
+            f"{arguments.hold_through_pause}: with a picture held through the pause: {message}, counted with it"
         )
     if status:
-        raise Refusal(arguments.hold_through_pause, f"with one line more in front: {told}")
+        raise Refusal(arguments.hold_through_pause, f"with one line more in front: {message}")
     return stream[BLOCK * disc.lead_in :]
 
 

@@ -121,7 +121,7 @@ class Changes {
   }
 }
 
-/** The picture as it stands at a block. */
+/** The picture at a block. */
 class Screen {
   constructor(changes, width, height) {
     Object.assign(this, { changes, width, height });
@@ -239,7 +239,7 @@ async function start() {
   const song = JSON.parse(document.getElementById("song").textContent);
   const screen = await drawn();
   const pen = document.getElementById("screen").getContext("2d");
-  const sound = document.getElementById("sound"), told = document.getElementById("told");
+  const sound = document.getElementById("sound"), message = document.getElementById("message");
   const list = document.getElementById("lines"), time = document.getElementById("time");
   const cursor = time.querySelector("i");
   const kinds = ["first", "second", "third", "fourth", "both"];
@@ -327,12 +327,12 @@ async function start() {
     link.download = song.name;
     link.click();
     isChanged = false;
-    told.textContent = `saved as ${song.name}`;
+    message.textContent = `saved as ${song.name}`;
   }
 
   function changed(what) {
     isChanged = true;
-    told.textContent = what;
+    message.textContent = what;
     lay();
   }
 

@@ -91,8 +91,8 @@ def box_of(before: bytes, after: bytes) -> tuple[int, int, int, int]:
 def song_data(sung: Sung) -> dict[str, Any]:
     """What the page knows of the song."""
     late: dict[int, str] = {}
-    for told in sung.made.warnings():
-        number, _, why = told.partition(": line ")[2].partition(" ")
+    for warning in sung.made.warnings():
+        number, _, why = warning.partition(": line ")[2].partition(" ")
         if number.isdecimal():
             late[int(number)] = why.rpartition(":")[0]
     track = sung.track

@@ -40,11 +40,11 @@ def run(arguments: argparse.Namespace) -> int:
     disc = [f"{name}.bin", f"{name}.toc", f"{name}.cue", f"{name}.raw", f"{name}-sheet.cue"]
     if arguments.karaoke_cd:
         writes += zip(disc, (kinds.IMAGE, kinds.TOC, kinds.CUE, kinds.STREAM, kinds.CUE))
-    told = files.told()
+    names = files.names()
     with Outputs([*reads_of(arguments), sound], writes, arguments.force) as outputs:
         album, sung = sing_one(arguments.song, sound, wishes)
         files.write(outputs, as_pair(sung.packs), sung.sound, sung.song)
         if arguments.karaoke_cd:
             write_disc(replace(album, title=sung.song.title), [sung], outputs, disc)
-    tell(f"{told}: {sung.blocks / 75:.1f} seconds")
+    tell(f"{names}: {sung.blocks / 75:.1f} seconds")
     return 0

@@ -23,8 +23,8 @@ def add_length(parser: argparse.ArgumentParser) -> None:
 
 
 def audio_blocks(arguments: argparse.Namespace) -> int:
-    told: int = audio.length(arguments.audio) if arguments.audio else arguments.length
-    return told
+    blocks: int = audio.length(arguments.audio) if arguments.audio else arguments.length
+    return blocks
 
 
 def add_parser(commands: Commands) -> None:

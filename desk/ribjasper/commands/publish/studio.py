@@ -153,7 +153,7 @@ def make_film(studio: Studio, job: Job) -> None:
             for number, picture in enumerate(Stream(made.packs, PACK, 0, 0).frames(FILM_RATE, count)):
                 frames.write(picture)
                 job.done = number / count
-    job.told = f"{out}: {made.blocks / 75:.1f} seconds"
+    job.message = f"{out}: {made.blocks / 75:.1f} seconds"
 
 
 def run(arguments: argparse.Namespace) -> int:

@@ -44,8 +44,8 @@ function send(path, table) {
 const edit = (table) => send("edit", { edit: table }).catch(() => null);
 
 function tell(text, isWrong = false) {
-  $("told").textContent = text;
-  $("told").classList.toggle("wrong", isWrong);
+  $("message").textContent = text;
+  $("message").classList.toggle("wrong", isWrong);
 }
 
 function take(state, began = performance.now()) {
@@ -361,11 +361,11 @@ async function exported(ending) {
 }
 
 async function finish(what) {
-  const bar = $("progress"), told = $("finished");
+  const bar = $("progress"), output = $("finished");
   const started = await send("finish", { what }).catch(() => null);
   if (!started) return;
   bar.hidden = false;
-  told.textContent = `${what} …`;
+  output.textContent = `${what} …`;
   let job = started;
   while (!job.over) {
     bar.value = job.done;
@@ -373,7 +373,7 @@ async function finish(what) {
     job = await ask("job");
   }
   bar.value = 1;
-  told.textContent = job.error || `written: ${job.told}`;
+  output.textContent = job.error || `written: ${job.message}`;
   if (what === "album" && !job.error) take(await ask("song"));
 }
 
