@@ -89,7 +89,7 @@ class Ran(NamedTuple):
 
     status: int
     out: str
-    told: str
+    errors: str
 
     def cells(self) -> list[list[str]]:
         """The lines of a table."""
@@ -106,10 +106,10 @@ def desk(*words: Word, **options: Any) -> Ran:
     if options:
         ran = subprocess.run([sys.executable, DESK, *map(word, words)], capture_output=True, **options)
         return Ran(ran.returncode, text(ran.stdout), text(ran.stderr))
-    out, told = (io.TextIOWrapper(io.BytesIO(), "utf-8", "surrogateescape", write_through=True) for _ in range(2))
-    with contextlib.redirect_stdout(out), contextlib.redirect_stderr(told):
+    out, errors = (io.TextIOWrapper(io.BytesIO(), "utf-8", "surrogateescape", write_through=True) for _ in range(2))
+    with contextlib.redirect_stdout(out), contextlib.redirect_stderr(errors):
         status = main.main([os.fsdecode(word(it)) for it in words])
-    return Ran(status, *(text(stream.buffer.getvalue()) for stream in (out, told)))  # type: ignore[attr-defined]
+    return Ran(status, *(text(stream.buffer.getvalue()) for stream in (out, errors)))  # type: ignore[attr-defined]
 
 
 def word(it: Word) -> str | bytes:

@@ -561,17 +561,17 @@ def check(call: Made) -> int:
         with contextlib.chdir(folder):
             ran = desk(*words)
         after = state(folder)
-    said = f"{words}\nended with {ran.status}\n{ran.told}"
+    said = f"{words}\nended with {ran.status}\n{ran.errors}"
     assert ran.status in STATUSES, said
-    assert "Traceback" not in ran.told, said
+    assert "Traceback" not in ran.errors, said
     # A table stands on standard error if standard output is an output.
     if ran.status != 2 and "-" not in call.outputs:
-        assert all(line.startswith(PREFIX) for line in ran.told.splitlines()), said
+        assert all(line.startswith(PREFIX) for line in ran.errors.splitlines()), said
     if ran.status not in WRITES:
         # A report that was refused may have made its folder and what it read before.
         if call.words[0] != "report":
             assert after == before, f"{said}\nchanged: {sorted(set(after) ^ set(before))}"
-        assert ran.told or call.words[0] == "report", said
+        assert ran.errors or call.words[0] == "report", said
     for name in set(after) | set(before):
         if after.get(name) != before.get(name):
             assert may_appear(call, name), f"{said}\nchanged: {name}"

@@ -65,7 +65,7 @@ class AgainTest(FolderTest):
     def again(self, content: bytes, *words: Word, name: str = "dump.sub") -> str:
         out = self.folder / "again"
         self.ran: Ran = desk("damage", self.write(name, content), "--again", out, "--force", *words)
-        self.assertIn(self.ran.status, (0, 1), self.ran.told)
+        self.assertIn(self.ran.status, (0, 1), self.ran.errors)
         return out.read_text()
 
     def rows(self, content: bytes) -> list[list[str]]:
@@ -114,7 +114,7 @@ class AgainTest(FolderTest):
         self.write("dump.c2", bytes(c2))
         (row,) = self.rows(bad_q(stream, [322]))
         self.assertEqual((row[0], row[1], row[5]), ("321", "322", "drive,q"))
-        self.assertIn("1 sectors were doubtful to the drive (dump.c2)", self.ran.told)
+        self.assertIn("1 sectors were doubtful to the drive (dump.c2)", self.ran.errors)
 
     def test_forms(self) -> None:
         stream = bad_q(program(DISC, 150, DISC.end, 0), [100, 101, 4000])
@@ -143,14 +143,14 @@ class AgainTest(FolderTest):
         cdg = self.write("a.cdg", known.file_of_packs(4001))
         ran = desk("damage", cdg, "--again", out)
         self.assertEqual((ran.status, out.exists()), (3, False))
-        self.assertIn("has no Q channel", ran.told)
+        self.assertIn("has no Q channel", ran.errors)
         self.assertEqual(desk("damage", cdg, "--again-as", "lba").status, 2)
         stream = self.write("b.sub", bad_q(program(DISC, 150, DISC.end, 0), [9]))
         for ending in ("c2", "state"):
             beside = self.write(f"b.{ending}", bytes((294 if ending == "c2" else 588) * (DISC.end - 150)))
             ran = desk("damage", stream, "--again", beside, "--force")
             self.assertEqual(ran.status, 3)
-            self.assertIn("is read here", ran.told)
+            self.assertIn("is read here", ran.errors)
             self.assertFalse(re.search(rb"[^\0]", beside.read_bytes()))
 
 

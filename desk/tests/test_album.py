@@ -69,13 +69,13 @@ class AlbumTest(SongsTest):
         """The list of the three songs, as `--new` begins it."""
         path = self.folder / "list.toml"
         ran = desk("album", "--new", *(self.folder / f"{number}.lrc" for number in (1, 2, 3)), "-o", path)
-        self.assertEqual(ran.status, 0, ran.told)
+        self.assertEqual(ran.status, 0, ran.errors)
         path.write_text(change(path.read_text().replace("gap = 2\n", f"gap = {GAP / 75}\n")))
         return path
 
     def album(self, *words: Word, change: Change = str) -> Ran:
         ran = desk("album", self.begun(change), "-o", self.folder / "disc", *words)
-        self.assertEqual(ran.status, 0, ran.told)
+        self.assertEqual(ran.status, 0, ran.errors)
         return ran
 
     def program(self) -> bytes:
@@ -108,7 +108,7 @@ class AlbumTest(SongsTest):
         self.assertIn("[[track]]", ran.out)
         # What was written into a list is not lost.
         ran = desk("album", "--new", self.folder / "1.lrc", "-o", self.folder / "list.toml")
-        self.assertEqual((ran.status, (self.folder / "list.toml").read_text()), (3, text), ran.told)
+        self.assertEqual((ran.status, (self.folder / "list.toml").read_text()), (3, text), ran.errors)
 
     def test_each_track_begins_clean_from_any_screen(self) -> None:
         self.album()
@@ -197,7 +197,7 @@ class AlbumTest(SongsTest):
             )
 
         ran = self.album(change=change)
-        self.assertIn("track 2: Latin-1 has no \u03a9", ran.told)
+        self.assertIn("track 2: Latin-1 has no \u03a9", ran.errors)
         cue = (self.folder / "disc.cue").read_bytes()
         self.assertTrue(cue.startswith(b'CATALOG 4006381333931\nTITLE "Caf\xe9"\n'), cue)
         self.assertIn(b"ISRC GBAAA2600001", cue)
@@ -210,12 +210,12 @@ class AlbumTest(SongsTest):
             ran = desk(
                 "plan", sheet, self.folder / f"disc-{number:02}.script", "--audio", self.folder / f"{number}.wav"
             )
-            self.assertEqual((ran.status, "0 of them late" in ran.told), (0, True), ran.told)
+            self.assertEqual((ran.status, "0 of them late" in ran.errors), (0, True), ran.errors)
 
     def test_refusals(self) -> None:
         def refused(why: str, change: Change) -> None:
             ran = desk("album", self.begun(change), "-o", self.folder / "none", "--force")
-            self.assertEqual((ran.status, why in ran.told), (3, True), ran.told)
+            self.assertEqual((ran.status, why in ran.errors), (3, True), ran.errors)
             self.assertFalse([name for name in os.listdir(self.folder) if name.startswith("none")])
             os.unlink(self.folder / "list.toml")
 
@@ -232,7 +232,7 @@ class AlbumTest(SongsTest):
 class PairTest(SongsTest):
     def pair(self, *words: Word, name: str = "one", song: str = "1.lrc", status: int = 0) -> Ran:
         ran = desk("pair", self.folder / song, "-o", self.folder / name, *words)
-        self.assertEqual(ran.status, status, ran.told)
+        self.assertEqual(ran.status, status, ran.errors)
         return ran
 
     def instructions(self, packs: bytes, *range_: int) -> list[int]:
@@ -262,10 +262,10 @@ class PairTest(SongsTest):
 
     def test_the_sound_that_is_there_stays(self) -> None:
         ran = self.pair(name="1")
-        self.assertIn("which is there already", ran.told)
+        self.assertIn("which is there already", ran.errors)
         self.assertEqual(len((self.folder / "1.wav").read_bytes()), 44 + 4 * (588 * LENGTHS[0] - 100))
         write_wav(self.folder / "one.wav", 10)
-        self.assertIn("one.wav: is there already", self.pair(status=3).told)
+        self.assertIn("one.wav: is there already", self.pair(status=3).errors)
 
     def test_zip(self) -> None:
         self.pair("--zip")
@@ -297,7 +297,7 @@ class PairTest(SongsTest):
             (self.folder / name).write_bytes(other)
             ran = desk(*call)
             self.assertEqual((ran.status, (self.folder / name).read_bytes()), (3, other), name)
-            self.assertIn("is there already, and", ran.told)
+            self.assertIn("is there already, and", ran.errors)
             self.assertEqual(desk(*call, "--force").status, 0)
             self.write("1.lrc", song(1).replace("First", "Other"))
             self.assertEqual(desk(*call).status, 0, name)
@@ -305,7 +305,7 @@ class PairTest(SongsTest):
         script = self.folder / "a.script"
         script.write_text(script.read_text() + "# by hand\n")
         ran = desk("lyrics", self.folder / "1.lrc", "-o", script)
-        self.assertEqual((ran.status, script.read_text().endswith("# by hand\n")), (3, True), ran.told)
+        self.assertEqual((ran.status, script.read_text().endswith("# by hand\n")), (3, True), ran.errors)
 
     def test_modes_in_a_zip(self) -> None:
         self.pair("--zip")
@@ -345,9 +345,9 @@ class PairTest(SongsTest):
         self.assertEqual(packs[PACK:], (self.folder / "one.cdg").read_bytes()[PACK * 8 :])
 
     def test_no_sound(self) -> None:
-        self.assertIn("4.lrc: no such file", self.pair(song="4.lrc", status=3).told)
+        self.assertIn("4.lrc: no such file", self.pair(song="4.lrc", status=3).errors)
         os.unlink(self.folder / "1.wav")
-        self.assertIn("has no sound of its name beside it", self.pair(status=3).told)
+        self.assertIn("has no sound of its name beside it", self.pair(status=3).errors)
 
 
 if __name__ == "__main__":

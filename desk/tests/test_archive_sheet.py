@@ -36,7 +36,7 @@ def three() -> Disc:
 class SheetOfDumpsTest(FolderTest):
     def sheet(self, content: bytes, *words: str | Path, name: str = "dump") -> tuple[list[str], Ran]:
         ran = desk("sheet", self.write(name, content), *words)
-        self.assertEqual(ran.status, 0, ran.told)
+        self.assertEqual(ran.status, 0, ran.errors)
         return [line.strip() for line in ran.out.splitlines()], ran
 
     def test_each_track_has_its_own_code(self) -> None:
@@ -44,7 +44,7 @@ class SheetOfDumpsTest(FolderTest):
         lines, ran = self.sheet(program(disc, 150, disc.end, 0))
         codes = [line.split()[1] for line in lines if line.startswith("ISRC")]
         self.assertEqual(codes, [track.isrc for track in disc.tracks])
-        self.assertEqual(ran.told, "")
+        self.assertEqual(ran.errors, "")
 
     def test_a_track_without_a_code_gets_none(self) -> None:
         disc = coded(12)
@@ -61,7 +61,7 @@ class SheetOfDumpsTest(FolderTest):
         stream[BLOCK * 60 : BLOCK * 61] = known.with_q(bytes(BLOCK), other)
         lines, ran = self.sheet(bytes(stream))
         self.assertIn(f"ISRC {disc.tracks[0].isrc}", lines)
-        found = re.search(rf"track 01: ISRC {disc.tracks[0].isrc} by (\d+) of (\d+) frames", ran.told)
+        found = re.search(rf"track 01: ISRC {disc.tracks[0].isrc} by (\d+) of (\d+) frames", ran.errors)
         assert found
         self.assertEqual(int(found[1]) + 1, int(found[2]))
 
@@ -69,7 +69,7 @@ class SheetOfDumpsTest(FolderTest):
         disc = three()
         stream = program(disc, 150, disc.end, 0)
         lines, ran = self.sheet(stream[: BLOCK * 500] + stream[BLOCK * 575 :])
-        self.assertIn("the time jumps from 00:08:49 to 00:09:50", ran.told)
+        self.assertIn("the time jumps from 00:08:49 to 00:09:50", ran.errors)
         self.assertEqual(lines[1], "REM TIMES FILE")
         self.assertIn("INDEX 01 00:19:00", lines)
         lines, ran = self.sheet(stream[: BLOCK * 500] + stream[BLOCK * 575 :], "--times", "disc")
@@ -83,7 +83,7 @@ class SheetOfDumpsTest(FolderTest):
     def test_a_cut_dump(self) -> None:
         disc = three()
         lines, ran = self.sheet(program(disc, 150 + 75 * 10, disc.end, 0))
-        self.assertIn("the file begins at the absolute time 00:12:00", ran.told)
+        self.assertIn("the file begins at the absolute time 00:12:00", ran.errors)
         self.assertIn("INDEX 01 00:10:00", lines)
         self.assertIn("INDEX 01 00:30:00", lines)
 
@@ -115,7 +115,7 @@ class SheetOfDumpsTest(FolderTest):
         place = lines.index("TRACK 03 AUDIO")
         self.assertEqual(lines[place - 1], "REM SESSION 02")
         self.assertEqual(lines[lines.index("TRACK 01 AUDIO") - 1], "REM SESSION 01")
-        self.assertIn("2 sessions", ran.told)
+        self.assertIn("2 sessions", ran.errors)
 
     def test_sessions_by_a_lead_in_between(self) -> None:
         disc = three()
@@ -145,7 +145,7 @@ class SheetOfDumpsTest(FolderTest):
         for case, content in dumps.items():
             path = self.write("dump", content)
             ran = desk("sheet", path, "--ccd")
-            self.assertEqual(ran.status, 0, ran.told)
+            self.assertEqual(ran.status, 0, ran.errors)
             sheet = configparser.ConfigParser()
             sheet.read_string(ran.out)
             entries = [sheet[name] for name in sheet.sections() if name.startswith("Entry")]
@@ -167,10 +167,10 @@ class SheetOfDumpsTest(FolderTest):
                 if session is not None:
                     session_words = ["--session", session]
                 ran = desk("sheet", path, "--toc", *session_words)
-                self.assertEqual(ran.status, 0, ran.told)
+                self.assertEqual(ran.status, 0, ran.errors)
                 tracks = re.findall(r'FILE "[^"]*" \S+ (\S+)', ran.out)
                 self.assertEqual(tracks, lengths, (case, session))
-                self.assertEqual("describes session 1 of 2" in ran.told, session is None)
+                self.assertEqual("describes session 1 of 2" in ran.errors, session is None)
             self.assertEqual(desk("sheet", path, "--toc", "--session", 3).status, 3)
 
     def test_two_sessions_without_a_word_of_the_gap(self) -> None:
@@ -184,7 +184,7 @@ class SheetOfDumpsTest(FolderTest):
             'REM SESSION 01\nFILE "a" BINARY\nTRACK 01 AUDIO\nTRACK 02 AUDIO\nREM SESSION 02\nTRACK 03 MODE1/2352\n',
         )
         ran = desk("sheet", path, "--ccd")
-        self.assertIn("nothing says where the lead-out of session 1 begins: it is set by the usual gap", ran.told)
+        self.assertIn("nothing says where the lead-out of session 1 begins: it is set by the usual gap", ran.errors)
         sheet = configparser.ConfigParser()
         sheet.read_string(ran.out)
         outs = [
@@ -245,7 +245,7 @@ class SheetOfDumpsTest(FolderTest):
                 [f"INDEX {where:02} {time // 4500:02}:{time // 75 % 60:02}:{time % 75:02}"],
                 (where, hides, has_codes, controls),
             )
-            self.assertEqual(f"index {where:02} begins between" in ran.told, not proved, ran.told)
+            self.assertEqual(f"index {where:02} begins between" in ran.errors, not proved, ran.errors)
 
     def test_texts_are_utf_8_or_latin_1(self) -> None:
         disc = three()
@@ -257,9 +257,9 @@ class SheetOfDumpsTest(FolderTest):
         for words, wanted, said in (((), "Café".encode(), "UTF-8"), (("--latin-1",), b"Caf\xe9", "Latin-1")):
             out = self.folder / f"out{len(words)}.cue"
             ran = desk("sheet", path, "-o", out, *words)
-            self.assertEqual(ran.status, 0, ran.told)
+            self.assertEqual(ran.status, 0, ran.errors)
             self.assertIn(b'TITLE "%b"' % wanted, out.read_bytes())
-            self.assertIn(said, ran.told)
+            self.assertIn(said, ran.errors)
 
     def test_clone_cd(self) -> None:
         disc = three()
@@ -307,7 +307,7 @@ class SheetOfDumpsTest(FolderTest):
         own = self.folder / "own.cue"
         desk("sheet", path, "-o", own)
         ran = desk("sheet", path, "--compare", own)
-        self.assertEqual((ran.status, ran.rows()), (0, []), ran.told)
+        self.assertEqual((ran.status, ran.rows()), (0, []), ran.errors)
         changed = (
             own.read_text().replace("INDEX 01 00:20:00", "INDEX 01 00:20:05").replace("DEXYZ2600003", "DEXYZ2600009")
         )
@@ -361,10 +361,10 @@ class SheetOfDumpsTest(FolderTest):
             'FILE "3.bin" BINARY\n  TRACK 03 AUDIO\n    INDEX 01 00:00:00\n    INDEX 02 00:05:00\n',
         )
         ran = desk("sheet", path, "--compare", cue)
-        self.assertEqual((ran.status, ran.rows()), (0, []), ran.told)
+        self.assertEqual((ran.status, ran.rows()), (0, []), ran.errors)
         (self.folder / "2.bin").unlink()
         ran = desk("sheet", path, "--compare", cue)
-        self.assertIn("the times of later files are not known", ran.told)
+        self.assertIn("the times of later files are not known", ran.errors)
 
     def test_a_cue_with_strange_names_and_numbers(self) -> None:
         """A name that no file can have is that of none, and digits of other scripts are numbers or words as they may

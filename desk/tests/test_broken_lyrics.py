@@ -96,9 +96,9 @@ class ReadTest(FolderTest):
     def read(self, path: Path) -> int:
         """Reads lyrics with a command that draws nothing."""
         ran = desk("album", "--new", path)
-        self.assertIn(ran.status, (0, 3), (path.name, ran.told))
-        self.assertNotIn("Traceback", ran.told)
-        self.assertLess(max(map(len, ran.told.splitlines()), default=0), 2 * LONGEST_MESSAGE)
+        self.assertIn(ran.status, (0, 3), (path.name, ran.errors))
+        self.assertNotIn("Traceback", ran.errors)
+        self.assertLess(max(map(len, ran.errors.splitlines()), default=0), 2 * LONGEST_MESSAGE)
         return ran.status
 
     def test_damage(self) -> None:
@@ -130,7 +130,7 @@ class ReadTest(FolderTest):
 class ManyTest(FolderTest):
     def lyrics(self, text: str) -> tuple[int, str]:
         ran = desk("lyrics", self.write("a.lrc", text), "-o", self.folder / "a.script", "--force")
-        return ran.status, ran.told
+        return ran.status, ran.errors
 
     def test_too_many_letters(self) -> None:
         status, told = self.lyrics(f"[00:08.00]{'la ' * 300_000}\n[00:20.00]\n")

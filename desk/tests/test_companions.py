@@ -19,7 +19,7 @@ class CompanionsTest(FolderTest):
         for ending, other in beside.items():
             path.with_suffix(f".{ending}").write_bytes(other)
         ran = desk("identify", path)
-        self.assertEqual(ran.status, 0, ran.told)
+        self.assertEqual(ran.status, 0, ran.errors)
         return ran.rows()[0]
 
     def test_state_of_redumper(self) -> None:

@@ -19,7 +19,7 @@ class ConvertTest(FolderTest):
     def converted(self, content: bytes, name: str, *words: str | Path, status: int = 0, given: str = "dump") -> bytes:
         out = self.folder / name
         self.ran = desk("convert", self.write(given, content), "-o", out, "--force", *words)
-        self.assertEqual(self.ran.status, status, self.ran.told)
+        self.assertEqual(self.ran.status, status, self.ran.errors)
         return out.read_bytes()
 
     def test_from_each_form_into_each(self) -> None:
@@ -54,7 +54,7 @@ class ConvertTest(FolderTest):
         self.assertEqual(self.converted(self.raw, "out.bin", "--silent"), silent)
         ran = desk("convert", self.write("dump", self.raw), "-o", self.folder / "none.bin")
         self.assertEqual(ran.status, 3)
-        self.assertIn("no audio for sectors", ran.told)
+        self.assertIn("no audio for sectors", ran.errors)
         self.assertFalse((self.folder / "none.bin").exists())
 
     def test_a_part(self) -> None:
@@ -93,12 +93,12 @@ class ConvertTest(FolderTest):
     def test_lost_packs(self) -> None:
         worn = known.scratched(self.raw, 3, 40, 96)
         self.converted(worn, "out.cdg", status=1)
-        self.assertIn("have no codeword and are zeros", self.ran.told)
+        self.assertIn("have no codeword and are zeros", self.ran.errors)
 
     def test_an_output_without_a_form(self) -> None:
         ran = desk("convert", self.write("dump", self.raw), "-o", self.folder / "out.xyz")
         self.assertEqual(ran.status, 3)
-        self.assertIn("names no form", ran.told)
+        self.assertIn("names no form", ran.errors)
 
 
 if __name__ == "__main__":

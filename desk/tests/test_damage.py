@@ -13,7 +13,7 @@ NAMES = ["kind", "first", "last", "from", "to", "track", "bad", "corrected", "q-
 class DamageTest(FolderTest):
     def found(self, content: bytes, *words: Word, status: int = 1) -> list[dict[str, str]]:
         ran = desk("damage", self.write("dump", content), *words)
-        self.assertEqual(ran.status, status, ran.told)
+        self.assertEqual(ran.status, status, ran.errors)
         self.assertEqual(ran.out.splitlines()[0].split("\t"), NAMES)
         return ran.rows()
 
@@ -89,14 +89,14 @@ class DamageTest(FolderTest):
     def test_torn_file(self) -> None:
         ran = desk("damage", self.write("dump", hello()[:-17]))
         self.assertEqual((ran.status, ran.rows()), (1, []))
-        self.assertIn("torn: 79 bytes behind the last whole unit", ran.told)
+        self.assertIn("torn: 79 bytes behind the last whole unit", ran.errors)
 
     def test_refusals_name_the_file(self) -> None:
         for path in (self.write("foreign", b"text " * 1000), self.write("empty", b""), self.folder / "missing"):
             ran = desk("damage", path)
             self.assertEqual((ran.status, ran.out), (3, ""))
-            self.assertIn(str(path), ran.told)
-            self.assertNotIn("Traceback", ran.told)
+            self.assertIn(str(path), ran.errors)
+            self.assertNotIn("Traceback", ran.errors)
 
     @needs_pillow
     def test_map(self) -> None:
@@ -116,7 +116,7 @@ class DamageTest(FolderTest):
     def test_map_that_cannot_be_written(self) -> None:
         ran = desk("damage", self.write("dump", hello()), "--map", self.folder / "no" / "map.png")
         self.assertEqual(ran.status, 6)
-        self.assertIn("no such file or directory", ran.told)
+        self.assertIn("no such file or directory", ran.errors)
 
 
 if __name__ == "__main__":

@@ -302,7 +302,7 @@ class DocumentTest(FolderTest):
         path = self.saved(Document(Song([Line(1, [Syllable("One", 5.0, 5.0 + 1 / 3)])])))
         before = beside(path).read_bytes()
         ran = desk("lyrics", path, "-o", beside(path), "--force")
-        self.assertEqual((ran.status != 0, beside(path).read_bytes()), (True, before), ran.told)
+        self.assertEqual((ran.status != 0, beside(path).read_bytes()), (True, before), ran.errors)
 
     @needs_plan
     @needs_program

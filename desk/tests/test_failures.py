@@ -95,8 +95,8 @@ class MainTest(FolderTest):
         path = self.write("x", b"dump")
         with mock.patch("ribjasper.dumps.loading.DumpFile", side_effect=error):
             ran = desk("identify", path)
-        self.assertEqual(ran.told.count("\n"), 1)
-        return ran.status, ran.told.removeprefix(f"ribjasper-desk: {path}: ").rstrip("\n")
+        self.assertEqual(ran.errors.count("\n"), 1)
+        return ran.status, ran.errors.removeprefix(f"ribjasper-desk: {path}: ").rstrip("\n")
 
     @needs_library
     def test_each_end(self) -> None:
@@ -145,7 +145,7 @@ class MemoryTest(FolderTest):
         for words in calls:
             ran = desk(*words, preexec_fn=little)
             told = f"ribjasper-desk: {dump}: there is not enough memory for it\n"
-            self.assertEqual((ran.status, ran.told), (7, told), words)
+            self.assertEqual((ran.status, ran.errors), (7, told), words)
             self.assertEqual(os.listdir(self.folder), ["dump"])
 
 

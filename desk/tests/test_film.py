@@ -52,7 +52,7 @@ class FilmTest(FolderTest):
         film = self.folder / "a.mp4"
         audio = write_wav(self.folder / "a.wav", 44_100 * 22)
         ran = desk("film", self.stream, "-o", film, "--lossless", "--scale", "1", "--audio", audio)
-        self.assertEqual(ran.status, 0, ran.told)
+        self.assertEqual(ran.status, 0, ran.errors)
         words = ["ffmpeg", "-v", "error", "-i", str(film), "-f", "rawvideo", "-pix_fmt", "rgb24", "pipe:1"]
         shown = subprocess.run(words, capture_output=True, check=True).stdout
         size = 3 * 300 * 216
@@ -66,27 +66,27 @@ class FilmTest(FolderTest):
     def test_an_audio_that_is_longer(self) -> None:
         audio = write_wav(self.folder / "a.wav", 44_100 * 24)
         ran = desk("film", self.stream, "-o", self.folder / "a.mp4", "--audio", audio, "--rate", "5", "--scale", "2")
-        self.assertIn("24.0 seconds, 120 frames", ran.told)
+        self.assertIn("24.0 seconds, 120 frames", ran.errors)
 
     @needs_ffmpeg
     def test_an_audio_that_is_shorter(self) -> None:
         audio = write_wav(self.folder / "a.wav", 44_100 * 9)
         ran = desk("film", self.stream, "-o", self.folder / "a.mp4", "--audio", audio, "--rate", "5", "--scale", "1")
-        self.assertEqual(ran.status, 0, ran.told)
-        self.assertIn("a.wav: the sound ends 13.0 seconds before the pictures", ran.told)
+        self.assertEqual(ran.status, 0, ran.errors)
+        self.assertIn("a.wav: the sound ends 13.0 seconds before the pictures", ran.errors)
 
     @needs_ffmpeg
     def test_what_ffmpeg_refuses(self) -> None:
         ran = desk("film", self.stream, "-o", self.folder / "a.nothing")
         self.assertEqual(ran.status, 3)
-        self.assertIn("ffmpeg ended with", ran.told)
+        self.assertIn("ffmpeg ended with", ran.errors)
         self.assertEqual(os.listdir(self.folder), ["a.raw"])
 
     def test_without_ffmpeg(self) -> None:
         with mock.patch.dict(os.environ, {"PATH": str(self.folder)}):
             ran = desk("film", self.stream, "-o", self.folder / "a.mp4")
         self.assertEqual(ran.status, 5)
-        self.assertIn("apt-get install ffmpeg", ran.told)
+        self.assertIn("apt-get install ffmpeg", ran.errors)
         self.assertEqual(os.listdir(self.folder), ["a.raw"])
 
     @needs_pillow
@@ -95,16 +95,16 @@ class FilmTest(FolderTest):
 
         page = self.folder / "a.png"
         ran = desk("film", self.stream, "--stills", page)
-        self.assertEqual(ran.status, 0, ran.told)
-        self.assertIn("7 stills", ran.told)
+        self.assertEqual(ran.status, 0, ran.errors)
+        self.assertIn("7 stills", ran.errors)
         with Image.open(page) as image:
             self.assertEqual(image.size, (8 + 3 * 158, 8 + 3 * 130))
         ran = desk("film", self.stream, "--stills", page, "--every", "2")
-        self.assertIn("11 stills", ran.told)
+        self.assertIn("11 stills", ran.errors)
 
     def test_refusals(self) -> None:
         ran = desk("film", self.write("a.cdg", bytes(25)), "--stills", self.folder / "a.png")
-        self.assertEqual((ran.status, "a.cdg: is no stream and no .cdg file: 25 bytes" in ran.told), (3, True))
+        self.assertEqual((ran.status, "a.cdg: is no stream and no .cdg file: 25 bytes" in ran.errors), (3, True))
         self.assertEqual(desk("film", self.folder / "none", "--stills", self.folder / "a.png").status, 3)
         self.assertEqual(desk("film", self.stream).status, 2)
 

@@ -44,8 +44,8 @@ class CallsTest(FolderTest):
         """A call that is refused, and after which all is as it was."""
         before = self.content()
         ran = desk(*words)
-        self.assertEqual(ran.status, status, (words, ran.told))
-        self.assertIn(why, ran.told)
+        self.assertEqual(ran.status, status, (words, ran.errors))
+        self.assertIn(why, ran.errors)
         self.assertEqual(ran.out, "", words)
         self.assertEqual(self.content(), before, words)
         return ran
@@ -88,7 +88,7 @@ class SameFileTest(CallsTest):
             forces: tuple[tuple[str, ...], ...] = ((), ("--force",))
             for force in forces:
                 why = "is read here" if words[0] != "report" else "is the folder that is read"
-                told = self.refuses(*words, *force, why=why).told
+                told = self.refuses(*words, *force, why=why).errors
                 self.assertEqual(len(told.splitlines()), 1, told)
 
     def test_through_links(self) -> None:
@@ -179,7 +179,7 @@ class CompanionsTest(CallsTest):
             before = self.content()
             ran = desk(*words, "--force")
             self.assertEqual((ran.status, self.content()), (3, before), words)
-            self.assertIn("is read here", ran.told)
+            self.assertIn("is read here", ran.errors)
         (self.folder / "linked.raw").unlink()
         self.refuses("texts", self.dump, "--packs", self.folder / "rip.cue", "--force", why="is read here")
 
@@ -218,7 +218,7 @@ class OutputsTest(CallsTest):
         found = {}
         for name, words in self.calls(self.folder / "plain").items():
             ran = desk(*words)
-            self.assertEqual(ran.status, 0, (words, ran.told))
+            self.assertEqual(ran.status, 0, (words, ran.errors))
             found[name] = (self.folder / "plain").read_bytes()
             (self.folder / "plain").unlink()
         self.assertEqual(found["mend"], hello_packs())
@@ -229,7 +229,7 @@ class OutputsTest(CallsTest):
         for name, words in self.calls("-").items():
             before = self.content()
             ran = desk(*words, cwd=self.folder)
-            self.assertEqual(ran.status, 0, ran.told)
+            self.assertEqual(ran.status, 0, ran.errors)
             self.assertEqual(ran.out.encode("utf-8", "surrogateescape"), expected[name], name)
             self.assertEqual(self.content(), before, name)
             self.assertFalse((self.folder / "-").exists())
@@ -275,7 +275,9 @@ class OutputsTest(CallsTest):
             self.skipTest("no device can be made here")
         for name, words in self.calls(node).items():
             ran = desk(*words)
-            self.assertEqual((ran.status, f"{node}: no space left on device" in ran.told), (6, True), (name, ran.told))
+            self.assertEqual(
+                (ran.status, f"{node}: no space left on device" in ran.errors), (6, True), (name, ran.errors)
+            )
 
     def test_again(self) -> None:
         """What a command wrote it replaces without asking, until somebody changes it."""
@@ -301,12 +303,12 @@ class OutputsTest(CallsTest):
             for words in calls:
                 ran = self.process(full, *words)
                 self.assertEqual(
-                    (ran.status, ran.told.splitlines()[-1]),
+                    (ran.status, ran.errors.splitlines()[-1]),
                     (6, "ribjasper-desk: standard output: no space left on device"),
                 )
         self.assertEqual(self.content(), before)
         ran = self.process(None, "mend", self.dump, self.dump, "-o", self.folder / "new.cdg")
-        self.assertEqual((ran.status, self.content()), (6, before), ran.told)
+        self.assertEqual((ran.status, self.content()), (6, before), ran.errors)
 
     @staticmethod
     def process(out: object, *words: Word) -> Ran:
@@ -341,7 +343,7 @@ class SeveralTest(CallsTest):
         dump = self.write("x.raw", with_burst(hello(), 900, 100))
         ran = desk("damage", dump, "--map", self.folder / "no" / "map.png")
         self.assertEqual(ran.status, 6)
-        self.assertIn("no such file or directory", ran.told)
+        self.assertIn("no such file or directory", ran.errors)
 
 
 @needs_plan

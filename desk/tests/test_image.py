@@ -57,7 +57,7 @@ class ImageTest(FolderTest):
 
     def image(self, *words: Word) -> Ran:
         ran = desk("image", self.sheet, self.stream, "--audio", self.audio, "-o", self.disc, *words)
-        self.assertEqual(ran.status, 0, ran.told)
+        self.assertEqual(ran.status, 0, ran.errors)
         return ran
 
     def test_subcode_is_that_of_the_stream(self) -> None:
@@ -129,26 +129,26 @@ class ImageTest(FolderTest):
         self.sheet = self.write("a.cue", SHEET.replace("Hello", "H\u00e9llo"))
         self.stream = author(self.sheet, HELLO, "00:22:00", self.stream)
         ran = self.image()
-        self.assertIn("line 6", ran.told)
+        self.assertIn("line 6", ran.errors)
         self.assertIn('TITLE "H\\303\\251llo"', (self.folder / "disc.toc").read_text())
         ran = self.image("--latin-1")
-        self.assertNotIn("line 6", ran.told)
+        self.assertNotIn("line 6", ran.errors)
         self.assertIn('TITLE "H\\351llo"', (self.folder / "disc.toc").read_text())
         self.assertIn(b'TITLE "H\xe9llo"', (self.folder / "disc.cue").read_bytes())
 
     def test_what_is_sent_in_the_pause(self) -> None:
-        self.assertIn("--hold-through-pause", self.image().told)
+        self.assertIn("--hold-through-pause", self.image().errors)
         image = self.folder / "disc.bin"
         third = screen(self.stream, 535)
         self.assertNotEqual(screen(image, 535 - PAUSE, "--form", "sector", lead_in=0), third)
         ran = self.image("--hold-through-pause", HELLO)
-        self.assertNotIn("pause", ran.told)
+        self.assertNotIn("pause", ran.errors)
         self.assertEqual(screen(image, 535 - PAUSE, "--form", "sector", lead_in=0), third)
 
     def test_texts_of_another_sheet_are_told(self) -> None:
-        self.assertNotIn("its texts are not those", self.image().told)
+        self.assertNotIn("its texts are not those", self.image().errors)
         self.sheet = self.write("b.cue", SHEET.replace("All the Gaps", "Other Gaps"))
-        told = self.image().told
+        told = self.image().errors
         self.assertIn("its texts are not those of", told)
         self.assertIn("2 differ, as `title 00 All the Gaps` of the stream", told)
 
@@ -173,10 +173,10 @@ class ImageTest(FolderTest):
                 ),
             )
             ran = desk("image", plain, pressed, "--audio", self.audio, "-o", self.folder / name)
-            self.assertEqual(ran.status, 0, ran.told)
-            self.assertNotIn("--hold-through-pause", ran.told)
+            self.assertEqual(ran.status, 0, ran.errors)
+            self.assertNotIn("--hold-through-pause", ran.errors)
             self.assertEqual(
-                "the first seven packs of its .cdg file begin in the first pause" in ran.told, is_told, ran.told
+                "the first seven packs of its .cdg file begin in the first pause" in ran.errors, is_told, ran.errors
             )
 
     def test_without_texts_and_codes(self) -> None:
@@ -205,8 +205,8 @@ class ImageTest(FolderTest):
         def refused(why: str, **others: Path) -> None:
             words = {"sheet": self.sheet, "stream": self.stream, "audio": self.audio, **others}
             ran = desk("image", words["sheet"], words["stream"], "--audio", words["audio"], "-o", self.disc)
-            self.assertEqual(ran.status, 3, ran.told)
-            self.assertIn(why, ran.told)
+            self.assertEqual(ran.status, 3, ran.errors)
+            self.assertIn(why, ran.errors)
             self.assertFalse((self.folder / "disc.bin").exists())
 
         with mock.patch.dict(os.environ, {"PATH": str(self.folder)}):

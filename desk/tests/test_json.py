@@ -16,7 +16,7 @@ class Json(FolderTest):
     def compare(self, *words: Word) -> list[dict[str, Any]]:
         plain, as_json = desk(*words), desk(*words, "--json")
         self.assertEqual(as_json.status, plain.status)
-        self.assertEqual(as_json.told, plain.told)
+        self.assertEqual(as_json.errors, plain.errors)
         found = [json.loads(line) for line in as_json.out.splitlines()]
         self.assertEqual([spelled(row) for row in found], plain.rows())
         self.assertTrue(found)

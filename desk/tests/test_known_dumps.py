@@ -223,7 +223,7 @@ class KnownDumpsTest(FolderTest):
 
     def found(self, path: Path, *words: Word) -> dict[str, str]:
         ran = desk("identify", path, *words)
-        self.assertEqual(ran.status, 0, ran.told)
+        self.assertEqual(ran.status, 0, ran.errors)
         (row,) = ran.rows()
         return row
 
@@ -242,7 +242,7 @@ class KnownDumpsTest(FolderTest):
         part."""
         ran = desk("sheet", path)
         has_q = "cooked" not in truth.form and "cdg" not in truth.form and "Q: not read" not in truth.note
-        self.assertEqual(ran.status, 0 if has_q else 3, ran.told)
+        self.assertEqual(ran.status, 0 if has_q else 3, ran.errors)
         if has_q and not any(word in case for word in PARTS):
             tracks = re.findall(r"TRACK (\d\d) AUDIO(?:(?!TRACK).)*?INDEX 01 (\S+)", ran.out, re.DOTALL)
             self.assertEqual(tracks, [("01", "00:00:00"), ("02", "01:20:00"), ("03", "02:40:00")])
@@ -276,12 +276,12 @@ class KnownDumpsTest(FolderTest):
         self.assertEqual(again.read_bytes(), whole)
         ran = desk("damage", out)
         self.assertEqual((ran.status, ran.rows()), (0, []))
-        self.assertNotIn("header", ran.told)
+        self.assertNotIn("header", ran.errors)
 
     def test_states(self) -> None:
         out = self.folder / "report"
         ran = desk("report", self.dumps, "-o", out, "--no-pictures", "--quiet")
-        self.assertEqual(ran.status, 0, ran.told)
+        self.assertEqual(ran.status, 0, ran.errors)
         rows = [json.loads(line) for line in (out / "table.jsonl").read_text().splitlines()]
         found = {case: (row["form"], row["lead-in"], row["status"]) for case, row in zip(FORMS, rows)}
         self.assertEqual(found, {case: (truth.form, truth.lead_in, truth.state) for case, truth in FORMS.items()})

@@ -58,7 +58,7 @@ class LookTest(FolderTest):
         self.song = self.write("a.lrc", song)
         write_wav(self.folder / "a.wav", 44_100 * 14)
         ran = desk("look", self.song, "-o", self.folder / "a.html")
-        self.assertEqual(ran.status, 0, ran.told)
+        self.assertEqual(ran.status, 0, ran.errors)
         return (self.folder / "a.html").read_text()
 
     def part(self, page: str, name: str) -> str:
@@ -167,7 +167,7 @@ class LookTest(FolderTest):
             song = self.write("a.lrc", rich)
             write_wav(self.folder / "a.wav", 44_100 * 16)
             ran = desk("look", song, *intro, "-o", self.folder / "a.html", "--force")
-            self.assertEqual(ran.status, 0, ran.told)
+            self.assertEqual(ran.status, 0, ran.errors)
             found = self.part((self.folder / "a.html").read_text(), "song")
             self.assertEqual(self.node(f"console.log(JSON.stringify(look.asLrc({found})))"), rich)
 
@@ -284,7 +284,7 @@ class LookTest(FolderTest):
 
     def test_no_sound(self) -> None:
         ran = desk("look", self.write("b.lrc", SONG), "-o", self.folder / "b.html")
-        self.assertEqual((ran.status, "has no sound of its name" in ran.told), (3, True), ran.told)
+        self.assertEqual((ran.status, "has no sound of its name" in ran.errors), (3, True), ran.errors)
 
 
 if __name__ == "__main__":

@@ -105,14 +105,16 @@ class StylesTest(FolderTest):
             ("sweep = true", "knows nothing of 'sweep'"),
         ):
             ran = desk("lyrics", SONG / "song.lrc", "-o", self.folder / "a.script", "--style", self.style(line))
-            self.assertEqual((ran.status, why in ran.told), (3, True), ran.told)
+            self.assertEqual((ran.status, why in ran.errors), (3, True), ran.errors)
         ran = desk("lyrics", SONG / "song.lrc", "-o", self.folder / "a.script", "--style", "green")
-        self.assertEqual((ran.status, "is no style; there are black, night, paper" in ran.told), (3, True), ran.told)
+        self.assertEqual(
+            (ran.status, "is no style; there are black, night, paper" in ran.errors), (3, True), ran.errors
+        )
         for voices in ("", '[[voice]]\nunsung = "#FFF"\n', 3 * '[[voice]]\nunsung = "#FFF"\nsung = "#000"\n'):
             ran = desk(
                 "lyrics", SONG / "song.lrc", "-o", self.folder / "a.script", "--style", self.style(voices=voices)
             )
-            self.assertEqual((ran.status, "[[voice]]" in ran.told), (3, True), ran.told)
+            self.assertEqual((ran.status, "[[voice]]" in ran.errors), (3, True), ran.errors)
 
 
 class ScriptTest(FolderTest):
@@ -126,7 +128,7 @@ class ScriptTest(FolderTest):
 
         with mock.patch.object(lyrics, "best", keep):
             ran = desk("lyrics", song, "-o", script, *words)
-        self.assertEqual(ran.status, status, ran.told)
+        self.assertEqual(ran.status, status, ran.errors)
         return ran, script, kept[-1].maker
 
     def stream(self, script: Path) -> Path:
@@ -209,7 +211,7 @@ class LyricsTest(ScriptTest):
     @needs_program
     def test_the_song(self) -> None:
         ran, script, maker = self.made(SONG / "song.lrc", "--title", SONG / "title.png")
-        self.assertIn("none is late", ran.told)
+        self.assertIn("none is late", ran.errors)
         self.is_planned(script)
         self.check_words(script, maker, 9)
 
@@ -253,7 +255,7 @@ class LyricsTest(ScriptTest):
             lines.append(f"[00:{start:05.2f}]{stamps}")
         text = "\n".join(lines).replace("00:6", "01:0")
         ran, script, maker = self.made(self.write("a.lrc", text))
-        self.assertNotIn("line", ran.told.replace("24 lines", ""))
+        self.assertNotIn("line", ran.errors.replace("24 lines", ""))
         self.check_words(script, maker, 37)
 
     def test_letters_become_smaller_and_plain_where_all_would_be_late(self) -> None:
@@ -268,10 +270,10 @@ class LyricsTest(ScriptTest):
 
         ran, _, maker = self.made(song(1))
         self.assertTrue(maker.font.is_plain)
-        self.assertIn("line 12 is drawn", ran.told)
+        self.assertIn("line 12 is drawn", ran.errors)
         ran, _, maker = self.made(song(5))
         self.assertFalse(maker.font.is_plain)
-        self.assertNotIn("is drawn", ran.told)
+        self.assertNotIn("is drawn", ran.errors)
 
     @needs_program
     def test_sweep_of_ass(self) -> None:
@@ -285,14 +287,14 @@ class LyricsTest(ScriptTest):
 
     def test_a_line_that_cannot_be_drawn_in_time_is_told(self) -> None:
         ran, script, _ = self.made(self.write("a.lrc", "[00:00.05]Too early\n[00:05.00]In time\n"))
-        self.assertIn("line 1 is drawn", ran.told)
-        self.assertNotIn("line 2", ran.told)
+        self.assertIn("line 1 is drawn", ran.errors)
+        self.assertNotIn("line 2", ran.errors)
         self.is_planned(script)
 
     def test_a_title_without_room_is_left_out(self) -> None:
         song = self.write("a.lrc", "[00:03.00]La\n")
         ran, _, _ = self.made(song, "--title", SONG / "title.png")
-        self.assertIn("the title is left out", ran.told)
+        self.assertIn("the title is left out", ran.errors)
 
     @needs_program
     def test_a_title_stands(self) -> None:
@@ -314,19 +316,19 @@ class LyricsTest(ScriptTest):
         )
         ran, script, maker = self.made(song)
         both = "\U00012000 (U+12000 cuneiform sign a), \U0001f941 (U+1F941 drum with drumsticks); they are left out"
-        self.assertIn(f"line 4: no font here has {both}", ran.told)
-        self.assertIn("line 3: no font here has any of its letters, and so it is left out", ran.told)
-        self.assertIn("the title: no font here has \U0001f941", ran.told)
-        self.assertIn(str(song), ran.told)
+        self.assertIn(f"line 4: no font here has {both}", ran.errors)
+        self.assertIn("line 3: no font here has any of its letters, and so it is left out", ran.errors)
+        self.assertIn("the title: no font here has \U0001f941", ran.errors)
+        self.assertIn(str(song), ran.errors)
         self.assertEqual([line.text for line in maker.song.lines], ["Fine", "So  long"])
         self.assertEqual(maker.song.title.strip(), "A")
         ran, script, maker = self.made(song, "--missing", "box")
         self.assertEqual([line.text for line in maker.song.lines], ["Fine", "\u25a1", "So \u25a1 long \u25a1"])
-        self.assertIn("boxes stand for them", ran.told)
+        self.assertIn("boxes stand for them", ran.errors)
         self.is_planned(script)
         nothing = self.write("b.lrc", "[00:09.00]\U00012000\n")
         ran = desk("lyrics", nothing, "-o", self.folder / "b.script")
-        self.assertEqual((ran.status, f"{nothing}: no font here has its letters" in ran.told), (3, True), ran.told)
+        self.assertEqual((ran.status, f"{nothing}: no font here has its letters" in ran.errors), (3, True), ran.errors)
 
     def test_long_words_and_titles_are_broken(self) -> None:
         word = "Donaudampfschifffahrtselektrizitaetenhauptbetriebswerkbauunterbeamtengesellschaft"
@@ -403,7 +405,7 @@ class LyricsTest(ScriptTest):
         audio = write_wav(self.folder / "a.wav", 44_100 * 5)
         ran = desk("lyrics", self.write("a.lrc", "[00:06.00]La\n"), "--audio", audio, "-o", self.folder / "a.script")
         self.assertEqual(ran.status, 3)
-        self.assertIn("which ends at 00:05.00", ran.told)
+        self.assertIn("which ends at 00:05.00", ran.errors)
 
 
 # Lines that follow each other quickly, in the same places.
@@ -490,7 +492,7 @@ class ReadableTest(ScriptTest):
 
     def test_a_row_is_cleared_before_another_is_drawn_over_it(self) -> None:
         ran, script, maker = self.made(self.write("a.lrc", QUICK), "--no-rests")
-        self.assertNotIn(": line", ran.told)
+        self.assertNotIn(": line", ran.errors)
         self.assertGreater(len(self.slots(maker)[0]), 2)
         self.check_clear(script, maker)
 
@@ -547,7 +549,7 @@ class ReadableTest(ScriptTest):
         lines = "".join(f"[00:{10 + 4 * number:02}.00]Nearly thirty letters, line {number}\n" for number in range(6))
         ran, _, maker = self.made(self.write("a.lrc", lines), "--size", "24")
         self.assertLess(maker.font.size, 24)
-        self.assertIn("letters of 24 pixels break 6 of 6 lines, and so they have", ran.told)
+        self.assertIn("letters of 24 pixels break 6 of 6 lines, and so they have", ran.errors)
         self.assertTrue(all(len({id(placed) for placed in page.placed}) for page in maker.pages))
         self.assertEqual(
             sum(bool(placed.letters) for page in maker.pages for placed in page.placed if placed.is_sung), 6
@@ -557,7 +559,7 @@ class ReadableTest(ScriptTest):
         title = "A title that is as long as seventy letters, and that is on every disc"
         self.assertGreaterEqual(len(title), 69)
         ran, script, maker = self.made(self.write("a.lrc", f"[ti:{title}]\n[ar:Somebody]\n[00:15.00]La la\n"))
-        self.assertNotIn("title", ran.told)
+        self.assertNotIn("title", ran.errors)
         stands = next(pixels for block, pixels in self.screens(script) if block == PAUSE + 75 * 6)
         rows = [any(pixels) for pixels in (stands[WIDTH * y : WIDTH * (y + 1)] for y in range(HEIGHT))]
         stretches = sum(after and not before for before, after in zip(rows, rows[1:]))
@@ -578,11 +580,11 @@ class ReadableTest(ScriptTest):
 
     def test_a_legend(self) -> None:
         ran, script, maker = self.made(self.write("a.lrc", DUET), "--legend")
-        self.assertNotIn("legend", ran.told)
+        self.assertNotIn("legend", ran.errors)
         stands = next(pixels for block, pixels in self.screens(script) if block == PAUSE + 75 * 5)
         self.assertLessEqual({3, 7, 11}, set(stands))
         ran, _, _ = self.made(self.write("b.lrc", QUICK), "--legend")
-        self.assertIn("only one voice sings, and so there is no legend", ran.told)
+        self.assertIn("only one voice sings, and so there is no legend", ran.errors)
 
     def dots(self, pixels: bytes, placed: Placed) -> int:
         """How many of the dots above a line stand."""
@@ -725,8 +727,8 @@ class ReadableTest(ScriptTest):
         text = "[00:06.00]La\n[0:10.50]Lo\n[00:12.00]Lu\n[00:13.00]\n"
         ran = desk("lyrics", self.write("a.lrc", text), "--audio", audio, "-o", self.folder / "a.script")
         self.assertEqual(ran.status, 3)
-        self.assertIn("line 2 at [0:10.50] begins after the sound, which ends at 00:09.00: Lo", ran.told)
-        self.assertIn("line 3 at [00:12.00] begins after", ran.told)
+        self.assertIn("line 2 at [0:10.50] begins after the sound, which ends at 00:09.00: Lo", ran.errors)
+        self.assertIn("line 3 at [00:12.00] begins after", ran.errors)
 
     def test_words_stand_lit_within_twenty_milliseconds(self) -> None:
         for song in (

@@ -27,8 +27,8 @@ class MainTest(FolderTest):
         path = self.write("dump", bytes(96))
         ran = desk("identify", path, env={**os.environ, "RIBJASPER_LIBRARY": str(self.folder / "none.so")})
         self.assertEqual(ran.status, 5)
-        self.assertIn("'make library' builds it", ran.told)
-        self.assertNotIn("Traceback", ran.told)
+        self.assertIn("'make library' builds it", ran.errors)
+        self.assertNotIn("Traceback", ran.errors)
 
     @needs_library
     def test_without_a_package(self) -> None:
@@ -51,9 +51,9 @@ class MainTest(FolderTest):
         )
         for words, package in calls:
             ran = desk(*words, **how)
-            self.assertEqual(ran.status, 5, ran.told)
-            self.assertIn(f"apt-get install {package}", ran.told)
-            self.assertNotIn("Traceback", ran.told)
+            self.assertEqual(ran.status, 5, ran.errors)
+            self.assertIn(f"apt-get install {package}", ran.errors)
+            self.assertNotIn("Traceback", ran.errors)
 
     @needs_library
     def test_a_reader_that_has_seen_enough(self) -> None:

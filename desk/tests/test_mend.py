@@ -115,7 +115,7 @@ class MendTest(MendCase):
         names = self.write("a", first), self.write("b", second[BLOCK:])
         ran = desk("mend", *names, "-o", self.folder / "none.cdg")
         self.assertEqual(ran.status, 3)
-        self.assertIn("its Q frames have no time", ran.told)
+        self.assertIn("its Q frames have no time", ran.errors)
         self.assertFalse((self.folder / "none.cdg").exists())
 
     def test_three_readings(self) -> None:
@@ -139,7 +139,7 @@ class MendTest(MendCase):
         packs = self.mended(*both, status=1, words=("--map", map_of, "--ddrescue-map", ddrescue))
         self.assertEqual(len(packs), len(hello_packs()))
         self.assertEqual(packs[: PACK * 3000], hello_packs()[: PACK * 3000])
-        self.assertRegex(self.ran.told, r"\d+ words have no codeword")
+        self.assertRegex(self.ran.errors, r"\d+ words have no codeword")
         names, *rows = [line.split("\t") for line in map_of.read_text().splitlines()]
         self.assertEqual(names, ["pack", "time", "packs"])
         lost = {pack for row in rows for pack in range(int(row[0]), int(row[0]) + int(row[2]))}
@@ -148,7 +148,7 @@ class MendTest(MendCase):
             n for n in range(len(packs) // PACK) if packs[PACK * n : PACK * (n + 1)] != truth[PACK * n : PACK * (n + 1)]
         }
         self.assertLessEqual(differ, lost)
-        self.assertIn(f"{len(lost)} words have no codeword", self.ran.told)
+        self.assertIn(f"{len(lost)} words have no codeword", self.ran.errors)
         first = min(lost)
         # The first lost words begin up to two blocks before the damage.
         self.assertTrue(4 * (800 - LEAD_IN - 2) <= first <= 4 * (800 - LEAD_IN + 1) and len(lost) <= 60, rows)
@@ -171,8 +171,8 @@ class MendTest(MendCase):
         ):
             ran = desk("mend", whole, other, "-o", self.folder / "out.cdg")
             self.assertEqual(ran.status, 3)
-            self.assertIn(f"{other}: ", ran.told)
-            self.assertIn(cause, ran.told)
+            self.assertIn(f"{other}: ", ran.errors)
+            self.assertIn(cause, ran.errors)
         self.assertFalse((self.folder / "out.cdg").exists())
 
 
@@ -238,8 +238,8 @@ class KnownReadingsTest(MendCase):
             names = [self.write(f"{case}-{number}", content) for number, content in enumerate(readings)]
             out = self.folder / f"{case}.cdg"
             ran = desk("mend", *names, "-o", out)
-            self.assertIn(ran.status, (0, 1), ran.told)
-            self.assertLessEqual(wrong(out.read_bytes(), self.truth), min(alone), (case, alone, ran.told))
+            self.assertIn(ran.status, (0, 1), ran.errors)
+            self.assertLessEqual(wrong(out.read_bytes(), self.truth), min(alone), (case, alone, ran.errors))
             if ran.status == 0:
                 self.assertEqual(out.read_bytes(), self.truth)
 
@@ -263,11 +263,11 @@ class KnownReadingsTest(MendCase):
         for stream in (known.program(other, 0, other.end, 0.5), known.program(other, 0, other.end, 0)):
             names = self.write("one", self.whole), self.write("two", stream)
             ran = desk("mend", *names, "-o", self.folder / "out.cdg")
-            self.assertEqual(ran.status, 3, ran.told)
-            self.assertIn("readings 1 and 2 seem not to be of one disc", ran.told)
+            self.assertEqual(ran.status, 3, ran.errors)
+            self.assertIn("readings 1 and 2 seem not to be of one disc", ran.errors)
             self.assertFalse((self.folder / "out.cdg").exists())
             ran = desk("mend", *names, "-o", self.folder / "out.cdg", "--force")
-            self.assertIn(ran.status, (0, 1), ran.told)
+            self.assertIn(ran.status, (0, 1), ran.errors)
             (self.folder / "out.cdg").unlink()
 
     def test_graphics_of_another_disc(self) -> None:
@@ -277,15 +277,15 @@ class KnownReadingsTest(MendCase):
             for block in range(self.disc.end)
         )
         ran = desk("mend", self.write("one", self.whole), self.write("two", other), "-o", self.folder / "out.cdg")
-        self.assertEqual(ran.status, 3, ran.told)
-        self.assertIn("seem not to be of one disc", ran.told)
+        self.assertEqual(ran.status, 3, ran.errors)
+        self.assertIn("seem not to be of one disc", ran.errors)
 
     def test_compare(self) -> None:
         later = known.scratched(self.whole[BLOCK * 150 :], 3, 500, 10)
         ran = desk("mend", self.write("one", self.whole), self.write("two", later), "--compare")
         self.assertEqual(ran.status, 1)
-        self.assertIn("the dumps seem to be of one disc", ran.told)
-        self.assertIn("block n of the first is block n - 150 of the second", ran.told)
+        self.assertIn("the dumps seem to be of one disc", ran.errors)
+        self.assertIn("block n of the first is block n - 150 of the second", ran.errors)
         rows = ran.rows()
         self.assertEqual((rows[0]["first"], rows[0]["last"], rows[0]["from"]), ("0", "149", "00:00:00"))
         differing = sum(int(row["last"]) - int(row["first"]) + 1 for row in rows)
@@ -312,8 +312,8 @@ class MendedStreamTest(MendCase):
         first = self.whole[: BLOCK * 100] + first[BLOCK * 100 :]
         for name in ("out.raw", "out.subcode"):
             stream = self.mended(first, second, name=name)
-            self.assertIn("the lead-in of 60 blocks is that of reading 1", self.ran.told)
-            self.assertIn(f"block 60 of {self.folder / name} is of the absolute time 00:00:00", self.ran.told)
+            self.assertIn("the lead-in of 60 blocks is that of reading 1", self.ran.errors)
+            self.assertIn(f"block 60 of {self.folder / name} is of the absolute time 00:00:00", self.ran.errors)
             # What is no part of a whole word, in the last two blocks, is that of a reading; P is never corrected.
             bits = bytes(byte & 0x7F for byte in range(256))
             self.assertEqual(stream[: -2 * BLOCK].translate(bits), self.whole[: -2 * BLOCK].translate(bits))
@@ -330,7 +330,7 @@ class MendedStreamTest(MendCase):
         checked = program("check", "--lead-in", 60, stdin=stream, statuses=(0, 1)).decode()
         counts = dict(line.split() for line in checked.splitlines())
         self.assertEqual((counts["one"], counts["two"]), ("0", "0"))
-        none = int(re.search(r"(\d+) words have no codeword", self.ran.told)[1])  # type: ignore[index]
+        none = int(re.search(r"(\d+) words have no codeword", self.ran.errors)[1])  # type: ignore[index]
         self.assertEqual(int(counts["bad"]), none)
 
     def test_frames_are_good_ones(self) -> None:
@@ -384,8 +384,8 @@ class MendedStreamTest(MendCase):
         self.write("reading-0.c2", bytes(c2))
         self.write("reading-1.state", bytes(state))
         self.assertEqual(self.mended(self.whole, other), program("convert", "--lead-in", 60, stdin=self.whole))
-        self.assertRegex(self.ran.told, r"reading-0: 80 sectors were doubtful to the drive \(reading-0\.c2\)")
-        self.assertRegex(self.ran.told, r"reading-1: 1 sectors were doubtful to the drive \(reading-1\.state\)")
+        self.assertRegex(self.ran.errors, r"reading-0: 80 sectors were doubtful to the drive \(reading-0\.c2\)")
+        self.assertRegex(self.ran.errors, r"reading-1: 1 sectors were doubtful to the drive \(reading-1\.state\)")
 
     def test_a_file_that_becomes_shorter(self) -> None:
         """Blocks that are read again have to be there still."""
@@ -444,7 +444,7 @@ class FaultsTest(MendCase):
         """Scratched idle words are near codewords once in 267; they are no sign that a reading lacks graphics."""
         for scratched in (self.worn(self.whole, 250, 60) for _ in range(3)):
             for readings in ((self.whole, scratched), (scratched, self.whole)):
-                self.assertEqual(self.mended(*readings), self.truth, self.ran.told)
+                self.assertEqual(self.mended(*readings), self.truth, self.ran.errors)
                 place = readings.index(self.whole)
                 self.assertEqual(self.ran.rows()[place]["left-out"], "0")
                 self.assertEqual(self.ran.rows()[place]["lost"], "0")
@@ -466,17 +466,17 @@ class FaultsTest(MendCase):
         stale_busy = self.whole[: BLOCK * 2000] + self.whole[BLOCK * 100 : BLOCK * 200] + self.whole[BLOCK * 2100 :]
         for worse in (stale, stale_busy):
             for readings in ((self.whole, worse), (worse, self.whole)):
-                self.assertEqual(self.mended(*readings), self.truth, self.ran.told)
-                self.assertIn("have the times of others", self.ran.told)
+                self.assertEqual(self.mended(*readings), self.truth, self.ran.errors)
+                self.assertIn("have the times of others", self.ran.errors)
 
     def test_zeros_of_a_reading_without_graphics_are_never_believed(self) -> None:
         half = self.whole[: BLOCK * (len(self.whole) // BLOCK // 2)]
         packs = self.mended(half, known.without_rw(self.whole), status=1)
-        told = re.search(r"(\d+) words have no codeword", self.ran.told)
+        told = re.search(r"(\d+) words have no codeword", self.ran.errors)
         assert told
         words = len(self.truth) // PACK
         self.assertEqual(packs[: len(packs) // 2 - 48 * PACK], self.truth[: len(packs) // 2 - 48 * PACK])
-        self.assertTrue(abs(int(told[1]) - words // 2) < 20, self.ran.told)
+        self.assertTrue(abs(int(told[1]) - words // 2) < 20, self.ran.errors)
 
     def test_maps_count_the_written_file(self) -> None:
         lead_in = known.lead_in(self.disc, 60)
@@ -515,7 +515,7 @@ class FaultsTest(MendCase):
             told = self.write(name, "".join(f"{line}\n" for line in lines).encode())
             ran = desk("mend", first, second, "-o", self.folder / "out.cdg", "--unread", told, "--force")
             self.assertEqual(ran.status, 0, ran)
-            self.assertIn("60 blocks were not read", ran.told)
+            self.assertIn("60 blocks were not read", ran.errors)
             self.assertEqual((self.folder / "out.cdg").read_bytes(), self.truth)
         for name, content, cause in (
             ("three.map", b"0x0 +\n0 96 +\n", "is named as no reading"),
@@ -523,7 +523,7 @@ class FaultsTest(MendCase):
         ):
             ran = desk("mend", first, second, "-o", self.folder / "no.cdg", "--unread", self.write(name, content))
             self.assertEqual(ran.status, 3, ran)
-            self.assertIn(cause, ran.told)
+            self.assertIn(cause, ran.errors)
 
     def test_every_number_is_true(self) -> None:
         """Readings that contradict each other: what is reported as lost is what they give and the result has not."""
@@ -536,7 +536,7 @@ class FaultsTest(MendCase):
                 first[PACK * n + place] = first[PACK * n + place] & 0xC0 | symbol
         packs = self.mended(bytes(first), self.whole, status=1)
         self.assertEqual([(row["lost"], row["left-out"]) for row in self.ran.rows()], [("200", "0")] * 2)
-        self.assertIn("200 words have no codeword", self.ran.told)
+        self.assertIn("200 words have no codeword", self.ran.errors)
         lost = {
             n
             for n in range(len(packs) // PACK)
@@ -549,24 +549,24 @@ class FaultsTest(MendCase):
     def test_the_limit_of_readings_comes_first(self) -> None:
         ran = desk("mend", *["missing"] * 255, "-o", self.folder / "out.cdg")
         self.assertEqual(ran.status, 2)
-        self.assertIn("no more than 254 readings", ran.told)
+        self.assertIn("no more than 254 readings", ran.errors)
 
     def test_unknown_endings_and_nothing_to_mend(self) -> None:
         names = self.write("a", known.without_rw(self.whole)), self.write("b", known.without_rw(self.whole))
         for name in ("out.bin", "out.doc", "out.cdg.bak"):
             ran = desk("mend", *names, "-o", self.folder / name)
             self.assertEqual(ran.status, 3, ran)
-            self.assertIn("its ending names nothing", ran.told)
+            self.assertIn("its ending names nothing", ran.errors)
         ran = desk("mend", *names, "-o", self.folder / "out.cdg")
         self.assertEqual(ran.status, 9, ran)
-        self.assertIn("nothing to mend", ran.told)
+        self.assertIn("nothing to mend", ran.errors)
         self.assertFalse((self.folder / "out.cdg").exists())
 
     def test_p_and_q_alone_are_compared(self) -> None:
         names = self.write("one", self.whole), self.write("two", known.without_rw(self.whole))
         ran = desk("mend", *names, "--compare")
         self.assertEqual((ran.status, ran.rows()), (0, []), ran)
-        self.assertIn("only P and Q are compared", ran.told)
+        self.assertIn("only P and Q are compared", ran.errors)
 
 
 if __name__ == "__main__":

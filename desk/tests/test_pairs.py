@@ -95,7 +95,7 @@ class PairsTest(FolderTest):
         text = head + "".join("[[track]]\n" + "".join(f"{line}\n" for line in lines) for lines in tracks)
         words = words or ("-o", self.folder / "disc")
         ran = desk("album", self.write("list.toml", text), *words)
-        self.assertEqual(ran.status, status, ran.told)
+        self.assertEqual(ran.status, status, ran.errors)
         return ran
 
     def starts(self) -> list[int]:
@@ -128,7 +128,7 @@ class PairsTest(FolderTest):
         lyrics = ['lyrics = "two.lrc"', 'sound = "two.wav"']
         tracks = [tracks[0], tracks[1], lyrics, tracks[2], tracks[3], lyrics]
         ran = self.album(*tracks)
-        self.assertIn("hasty-zipped.zip: its first packs leave no room for presets", ran.told)
+        self.assertIn("hasty-zipped.zip: its first packs leave no room for presets", ran.errors)
         contents = [self.graphics["usual"], self.graphics["hasty"], b"", (self.folder / "own.cdg").read_bytes(),
                     self.graphics["usual"], b""]  # fmt: skip
         program, starts = self.program(), self.starts()
@@ -170,7 +170,7 @@ class PairsTest(FolderTest):
 
     def test_the_list_begins_with_pairs(self) -> None:
         ran = desk("album", "--new", self.folder / "usual.cdg", self.folder / "one.lrc")
-        self.assertEqual(ran.status, 0, ran.told)
+        self.assertEqual(ran.status, 0, ran.errors)
         self.assertIn(f'pair = "{os.path.relpath(self.folder / "usual.cdg")}"', ran.out)
         self.assertIn('title = "Song"', ran.out)
 
@@ -183,10 +183,10 @@ class PairsTest(FolderTest):
         self.assertEqual((first["kind"], first["start"], first["length"]), ("pair", "00:00:00", "00:12:02"))
         self.assertEqual((second["start"], second["length"], second["title"]), ("00:13:02", "00:14:00", "Song"))
         self.assertEqual(second["left"], "79:29:73")
-        self.assertIn("2 tracks, 00:27:02 of 79:57:00: 79:29:73 is left", ran.told)
+        self.assertIn("2 tracks, 00:27:02 of 79:57:00: 79:29:73 is left", ran.errors)
         ran = self.album(*tracks, words=("--check", "--capacity", "00:27"), status=1)
         self.assertEqual(ran.rows()[1]["left"], "-00:00:02")
-        self.assertIn("it is 00:00:02 too long", ran.told)
+        self.assertIn("it is 00:00:02 too long", ran.errors)
 
     def test_too_long(self) -> None:
         """A list of a hundred minutes is refused before its pictures are made."""
@@ -196,9 +196,9 @@ class PairsTest(FolderTest):
             file.truncate(44 + samples)
         tracks = [['lyrics = "one.lrc"', 'sound = "long.wav"']]
         ran = self.album(*tracks, status=3)
-        self.assertIn("has 100:00:00, and the disc 79:57:00: it is 20:03:00 too long; --capacity", ran.told)
+        self.assertIn("has 100:00:00, and the disc 79:57:00: it is 20:03:00 too long; --capacity", ran.errors)
         ran = self.album(*tracks, status=3, words=("-o", self.folder / "disc", "--capacity", "99:57"))
-        self.assertIn("it is 00:03:00 too long", ran.told)
+        self.assertIn("it is 00:03:00 too long", ran.errors)
 
     def test_refusals(self) -> None:
         self.write("none.cdg", bytes(2400))
@@ -224,18 +224,18 @@ class PairsTest(FolderTest):
             ),
         ):
             ran = self.album(lines, status=3)
-            self.assertIn(why, ran.told)
+            self.assertIn(why, ran.errors)
         ran = self.album(lyrics, status=3, head='catalogue = "4006381333930"\n')
-        self.assertIn("whose check digit is wrong: 4006381333931 has the right one", ran.told)
+        self.assertIn("whose check digit is wrong: 4006381333931 has the right one", ran.errors)
         # A directory in place of a song is no fault of the desk.
         os.mkdir(self.folder / "folder")
         for words in (("lyrics", "folder", "-o", "a.script"), ("pair", "folder", "--audio", "one.wav", "-o", "a"),
                       ("look", "folder", "--audio", "one.wav", "-o", "a.html"), ("album", "folder", "-o", "a")):  # fmt: skip
             call: list[Word] = [self.folder / it if "." in it or it in ("folder", "a") else it for it in words]
             ran = desk(*call)
-            self.assertEqual((ran.status, "is a directory" in ran.told), (3, True), ran.told)
+            self.assertEqual((ran.status, "is a directory" in ran.errors), (3, True), ran.errors)
         ran = self.album(['lyrics = "folder"', 'sound = "one.wav"'], status=3)
-        self.assertIn("folder: is a directory", ran.told)
+        self.assertIn("folder: is a directory", ran.errors)
 
     def test_check_digits(self) -> None:
         # Numbers of printed articles.
@@ -281,10 +281,10 @@ class PairsTest(FolderTest):
         song = self.write("soon.lrc", "[ti:A title]\n[00:03.00]<00:03.00>Soon <00:04.00>\n")
         write_wav(self.folder / "soon.wav", 44_100 * 8)
         ran = desk("pair", song, "-o", self.folder / "out")
-        found = ran.told.partition("--intro ")[2].split()[0]
-        self.assertIn("there is no room for the title: the first words come too early", ran.told)
+        found = ran.errors.partition("--intro ")[2].split()[0]
+        self.assertIn("there is no room for the title: the first words come too early", ran.errors)
         ran = desk("pair", song, "-o", self.folder / "out", "--intro", found)
-        self.assertNotIn("no room", ran.told)
+        self.assertNotIn("no room", ran.errors)
         with wave.open(os.fspath(self.folder / "out.wav")) as file:
             self.assertEqual(file.getnframes(), 44_100 * (8 + int(found)))
         self.assertEqual((self.folder / "out.cdg").stat().st_size, PACK * 300 * (8 + int(found)))
@@ -300,7 +300,7 @@ class EndingTest(FolderTest):
         write_wav(self.folder / "sound", 44_100 * 12)
         for words in ((), ("--zip",)):
             ran = desk("pair", song, "--audio", self.folder / "sound", "--intro", "2", *words, "-o", self.folder / "b")
-            self.assertEqual((ran.status, "--mp3 writes it as MP3" in ran.told), (3, True), ran.told)
+            self.assertEqual((ran.status, "--mp3 writes it as MP3" in ran.errors), (3, True), ran.errors)
 
 
 if __name__ == "__main__":

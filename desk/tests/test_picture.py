@@ -41,7 +41,7 @@ class PictureTest(FolderTest):
             return colour_of((x * y // 7 + x // 5) % 16)
 
         ran = desk("picture", self.image("a.png", (288, 192), pixel))
-        self.assertEqual(ran.status, 0, ran.told)
+        self.assertEqual(ran.status, 0, ran.errors)
         picture = self.shown(ran.out)
         for y in range(192):
             for x in range(288):
@@ -53,7 +53,7 @@ class PictureTest(FolderTest):
             return colour_of(1 + (x // 3 + y) % 4)
 
         ran = desk("picture", self.image("a.png", (30, 20), pixel), "--at", "10,5", "--first", "8", "--colours", "4")
-        self.assertEqual(ran.status, 0, ran.told)
+        self.assertEqual(ran.status, 0, ran.errors)
         self.assertTrue(all(int(line.split()[1]) >= 8 for line in ran.out.splitlines() if line.startswith("colour")))
         picture = self.shown(ran.out, "colour 1 0123", "fill 1")
         self.assertEqual(picture.at(59, 60), (17, 34, 51))
@@ -66,10 +66,10 @@ class PictureTest(FolderTest):
             return (200, 30, 40) if (x - 300) ** 2 + (y - 200) ** 2 < 150**2 else (20, 40 + (x * 7 + y * 3) % 3, 90)
 
         ran = desk("picture", self.image("a.png", (600, 400), pixel))
-        packs = int(ran.told.partition("needs ")[2].split()[0])
+        packs = int(ran.errors.partition("needs ")[2].split()[0])
         self.assertLess(packs, 400)
         dithered = desk("picture", self.folder / "a.png", "--dither")
-        self.assertGreaterEqual(int(dithered.told.partition("needs ")[2].split()[0]), packs)
+        self.assertGreaterEqual(int(dithered.errors.partition("needs ")[2].split()[0]), packs)
 
     def test_more_loss_needs_fewer_packs(self) -> None:
         def pixel(x: int, y: int) -> tuple[int, int, int]:
@@ -77,7 +77,8 @@ class PictureTest(FolderTest):
 
         image = self.image("a.png", (288, 192), pixel)
         needs = [
-            int(desk("picture", image, "--simple", loss).told.partition("needs ")[2].split()[0]) for loss in (0, 2, 40)
+            int(desk("picture", image, "--simple", loss).errors.partition("needs ")[2].split()[0])
+            for loss in (0, 2, 40)
         ]
         self.assertEqual(needs, sorted(needs, reverse=True))
         self.assertLess(needs[2], needs[0])
@@ -91,7 +92,7 @@ class PictureTest(FolderTest):
         for path in (self.write("a.png", "no image"), self.folder / "none.png", self.folder):
             ran = desk("picture", path)
             self.assertEqual(ran.status, 3)
-            self.assertIn(str(path), ran.told)
+            self.assertIn(str(path), ran.errors)
         for words in (("--at", "48,0"), ("--colours", "17"), ("--at", "x")):
             self.assertEqual(desk("picture", self.folder / "a.png", *words).status, 2)
 
@@ -135,10 +136,10 @@ class PictureTest(FolderTest):
         frames[0].save(self.folder / "a.gif", save_all=True, append_images=frames[1:])
         ran = desk("picture", self.folder / "a.gif")
         self.assertEqual(
-            (ran.status, "has 3 frames; --frame N chooses one, from 1 to 3" in ran.told), (3, True), ran.told
+            (ran.status, "has 3 frames; --frame N chooses one, from 1 to 3" in ran.errors), (3, True), ran.errors
         )
         ran = desk("picture", self.folder / "a.gif", "--frame", "4")
-        self.assertEqual((ran.status, "has 3 frames, and no number 4" in ran.told), (3, True), ran.told)
+        self.assertEqual((ran.status, "has 3 frames, and no number 4" in ran.errors), (3, True), ran.errors)
         for number, colour in ((1, "0F00"), (2, "00F0"), (3, "000F")):
             self.assertIn(colour, desk("picture", self.folder / "a.gif", "--frame", number).out)
 
@@ -174,7 +175,7 @@ class PictureTest(FolderTest):
         Image.new("1", (20_000, 20_000)).save(self.folder / "a.png")
         ran = desk("picture", self.folder / "a.png")
         self.assertEqual(ran.status, 3)
-        self.assertIn("pixels", ran.told)
+        self.assertIn("pixels", ran.errors)
 
 
 if __name__ == "__main__":

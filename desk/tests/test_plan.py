@@ -13,7 +13,7 @@ SHEET = 'TITLE "Song"\nFILE "a.wav" WAVE\nTRACK 01 AUDIO\nINDEX 01 00:00:00\n'
 class PlanTest(FolderTest):
     def test_rows(self) -> None:
         ran = desk("plan", *HELLO, "--length", "00:22:00")
-        self.assertEqual(ran.status, 0, ran.told)
+        self.assertEqual(ran.status, 0, ran.errors)
         names, *rows = ran.cells()
         self.assertEqual(names, "picture line ready hold need free first late".split())
         shows = [
@@ -58,21 +58,21 @@ class PlanTest(FolderTest):
         self.write("a.script", "show 00:00:20 00:03:27\n")
         ran = desk("plan", sheet, script, "--audio", audio)
         self.assertEqual(ran.status, 3)
-        self.assertIn("a.script: its last picture is held beyond the end of the disc, which is at 00:03:26", ran.told)
+        self.assertIn("a.script: its last picture is held beyond the end of the disc, which is at 00:03:26", ran.errors)
 
     def test_refusals_name_the_file_and_the_line(self) -> None:
         sheet, script = self.write("a.cue", SHEET), self.write("a.script", "fill 5\nfill 16\n")
         ran = desk("plan", sheet, script, "--length", "00:22:00")
-        self.assertEqual((ran.status, "a.script: line 2: out-of-range" in ran.told), (3, True), ran.told)
+        self.assertEqual((ran.status, "a.script: line 2: out-of-range" in ran.errors), (3, True), ran.errors)
         ran = desk("plan", self.write("b.cue", SHEET.replace("TRACK", "TRAK")), script, "--length", "00:22:00")
-        self.assertEqual((ran.status, "b.cue: line 3: unknown-command" in ran.told), (3, True), ran.told)
+        self.assertEqual((ran.status, "b.cue: line 3: unknown-command" in ran.errors), (3, True), ran.errors)
         ran = desk("plan", self.folder / "none.cue", script, "--length", "00:22:00")
-        self.assertEqual((ran.status, "none.cue: no such file" in ran.told), (3, True), ran.told)
+        self.assertEqual((ran.status, "none.cue: no such file" in ran.errors), (3, True), ran.errors)
         self.assertEqual(desk("plan", sheet, script, "--length", "00:22:75").status, 2)
 
     def test_words_for_author_are_told(self) -> None:
         ran = desk("plan", *HELLO, "--length", "00:22:00")
-        self.assertIn("ribjasper author --lead-in 15 --length 00:22:00 -- ", ran.told)
+        self.assertIn("ribjasper author --lead-in 15 --length 00:22:00 -- ", ran.errors)
 
     @needs_pillow
     def test_chart(self) -> None:
@@ -93,25 +93,25 @@ class Latin1Test(FolderTest):
     def test_warns_of_texts_alone(self) -> None:
         sheet = self.write("a.cue", "REM \u00fcber\n" + SHEET.replace("Song", "S\u00f6ng"))
         ran = self.plan(sheet)
-        self.assertIn('a.cue: line 2: TITLE "S\u00f6ng" goes onto the disc in UTF-8', ran.told)
-        self.assertNotIn("line 1", ran.told)
+        self.assertIn('a.cue: line 2: TITLE "S\u00f6ng" goes onto the disc in UTF-8', ran.errors)
+        self.assertNotIn("line 1", ran.errors)
 
     def test_writes_the_bytes_of_latin_1(self) -> None:
         sheet = self.write("a.cue", "\ufeffREM \u00fcber\n" + SHEET.replace("Song", "So\u0308ng"))
         out = self.folder / "out.cue"
         ran = self.plan(sheet, "--latin-1", out)
         self.assertEqual(ran.status, 0)
-        self.assertNotIn("UTF-8", ran.told)
+        self.assertNotIn("UTF-8", ran.errors)
         texts = SHEET.replace("Song", "S\u00f6ng").encode("latin-1")
         self.assertEqual(out.read_bytes(), "REM \u00fcber\n".encode() + texts)
-        self.assertNotIn("UTF-8", self.plan(out).told)
+        self.assertNotIn("UTF-8", self.plan(out).errors)
 
     def test_names_the_line_that_cannot_be_said(self) -> None:
         sheet = self.write("a.cue", SHEET.replace("Song", "\u0160ong"))
         out = self.folder / "out.cue"
         ran = self.plan(sheet, "--latin-1", out)
         self.assertEqual(ran.status, 3)
-        self.assertIn("line 1: Latin-1 has no \u0160 (latin capital letter s with caron)", ran.told)
+        self.assertIn("line 1: Latin-1 has no \u0160 (latin capital letter s with caron)", ran.errors)
         self.assertFalse(out.exists())
 
 

@@ -110,10 +110,10 @@ class QFixTest(FolderTest):
         copy, rows = self.fixed(spoiled(stream, 2000))
         self.assertEqual(copy, stream)
         self.assertEqual([row["kind"] for row in rows], ["changed"] * 16 + ["filled"])
-        self.assertIn("16 frames are changed in pairs, as LibCrypt changes them", self.ran.told)
+        self.assertIn("16 frames are changed in pairs, as LibCrypt changes them", self.ran.errors)
         out = self.folder / "dump.sbi"
         ran = desk("q-fix", self.write("dump", stream), "--sbi", out)
-        self.assertEqual(ran.status, 0, ran.told)
+        self.assertEqual(ran.status, 0, ran.errors)
         content = out.read_bytes()
         self.assertEqual((content[:4], len(content)), (b"SBI\0", 4 + 14 * 16))
         first = min(changed)
@@ -149,7 +149,7 @@ class QFixTest(FolderTest):
             dump = self.write("dump", spoiled_stream)
             out, sbi, lsd = (self.folder / f"out.{ending}" for ending in ("sub", "sbi", "lsd"))
             ran = desk("q-fix", dump, "-o", out, "--sbi", sbi, "--lsd", lsd, "--force")
-            self.assertIn(ran.status, (0, 1), ran.told)
+            self.assertIn(ran.status, (0, 1), ran.errors)
             copy, rows = out.read_bytes(), ran.rows()
             for block, frame in frames.items():
                 self.assertEqual(known.planar(copy[BLOCK * block : BLOCK * (block + 1)])[12:24], frame, (seed, block))
@@ -198,22 +198,22 @@ class QFixTest(FolderTest):
         )
         self.assertEqual(copy[: BLOCK * 405], stream[: BLOCK * 405])
         self.assertEqual(copy[BLOCK * 406 :], stream[BLOCK * 406 :])
-        self.assertNotIn("LibCrypt changes them", self.ran.told)
+        self.assertNotIn("LibCrypt changes them", self.ran.errors)
 
     def test_no_disc_of_the_known_dumps_is_protected(self) -> None:
         """Whatever is wrong with them, and with 500 more bad frames."""
         for case, truth in test_known_dumps.FORMS.items():
             ran = desk("q-fix", self.write("dump", truth.make()))
             with self.subTest(case):
-                self.assertIn(ran.status, (0, 1, 3), ran.told)
-                self.assertNotIn("LibCrypt changes them", ran.told)
+                self.assertIn(ran.status, (0, 1, 3), ran.errors)
+                self.assertNotIn("LibCrypt changes them", ran.errors)
                 self.assertNotIn("\nchanged\t", ran.out)
         self.disc = known.album(4, 3)
         whole = program(self.disc, 150, self.disc.end, 0)
         for seed in range(20):
             content, _ = self.spoil_others(whole, set(), 500, random.Random(seed))
             ran = desk("q-fix", self.write("dump", content))
-            self.assertNotIn("LibCrypt changes them", ran.told)
+            self.assertNotIn("LibCrypt changes them", ran.errors)
             self.assertNotIn("\nchanged\t", ran.out)
 
     def test_frames_with_a_regular_pattern(self) -> None:
@@ -230,7 +230,7 @@ class QFixTest(FolderTest):
         self.assertEqual({int(row["block"]) for row in rows if row["kind"] == "regular"}, {*blocks, *moved})
         self.assertEqual([row["block"] for row in rows if row["kind"] == "filled"], ["2300"])
         self.assertEqual(copy, with_frame(stream, 2300, self.disc.frame(150 + 2300)))
-        self.assertNotIn("LibCrypt", self.ran.told)
+        self.assertNotIn("LibCrypt", self.ran.errors)
 
     def test_no_copy_protection(self) -> None:
         stream = self.whole
@@ -271,7 +271,7 @@ class QFixTest(FolderTest):
         bare = self.write("bare", self.whole.translate(bytes(byte & 63 for byte in range(256))))
         ran = desk("q-fix", bare)
         self.assertEqual(ran.status, 3)
-        self.assertIn("Q was not read", ran.told)
+        self.assertIn("Q was not read", ran.errors)
 
 
 if __name__ == "__main__":

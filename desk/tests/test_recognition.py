@@ -44,7 +44,7 @@ class RefusalTest(FolderTest):
     def refused(self, *words: Word) -> str:
         ran = desk(*words)
         self.assertEqual((ran.status, ran.out), (3, ""), ran)
-        return ran.told
+        return ran.errors
 
     def test_plan(self) -> None:
         sheet, script = self.write("a.cue", SHEET), self.write("a.script", SCRIPT)
@@ -82,7 +82,7 @@ class RefusalTest(FolderTest):
             ran = desk(*words)
             self.assertEqual(ran.status, 2)
             self.assertIn(
-                "forms: raw, pq, planar, sector, sector-pq, sector-planar, cooked, cooked-sector, cdg", ran.told
+                "forms: raw, pq, planar, sector, sector-pq, sector-planar, cooked, cooked-sector, cdg", ran.errors
             )
         told = self.refused("convert", dump, "-o", self.folder / "b.xyz", "--form", "raw")
         self.assertIn("say --as FORM: raw, pq, planar", told)

@@ -68,7 +68,7 @@ class ReportTest(FolderTest):
 
     def report(self, *words: Word, status: int = 0, out: Path | None = None, **options: Any) -> Ran:
         ran = desk("report", self.dumps, "-o", out or self.out, *words, **options)
-        self.assertEqual(ran.status, status, ran.told)
+        self.assertEqual(ran.status, status, ran.errors)
         return ran
 
     def table(self, out: Path | None = None) -> list[dict[str, Any]]:
@@ -123,7 +123,7 @@ class ReportTest(FolderTest):
         before = {path.name for path in self.out.glob("pictures/*")}
         for path in self.out.glob("pictures/*"):
             path.unlink()
-        self.assertIn("2 files read", self.report().told)
+        self.assertIn("2 files read", self.report().errors)
         self.assertEqual({path.name for path in self.out.glob("pictures/*")}, before)
         (self.dumps / "box-0" / "dump-000").unlink()
         self.report()
@@ -137,14 +137,14 @@ class ReportTest(FolderTest):
 
     def test_only_what_changed_is_read(self) -> None:
         dumps(self.dumps, 8)
-        self.assertIn("8 files read, 0 known", self.report("--no-pictures").told)
+        self.assertIn("8 files read, 0 known", self.report("--no-pictures").errors)
         before = (self.out / "table.tsv").read_bytes()
-        self.assertIn("0 files read, 8 known", self.report("--no-pictures").told)
+        self.assertIn("0 files read, 8 known", self.report("--no-pictures").errors)
         self.assertEqual((self.out / "table.tsv").read_bytes(), before)
         self.write("dumps/box-1/dump-001", hello())
         (self.dumps / "box-2/dump-002").unlink()
         self.write("dumps/new", with_burst(hello(), 300, 200))
-        self.assertIn("2 files read, 6 known", self.report("--no-pictures").told)
+        self.assertIn("2 files read, 6 known", self.report("--no-pictures").errors)
         rows = {row["file"]: row["status"] for row in self.table()}
         self.assertEqual((rows["box-1/dump-001"], rows["new"], len(rows)), ("good", "damaged", 8))
 
@@ -175,7 +175,7 @@ class ReportTest(FolderTest):
         # The line that was being written is cut off.
         journal.write_bytes(journal.read_bytes()[:-7])
         ran = self.report("--no-pictures")
-        read, _, rest = ran.told.partition(": ")[2].partition(" files read, ")
+        read, _, rest = ran.errors.partition(": ")[2].partition(" files read, ")
         self.assertGreaterEqual(int(rest.split()[0]), 15)
         self.assertEqual(int(read) + int(rest.split()[0]), 50)
         for name in ("table.tsv", "table.jsonl"):
@@ -210,7 +210,7 @@ class ReportTest(FolderTest):
         self.report("--no-pictures", out=whole)
         for number in (1, 2, 3):
             self.report("--no-pictures", "--part", f"{number}/3")
-        self.assertIn("0 files read, 20 known", self.report("--no-pictures").told)
+        self.assertIn("0 files read, 20 known", self.report("--no-pictures").errors)
         self.assertEqual((self.out / "table.tsv").read_bytes(), (whole / "table.tsv").read_bytes())
         self.assertEqual(desk("report", self.dumps, "-o", self.out, "--part", "4/3").status, 2)
 
@@ -272,7 +272,7 @@ class ReportTest(FolderTest):
         self.report("--no-pictures")
         files = sorted(path for path in self.dumps.rglob("dump-*"))
         ran = desk("sums", *files, "--check", self.out / "dumps.dat")
-        self.assertEqual(ran.status, 0, ran.told)
+        self.assertEqual(ran.status, 0, ran.errors)
         row = self.table()[0]
         said = desk("sums", self.dumps / row["file"]).rows()[0]
         self.assertEqual(
@@ -292,7 +292,7 @@ class ReportTest(FolderTest):
 
         with mock.patch("os.scandir", scan):
             ran = self.report("--no-pictures", status=3)
-        self.assertIn("closed: permission denied", ran.told)
+        self.assertIn("closed: permission denied", ran.errors)
         rows = {row["file"]: (row["status"], row["why"]) for row in self.table()}
         self.assertEqual(rows["closed"], ("unread", "the folder cannot be looked into: permission denied"))
         self.assertEqual(rows["good"][0], "good")
@@ -329,8 +329,8 @@ class ReportTest(FolderTest):
 
         with mock.patch("ribjasper.dumps.workers.examine", end):
             ran = self.report("--no-pictures", "--jobs", "3", status=3)
-        self.assertIn("dump-005: could not be looked at", ran.told)
-        self.assertIn("a worker process ended unexpectedly; the files that were open are tried again", ran.told)
+        self.assertIn("dump-005: could not be looked at", ran.errors)
+        self.assertIn("a worker process ended unexpectedly; the files that were open are tried again", ran.errors)
         rows = {row["file"][-3:]: row for row in self.table()}
         self.assertEqual(len(rows), 12)
         self.assertEqual([name for name, row in rows.items() if row["status"] == "unread"], ["005"])
@@ -351,8 +351,8 @@ class ReportTest(FolderTest):
 
         with mock.patch("ribjasper.dumps.workers.examine", end):
             ran = self.report("--no-pictures", "--jobs", "2")
-        self.assertIn("a worker process ended unexpectedly", ran.told)
-        self.assertIn("dump-003", ran.told)
+        self.assertIn("a worker process ended unexpectedly", ran.errors)
+        self.assertIn("dump-003", ran.errors)
         self.assertEqual(len([row for row in self.table() if row["status"] != "unread"]), 8)
 
     def test_a_folder_without_dumps(self) -> None:
@@ -361,7 +361,7 @@ class ReportTest(FolderTest):
             for name in names:
                 self.write(f"dumps/{name}", b"" if name == "empty" else b"Dear diary, " * 50)
             ran = self.report("--no-pictures", status=3)
-            self.assertIn(f"{self.dumps}: has no dump", ran.told)
+            self.assertIn(f"{self.dumps}: has no dump", ran.errors)
             self.assertEqual([row["file"] for row in self.table()], sorted(names))
         self.write("dumps/good", hello())
         self.report("--no-pictures")
@@ -370,7 +370,7 @@ class ReportTest(FolderTest):
     def test_refusals(self) -> None:
         ran = desk("report", self.folder / "missing", "-o", self.out)
         self.assertEqual(ran.status, 3)
-        self.assertIn("no such folder", ran.told)
+        self.assertIn("no such folder", ran.errors)
         self.assertEqual(desk("report", self.dumps, "-o", self.out, "--jobs", "0").status, 2)
         taken = self.write("taken", b"")
         self.assertEqual(desk("report", self.dumps, "-o", taken).status, 3)
@@ -427,7 +427,7 @@ class ClusterTest(FolderTest):
         for _ in range(2):
             self.start("distributed.cli.dask_worker", address, "--nthreads", "1", "--no-dashboard")
         ran = self.by_itself("report", self.folder / "dumps", "-o", several, "--no-pictures", "--cluster", address)
-        self.assertEqual(ran.status, 0, ran.told)
+        self.assertEqual(ran.status, 0, ran.errors)
         for name in ("table.tsv", "table.jsonl"):
             self.assertEqual((several / name).read_bytes(), (one / name).read_bytes())
 
@@ -459,7 +459,7 @@ class ClusterTest(FolderTest):
             "report", self.folder / "dumps", "-o", self.folder / "out", "--no-pictures", "--cluster", address
         )
         self.assertEqual(ran.status, 3)
-        self.assertIn(f"{address}: no scheduler answers", ran.told)
+        self.assertIn(f"{address}: no scheduler answers", ran.errors)
 
 
 if __name__ == "__main__":

@@ -28,17 +28,17 @@ class QuietTest(FolderTest):
     def test_notes_are_left_out_and_errors_are_not(self) -> None:
         dump = self.write("dump", with_zeros(hello(), 0, LEAD_IN) + bytes(10))
         loud, quiet = desk("damage", dump), desk("damage", "-q", dump)
-        self.assertIn("torn: 10 bytes", loud.told)
-        self.assertEqual((quiet.status, quiet.out, quiet.told), (loud.status, loud.out, ""))
+        self.assertIn("torn: 10 bytes", loud.errors)
+        self.assertEqual((quiet.status, quiet.out, quiet.errors), (loud.status, loud.out, ""))
         calls: tuple[tuple[Word, ...], ...] = (
             ("identify", "-q", self.folder / "none"),
             ("identify", self.write("zeros", bytes(960)), "--quiet"),
         )
         for words in calls:
             ran = desk(*words)
-            self.assertEqual((ran.status, len(ran.told.splitlines())), (3, 1), ran)
+            self.assertEqual((ran.status, len(ran.errors.splitlines())), (3, 1), ran)
         # The next call is as loud as before.
-        self.assertIn("torn", desk("damage", dump).told)
+        self.assertIn("torn", desk("damage", dump).errors)
 
     def test_each_command_has_it(self) -> None:
         for command in main.COMMANDS:
@@ -62,7 +62,7 @@ class ProgressTest(FolderTest):
         stream = self.write("a.raw", hello())
         self.assertIn("frames/s", self.on_a_terminal("film", stream, "-o", self.folder / "a.mp4"))
         self.assertEqual(self.on_a_terminal("film", "-q", stream, "-o", self.folder / "b.mp4"), "")
-        self.assertNotIn("frames/s", desk("film", stream, "-o", self.folder / "c.mp4").told)
+        self.assertNotIn("frames/s", desk("film", stream, "-o", self.folder / "c.mp4").errors)
 
     @needs("tqdm", "python3-tqdm")
     def test_sums(self) -> None:

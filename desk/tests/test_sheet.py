@@ -73,7 +73,7 @@ class SheetTest(FolderTest):
     def sheet(self, stream: bytes, status: int = 0) -> bytes:
         out = self.folder / "out.cue"
         self.ran = desk("sheet", self.write("album", stream), "-o", out)
-        self.assertEqual(self.ran.status, status, self.ran.told)
+        self.assertEqual(self.ran.status, status, self.ran.errors)
         return out.read_bytes()
 
     def again(self, sheet: bytes) -> bytes:
@@ -88,7 +88,7 @@ class SheetTest(FolderTest):
             back = self.sheet(stream)
             self.assertEqual(in_order(back), in_order(given))
             self.assertEqual(self.again(back), stream)
-            self.assertEqual(self.ran.told, "")
+            self.assertEqual(self.ran.errors, "")
 
     def test_gaps_are_pauses(self) -> None:
         stream = author(GAPS, "00:12:00", self.folder)
@@ -130,8 +130,8 @@ class SheetTest(FolderTest):
             path = self.write("dump", content)
             ran = desk("sheet", path)
             self.assertEqual((ran.status, ran.out), (3, ""))
-            self.assertIn(f"{path}: ", ran.told)
-            self.assertIn(cause, ran.told)
+            self.assertIn(f"{path}: ", ran.errors)
+            self.assertIn(cause, ran.errors)
 
 
 if __name__ == "__main__":

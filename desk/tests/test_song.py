@@ -25,16 +25,16 @@ class SongTest(FolderTest):
         audio, script, raw = (self.folder / name for name in ("song.wav", "song.script", "song.raw"))
         subprocess.run([sys.executable, SONG / "make_audio.py", audio], check=True)
         ran = desk("lyrics", SONG / "song.lrc", "--title", SONG / "title.png", "--audio", audio, "-o", script)
-        self.assertEqual((ran.status, "none is late" in ran.told), (0, True), ran.told)
+        self.assertEqual((ran.status, "none is late" in ran.errors), (0, True), ran.errors)
         ran = desk("plan", SONG / "song.cue", script, "--audio", audio, "--chart", self.folder / "plan.png")
-        self.assertEqual((ran.status, "0 of them late" in ran.told), (0, True), ran.told)
+        self.assertEqual((ran.status, "0 of them late" in ran.errors), (0, True), ran.errors)
         words = "--lead-in", LEAD_IN, "--length", "01:00:00", "--", SONG / "song.cue", script
         raw.write_bytes(program("author", *words))
         ran = desk("image", SONG / "song.cue", raw, "--audio", audio, "-o", self.folder / "song")
-        self.assertEqual((ran.status, "pause" in ran.told), (0, False), ran.told)
+        self.assertEqual((ran.status, "pause" in ran.errors), (0, False), ran.errors)
         film, stills = self.folder / "song.mp4", self.folder / "stills.png"
         ran = desk("film", raw, "--audio", audio, "-o", film, "--stills", stills)
-        self.assertEqual(ran.status, 0, ran.told)
+        self.assertEqual(ran.status, 0, ran.errors)
         self.check_picture(raw)
 
     def check_picture(self, raw: Path) -> None:

@@ -375,7 +375,7 @@ class FilesTest(StudioTest):
         studio.do({"do": "move", "lines": [1], "by": 1})
         studio.close()
         ran = desk("studio", song, "--export", "ass", "-o", self.folder / "b.ass")
-        self.assertEqual(ran.status, 0, ran.told)
+        self.assertEqual(ran.status, 0, ran.errors)
         self.assertIn(
             "Dialogue: 0,0:00:07.00,0:00:08.00,Default,,0,0,0,,{\\k50}One {\\k50}two",
             (self.folder / "b.ass").read_text(),
@@ -469,7 +469,7 @@ class PicturesTest(StudioTest):
         self.assertEqual([(one.line, one.what) for one in made.late], [(1, "drawn")])
         self.assertRegex(f"{made.late[0].seconds}", r"0\.\d+")
         ran = desk("lyrics", studio.lyrics, "--audio", studio.sound, "-o", self.folder / "a.script")
-        self.assertIn(f"line 1 is drawn {made.late[0].seconds:.2f} seconds after it begins", ran.told)
+        self.assertIn(f"line 1 is drawn {made.late[0].seconds:.2f} seconds after it begins", ran.errors)
 
     @needs_plan
     @needs_program
@@ -596,7 +596,7 @@ class CommandTest(StudioTest):
         child, address = self.start(song)
         self.assertEqual(self.post(address, "edit", {"edit": {"do": "tap", "line": 1, "at": 2.5}}), 200)
         ran = desk("studio", song, "--no-browser")
-        self.assertEqual((ran.status, "is open in another studio" in ran.told), (3, True), ran.told)
+        self.assertEqual((ran.status, "is open in another studio" in ran.errors), (3, True), ran.errors)
         child.send_signal(signal.SIGKILL)
         child.wait()
         self.assertEqual(self.studio(song).score.lines[0].start, 2.5)

@@ -32,7 +32,7 @@ class SubmissionTest(FolderTest):
 
     def found(self, content: bytes, *words: Word, name: str = "game.bin") -> dict[str, Any]:
         ran = desk("report", self.write(name, content), "--submission", "--json", *words)
-        self.assertEqual(ran.status, 0, ran.told)
+        self.assertEqual(ran.status, 0, ran.errors)
         found: dict[str, Any] = json.loads(ran.out)
         return found
 
@@ -107,7 +107,7 @@ class SubmissionTest(FolderTest):
         self.assertEqual(desk("report", self.folder).status, 2)
         self.assertEqual(desk("report", self.folder, "-o", self.folder / "o", "--json").status, 2)
         packs = self.write("a.cdg", known.file_of_packs(4001))
-        self.assertIn("has no Q channel", desk("report", packs, "--submission").told)
+        self.assertIn("has no Q channel", desk("report", packs, "--submission").errors)
 
 
 if __name__ == "__main__":

@@ -17,7 +17,7 @@ class SumsTest(FolderTest):
 
     def test_sums(self) -> None:
         ran = desk("sums", *self.files)
-        self.assertEqual(ran.status, 0, ran.told)
+        self.assertEqual(ran.status, 0, ran.errors)
         rows = ran.rows()
         self.assertEqual(rows[0]["crc32"], "cbf43926")
         for row, path in zip(rows, self.files):
@@ -29,7 +29,7 @@ class SumsTest(FolderTest):
     def test_a_list(self) -> None:
         dat = self.folder / "out.dat"
         ran = desk("sums", *self.files, "--dat", dat, "--name", "my dumps")
-        self.assertEqual(ran.status, 0, ran.told)
+        self.assertEqual(ran.status, 0, ran.errors)
         top = xml.parse(dat).getroot()
         self.assertEqual((top.tag, top.findtext("header/name")), ("datafile", "my dumps"))
         self.assertEqual([game.get("name") for game in top.iter("game")], ["one", "two & <2>"])
@@ -37,7 +37,7 @@ class SumsTest(FolderTest):
         self.assertEqual((roms["one.bin"]["size"], roms["one.bin"]["crc"]), ("9", "cbf43926"))
         self.assertEqual(set(roms["one.sub"]), {"name", "size", "crc", "md5", "sha1", "sha256"})
         ran = desk("sums", *self.files, "--check", dat)
-        self.assertEqual(ran.status, 0, ran.told)
+        self.assertEqual(ran.status, 0, ran.errors)
         self.assertEqual([row["found"] for row in ran.rows()], ["same"] * 3)
 
     def test_what_a_check_finds(self) -> None:
@@ -51,7 +51,7 @@ class SumsTest(FolderTest):
         self.assertEqual(
             [row["found"] for row in ran.rows()], ["differs: crc32, md5, sha1, sha256", "same as one.sub", "not listed"]
         )
-        self.assertIn("two & <2>.bin is missing", ran.told)
+        self.assertIn("two & <2>.bin is missing", ran.errors)
 
     def test_a_list_with_fewer_sums(self) -> None:
         dat = self.write(
@@ -65,7 +65,7 @@ class SumsTest(FolderTest):
         for content in (b"", b"text", b"<a/>"):
             ran = desk("sums", self.files[0], "--check", self.write("no.dat", content))
             self.assertEqual(ran.status, 3)
-            self.assertIn("is no list of checksums", ran.told)
+            self.assertIn("is no list of checksums", ran.errors)
 
 
 if __name__ == "__main__":

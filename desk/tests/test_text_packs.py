@@ -37,7 +37,7 @@ class TextPacksTest(FolderTest):
         disc.texts = b"".join(found)
         path = self.write("dump", known.lead_in(disc, 120) + known.program(disc, 0, disc.end, 0))
         self.ran = desk("texts", path, *words)
-        self.assertEqual(self.ran.status, 0, self.ran.told)
+        self.assertEqual(self.ran.status, 0, self.ran.errors)
         return [tuple(row.values()) for row in self.ran.rows()]
 
     def test_all(self) -> None:
@@ -62,7 +62,7 @@ class TextPacksTest(FolderTest):
 
     def test_that_there_is_more_is_told(self) -> None:
         self.rows(packs())
-        self.assertIn("which --all prints: 3 languages, closed, disc-id, genre, toc, ASCII, MS-JIS", self.ran.told)
+        self.assertIn("which --all prints: 3 languages, closed, disc-id, genre, toc, ASCII, MS-JIS", self.ran.errors)
 
     def test_a_pack_that_is_missing(self) -> None:
         """Texts that it was a part of are left out, all others stay with their tracks."""

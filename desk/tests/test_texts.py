@@ -11,7 +11,7 @@ class TextsTest(FolderTest):
     def packs(self, stream: bytes, *words: Word) -> bytes:
         out = self.folder / "packs"
         ran = desk("texts", self.write("dump", stream), "--packs", out, *words)
-        self.assertEqual(ran.status, 0, ran.told)
+        self.assertEqual(ran.status, 0, ran.errors)
         self.listed = ran.out
         return out.read_bytes()
 
@@ -40,7 +40,7 @@ class TextsTest(FolderTest):
         for content in (packs, length + packs, length + packs + b"\0", packs + b"\0"):
             out = self.folder / "blocks"
             ran = desk("texts", "--back", self.write("given", content), "--blocks", out, "--force")
-            self.assertEqual(ran.status, 0, ran.told)
+            self.assertEqual(ran.status, 0, ran.errors)
             lines = [line for line in listed.splitlines() if not line.startswith("packs ")]
             self.assertEqual(ran.out.splitlines()[:-1], lines)
             blocks = out.read_bytes()
@@ -52,7 +52,7 @@ class TextsTest(FolderTest):
         sheet = b'FILE "a.wav" WAVE\nTRACK 01 AUDIO\nINDEX 01 00:00:00\n'
         ran = desk("texts", self.write("dump", author(sheet, "00:01:00", self.folder)))
         self.assertEqual(ran.status, 0)
-        self.assertIn("there is no text pack", ran.told)
+        self.assertIn("there is no text pack", ran.errors)
 
     def test_a_file_of_packs_names_the_option(self) -> None:
         packs = self.packs(hello())
@@ -60,14 +60,14 @@ class TextsTest(FolderTest):
             path = self.write("disc.cdt", content)
             ran = desk("texts", path)
             self.assertEqual(ran.status, 3)
-            self.assertEqual(ran.told, f"ribjasper-desk: {path}: is a file of text packs, which texts --back reads\n")
+            self.assertEqual(ran.errors, f"ribjasper-desk: {path}: is a file of text packs, which texts --back reads\n")
 
     def test_refusals(self) -> None:
         for content in (b"", bytes(17), bytes(19) + b"x", bytes(18 * 3 + 7)):
             path = self.write("given", content)
             ran = desk("texts", "--back", path)
             self.assertEqual(ran.status, 3, content)
-            self.assertIn(f"{path}: is not whole packs", ran.told)
+            self.assertIn(f"{path}: is not whole packs", ran.errors)
         dump = self.write("dump", hello())
         self.assertEqual(desk("texts", dump, "--blocks", self.folder / "out").status, 2)
         self.assertEqual(desk("texts", "--back", dump, "--packs", self.folder / "out").status, 2)

@@ -121,7 +121,7 @@ class TracksTest(FolderTest):
 
     def tracks(self, *words: Word, status: int = 0) -> Ran:
         ran = desk("sums", "--tracks", *words)
-        self.assertEqual(ran.status, status, ran.told)
+        self.assertEqual(ran.status, status, ran.errors)
         return ran
 
     def check_rows(self, ran: Ran, cut: list[bytes]) -> None:
@@ -154,7 +154,7 @@ class TracksTest(FolderTest):
         self.check_rows(self.tracks(self.write("disc.cue", "\n".join(lines))), self.cut)
         (self.folder / "disc (Track 2).bin").unlink()
         ran = self.tracks(self.folder / "disc.cue", status=3)
-        self.assertIn("names the file disc (Track 2).bin, which is not there", ran.told)
+        self.assertIn("names the file disc (Track 2).bin, which is not there", ran.errors)
 
     def test_a_data_track_begins_with_index_01(self) -> None:
         """The sectors of its pause are in no track, which is said."""
@@ -167,7 +167,7 @@ class TracksTest(FolderTest):
         data = b"".join(known.data_sector(850 + k) for k in range(300))
         ran = self.tracks(self.image(sound + bytes(AUDIO * 150) + data))
         self.check_rows(ran, [sound, data])
-        self.assertIn("150 sectors before data track 02 are in no track", ran.told)
+        self.assertIn("150 sectors before data track 02 are in no track", ran.errors)
 
     def test_an_offset(self) -> None:
         image = self.image()
@@ -194,7 +194,7 @@ class TracksTest(FolderTest):
         }
         ran = self.tracks(image, "--check", self.write("list.dat", dat(games)))
         self.assertEqual([row["found"] for row in ran.rows()], ["same"] * 3)
-        self.assertIn("is Game (Europe): 3 of 3 tracks are the same", ran.told)
+        self.assertIn("is Game (Europe): 3 of 3 tracks are the same", ran.errors)
         changed = bytearray(self.whole)
         changed[AUDIO * 600] ^= 1
         ran = self.tracks(self.image(bytes(changed)), "--check", self.folder / "list.dat", status=1)
@@ -202,7 +202,7 @@ class TracksTest(FolderTest):
         ran = self.tracks(
             self.image(), "--check", self.write("none.dat", dat({"Other": self.names(others)[1:]})), status=1
         )
-        self.assertIn("no disc of the list has one of its tracks", ran.told)
+        self.assertIn("no disc of the list has one of its tracks", ran.errors)
 
     def test_an_offset_by_the_list(self) -> None:
         """The audio of the list begins elsewhere in the image, as if another drive had read it."""
@@ -213,9 +213,9 @@ class TracksTest(FolderTest):
                 *moved(self.cut[1:], bytes(AUDIO * 550) + self.whole[AUDIO * 550 :], [550, 1075], samples),
             ]
             ran = self.tracks(image, "--check", self.write("list.dat", dat({"Game": self.names(cut)})))
-            self.assertIn(f"the audio fits the list with an offset of {samples} samples", ran.told)
+            self.assertIn(f"the audio fits the list with an offset of {samples} samples", ran.errors)
             self.assertEqual([row["found"] for row in ran.rows()], ["same"] * 3)
-            self.assertIn("is Game: 3 of 3 tracks are the same", ran.told)
+            self.assertIn("is Game: 3 of 3 tracks are the same", ran.errors)
 
     def test_a_silent_track_tells_no_offset(self) -> None:
         """The last track, which is the shortest, is silent; the other one tells."""
@@ -224,7 +224,7 @@ class TracksTest(FolderTest):
         audio = bytes(AUDIO * 550) + self.whole[AUDIO * 550 :]
         cut = [self.cut[0], *moved([self.cut[1], bytes(AUDIO * 475)], audio, [550, 1075], 102)]
         ran = self.tracks(image, "--check", self.write("list.dat", dat({"Game": self.names(cut)})))
-        self.assertIn("an offset of 102 samples", ran.told)
+        self.assertIn("an offset of 102 samples", ran.errors)
         self.assertEqual([row["found"] for row in ran.rows()], ["same"] * 3)
 
     def test_wrong_codes_of_sectors(self) -> None:
@@ -244,7 +244,7 @@ class TracksTest(FolderTest):
         image = self.image()
         ran = desk("sums", "--tracks", self.folder / "disc.cue", "--dat", image, "--force")
         self.assertEqual(ran.status, 3)
-        self.assertIn("is read here", ran.told)
+        self.assertIn("is read here", ran.errors)
         self.assertEqual(image.read_bytes(), self.whole)
 
 
@@ -272,7 +272,7 @@ class ImageTracksTest(TracksTest):
         stream = self.write("a.raw", known.program(self.disc, 150, self.disc.end, 0))
         ran = desk("sums", "--tracks", stream)
         self.assertEqual(ran.status, 3)
-        self.assertIn("has no sectors with Q", ran.told)
+        self.assertIn("has no sectors with Q", ran.errors)
 
     def test_a_second_session(self) -> None:
         """The data track of the second session begins with index 01, and the lead-out ends the first session."""
@@ -298,7 +298,7 @@ class ImageTracksTest(TracksTest):
         wav = write_wav(self.folder / "made.wav", 44_100 * 24)
         stream = author_files(sheet, self.write("made.script", b""), "00:24:00", self.folder / "made.raw")
         ran = desk("image", sheet, stream, "--audio", wav, "-o", self.folder / "out")
-        self.assertEqual(ran.status, 0, ran.told)
+        self.assertEqual(ran.status, 0, ran.errors)
         image = (self.folder / "out.bin").read_bytes()
         sectors = [image[at : at + AUDIO] for at in range(0, len(image), AUDIO + 96)]
         bounds = [(0, 75 * 8 + 10), (75 * 8 + 10, 75 * 15 + 33), (75 * 15 + 33, 75 * 24)]
