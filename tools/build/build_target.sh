@@ -75,7 +75,9 @@ library() {
     case $target in
         *-windows-gnu)
             { echo "LIBRARY ribjasper.dll"; echo EXPORTS; calls | sed 's/^/    /'; } >"$made/ribjasper.def"
-            "$compiler" -shared -static-libgcc -s -Wl,--no-insert-timestamp -o "$made/ribjasper.dll" \
+            # The linker derives a base from the path of the output, and an archive keeps paths of its members: neither may
+            # depend on the folder for temporary files.
+            "$compiler" -shared -static-libgcc -s -Wl,--no-insert-timestamp,--disable-auto-image-base -o "$made/ribjasper.dll" \
                 "$work/ribjasper.o" "$made/ribjasper.def"
             # One import library serves both; each linker looks for its own name.
             llvm llvm-dlltool -m i386:x86-64 -D ribjasper.dll -d "$made/ribjasper.def" -l "$made/ribjasper.lib"
@@ -84,7 +86,8 @@ library() {
             # For the static library of MSVC large frames touch the stack by the function of its own C library.
             translate "$module" x86_64-pc-windows-msvc "$work/ribjasper.obj"
             inspect "$work/ribjasper.obj"
-            llvm llvm-lib "/out:$made/ribjasper_static.lib" "$work/ribjasper.obj"
+            cp "$work/ribjasper.obj" "$made"
+            (cd "$made" && llvm llvm-lib /out:ribjasper_static.lib ribjasper.obj && rm ribjasper.obj)
             ;;
         *-linux-gnu)
             llvm llvm-ar rcsD "$made/libribjasper.a" "$work/ribjasper.o"

@@ -36,7 +36,8 @@ TARGETS = {
     "x86_64-unknown-linux-gnu": Target("x86_64-unknown-linux-gnu", ("-fPIC",)),
     "aarch64-unknown-linux-gnu": Target("aarch64-unknown-linux-gnu", ("-fPIC",)),
     "x86_64-pc-windows-gnu": Target("x86_64-w64-windows-gnu"),
-    "x86_64-pc-windows-msvc": Target("x86_64-pc-windows-msvc"),
+    # For incremental linkers the object would have the time in it.
+    "x86_64-pc-windows-msvc": Target("x86_64-pc-windows-msvc", ("-mno-incremental-linker-compatible",)),
     "x86_64-apple-darwin": Target("x86_64-apple-macos11"),
     "aarch64-apple-darwin": Target("arm64-apple-macos11"),
     "aarch64-apple-ios": Target("arm64-apple-ios13"),
