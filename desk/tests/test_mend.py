@@ -408,7 +408,7 @@ class MendedStreamTest(MendCase):
 @needs_library
 @needs_mending
 class FaultsTest(MendCase):
-    """Dumps of known truth, each of which was once mended wrongly."""
+    """Dumps of known truth that earlier versions mended wrongly."""
 
     def setUp(self) -> None:
         super().setUp()

@@ -8,8 +8,7 @@ from ribjasper.dumps.survey import Stretch
 
 class PiecesTest(unittest.TestCase):
     def test_small_pieces_alone(self) -> None:
-        """Two hundred pieces, none of which has a hundredth of the frames: the first of the largest tells the
-        lead-in."""
+        """None of two hundred pieces has a hundredth of the frames. The first of the largest pieces gives the lead-in."""
         first = range(100, 1300, 6)
         survey = mock.Mock(blocks=1300)
         survey.stretches.return_value = [Stretch(at, at + 2, at - 100 + number) for number, at in enumerate(first)]

@@ -1,5 +1,4 @@
-"""Lyrics of all kinds: what is read of them, in whatever letters they are written, and that all faults are told at
-once."""
+"""Lyrics of all formats and encodings are read, and all their faults are reported at once."""
 import random
 import struct
 import sys
