@@ -2,7 +2,7 @@
 # Compares our screens with ffmpeg's decoding of the packs that we convert, at several moments of a
 # stream with all nine graphics instructions, pixel by pixel in the window inside the border. The scene
 # keeps to what both read alike: presets repeat 0, the border has the memory's own colour and no offset
-# across is set (docs/DECISIONS.md says where ffmpeg differs). What ffmpeg does not show, the border and
+# across is set (docs/GUIDE.md lists where ffmpeg differs). What ffmpeg does not show, the border and
 # the levels of transparency, is compared with what examples/graphics_stream.py set. Then each
 # instruction is left out in turn, and that has to be noticed. Skipped where ffmpeg or bin/ribjasper is
 # missing.
