@@ -27,15 +27,15 @@ NAME = re.compile(r"[A-Za-z_][A-Za-z0-9_'?!-]*|◌[^◌\s]+◌")
 # Each act with its roots: clauses of `run`, definitions, or the laws of run_laws. What a later act begins with is not
 # shown before it: an act takes it on trust, and says in which act it stands.
 ACTS = [
-    ("Packs come back", ["run.gives_back"]),
+    ("Packs are recovered", ["run.gives_back"]),
     ("Pictures are shown", ["IsAuthored", "run.shows", "pixmap", "Drawing", "written_symbols"]),
-    ("What is written for a script, and what cannot be ready", ["ArePacks", "HavePlace", "run.authors", "run.late"]),
-    ("Framing: P, Q and the table of contents", ["HasFraming", "layout_of", "program_blocks", "run.frames"]),
+    ("The stream that is written, and late pictures", ["ArePacks", "HavePlace", "run.authors", "run.late"]),
+    ("P bits, Q frames and the table of contents", ["HasFraming", "layout_of", "program_blocks", "run.frames"]),
     ("Texts of the lead-in", ["text_packs", "lead_in_need", "run.strings"]),
-    ("The two grammars", ["IsSheetText", "IsScriptText", "CueSheet"]),
-    ("Words, answers, and what each command takes and writes", ["Spells", "texts", "error_line", "run.*"]),
-    ("What follows for special inputs", ["laws"]),
-    ("What the calls of the library say", ["library"]),
+    ("The grammars of the two texts", ["IsSheetText", "IsScriptText", "CueSheet"]),
+    ("Command lines, statuses, inputs and outputs", ["Spells", "texts", "error_line", "run.*"]),
+    ("Laws for special inputs", ["laws"]),
+    ("The calls of the library", ["library"]),
 ]
 
 # The acts of the headline, which the document shows.
@@ -46,145 +46,162 @@ LIBRARY = ("block_survey", "rw_mend", "mended_stream", "disc_plan", "live_player
 
 # What an act says first, where its claims name something that it does not show.
 SAID = {
-    "Packs come back": "Here `disc` is a cue sheet and a script with a lead-in and a length, `stream` the bytes of an authored"
-    " stream of it, and `packs` the packs that this stream carries, each a list of 24 symbols. What is used of"
-    " `IsAuthored` is its field `carries`, that these packs are spread over the program symbols of `stream`, and their count.",
-    "Pictures are shown": "An authored stream is what any author may write: it carries a schedule of the script. What is taken"
-    " on trust here are the framing around the packs, the grammars of the two texts and the words of the command line.",
+    "Packs are recovered": "This act is about `convert`. In its clause, `disc` is a cue sheet and a script with a lead-in and a length. `stream`"
+    " is the bytes of an authored stream of this disc, and `packs` is the list of packs in this stream, each a list of 24 symbols. The act"
+    " uses only two facts about `IsAuthored`: its field `carries` says that these packs are spread over the program symbols of `stream`,"
+    " and their number is known.",
+    "Pictures are shown": "This act is about `screen`. An authored stream contains a schedule of its script, and any program may have made it."
+    " This act does not show the definitions of P, Q and the table of contents, the grammars of the two texts, and the words of the command"
+    " line.",
+    "The stream that is written, and late pictures": "This act is about `author`: which stream it writes, and when it reports a late"
+    " picture.",
+}
+
+# What each clause of the headline states, in place of the comment above it in the code.
+STATED = {
+    "gives_back": "The clause `gives_back` states: if the input of `convert` is a copy of an authored stream with at most two wrong symbols in"
+    " each word, `convert` recovers every scheduled pack.",
+    "shows": "The clause `shows` states: if the input of `screen` is such a copy, `screen` shows each picture of an accepted script from its"
+    " ready time to its hold time.",
+    "authors": "The clause `authors` states: if a sheet and a script fit on the disc, `author` writes an authored stream, or reports the first"
+    " late picture.",
+    "late": "The clause `late` states: if `author` reports a picture as late, no list of instructions without scrolls draws it in the packs that"
+    " are free for it. A list for the first picture must also set all pixels, the border and all colours, so even a blank first picture may be"
+    " late.",
 }
 
 ROMAN = "I II III IV V VI VII VIII IX".split()
 
 # How a clause is read. The signature of `run` and the variants of the named types come from the code.
 KEY = """
-The caller chooses the types of the inputs and outputs of `run`: `S` and `T` are sources, `K` and `E` are sinks. A
-clause `ensures name { .. }` holds after every call. In it:
+The caller chooses the types of the inputs and outputs of `run`: `S` and `T` are types of inputs (*sources*), and `K` and `E` are types of
+outputs (*sinks*). A clause `ensures name { .. }` is a statement that is true after every call. It uses these signs:
 
-| Sign | Means |
+| Sign | Meaning |
 |---|---|
-| `first.old`, `first.new` | an argument that the call may change, before and after the call |
-| `words.now` | an argument that the call only reads |
-| `result` | the return value |
-| `x.0`, `x.1`, `x.name` | a part of a tuple, by its place, and a part of a record, by its name |
-| `S.left first.old` | the bytes that are still to be read from a source: `Some` list if they are known, else `None` |
-| `K.held out.old` | the bytes that were written to a sink, if they are known |
-| `S.faults`, `S.ends` | how many reads failed, and how many reported the end |
-| `S.Source` | the bytes and the counts of a source, as one value |
-| `(x : A) → P`, `(x y : A) → P` | for every x (and y) of A, P |
-| `(x : A) × P` | there is an x of A with P |
-| `a ≡ b`, `a ≢ b` | a equals b, a does not |
-| `a → b` | if a, then b; between types, a function |
-| `a × b`, `a ⊎ b`, `¬ a`, `a ↔ b` | and, or, not, if and only if |
-| `⊤`, `⊥` | true, false |
-| `λ x. e` | the function that maps x to e |
-| `ℕ`, `a - b` | the natural numbers; a minus with a negative result is 0 |
-| `[]`, `x ∷ xs`, `xs ++ ys` | the empty list, a list with x in front, two lists joined |
-| `record`, `pub name : A` | several statements under one name, which hold together; or a value of several parts |
-| `record { name = e; .. }` | the value whose parts are these |
-| `abbrev`, `unfoldable` | a name for what stands on its right side; the two differ for the prover alone |
-| `data`, `name : A → B ..` | what holds in one of these ways and in no other; or a value of one of these kinds |
-| `{A : Type 0}` | an argument that is found by itself |
+| `first.old`, `first.new` | An argument that the call may change, before and after the call. |
+| `words.now` | An argument that the call only reads. |
+| `result` | The return value of the call. |
+| `x.0`, `x.1`, `x.name` | A part of a tuple, by its place, and a part of a record, by its name. |
+| `S.left first.old` | The bytes that can still be read from a source: `Some` list if they are known, otherwise `None`. |
+| `K.held out.old` | The bytes that were written to a sink, if they are known. |
+| `S.faults`, `S.ends` | The number of reads that failed, and the number of reads that reported the end. |
+| `S.Source` | The bytes and the counts of a source, as one value. |
+| `(x : A) → P`, `(x y : A) → P` | For every x (and every y) of A, P is true. |
+| `(x : A) × P` | There is an x of A for which P is true. |
+| `a ≡ b`, `a ≢ b` | a equals b; a does not equal b. |
+| `a → b` | If a is true, b is true. Between types, it is the type of functions from a to b. |
+| `a × b`, `a ⊎ b`, `¬ a`, `a ↔ b` | a and b; a or b; not a; a if and only if b. |
+| `⊤`, `⊥` | The statement that is always true, and the one that is always false. |
+| `λ x. e` | The function that maps x to e. |
+| `ℕ`, `a - b` | The natural numbers. If a - b would be negative, it is 0. |
+| `[]`, `x ∷ xs`, `xs ++ ys` | The empty list; a list with x in front of xs; two lists joined. |
+| `record`, `pub name : A` | Several statements under one name, all of which are true; or a value of several parts. |
+| `record { name = e; .. }` | The value whose parts are these. |
+| `abbrev`, `unfoldable` | A name for the right side of the definition. The two words differ only for the checker. |
+| `data`, `name : A → B ..` | A statement that is true in one of these ways and in no other; or a value of one of these kinds. |
+| `{A : Type 0}` | An argument that the checker finds by itself. |
 
-`slice_index xs n` is element n of a list counted from 0, and 0 where there is none: `pixel_at` and `word_of` rely on it.
+`slice_index xs n` is element n of a list, counted from 0. If the list has no such element, it is 0. `pixel_at` and `word_of` depend on this.
 """.strip()
 
 # What the words of the standard library mean.
 WORDS = {
-    "All": "it holds of each element of a list",
-    "AllByRecursion": "it holds of each element of a list",
-    "Appends": "what an output holds grew by exactly these bytes, where it tells them",
-    "Bool": "`true` or `false`",
-    "Consumes": "exactly these bytes were taken off the front of an input, where it tells them",
-    "Contains": "the list has this element",
-    "Err": "an answer that is no success, with its reason",
-    "ForSome": "there is a value, and this holds of it",
-    "Global": "the heap",
-    "IfErr": "where the answer is `Err`, this holds of its reason",
-    "IfOk": "where the answer is `Ok`, this holds of its value",
-    "IfSome": "where there is a value, this holds of it",
-    "IsAtEnd": "nothing is left of an input, where it tells its bytes",
-    "IsErr": "the answer is `Err`",
-    "IsErrOf": "the answer is `Err` with this reason",
-    "IsOk": "the answer is `Ok`",
-    "IsTrue": "the value is `true`",
-    "List": "a finite list",
-    "MatchBool": "one thing holds if a truth value is `true`, another if it is `false`",
-    "MatchOption": "one thing holds where there is no value, another of the value that is there",
-    "MatchResult": "one thing holds of the value of an `Ok`, another of the reason of an `Err`",
-    "None": "no value",
-    "Ok": "the answer of a success, with its value",
-    "OnErr": "where the answer is `Err`, this holds",
-    "OnOk": "where the answer is `Ok`, this holds",
-    "Option": "a value, or none",
-    "ReadConsumes": "a read took exactly the bytes that it gave",
-    "Result": "`Ok` with a value, or `Err` with a reason",
-    "Some": "a value that is there",
-    "StartsWith": "the list begins with this other list",
-    "String": "a text",
-    "Unit": "the one value that says nothing",
-    "before_first": "what stands before the first element of this kind",
-    "bit_at": "bit k of a number, the lowest first",
-    "bit_xor": "exclusive or, bit by bit",
-    "box_owns": "a box holds this value, and the memory that it lies in",
-    "bytes_eq": "whether two lists of bytes are equal",
-    "coded_list": "numbers as they lie in memory, one behind another",
-    "codes": "the letters of a text as numbers",
-    "concat": "the lists of a list, joined",
-    "count_by": "how many elements are of this kind",
-    "decimal": "a number in decimal digits, with no zero in front",
-    "digit_char": "the letter of a digit",
-    "digit_value": "the number that a digit's letter means",
-    "digits_value": "the number that digits mean",
-    "drop": "a list without its first n elements",
-    "enumerate_from": "each element with its number, counted from n",
-    "false": "no",
-    "filter": "the elements of this kind, in their order",
-    "filter_map": "what a function gives for the elements for which it gives something",
-    "find": "the first element of this kind, if any",
-    "flat_map": "the lists that a function gives for each element, joined",
-    "fold": "a value carried through a list, element by element",
-    "is_ascii_digit": "whether a letter is one of 0 to 9",
-    "is_ascii_hexdigit": "whether it is one of 0 to 9, a to f, A to F",
-    "is_ascii_uppercase": "whether it is one of A to Z",
-    "is_err": "whether an answer is `Err`",
-    "is_none": "whether there is no value",
-    "is_ok": "whether an answer is `Ok`",
-    "is_prefix": "whether a list is the beginning of another",
-    "is_some": "whether there is a value",
-    "length": "how many elements a list has",
-    "lines": "a text cut at its line feeds",
-    "list_all": "whether all elements are of this kind",
-    "list_any": "whether some element is of this kind",
-    "map": "what a function gives for each element",
-    "max": "the greater of two numbers",
-    "min": "the lesser of two numbers",
-    "nat_eq": "whether two numbers are equal",
-    "nat_le": "whether a number is at most another",
-    "nat_lt": "whether a number is below another",
-    "negsuc": "a number below zero: `negsuc n` is - n - 1",
-    "not": "the other truth value",
-    "option_map": "what a function gives for a value, if there is one",
-    "pos": "a whole number from 0 on",
-    "position": "the number of the first element of this kind",
-    "range_with_len": "so many numbers, counted up from the first",
-    "replicate": "a list of n equal elements",
-    "reverse": "a list from its end",
-    "slice_index": "element n of a list, counted from 0; 0 where there is none",
-    "slice_index_or": "the same, or another value where there is none",
-    "slice_range": "the elements of a list between two places",
-    "slice_set": "a list with another value at place n",
-    "slice_split": "a list cut at each element of this kind, without these",
-    "starts_with": "whether a list begins with another",
-    "str_eq_ignore_ascii_case": "whether two texts are equal but for capital letters",
-    "str_to_ascii_uppercase": "a text in capital letters",
-    "string_bytes": "a text as bytes",
-    "suc": "the next number",
-    "sum_by": "the sum of what a function gives for each element",
-    "take": "the first n elements of a list",
-    "true": "yes",
-    "unwrap_or": "a value that is there, or another one",
+    "All": "A statement is true for each element of a list.",
+    "AllByRecursion": "A statement is true for each element of a list.",
+    "Appends": "If the contents of an output are known, exactly these bytes were appended to them.",
+    "Bool": "A truth value, `true` or `false`.",
+    "Consumes": "If the contents of an input are known, exactly these bytes were removed from their front.",
+    "Contains": "The list has this element.",
+    "Err": "The result of a call that failed, with the reason.",
+    "ForSome": "There is a value for which this statement is true.",
+    "Global": "The heap.",
+    "IfErr": "If the result is `Err`, this statement is true for its reason.",
+    "IfOk": "If the result is `Ok`, this statement is true for its value.",
+    "IfSome": "If there is a value, this statement is true for it.",
+    "IsAtEnd": "If the contents of an input are known, nothing is left of them.",
+    "IsErr": "The result is `Err`.",
+    "IsErrOf": "The result is `Err` with this reason.",
+    "IsOk": "The result is `Ok`.",
+    "IsTrue": "The value is `true`.",
+    "List": "A finite list.",
+    "MatchBool": "If a truth value is `true`, the first statement is true; if it is `false`, the second one is.",
+    "MatchOption": "If there is no value, the first statement is true; if there is one, the second statement is true for it.",
+    "MatchResult": "If the result is `Ok`, the first statement is true for its value; if it is `Err`, the second one is true for its reason.",
+    "None": "No value.",
+    "Ok": "The result of a call that succeeded, with its value.",
+    "OnErr": "If the result is `Err`, this statement is true.",
+    "OnOk": "If the result is `Ok`, this statement is true.",
+    "Option": "A value, or no value.",
+    "ReadConsumes": "A read removed exactly the bytes that it returned.",
+    "Result": "`Ok` with a value, or `Err` with a reason.",
+    "Some": "A value that exists.",
+    "StartsWith": "The list begins with this other list.",
+    "String": "A text.",
+    "Unit": "The type with only one value.",
+    "before_first": "The elements before the first one of this kind.",
+    "bit_at": "Bit k of a number, counted from the lowest bit.",
+    "bit_xor": "The exclusive or of two numbers, bit by bit.",
+    "box_owns": "A box holds this value and owns its memory.",
+    "bytes_eq": "Whether two lists of bytes are equal.",
+    "coded_list": "A list of numbers as bytes in memory, one after another.",
+    "codes": "The characters of a text as numbers.",
+    "concat": "The lists of a list, joined.",
+    "count_by": "The number of elements of this kind.",
+    "decimal": "A number in decimal digits, without a leading zero.",
+    "digit_char": "The character of a digit.",
+    "digit_value": "The number that the character of a digit means.",
+    "digits_value": "The number that a list of digits means.",
+    "drop": "A list without its first n elements.",
+    "enumerate_from": "Each element with its number, counted from n.",
+    "false": "The truth value of a false statement.",
+    "filter": "The elements of this kind, in their order.",
+    "filter_map": "The values of a function, for the elements for which it has one.",
+    "find": "The first element of this kind, if there is one.",
+    "flat_map": "The lists that a function returns for each element, joined.",
+    "fold": "The value of a function that is applied to the elements one after another.",
+    "is_ascii_digit": "Whether a character is one of 0 to 9.",
+    "is_ascii_hexdigit": "Whether a character is one of 0 to 9, a to f, A to F.",
+    "is_ascii_uppercase": "Whether a character is one of A to Z.",
+    "is_err": "Whether a result is `Err`.",
+    "is_none": "Whether there is no value.",
+    "is_ok": "Whether a result is `Ok`.",
+    "is_prefix": "Whether a list is the beginning of another.",
+    "is_some": "Whether there is a value.",
+    "length": "The number of elements of a list.",
+    "lines": "The lines of a text, which end with line feeds.",
+    "list_all": "Whether all elements are of this kind.",
+    "list_any": "Whether some element is of this kind.",
+    "map": "The values of a function for all elements of a list.",
+    "max": "The greater of two numbers.",
+    "min": "The smaller of two numbers.",
+    "nat_eq": "Whether two numbers are equal.",
+    "nat_le": "Whether a number is at most another.",
+    "nat_lt": "Whether a number is below another.",
+    "negsuc": "A number below zero: `negsuc n` is - n - 1.",
+    "not": "The other truth value.",
+    "option_map": "The value of a function, if there is a value to apply it to.",
+    "pos": "An integer from 0 on.",
+    "position": "The index of the first element of this kind.",
+    "range_with_len": "A list of n numbers that count up from a first number.",
+    "replicate": "A list of n equal elements.",
+    "reverse": "A list in reverse order.",
+    "slice_index": "Element n of a list, counted from 0; or 0 if there is none.",
+    "slice_index_or": "Element n of a list, counted from 0; or another value if there is none.",
+    "slice_range": "The elements of a list between two indices.",
+    "slice_set": "A list with another value at index n.",
+    "slice_split": "The parts of a list between the elements of this kind.",
+    "starts_with": "Whether a list begins with another.",
+    "str_eq_ignore_ascii_case": "Whether two texts are equal except for capital letters.",
+    "str_to_ascii_uppercase": "A text in capital letters.",
+    "string_bytes": "A text as bytes.",
+    "suc": "The next number.",
+    "sum_by": "The sum of the values of a function for all elements.",
+    "take": "The first n elements of a list.",
+    "true": "The truth value of a true statement.",
+    "unwrap_or": "The value, if there is one, or another value.",
     "zero": "0",
-    "zip": "two lists as one list of pairs",
+    "zip": "Two lists as one list of pairs.",
 }
 
 
@@ -229,7 +246,7 @@ def modules() -> dict[str, Module]:
 
 
 def clauses() -> tuple[dict[str, Claim], Names]:
-    """The clauses of `run`, each with the comment above it, and what its names mean."""
+    """The clauses of `run`, each with what it states or the comment above it, and what its names mean."""
     lines = CLAIMS.read_text().splitlines()
     names: Names = {}
     for line in lines:
@@ -248,7 +265,8 @@ def clauses() -> tuple[dict[str, Claim], Names]:
             end = at
             while not balanced("\n".join(lines[at : end + 1])):
                 end += 1
-            found[clause[1]] = (held, [it[4:] for it in lines[at : end + 1]])
+            stated = [STATED[clause[1]]] if clause[1] in STATED else held
+            found[clause[1]] = (stated, [it[4:] for it in lines[at : end + 1]])
             held, at = [], end
         elif not line.strip().startswith("//"):
             held = []
@@ -419,7 +437,7 @@ class Book:
         out = [SAID[title], ""] if title in SAID else []
         if put_off:
             where = ", ".join(f"`{target[1]}` ({later[target]})" for target in put_off)
-            out += [f"Taken on trust here, and shown in the act that is named: {where}.", ""]
+            out += [f"This act uses further definitions. Another act, given in parentheses, shows them: {where}.", ""]
         for comment, lines in claims:
             out += [" ".join(comment), ""] if comment else []
             out += ["```", *lines, "```", ""]
@@ -444,7 +462,7 @@ class Book:
             before = where
         out += ["```", ""] * (before is not None)
         if numbers:
-            out += ["| Number | Is | Means |", "|---|---|---|", *numbers, ""]
+            out += ["| Name | Number | Meaning |", "|---|---|---|", *numbers, ""]
         return out
 
     def rest(self) -> list[str]:
@@ -464,30 +482,33 @@ class Book:
         out = [
             "# Definitions",
             "",
-            "The headline is a set of clauses of the top call `run`. This document shows these clauses and every definition that",
-            "they use, copied from the code. The checker proves that the program meets its clauses. Only a reader can",
-            "judge whether the clauses say what is meant.",
+            "This document shows the most important proved statement of Ribjasper, the *headline*, as it is in the code. It is for",
+            "readers who want to judge whether the headline says what they expect. The checker proves that the program meets",
+            "its clauses, but only a reader can judge what a clause means. [PROVED](PROVED.md) explains the headline in words.",
             "",
-            f"Acts I and II ({first + second} lines) are the headline's second half: packs and pictures come back. Act III ({third} lines) is",
-            "its first half: what is written, and what is late. Each act shows its claims first and then what they cite. A line",
-            "that begins with `--` explains the next definition. `tools/write/list_definitions.py` writes this document, and",
-            "`make check` compares it with the code. `make definitions` writes all acts to `docs/DEFINITIONS-WHOLE.md`.",
+            "In the code, the headline is a set of clauses of the function `run`. This document has an *act* for each part of it.",
+            "An act begins with its clauses, and then shows every definition that they use. A line that begins with `--` explains",
+            f"the next definition. Acts I and II ({first + second} lines) say that packs and pictures are recovered from a stream. Act III ({third} lines)",
+            "says which stream is written, and when a picture is late.",
+            "",
+            "All definitions are copied from the code. `tools/write/list_definitions.py` writes this document, and `make check`",
+            "compares it with the code. `make definitions` writes all acts to `docs/DEFINITIONS-WHOLE.md`.",
             "",
             "| Act | Definitions | Lines |",
             "|---|---|---|",
         ]
         out += [f"| {ROMAN[k]}. {title} | {number} | {count} |" for k, (title, number, count) in enumerate(counts)]
         out += [f"| {ROMAN[k]}. {title} | `make definitions` | |" for k, (title, _) in enumerate(ACTS) if k >= len(counts)]
-        out += ["", "## How to read them", "", "```", *signature(), "```", "", KEY, ""]
+        out += ["", "## How to read them", "", "The function `run` performs one command of the program. It has these arguments:", "", "```", *signature(), "```", "", KEY, ""]
         for crate, name in (("raw_subcode", "Form"), ("cdg_cmd", "Status"), ("cdg_instructions", "Instr")):
-            out += [f"The variants of `{name}`:", "", "```", *variants(crate, name), "```", ""]
-        out += ["| Word of the standard library | Means |", "|---|---|"]
+            out += [f"The type `{name}` has these variants:", "", "```", *variants(crate, name), "```", ""]
+        out += ["The definitions also use these words of the standard library:", "", "| Word | Meaning |", "|---|---|"]
         out += [f"| `{word}` | {WORDS[word]} |" for word in sorted(self.words) if word in WORDS]
         types = sorted({f"`{it.split('.')[-1]}` ({it.split('.')[0]})" for it in self.types})
-        out += ["", f"Types of the code that they name: {', '.join(types)}."]
+        out += ["", f"The definitions also use these types of the code, each from the crate in parentheses: {', '.join(types)}."]
         out += ["", *acts]
         if is_whole:
-            out += ["## What no act reaches", "", "Definitions of steps within proofs and of calls below `run`.", "", *self.rest()]
+            out += ["## What no act reaches", "", "These definitions are steps of proofs, or are about calls below `run`:", "", *self.rest()]
         return "\n".join(out).rstrip("\n") + "\n", counts
 
 
