@@ -307,8 +307,21 @@ def variants(crate: str, name: str) -> list[str]:
         if f"pub enum {name} {{" in lines:
             first = lines.index(f"pub enum {name} {{")
             last = next(k for k in range(first, len(lines)) if lines[k] == "}")
-            return [it for it in lines[first : last + 1] if it.strip() and not it.strip().startswith(("//", "#["))]
+            kept = [it for it in lines[first : last + 1] if it.strip() and not it.strip().startswith(("//", "#["))]
+            return on_one_line(kept)
     sys.exit(f"tools/write/list_definitions.py: {crate} has no public enum {name}")
+
+
+def on_one_line(lines: list[str]) -> list[str]:
+    """The lines of an enum, each variant on one line."""
+    out = lines[:1]
+    for line in lines[1:]:
+        is_field = line.startswith("        ")
+        if is_field or line.strip() == "},":
+            out[-1] += " " + line.strip()
+        else:
+            out.append(line)
+    return [re.sub(r", \},$", " },", line) for line in out]
 
 
 def balanced(text: str) -> bool:
