@@ -28,7 +28,7 @@ the program
 .BR ribjasper (1),
 in place of the one that is installed
 .SH LICENCE
-MIT or Apache-2.0, as you like it: 2026 The Ribjasper authors.
+MIT or Apache-2.0, at your option: 2026 The Ribjasper authors.
 .SH SEE ALSO
 .BR ribjasper (1),
 .BR ribjasper (3)

@@ -67,12 +67,13 @@ def parser(command: str | None = None) -> argparse.ArgumentParser:
     """The parser of all commands, or, which is there sooner, that of one of them."""
     top = Parser(
         prog="ribjasper-desk",
-        description="Works on dumps and songs of the subcode channels of Compact Discs, over the proved library.",
-        epilog="Exit: 0 done, 1 damage was found or files differ, 2 wrong words, 3 a file was refused, 4 a picture is late, "
-        "5 something has to be installed or built first, 6 an output cannot be written, 7 the memory is not enough, 8 a "
-        "fault of the desk, 9 nothing to do, 128 and the number of the signal that ended it.",
+        description="Works on dumps of Compact Discs and on songs with graphics, with the proved library.",
+        epilog="Exit status: 0 done; 1 damage was found, or files differ; 2 wrong options; 3 a file was refused; 4 a "
+        "picture is late; 5 something must be installed or built first; 6 an output cannot be written; 7 out of "
+        "memory; 8 an internal error of the desk; 9 there is nothing to mend; 128 plus the number of a signal that "
+        "ended the command.",
     )
-    top.add_argument("--version", action=Version, help="print the version and end")
+    top.add_argument("--version", action=Version, help="print the version and exit")
     commands = top.add_subparsers(metavar="COMMAND", required=True, parser_class=Parser)
     for name in COMMANDS if command is None else [command]:
         module_of(name).add_parser(commands)
@@ -81,7 +82,7 @@ def parser(command: str | None = None) -> argparse.ArgumentParser:
 
 
 def add_quiet(of: argparse.ArgumentParser) -> None:
-    of.add_argument("-q", "--quiet", action="store_true", help="print no notes and no progress; errors are printed")
+    of.add_argument("-q", "--quiet", action="store_true", help="print only errors: no notes and no progress")
 
 
 class Stopped(KeyboardInterrupt):

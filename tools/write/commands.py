@@ -20,20 +20,20 @@ WITHOUT_COOKED = ["q", "text"]
 # What the manual page has between its title and the commands.
 BEGINNING = r"""
 .SH NAME
-ribjasper \- the subcode of Compact Discs: graphics, texts, Q frames, both ways
+ribjasper \- read and write the subcode of Compact Discs: graphics, texts, Q frames
 .SH SYNOPSIS
 .B ribjasper
 .I words
 .RB [ \-\-
 .IR first " [" second ]]
 .SH DESCRIPTION
-Works on the subcode channels P to W of a Compact Disc. Each command has one spelling, with its options in the order
-shown here. The input is standard input, or the files that are named after the word
-.BR \-\- .
-The output is standard output. The word
+Each command of this program reads or writes the subcode channels P to W of a Compact Disc. A command has one spelling,
+with its options in the order shown here. It reads standard input, or the files that are named after the word
+.BR \-\- ,
+and writes to standard output. If the program prints
 .B usage
-on standard error means that the words are no command: compare them with this page. Streams are read and written as they
-arrive.
+on standard error, the words are no command: compare them with this page. The commands convert, q, planar, raw,
+scratch, merge and thin write while they read, so they work on live streams.
 .SH COMMANDS
 """.strip().splitlines()
 
@@ -106,15 +106,15 @@ def manual(formats: str, commands: list[Row]) -> str:
     for words, inputs, output in commands:
         out += entry(words, f"Reads {'nothing' if inputs == 'none' else roff(inputs)}. Writes {roff(output)}.")
     out += [*letters(formats), *statuses(formats), *refusals(formats)]
-    out += [".SH NOTES", "Wrong results that end quietly or with a line that is easily misread."]
+    out += [".SH NOTES", "These mistakes are easy to make and hard to see: the status is 0, or the message is easily misread."]
     for seen, meaning, remedy in table(formats, "| You see | It is | What to do |"):
         out += entry(seen, f"{roff(meaning)}. Remedy: {roff(remedy)}.")
     out += [".SH EXAMPLES"]
     for said, lines in examples(formats):
         out += [roff(said), ".PP", ".nf", ".RS", *map(roff, lines), ".RE", ".fi", ".PP"]
-    out += [".SH LICENCE", "MIT or Apache-2.0, as you like it: 2026 The Ribjasper authors."]
+    out += [".SH LICENCE", "MIT or Apache-2.0, at your option: 2026 The Ribjasper authors."]
     out += [".SH SEE ALSO", ".BR ribjasper\\-desk (1),", ".BR ribjasper (3);"]
-    out += ["formats, byte by byte, and the guide: docs/FORMATS.md and docs/GUIDE.md of the project."]
+    out += ["docs/FORMATS.md and docs/GUIDE.md of the project describe the formats byte by byte and show how to use the commands."]
     return "\n".join(out) + "\n"
 
 

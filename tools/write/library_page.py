@@ -71,7 +71,7 @@ def page(header: str, version: str) -> str:
     ]
     for comment, code in parts[1:]:
         out += entry(comment, code)
-    out += [".SH LICENCE", "MIT or Apache-2.0, as you like it: 2026 The Ribjasper authors."]
+    out += [".SH LICENCE", "MIT or Apache-2.0, at your option: 2026 The Ribjasper authors."]
     out += [".SH SEE ALSO", ".BR ribjasper (1)"]
     return "\n".join(out) + "\n"
 

@@ -121,7 +121,7 @@ class Table:
 
 
 def add_json(parser: argparse.ArgumentParser) -> None:
-    parser.add_argument("--json", action="store_true", help="print the table as JSON, one object per row")
+    parser.add_argument("--json", action="store_true", help="print the table as JSON, an object for each row")
 
 
 def flush() -> None:

@@ -81,14 +81,16 @@ def add_options(parser: argparse.ArgumentParser) -> None:
         "--form",
         type=form_name,
         metavar="F",
-        help=f"the form: {FORM_NAMES}, each also with -reversed or -swapped behind it; otherwise it is found",
+        help=f"the form of the dump: {FORM_NAMES}, each also with -reversed or -swapped appended (detected)",
     )
-    parser.add_argument("--lead-in", type=lead_in, metavar="N", help="blocks of the lead-in; otherwise Q says how many")
+    parser.add_argument(
+        "--lead-in", type=lead_in, metavar="N", help="the number of blocks in the lead-in (detected " "from channel Q)"
+    )
     parser.add_argument(
         "--skip",
         type=number_in(0, MOST_SKIPPED),
         metavar="BYTES",
-        help="bytes of a header in front; otherwise they are found",
+        help="the number of bytes of a header in front (detected)",
     )
 
 

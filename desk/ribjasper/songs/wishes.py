@@ -21,7 +21,7 @@ LONGEST_INTRO = 600
 
 def add_wishes(parser: argparse.ArgumentParser) -> None:
     """The options that say how a song looks."""
-    parser.add_argument("--title", type=Path, metavar="IMAGE", help="a picture that is shown before the first words")
+    parser.add_argument("--title", type=Path, metavar="IMAGE", help="show this picture before the first words")
     parser.add_argument("--style", metavar="STYLE", help=f"{', '.join(shipped())}, or a file STYLE.toml (night)")
     parser.add_argument(
         "--font",
@@ -29,21 +29,23 @@ def add_wishes(parser: argparse.ArgumentParser) -> None:
         action="append",
         default=[],
         metavar="FILE",
-        help=f"a font ({DEFAULT_FONT.stem}); once more for letters that the first does not have",
+        help=f"a font ({DEFAULT_FONT.stem}); repeat the option to name another font for letters that the first one lacks",
     )
     parser.add_argument(
         "--size",
         type=number_in(LEAST_SIZE, MOST_SIZE),
         metavar="PIXELS",
-        help="of the letters (24 to 16 by the lines, or less if most would break)",
+        help="the height of letters in pixels (24 to 16, or less if most lines would not fit into a row)",
     )
-    parser.add_argument("--rows", type=number_in(LEAST_ROWS, MOST_ROWS), metavar="N", help="rows a page (4)")
-    parser.add_argument("--sweep", action="store_true", help="light a word little by little while it is sung")
+    parser.add_argument(
+        "--rows", type=number_in(LEAST_ROWS, MOST_ROWS), metavar="N", help="the number of rows of a " "page (4)"
+    )
+    parser.add_argument("--sweep", action="store_true", help="colour each word gradually while it is sung")
     parser.add_argument(
         "--lead",
         type=seconds_in(0, LONGEST_LEAD),
         metavar="SECONDS",
-        help="draw a line so long before it is sung, and no earlier (4, or more if lines would be late)",
+        help="draw each line this many seconds before it is sung (4, or more if lines would be late)",
     )
     parser.add_argument(
         "--legend", action="store_true", help="show the singers in their colours before the first words"
@@ -53,24 +55,25 @@ def add_wishes(parser: argparse.ArgumentParser) -> None:
         action="append",
         default=[],
         metavar="IMAGE",
-        help="show a picture, or a colour like #08F, in rests of 12 seconds and more; once more for others in turn",
+        help="show this image, or a colour like #08F, in rests of 12 seconds and more; repeat the option for several "
+        "images in turn",
     )
     parser.add_argument(
         "--intro",
         type=seconds_in(0, LONGEST_INTRO),
         default=0.0,
         metavar="SECONDS",
-        help="begin so much later: silence in front of the sound and the pictures",
+        help="insert this many seconds of silence at the beginning, before the sound and the pictures",
     )
     add_encoding(parser)
     parser.add_argument(
         "--missing",
         choices=(LEAVE, BOXES),
         default=LEAVE,
-        help="leave out letters that no font has, or draw a box for each (leave)",
+        help="what to do with letters that no font has: omit them, or draw a box for each (leave)",
     )
     parser.add_argument(
-        "--no-rests", action="store_true", help="no dots before a line, no pages for rests, and no last page"
+        "--no-rests", action="store_true", help="show no dots before a line, no pages for rests, and no last page"
     )
 
 
@@ -86,7 +89,7 @@ def add_encoding(parser: argparse.ArgumentParser) -> None:
         "--encoding",
         type=encoding,
         metavar="NAME",
-        help="how the lyrics are encoded, as windows-1251 (a guess if not UTF-8)",
+        help="the encoding of the lyrics, for example windows-1251 (guessed if it is not UTF-8)",
     )
 
 

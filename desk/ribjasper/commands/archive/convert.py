@@ -57,21 +57,34 @@ def add_parser(commands: Commands) -> None:
     parser = commands.add_parser(
         "convert",
         help="write a dump, or a part of it, in another form",
-        description="Writes a dump in another form: raw or planar blocks, packs as a cooked dump or a .cdg file have them, P "
-        "and Q alone, each also behind the audio of sectors. The form is that of the output's ending (.raw, .subcode, .sub, "
-        ".bin, .img, .cdg) or the one named. From packs the program presses blocks, with P and Q of a disc of one track or "
-        "of a sheet. Exit 1 if packs have no codeword.",
+        description="Writes a dump in another form. The output can have raw or planar blocks, the packs of a cooked "
+        "dump or of a .cdg file, or only P and Q. Most forms can also have the audio of sectors. --as names the "
+        "form; otherwise it follows from the ending of the output (.raw, .subcode, .sub, .bin, .img or .cdg). If the "
+        "dump has only packs, the program presses blocks from them, with P and Q of a disc with one track or of a "
+        "cue sheet. The exit status is 1 if some pack has no codeword.",
     )
     parser.add_argument("file", metavar="DUMP")
     parser.add_argument("-o", "--output", required=True, metavar="OUT")
     parser.add_argument("--as", dest="to_form", type=form_name, metavar="FORM", help="the form of the output")
     parser.add_argument(
-        "--from", dest="begin", type=place, metavar="PLACE", help="an absolute time MM:SS:FF, or a block"
+        "--from",
+        dest="begin",
+        type=place,
+        metavar="PLACE",
+        help="where the part begins: a time of the disc as " "MM:SS:FF, or the number of a block",
     )
-    parser.add_argument("--to", dest="end", type=place, metavar="PLACE", help="up to here, which is left out")
-    parser.add_argument("--audio", metavar="FILE", help="samples for sectors: raw ones or a WAV file")
-    parser.add_argument("--silent", action="store_true", help="sectors without sound")
-    parser.add_argument("--sheet", metavar="CUE", help="take P and Q of pressed blocks from this sheet")
+    parser.add_argument(
+        "--to",
+        dest="end",
+        type=place,
+        metavar="PLACE",
+        help="where the part ends: the first time " "or block that is not written",
+    )
+    parser.add_argument(
+        "--audio", metavar="FILE", help="take the audio of sectors from this file of raw samples or " "WAV file"
+    )
+    parser.add_argument("--silent", action="store_true", help="write sectors with silence")
+    parser.add_argument("--sheet", metavar="CUE", help="take P and Q of pressed blocks from this cue sheet")
     add_options(parser)
     add_force(parser)
     parser.set_defaults(run=run)

@@ -16,21 +16,22 @@ def add_parser(commands: Commands) -> None:
     parser = commands.add_parser(
         "damage",
         help="list the damaged places of a dump",
-        description="Writes a line for each run of damaged neighbours and each jump of the absolute time. Blocks are "
-        "numbered from 0 in the file, words are counted at the block that completes them. An empty block is 96 zeros, "
-        "as drives give them up; before the first block that was read and behind the last they are unread, which has a "
-        "line of its own and is no damage. C2 errors (.c2) and redumper's .state beside the dump add sectors to --again. "
-        "Exit 1 if there is damage.",
+        description="Prints a row for each run of damaged blocks that are neighbours, and for each jump of the "
+        "times. Blocks are numbered from 0 in the file. A word is counted in the block that completes it. A block of "
+        "96 zeros is empty: a drive returns it after it gave up. Empty blocks before the first and after the last "
+        "block that was read are unread; they have a row of their own and are no damage. If a file of C2 errors "
+        "(.c2) or redumper's .state is next to the dump, --again also lists the sectors that it marks. The exit "
+        "status is 1 if there is damage.",
     )
     parser.add_argument("file", metavar="FILE")
     add_options(parser)
     parser.add_argument("--map", metavar="FILE.png", help="also draw a map of the damage")
-    parser.add_argument("--again", metavar="FILE", help="also write the sectors that are to be read again")
+    parser.add_argument("--again", metavar="FILE", help="also write a list of the sectors to read again")
     parser.add_argument(
         "--again-as",
         choices=list(again.FORMATS),
-        help="how: a table of LBA, times and reasons (the default), ranges of LBA or of times, a map that ddrescue -b 2048 "
-        "goes on with, or arguments for a ripper",
+        help="the format of this list: a table of sector numbers, times and reasons (the default), ranges of sector "
+        "numbers or of times, a map for ddrescue -b 2048, or arguments for redumper, readcd or cdparanoia",
     )
     add_json(parser)
     add_force(parser)

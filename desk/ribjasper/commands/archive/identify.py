@@ -17,17 +17,18 @@ NAMES = ("file", "form", "lead-in", "graphics", "texts", "q-good", "notes")
 def add_parser(commands: Commands) -> None:
     parser = commands.add_parser(
         "identify",
-        help="print the form of dumps, their lead-in, and what they carry",
-        description="Writes a line for each dump: its form, the blocks of its lead-in, whether it carries graphics and "
-        "texts, the share of good Q frames, and what else there is to say: a torn end, a header, blocks that were not "
-        "read, files beside it, several sessions. A file of no known form has a line on standard error.",
+        help="print the form, the lead-in and the contents of dumps",
+        description="Prints a row for each dump. The row has its form, the number of blocks in its lead-in, whether "
+        "it has graphics and texts, and the share of good Q frames. It also has notes: for example, that the end is "
+        "torn, that there is a header, that blocks were not read, that other files are next to the dump, or that the "
+        "disc has several sessions. If a file has no known form, a line on standard error says so.",
     )
     parser.add_argument("files", nargs="+", metavar="FILE")
     parser.add_argument(
         "-v",
         "--verbose",
         action="store_true",
-        help="also print what speaks against each form, for files of no known form",
+        help="for each file without a known form, also print what speaks against each form",
     )
     add_options(parser)
     add_json(parser)

@@ -35,32 +35,43 @@ PLANAR_AT_ONCE = 4096 * BLOCK
 def add_parser(commands: Commands) -> None:
     parser = commands.add_parser(
         "mend",
-        help="make one .cdg file or stream of two readings or more",
-        description="Puts readings of one disc side by side by their Q times and writes, word by word, the codeword of the "
-        "reading that is the least wrong, or that on which readings agree. The output is a .cdg file; or a mended stream: "
-        "raw blocks (.raw, .subcode) or planar ones (.sub), with P and Q of a reading whose frame is good. "
-        "--compare says whether two dumps are of one disc, how they are offset, and the blocks that differ. Exit 1 if "
-        "a word has no codeword, if an error-free one of a reading did not come out, or if compared dumps differ; 9 if no "
-        "reading has graphics.",
+        help="make one .cdg file or stream from several readings of a disc",
+        description="Makes one result from several readings of a disc. The times in good Q frames show how the "
+        "readings fit together. For each word, the result is the codeword of the reading with the fewest wrong "
+        "symbols, or a codeword on which readings agree. The output is a .cdg file, or a stream of raw blocks (.raw, "
+        ".subcode) or planar blocks (.sub). The P and Q of a block in this stream come from a reading with a good "
+        "frame there. --compare only reports whether two dumps are of the same disc, the offset between them, and "
+        "the blocks that differ. The exit status is 1 if a word has no codeword, if an error-free word of a reading "
+        "is not in the result, or if compared dumps differ. It is 9 if no reading has graphics.",
     )
     parser.add_argument("files", nargs="+", metavar="READING")
-    parser.add_argument("-o", "--output", metavar="OUT.cdg", help="the packs, or .raw, .subcode, .sub for the stream")
+    parser.add_argument(
+        "-o",
+        "--output",
+        metavar="OUT.cdg",
+        help="the output: packs, or a stream if the name ends " "in .raw, .subcode or .sub",
+    )
     parser.add_argument(
         "--unread",
         action="append",
         default=[],
         metavar="MAP",
-        help="a map of ddrescue, named as a reading with .map behind or in place of its ending: what it lacks was not read",
+        help="a map of ddrescue for one reading; its name is that of the reading, with .map appended or in place of "
+        "the ending; blocks that the map lacks count as unread",
     )
-    parser.add_argument("--map", metavar="FILE", help="a table of what no reading gives, by positions in the output")
     parser.add_argument(
-        "--ddrescue-map", metavar="FILE", help="the same as a map of the output's bytes, for ddrescue's option -m"
+        "--map", metavar="FILE", help="write a table of the words that no reading has, with " "positions in the output"
     )
-    parser.add_argument("--compare", action="store_true", help="compare two dumps, and write nothing but a table")
+    parser.add_argument(
+        "--ddrescue-map", metavar="FILE", help="write the same positions as a map of bytes, for ddrescue's option -m"
+    )
+    parser.add_argument("--compare", action="store_true", help="compare two dumps, and write only a table")
     add_options(parser)
     add_json(parser)
     parser.add_argument(
-        "--force", action="store_true", help="mend readings that seem to be of different discs; replace any file"
+        "--force",
+        action="store_true",
+        help="mend readings that seem to be of different discs; overwrite an " "existing output of any kind",
     )
     parser.set_defaults(run=run, error=parser.error)
 

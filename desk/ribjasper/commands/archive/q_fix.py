@@ -43,18 +43,20 @@ def write_copy(loaded: Loaded, frames: dict[int, bytes], out: Any) -> None:
 def add_parser(commands: Commands) -> None:
     parser = commands.add_parser(
         "q-fix",
-        help="fill in bad Q frames between good ones, in a copy of a dump",
-        description="Lists the bad Q frames of a dump. -o writes a copy in which bad frames are filled in that are between "
-        "good frames of one index of one track, whose times go on: only one frame is possible there. Other bad frames are "
-        "listed with the reason and stay as they are. So do frames that were changed by design: pairs as those of LibCrypt "
-        "('changed'), frames that may belong to such a pair ('doubtful'), and frames that all differ from the right ones in "
-        "the same way ('regular'). --sbi and --lsd write the pairs for emulators. P and the order of tracks and indexes are "
-        "checked against Q. Exit 1 if a bad frame is left, or if P or the order is wrong.",
+        help="repair bad Q frames between good ones, in a copy of a dump",
+        description="Lists the bad Q frames of a dump. With -o, it also writes a copy in which some bad frames are "
+        "repaired: those between two good frames of one index of one track whose times continue. Only one time is "
+        "possible there. Other bad frames are listed with the reason, and stay unchanged. Frames that were changed "
+        "on purpose also stay unchanged: pairs like those of the copy protection LibCrypt ('changed'), frames that "
+        "may belong to such a pair ('doubtful'), and frames that all differ from the right ones in the same way "
+        "('regular'). --sbi and --lsd write the changed pairs for emulators. The command also compares channel P and "
+        "the order of tracks and indices with channel Q. The exit status is 1 if a bad frame remains, or if P or the "
+        "order is wrong.",
     )
     parser.add_argument("file", metavar="DUMP")
-    parser.add_argument("-o", "--output", metavar="OUT", help="the copy, in the form of the dump")
-    parser.add_argument("--sbi", metavar="OUT.sbi", help="write the changed frames, without their checks")
-    parser.add_argument("--lsd", metavar="OUT.lsd", help="write the changed frames, with their checks")
+    parser.add_argument("-o", "--output", metavar="OUT", help="the copy, which has the form of the dump")
+    parser.add_argument("--sbi", metavar="OUT.sbi", help="write the changed frames without their CRC")
+    parser.add_argument("--lsd", metavar="OUT.lsd", help="write the changed frames with their CRC")
     add_options(parser)
     add_json(parser)
     add_force(parser)

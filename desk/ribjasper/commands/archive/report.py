@@ -52,35 +52,44 @@ def share(word: str) -> Share:
 def add_parser(commands: Commands) -> None:
     parser = commands.add_parser(
         "report",
-        help="make a report on all dumps below a folder",
-        description="Looks at every file below a folder and writes to DIR a table (table.tsv, table.jsonl) and a page "
-        "(index.html) that sorts and filters, with a picture, a map and a list of the damaged places of each dump, and a list "
-        "of checksums (dumps.dat). A second run goes on where the first was stopped, and reads only what changed. "
-        "--submission describes one dump: catalogue number, sessions, tracks with codes, pregaps and checksums, subcode "
-        "errors by kind, changed frames, and texts. Exit 3 if a file could not be read, or if none is a dump.",
+        help="make a report on all dumps of a folder",
+        description="Reads every file of a folder and of its subfolders, and writes a report to the folder DIR. The "
+        "report has a table (table.tsv, table.jsonl), a list of checksums (dumps.dat) and a page (index.html) that "
+        "can be sorted and filtered. For each dump, the page shows a picture, a map and a list of the damaged "
+        "places. If a run was stopped, the next run continues. A later run reads only the files that changed. "
+        "--submission describes one dump instead: catalogue number, sessions, tracks with codes, pregaps and "
+        "checksums, subcode errors by kind, changed frames, and texts. The exit status is 3 if a file could not be "
+        "read, or if no file is a dump.",
     )
-    parser.add_argument("folder", metavar="FOLDER", help="with --submission: a dump")
-    parser.add_argument("-o", "--output", metavar="DIR", help="with --submission: a file; otherwise standard output")
+    parser.add_argument("folder", metavar="FOLDER", help="the folder with the dumps; with --submission, one dump")
+    parser.add_argument(
+        "-o",
+        "--output",
+        metavar="DIR",
+        help="the folder for the report; with --submission, a file " "(standard output)",
+    )
     parser.add_argument(
         "--submission",
         action="store_true",
         help="describe one dump as databases of discs ask for it, and make no report",
     )
-    parser.add_argument("--json", action="store_true", help="with --submission: as JSON")
-    parser.add_argument("--jobs", type=jobs, default=processors(), metavar="N", help="files at a time")
+    parser.add_argument("--json", action="store_true", help="with --submission, write JSON")
     parser.add_argument(
-        "--no-pictures", action="store_true", help="no pictures and no maps, for which Pillow is needed"
+        "--jobs", type=jobs, default=processors(), metavar="N", help="how many files are read at the " "same time"
+    )
+    parser.add_argument(
+        "--no-pictures", action="store_true", help="make no pictures and no maps, and do not use Pillow"
     )
     add_options(parser)
-    parser.add_argument("--follow-links", action="store_true", help="also look into folders that are links")
+    parser.add_argument("--follow-links", action="store_true", help="also read folders that are links")
     add_force(parser)
     several = parser.add_mutually_exclusive_group()
-    several.add_argument("--cluster", metavar="ADDRESS", help="send the files to the workers of a Dask scheduler")
+    several.add_argument("--cluster", metavar="ADDRESS", help="let the workers of a Dask scheduler read the files")
     several.add_argument(
         "--part",
         type=share,
         metavar="K/M",
-        help="look only at part K of M; a later run without --part writes the table",
+        help="read only part K of M parts of the files; a later run without --part writes the table",
     )
     parser.set_defaults(run=run, error=parser.error)
 

@@ -208,28 +208,31 @@ def add_parser(commands: Commands) -> None:
     parser = commands.add_parser(
         "sheet",
         help="write the cue sheet of a dump",
-        description="Writes a cue sheet of what the Q channel and the lead-in of a dump say: tracks, indices and pauses, "
-        "flags, the catalogue number, recording codes, texts and sessions. The program's author takes it again, with the "
-        "words in its first line. Gaps that no file has become pauses within the file. --compare lists in what the table "
-        "of contents, Q and a cue sheet differ, and ends with 1 if they do. Times count from where the audio of the file "
-        "begins; with --times disc, from the first sector of the disc, 00:02:00. The sheet and the comparison name which.",
+        description="Writes a cue sheet from channel Q and the lead-in of a dump. It has the tracks, indices and "
+        "pauses, flags, the catalogue number, recording codes, texts and sessions. The first line of the sheet has "
+        "the `author` command of the program for this sheet. If the dump does not contain a gap, the gap becomes a "
+        "pause within the file. --compare compares the table of contents, channel Q and a cue sheet, and lists the "
+        "differences; the exit status is 1 if there are any. Times count from the beginning of the audio in the "
+        "file; with --times disc, they count from the first sector of the disc, 00:02:00. The sheet and the "
+        "comparison say which.",
     )
     parser.add_argument("file", metavar="DUMP")
-    parser.add_argument("-o", "--output", metavar="OUT", help="the file to write; otherwise standard output")
+    parser.add_argument("-o", "--output", metavar="OUT", help="the file to write (standard output)")
     what = parser.add_mutually_exclusive_group()
     what.add_argument("--toc", action="store_true", help="write a sheet for cdrdao")
-    what.add_argument("--ccd", action="store_true", help="write a sheet of CloneCD")
-    what.add_argument("--compare", metavar="CUE", help="list what differs, and write no sheet")
+    what.add_argument("--ccd", action="store_true", help="write a sheet for CloneCD")
+    what.add_argument("--compare", metavar="CUE", help="list the differences to this cue sheet, and write no sheet")
     parser.add_argument(
         "--times",
         choices=[base.value for base in TimeBase],
-        help="count times from the begin of the file's audio (the default) or of the disc; --compare goes by the sheet",
+        help="count times from the beginning of the file's audio (the default) or of the disc; --compare counts them "
+        "as its sheet does",
     )
     parser.add_argument(
-        "--session", type=number_in(1, 99), metavar="N", help="with --toc: the session to write; otherwise the first"
+        "--session", type=number_in(1, 99), metavar="N", help="with --toc, the session to write (the first)"
     )
     parser.add_argument(
-        "--latin-1", action="store_true", help="texts as bytes of Latin-1, as author wants them; otherwise UTF-8"
+        "--latin-1", action="store_true", help="write texts in Latin-1, as `author` needs them, and not in UTF-8"
     )
     add_options(parser)
     add_json(parser)

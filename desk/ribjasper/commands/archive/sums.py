@@ -23,26 +23,27 @@ def add_parser(commands: Commands) -> None:
     parser = commands.add_parser(
         "sums",
         help="print checksums of files, and compare them with a list",
-        description="Prints size, CRC-32, MD5, SHA-1 and SHA-256 of each file. --dat writes them as a list in the form of "
-        "Logiqx, as catalogues of dumps have it; --check compares files with such a list, by name, and ends with 1 if "
-        "one differs, is not listed or is missing. --tracks prints them for each track of a disc image: sectors with "
-        "subcode, cut by Q, or a .bin with its cue sheet. Tracks are cut as in published lists: 2,352 bytes a sector, data "
-        "from index 01, audio from its pause. With --check it names the disc of the list and the tracks that differ, and "
-        "without --offset it finds the offset of the audio in the list. Data sectors with wrong error detection codes are "
-        "counted.",
+        description="Prints the size, CRC-32, MD5, SHA-1 and SHA-256 of each file. --dat writes them as a Logiqx "
+        "list, the format of catalogues of dumps. --check compares files with such a list, by name; the exit status "
+        "is 1 if one differs, is not listed or is missing. --tracks divides disc images into tracks and prints the "
+        "checksums of each track. An image has sectors with subcode, and is divided by channel Q; or it is a .bin "
+        "file with its cue sheet. Tracks are divided as in published lists: they have 2,352 bytes of each sector, a "
+        "data track begins at index 01, and an audio track at its pause. With --check, --tracks names the disc of "
+        "the list and the tracks that differ; without --offset, it finds the offset of the audio in the list. It "
+        "also counts the data sectors with wrong error detection codes.",
     )
     parser.add_argument("files", nargs="+", metavar="FILE")
-    parser.add_argument("--tracks", action="store_true", help="cut disc images into tracks")
+    parser.add_argument("--tracks", action="store_true", help="divide disc images into tracks")
     parser.add_argument(
         "--offset",
         type=offset,
         metavar="N",
-        help="with --tracks: the audio of a track begins N samples later in the image (negative: earlier)",
+        help="with --tracks, the audio of a track begins N samples later in the image (negative: earlier)",
     )
     add_options(parser)
-    parser.add_argument("--dat", metavar="OUT.dat", help="also write a list of them")
-    parser.add_argument("--name", default="dumps", help="the name of that list")
-    parser.add_argument("--check", metavar="DAT", help="compare with this list")
+    parser.add_argument("--dat", metavar="OUT.dat", help="also write the checksums as a list")
+    parser.add_argument("--name", default="dumps", help="the name of this list")
+    parser.add_argument("--check", metavar="DAT", help="compare the files with this list")
     add_json(parser)
     add_force(parser)
     parser.set_defaults(run=run, error=parser.error)

@@ -46,22 +46,24 @@ def lead_in_of_packs(packs: bytes) -> bytes:
 def add_parser(commands: Commands) -> None:
     parser = commands.add_parser(
         "texts",
-        help="list the texts of a lead-in, and copy its packs for other tools and back",
-        description="Writes the texts of a dump's lead-in, and with --packs its packs of 18 bytes to a file. With --back "
-        "FILE is such a file of packs, with or without the four bytes in front, and --blocks makes raw lead-in blocks of "
-        "it.",
+        help="list the CD-TEXT of a lead-in, and copy its packs to and from files of other tools",
+        description="Prints the CD-TEXT of a dump's lead-in. --packs also writes its packs of 18 bytes to a file. "
+        "--back does the opposite: FILE is then such a file of packs, with or without four extra bytes in front, and "
+        "--blocks writes raw lead-in blocks with these packs.",
     )
-    parser.add_argument("file", metavar="FILE", help="a dump, or with --back a file of packs")
+    parser.add_argument("file", metavar="FILE", help="a dump; with --back, a file of packs")
     parser.add_argument(
         "--all",
         action="store_true",
-        help="a table of all languages and kinds, in UTF-8; what is no text in hexadecimal digits",
+        help="print a table of all languages and kinds, in UTF-8; print data that is no text in hexadecimal digits",
     )
-    parser.add_argument("--packs", metavar="OUT", help="write the packs whose checks match, each once, in order")
-    parser.add_argument("--header", action="store_true", help="with the four bytes in front that some tools want")
+    parser.add_argument("--packs", metavar="OUT", help="write the packs whose CRC matches, each once, in order")
+    parser.add_argument(
+        "--header", action="store_true", help="with --packs, put four extra bytes in front that some " "tools need"
+    )
     add_options(parser)
-    parser.add_argument("--back", action="store_true", help="read a file of packs")
-    parser.add_argument("--blocks", metavar="OUT", help="with --back: write raw lead-in blocks that carry the packs")
+    parser.add_argument("--back", action="store_true", help="read a file of packs, not a dump")
+    parser.add_argument("--blocks", metavar="OUT", help="with --back, write raw lead-in blocks with the packs")
     add_json(parser)
     add_force(parser)
     parser.set_defaults(run=run, error=parser.error)

@@ -40,27 +40,28 @@ def add_parser(commands: Commands) -> None:
     parser = commands.add_parser(
         "album",
         help="make a disc of several songs",
-        description="Makes a disc of the songs of a list: DISC.bin, DISC.toc and DISC.cue, an image for a burner; "
-        "DISC.raw, its stream; DISC-sheet.cue, the sheet of that; and DISC-01.script and so on, the pictures of each "
-        "track of lyrics. A track is lyrics and sound, or a finished pair: a .cdg file with its sound, or a ZIP file of "
-        "both. Each track begins with presets and all colours, so that a player that skips to it shows nothing else.",
+        description="Makes a disc of the songs in a list. It writes an image for a burner (DISC.bin, DISC.toc and "
+        "DISC.cue), the subcode stream (DISC.raw), the cue sheet of this stream (DISC-sheet.cue), and a picture "
+        "script for each track with lyrics (DISC-01.script and so on). A track has either lyrics and a sound, or a "
+        "finished pair: a .cdg file with its sound, or a ZIP file with both. Each track begins with packs that clear "
+        "the screen and set all colours, so that a player that skips to a track shows nothing of another track.",
     )
     parser.add_argument(
         "files",
         type=Path,
         nargs="+",
         metavar="FILE",
-        help="the list, LIST.toml; with --new the lyrics or pairs of all tracks",
+        help="the list, LIST.toml; with --new, the lyrics or pairs of all tracks",
     )
     parser.add_argument(
         "--new",
         action="store_true",
-        help="begin a list: a track for each of these lyrics, with the sound of the same name",
+        help="write a new list with a track for each of these lyrics and the sound of the same name",
     )
     parser.add_argument(
         "--check",
         action="store_true",
-        help="make nothing; print the tracks of the list, their times, and what is left of the disc",
+        help="only print the tracks of the list, their times, and the time that is left on the disc",
     )
     parser.add_argument(
         "--capacity",
@@ -74,7 +75,7 @@ def add_parser(commands: Commands) -> None:
         "--output",
         type=Path,
         metavar="DISC",
-        help="the name of the disc without an ending; with --new the list (standard output)",
+        help="the name of the disc without an ending; with --new, the list (standard output)",
     )
     add_json(parser)
     add_force(parser)

@@ -28,25 +28,34 @@ STILL_WIDTH, STILL_HEIGHT, LABEL, BETWEEN = WIDTH // 2, HEIGHT // 2, 14, 8
 def add_parser(commands: Commands) -> None:
     parser = commands.add_parser(
         "film",
-        help="make a film of what a stream shows",
-        description="Makes a film of the pictures of a raw stream, an image or a .cdg file, in time with its audio, "
-        "and a page of stills. The pictures are those of the proved player; ffmpeg makes the film.",
+        help="make a video of the pictures of a stream",
+        description="Makes a video of the pictures of a raw stream, an image or a .cdg file, synchronous with its "
+        "audio. --stills makes a page of pictures instead or as well. The proved player draws the pictures, and "
+        "ffmpeg makes the video.",
     )
     parser.add_argument("stream", type=Path, metavar="STREAM", help="a raw stream, an image DISC.bin, or a .cdg file")
-    parser.add_argument("-o", "--output", type=Path, metavar="OUT.mp4", help="the film")
-    parser.add_argument("--audio", type=Path, metavar="WAV", help="the audio of the film")
-    parser.add_argument("--rate", type=number_in(1, 75), default=25, metavar="N", help="frames a second (25)")
-    parser.add_argument("--scale", type=number_in(1, 8), default=3, metavar="N", help="how much larger (3: 900 by 648)")
+    parser.add_argument("-o", "--output", type=Path, metavar="OUT.mp4", help="the video")
+    parser.add_argument("--audio", type=Path, metavar="WAV", help="the audio of the video")
+    parser.add_argument("--rate", type=number_in(1, 75), default=25, metavar="N", help="frames in a second (25)")
     parser.add_argument(
-        "--lossless", action="store_true", help="keep each pixel as it is; fewer programs play such films"
+        "--scale",
+        type=number_in(1, 8),
+        default=3,
+        metavar="N",
+        help="enlarge the picture by this " "factor (3: 900 by 648 pixels)",
+    )
+    parser.add_argument(
+        "--lossless", action="store_true", help="keep each pixel unchanged; fewer programs play such videos"
     )
     parser.add_argument(
         "--stills",
         type=Path,
         metavar="OUT.png",
-        help="a page with each picture that is shown for a fifth of a second, and its time",
+        help="write a page with each picture that is shown for at least a fifth of a second, and its time",
     )
-    parser.add_argument("--every", type=float, metavar="SECONDS", help="make a still every so many seconds")
+    parser.add_argument(
+        "--every", type=float, metavar="SECONDS", help="put a picture on this page every SECONDS " "seconds"
+    )
     add_force(parser)
     parser.set_defaults(run=run, parser=parser)
 

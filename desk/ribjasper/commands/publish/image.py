@@ -28,21 +28,28 @@ P_AND_Q = bytes(byte & 0xC0 for byte in range(256))
 def add_parser(commands: Commands) -> None:
     parser = commands.add_parser(
         "image",
-        help="make a disc image that can be burned",
-        description="Makes DISC.bin, sectors of 2,448 bytes with audio and subcode, without the lead-in and the first "
-        "pause; DISC.toc for cdrdao; and DISC.cue.",
+        help="make a disc image for a burner",
+        description="Makes a disc image from a cue sheet, its stream and the audio. DISC.bin has sectors of 2,448 "
+        "bytes with audio and subcode, without the lead-in and the first pause. DISC.toc is for cdrdao, and DISC.cue "
+        "is for other programs.",
     )
     parser.add_argument("sheet", type=Path, metavar="SHEET", help="the cue sheet of the disc")
-    parser.add_argument("stream", type=Path, metavar="STREAM", help="its raw stream, by `author` or `press`")
-    parser.add_argument("--audio", type=Path, required=True, metavar="WAV", help="44,100 Hz, stereo, 16 bits")
+    parser.add_argument(
+        "stream", type=Path, metavar="STREAM", help="the raw stream that `author` or `press` made " "from this sheet"
+    )
+    parser.add_argument(
+        "--audio", type=Path, required=True, metavar="WAV", help="the audio: 44,100 Hz, stereo, 16 " "bits"
+    )
     parser.add_argument(
         "--hold-through-pause",
         type=Path,
         metavar="SCRIPT",
-        help="author the stream again from its script, with a black picture held through the pause",
+        help="make the stream again from its script, with a black picture in front that is held through the pause",
     )
     parser.add_argument("--latin-1", action="store_true", help="write the texts in Latin-1, as players read them")
-    parser.add_argument("-o", "--output", type=Path, required=True, metavar="DISC", help="the name without an ending")
+    parser.add_argument(
+        "-o", "--output", type=Path, required=True, metavar="DISC", help="the name of the output " "without an ending"
+    )
     add_force(parser)
     parser.set_defaults(run=run)
 

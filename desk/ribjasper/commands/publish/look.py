@@ -37,13 +37,16 @@ PART = re.compile(r"\{\{(\w+)\}\}")
 def add_parser(commands: Commands) -> None:
     parser = commands.add_parser(
         "look",
-        help="make a page that plays a song, to hear and see before the film",
-        description="Makes one HTML page that plays a song: its sound, its picture as the proved player shows it, and "
-        "its lines on a line of time, those that are late marked. A click jumps there, keys move a line or a syllable by "
-        "0.05 seconds, the space bar sets new times, and the lyrics are saved as LRC with rests, line ends and names.",
+        help="make a web page that plays a song",
+        description="Makes one HTML page that plays a song, with its sound and the picture that the proved player "
+        "draws. A timeline shows the lines of the song, and marks those that are late. A click on a line jumps to "
+        "it, keys move a line or a syllable by 0.05 seconds, and the space bar sets new times. The page saves the "
+        "lyrics as LRC, with rests, ends of lines and names.",
     )
     parser.add_argument("song", type=Path, metavar="SONG", help="the lyrics")
-    parser.add_argument("--audio", type=Path, metavar="SOUND", help="the sound (the one beside SONG that has its name)")
+    parser.add_argument(
+        "--audio", type=Path, metavar="SOUND", help="the sound (the sound next to SONG with the same " "name)"
+    )
     add_wishes(parser)
     parser.add_argument("-o", "--output", type=Path, required=True, metavar="PAGE.html", help="the page")
     add_force(parser)

@@ -15,17 +15,17 @@ from ...songs.wishes import add_wishes, reads_of, wishes_of
 def add_parser(commands: Commands) -> None:
     parser = commands.add_parser(
         "lyrics",
-        help="make a picture script of a song",
-        description="Makes a picture script of lyrics with times: LRC with times of lines or of words, ASS with \\k "
-        "times, UltraStar, SubRip, WebVTT or karaoke MIDI. Words light up when they are sung, and the next lines are drawn while "
-        "the last are still sung. Nothing of the script is late; what cannot be shown at its time is reported with its "
-        "line.",
+        help="make a picture script from lyrics",
+        description="Makes a picture script from lyrics with times. It reads LRC with times of lines or words, ASS "
+        "with \\k times, UltraStar, SubRip, WebVTT and karaoke MIDI. Words change colour when they are sung, and the "
+        "next lines are drawn while the last lines are still sung. No picture of the script is late. If something "
+        "cannot be shown at its time, the command reports it with its line.",
     )
     parser.add_argument(
-        "song", type=Path, metavar="SONG", help="the lyrics; their kind is found by what is in the file"
+        "song", type=Path, metavar="SONG", help="the lyrics; their format is recognized by the contents of the file"
     )
     add_wishes(parser)
-    parser.add_argument("--audio", type=Path, metavar="WAV", help="the audio, which the script must not outlast")
+    parser.add_argument("--audio", type=Path, metavar="WAV", help="the audio; the script must not be longer")
     parser.add_argument("-o", "--output", type=Path, required=True, metavar="FILE", help="the script")
     add_force(parser)
     parser.set_defaults(run=run)

@@ -17,16 +17,22 @@ def add_parser(commands: Commands) -> None:
     parser = commands.add_parser(
         "pair",
         help="make a .cdg file and its sound",
-        description="Makes the pair of files that karaoke players take: NAME.cdg and the sound, as it is or as MP3. The "
-        ".cdg file begins with presets and colours and is as long as the sound.",
+        description="Makes the two files that karaoke players need: NAME.cdg and the sound, unchanged or as MP3. The "
+        ".cdg file begins with packs that clear the screen and set all colours, and it lasts as long as the sound.",
     )
     parser.add_argument("song", type=Path, metavar="SONG", help="the lyrics")
-    parser.add_argument("--audio", type=Path, metavar="SOUND", help="the sound (the one beside SONG that has its name)")
+    parser.add_argument(
+        "--audio", type=Path, metavar="SOUND", help="the sound (the sound next to SONG with the same " "name)"
+    )
     add_wishes(parser)
-    parser.add_argument("--mp3", action="store_true", help="write the sound as MP3, with title and singer (ffmpeg)")
-    parser.add_argument("--zip", action="store_true", help="write both as one file, NAME.zip")
-    parser.add_argument("--karaoke-cd", action="store_true", help="write a disc image too, as `album` does")
-    parser.add_argument("-o", "--output", type=Path, required=True, metavar="NAME", help="the name without an ending")
+    parser.add_argument(
+        "--mp3", action="store_true", help="write the sound as MP3, with title and singer (needs " "ffmpeg)"
+    )
+    parser.add_argument("--zip", action="store_true", help="write both files as one file, NAME.zip")
+    parser.add_argument("--karaoke-cd", action="store_true", help="also write a disc image, as `album` does")
+    parser.add_argument(
+        "-o", "--output", type=Path, required=True, metavar="NAME", help="the name of the output " "without an ending"
+    )
     add_force(parser)
     parser.set_defaults(run=run)
 

@@ -37,43 +37,47 @@ def tile_place(word: str) -> tuple[int, int]:
 def add_parser(commands: Commands) -> None:
     parser = commands.add_parser(
         "picture",
-        help="write the lines of a script that draw an image",
-        description="Writes the lines of a script that draw an image: as large as the window of 288 by 192 pixels, in "
-        "sixteen colours that are chosen for it, and in few packs. An image of that size and of no more colours is "
-        "drawn pixel for pixel. A line `show READY HOLD` is yours to add.",
+        help="turn an image into lines of a picture script",
+        description="Writes lines of a picture script that draw an image. The result is as large as the window of "
+        "288 by 192 pixels. It has sixteen colours that suit the image, and needs few packs. If an image has this "
+        "size and no more colours, it is drawn pixel for pixel. Add a line `show READY HOLD` with the times yourself.",
     )
     parser.add_argument("image", type=Path, metavar="IMAGE")
-    parser.add_argument("--colours", type=number_in(1, COLOURS), metavar="N", help="how many colours at most (16)")
+    parser.add_argument(
+        "--colours", type=number_in(1, COLOURS), metavar="N", help="the greatest number of colours " "(16)"
+    )
     parser.add_argument(
         "--first",
         type=number_in(0, COLOURS - 1),
         default=0,
         metavar="K",
-        help="use the colours from number K on, if others are taken already",
+        help="use the colours from number K on, so that other pictures can use those before",
     )
     parser.add_argument(
         "--at",
         type=tile_place,
         metavar="COLUMN,ROW",
-        help="draw it from this tile of 6 by 12 pixels on, in its own size if there is room",
+        help="draw the image from this tile of 6 by 12 pixels on, in its own size if there is room",
     )
     parser.add_argument(
         "--simple",
         type=float,
         default=PLAIN,
         metavar="LOSS",
-        help="how much a tile may change to need fewer packs (2; 0 keeps all, 40 is coarse)",
+        help="how much a tile may change so that it needs fewer packs (2; 0 keeps every tile, 40 is coarse)",
     )
-    parser.add_argument("--dither", action="store_true", help="mix colours by dots, which needs many packs")
+    parser.add_argument("--dither", action="store_true", help="mix colours from dots; this needs many packs")
     parser.add_argument(
         "--border",
         type=colour_word,
         metavar="COLOUR",
-        help="the colour of the border, like #08F (the one that most of the edge is near)",
+        help="the colour of the border, like #08F (the most frequent colour at the edge of the image)",
     )
-    parser.add_argument("--crop", action="store_true", help="fill the window, and cut off what is beyond")
     parser.add_argument(
-        "--frame", type=number_in(1, 1_000_000), metavar="N", help="which frame of an image that has several"
+        "--crop", action="store_true", help="scale the image so that it fills the window, and remove " "what is outside"
+    )
+    parser.add_argument(
+        "--frame", type=number_in(1, 1_000_000), metavar="N", help="the frame to use if the image has several"
     )
     parser.add_argument("-o", "--output", type=Path, metavar="FILE", help="the file (standard output)")
     add_force(parser)

@@ -30,14 +30,17 @@ def audio_blocks(arguments: argparse.Namespace) -> int:
 def add_parser(commands: Commands) -> None:
     parser = commands.add_parser(
         "plan",
-        help="list which pictures of a script are in time",
-        description="Prints for each picture of a script what it needs and what is free for it: packs, 300 a second. "
-        "Exit 4 if one is late. The words for the program's author are printed too.",
+        help="list which pictures of a script are on time",
+        description="Prints a row for each picture of a script, with the number of packs that it needs and the "
+        "number of packs that are free for it. A second has 300 packs. The exit status is 4 if a picture is late. "
+        "The last line on standard error is the `author` command of the program for this disc.",
     )
     parser.add_argument("sheet", type=Path, metavar="SHEET", help="the cue sheet of the disc")
     parser.add_argument("script", type=Path, metavar="SCRIPT", help="the picture script")
     add_length(parser)
-    parser.add_argument("--chart", type=Path, metavar="FILE.png", help="draw a chart: packs needed and free over time")
+    parser.add_argument(
+        "--chart", type=Path, metavar="FILE.png", help="draw a chart of the packs that are needed " "and free over time"
+    )
     parser.add_argument(
         "--latin-1",
         type=Path,

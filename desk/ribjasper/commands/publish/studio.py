@@ -34,19 +34,23 @@ PATIENCE = 20.0
 def add_parser(commands: Commands) -> None:
     parser = commands.add_parser(
         "studio",
-        help="time, edit and see lyrics on one page",
-        description="Serves a page on this machine only and opens it in the browser. A text and a sound are enough: the "
-        "space bar sets the time of each line or syllable while the song plays. Words, times, singers, pages and styles "
-        "can be edited; the page shows what the proved player shows, and what is late. A journal beside the song, "
-        "SONG.studio, keeps every edit. The song is saved as LRC, and a pair, a film and an entry of an album can be "
-        "made of it.",
+        help="set the times of lyrics and edit them on a web page",
+        description="Opens a web page in your browser, which only programs on this machine can open. You need only a "
+        "text and a sound: press the space bar at each line or syllable while the song plays, and the page sets its "
+        "time. You can edit words, times, singers, pages and styles. The page shows what the proved player draws, "
+        "and marks late lines. A journal next to the song, SONG.studio, keeps every edit. The page saves the song as "
+        "LRC, and makes a pair, a film or an entry of an album from it.",
     )
     parser.add_argument("song", type=Path, metavar="SONG", help="the lyrics, a text, or a folder with one of them")
-    parser.add_argument("--audio", type=Path, metavar="SOUND", help="the sound (the one beside SONG that has its name)")
+    parser.add_argument(
+        "--audio", type=Path, metavar="SOUND", help="the sound (the sound next to SONG with the same " "name)"
+    )
     add_encoding(parser)
-    parser.add_argument("--no-browser", action="store_true", help="print the address, and open no browser")
-    parser.add_argument("--export", choices=EXPORTS, help="write the song for another program, and serve no page")
-    parser.add_argument("-o", "--output", type=Path, metavar="FILE", help="with --export, the file (SONG's name)")
+    parser.add_argument("--no-browser", action="store_true", help="print the address of the page, and open no browser")
+    parser.add_argument("--export", choices=EXPORTS, help="write the song for another program, and open no page")
+    parser.add_argument(
+        "-o", "--output", type=Path, metavar="FILE", help="with --export, the file to write (named " "like SONG)"
+    )
     add_force(parser)
     parser.set_defaults(run=run, parser=parser)
 
