@@ -373,7 +373,7 @@ int32_t ribjasper_player_offsets(const ribjasper_player *player, uint8_t *across
 /* Checkpoints. A checkpoint is a file with the state of a player. It has the same format as in the program's commands
    `save` and `resume`. */
 #define RIBJASPER_CHECKPOINT 65045 /* bytes of the file */
-#define RIBJASPER_NO_CHECKPOINT 3  /* what ribjasper_player_load returns if the bytes are no checkpoint */
+#define RIBJASPER_NO_CHECKPOINT 3  /* what ribjasper_player_load returns if the bytes are not a checkpoint */
 
 /* Writes the checkpoint of a player of a raw stream. The checkpoint contains the number of blocks, the number of bad
    words, the last seven slots of 24 symbols, and the state of the screen. It does not say how many packs you drew
@@ -390,7 +390,7 @@ RIBJASPER_NODISCARD int32_t ribjasper_player_save(const ribjasper_player *player
      file: the checkpoint, 65,045 bytes
      byte: if the file is refused, the first byte of the first field that is out of range
    Returns RIBJASPER_DONE, or RIBJASPER_REFUSED if the player is closed, or RIBJASPER_NO_MEMORY if malloc failed. It
-   returns RIBJASPER_NO_CHECKPOINT if the file is no checkpoint; only then it writes `byte`. */
+   returns RIBJASPER_NO_CHECKPOINT if the file is not a checkpoint; only then it writes `byte`. */
 RIBJASPER_NODISCARD
 int32_t ribjasper_player_load(ribjasper_player *player, const uint8_t file[RIBJASPER_CHECKPOINT], uint32_t *byte);
 

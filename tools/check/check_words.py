@@ -70,6 +70,16 @@ WORDS = (
     Word(r"is left as it was\b", "is unchanged"),
     Word(r"which of those\b", "which"),
     Word(r"it says so\b", "it is reported"),
+    Word(r"Rejected:", "We rejected"),
+    Word(r"passed on\b", "copied, passed to"),
+    Word(r"go(es)? on\b", "continues"),
+    Word(r"holds? of\b", "is true for"),
+    Word(r"the same of\b", "the same for"),
+    Word(r"as wholes\b", "as a whole, all of them"),
+    Word(r"in time with\b", "synchronous with"),
+    Word(r"gives? up on\b", "stops at"),
+    Word(r"is no (command|checkpoint|dump|form|text|pack|word|fault)\b", "is not a"),
+    Word(r"are no (command|checkpoints|dumps|damage|codewords|packs|words)\b", "are not, do not count as"),
 )
 
 

@@ -32,7 +32,7 @@ with its options in the order shown here. It reads standard input, or the files 
 .BR \-\- ,
 and writes to standard output. If the program prints
 .B usage
-on standard error, the words are no command: compare them with this page. The commands convert, q, planar, raw,
+on standard error, the words are not a command: compare them with this page. The commands convert, q, planar, raw,
 scratch, merge and thin write while they read, so they work on live streams.
 .SH COMMANDS
 """.strip().splitlines()
