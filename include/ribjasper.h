@@ -1,5 +1,5 @@
-/* The proved player of CD subcode graphics, for programs in C and C++. Licensed under MIT or Apache-2.0, at your option:
-   (c) 2026 The Ribjasper authors.
+/* This is the library of Ribjasper, the proved player of CD subcode graphics, for programs in C and C++. It is licensed
+   under MIT or Apache-2.0, at your option: (c) 2026 The Ribjasper authors.
 
    Link with -lribjasper. The command pkg-config --cflags --libs ribjasper prints all flags.
 
@@ -27,9 +27,9 @@
 
    Failure. A call that fails leaves its player unchanged. It also writes nothing, except where its comment says so.
 
-   Memory. If a player is closed, ribjasper_player_open allocates 65,080 bytes with malloc, in one request. A call whose
-   comment says that it allocates memory frees this memory before it returns. No other call allocates memory. A call needs
-   at most 16,384 bytes of stack; a call that mends needs at most 81,920. */
+   Memory. If a player is closed, ribjasper_player_open allocates 65,080 bytes with malloc, in one request. Any other
+   call whose comment says that it allocates memory frees this memory before it returns. No other call allocates memory.
+   A call needs at most 16,384 bytes of stack; a call that mends needs at most 81,920. */
 #ifndef RIBJASPER_H
 #define RIBJASPER_H
 
@@ -56,16 +56,17 @@ extern "C" {
 #define RIBJASPER_VERSION_MINOR 10
 #define RIBJASPER_VERSION_PATCH 0
 
-/* The version of this header as one number. */
+/* This is the version of this header as one number. */
 #define RIBJASPER_VERSION (65536 * RIBJASPER_VERSION_MAJOR + 256 * RIBJASPER_VERSION_MINOR + RIBJASPER_VERSION_PATCH)
 
 /* Returns the version of the linked library, as a number like RIBJASPER_VERSION. */
 uint32_t ribjasper_version(void);
 
-/* The answers of calls. An answer is a return value that says whether a call succeeded. The same number means the same in
-   every call that returns an answer. Some calls return something else, as their comments explain. ribjasper_player_take
-   returns a count. ribjasper_correct, ribjasper_pack_touches, ribjasper_tile_weight and ribjasper_text_pack_matches
-   return a number. ribjasper_q_decode returns codes of its own. Older names for the same numbers are further below. */
+/* These are the answers of calls. An answer is a return value that says whether a call succeeded. The same number means
+   the same in every call that returns an answer. Some calls return something else, as their comments explain.
+   ribjasper_player_take returns a count. ribjasper_correct, ribjasper_pack_touches, ribjasper_tile_weight and
+   ribjasper_text_pack_matches return a number. ribjasper_q_decode returns codes of its own. Older names for the same
+   numbers are further below. */
 typedef enum ribjasper_answer {
     RIBJASPER_ANSWER_REFUSED = -1,       /* a player is closed, a number is out of range, or (open) out of memory */
     RIBJASPER_ANSWER_DONE = 0,           /* done */
@@ -135,10 +136,10 @@ uint64_t ribjasper_time_of_blocks(uint32_t blocks);
      packs: the number of packs */
 uint64_t ribjasper_time_of_packs(uint32_t packs);
 
-/* The forms of a stream, which say how its bytes are stored. RIBJASPER_RAW means raw blocks of 96 bytes. RIBJASPER_PACKS
-   means packs of 24 bytes whose symbols are already next to each other, four packs in each block of 96 bytes; a player
-   corrects them by their parity. RIBJASPER_SECTORS means sectors of 2,448 bytes, each with 2,352 bytes of audio and a raw
-   block. Only calls on whole streams accept sectors.
+/* These are the forms of a stream. A form says how the bytes of a stream are stored. RIBJASPER_RAW means raw blocks of
+   96 bytes. RIBJASPER_PACKS means packs of 24 bytes whose symbols are already next to each other, four packs in each
+   block of 96 bytes; a player corrects them by their parity. RIBJASPER_SECTORS means sectors of 2,448 bytes, each with
+   2,352 bytes of audio and a raw block. Only calls on whole streams accept sectors.
 
    The packs of a .cdg file may have no parity. Then no codeword is near them. If you feed them as RIBJASPER_PACKS, they
    draw nothing, and every word counts as bad. ribjasper_packs_parity detects such a file. Either draw its packs with
@@ -201,9 +202,9 @@ RIBJASPER_NODISCARD int32_t ribjasper_player_begin(ribjasper_player *player, uin
    Returns RIBJASPER_DONE, or RIBJASPER_REFUSED if the player is closed. */
 int32_t ribjasper_player_feed(ribjasper_player *player, const uint8_t block[RIBJASPER_BLOCK]);
 
-/* A pack as it was read. If a codeword is near the pack, `symbols` are the 24 symbols of this codeword (6 bits each), and
-   `wrong` is the number of corrected symbols, 0 to 2. Otherwise `wrong` is -1, and `symbols` are the symbols as they were
-   read; such a pack draws nothing. */
+/* This struct is a pack as it was read. If a codeword is near the pack, `symbols` are the 24 symbols of this codeword
+   (6 bits each), and `wrong` is the number of corrected symbols, 0 to 2. Otherwise `wrong` is -1, and `symbols` are the
+   symbols as they were read; such a pack draws nothing. */
 typedef struct ribjasper_pack {
     uint8_t symbols[24];
     int32_t wrong;
@@ -225,10 +226,11 @@ int32_t ribjasper_player_take(ribjasper_player *player, const uint8_t block[RIBJ
    Returns RIBJASPER_DONE, or RIBJASPER_REFUSED if the player is closed. */
 int32_t ribjasper_player_draw(ribjasper_player *player, const uint8_t pack[24]);
 
-/* The part of the screen that a call may have changed. It is a rectangle with the pixels from column `left` to column
-   `right` - 1, in the rows `top` to `bottom` - 1. If `left` is 300, the rectangle is empty. `colours` is 1 if the colour
-   table may have changed, otherwise 0. `levels` is 1 if the levels may have changed, otherwise 0. If colours or levels
-   changed, any pixel may look different, although its number is the same. Nothing else changed. */
+/* This struct is the part of the screen that a call may have changed. The part is a rectangle with the pixels from
+   column `left` to column `right` - 1, in the rows `top` to `bottom` - 1. If `left` is 300, the rectangle is empty.
+   `colours` is 1 if the colour table may have changed, otherwise 0. `levels` is 1 if the levels may have changed,
+   otherwise 0. If colours or levels changed, any pixel may look different, although its number is the same. Nothing
+   else changed. */
 typedef struct ribjasper_change {
     uint32_t left;
     uint32_t top;
@@ -258,11 +260,11 @@ int32_t ribjasper_player_feed_all(ribjasper_player *player, const uint8_t *block
    Returns RIBJASPER_DONE, or RIBJASPER_REFUSED if the player is closed. */
 int32_t ribjasper_player_draw_all(ribjasper_player *player, const uint8_t *packs, size_t count, ribjasper_change *change);
 
-/* The counts of a player. They begin at 0 when the player is opened or a new stream begins. A player that was restored
-   from a checkpoint continues with the counts of the checkpoint. `words` is the number of packs that the blocks
-   contained, `blocks` is the number of blocks, and `bad` is the number of packs with no codeword near. Packs that you
-   draw yourself are not counted. `form` and `lead_in` are those of the player. `blocks` and `bad` saturate at
-   4,294,967,295. */
+/* This struct has the counts of a player. The counts begin at 0 when the player is opened or a new stream begins. A
+   player that was restored from a checkpoint continues with the counts of the checkpoint. `words` is the number of
+   packs that the blocks contained, `blocks` is the number of blocks, and `bad` is the number of packs with no codeword
+   near. Packs that you draw yourself are not counted. `form` and `lead_in` are those of the player. `blocks` and `bad`
+   saturate at 4,294,967,295. */
 typedef struct ribjasper_counts {
     uint64_t words;
     uint32_t form;
@@ -312,9 +314,9 @@ int32_t ribjasper_player_rect(const ribjasper_player *player, uint32_t x, uint32
    Returns RIBJASPER_DONE, or RIBJASPER_REFUSED if the player is closed. */
 int32_t ribjasper_player_picture(const ribjasper_player *player, uint8_t bytes[RIBJASPER_PICTURE]);
 
-/* The formats of pixels. Each format has a number, and its comment lists the bytes of a pixel in order. If the colour of
-   a pixel has the transparency level L, its opacity is 255 - (4 L + L / 16). So level 0 is opaque (255), and level 63 is
-   transparent (0). */
+/* These are the formats of pixels. Each format has a number, and its comment lists the bytes of a pixel in order. If
+   the colour of a pixel has the transparency level L, its opacity is 255 - (4 L + L / 16). So level 0 is opaque (255),
+   and level 63 is transparent (0). */
 #define RIBJASPER_INDEXED 0     /* 1 byte: the number of its colour */
 #define RIBJASPER_RGB 1         /* 3 bytes: red, green, blue; each is 17 times the four bits of the colour */
 #define RIBJASPER_RGBA 2        /* 4 bytes: red, green, blue, 255 */
@@ -437,9 +439,9 @@ RIBJASPER_NODISCARD
 int32_t ribjasper_player_seek_packs(ribjasper_player *player, const uint8_t *packs, size_t count, uint64_t to,
                                     ribjasper_mark *marks, size_t marks_count, uint32_t every);
 
-/* The results of ribjasper_pack_touches for instructions that do not draw one tile. The memory of a player consists of
-   tiles: each row of tiles is twelve pixels high, and each column is six pixels wide. The screen shows each tile moved
-   left and up by the offsets. The outermost tiles of the screen are under the border. */
+/* These are the results of ribjasper_pack_touches for instructions that do not draw one tile. The memory of a player
+   consists of tiles: each row of tiles is twelve pixels high, and each column is six pixels wide. The screen shows each
+   tile moved left and up by the offsets. The outermost tiles of the screen are under the border. */
 #define RIBJASPER_TOUCHES_NOTHING 900
 #define RIBJASPER_TOUCHES_ALL 901     /* the whole memory, and the offsets */
 #define RIBJASPER_TOUCHES_BORDER 902
@@ -476,8 +478,8 @@ int32_t ribjasper_tile_weight(const uint8_t pixels[72]);
    result is not a ribjasper_answer. */
 int32_t ribjasper_correct(const uint8_t word[24], uint8_t out[24]);
 
-/* The numbers of packs with valid and with invalid parity. `invalid` also counts packs with a wrong symbol. The sum of
-   the three numbers is the number of packs. */
+/* This struct counts packs with valid and with invalid parity. `invalid` also counts packs with a wrong symbol. The sum
+   of the three numbers is the number of packs. */
 typedef struct ribjasper_parity {
     uint64_t idle;    /* packs whose 24 symbols are 0; their parity is valid */
     uint64_t valid;   /* other packs whose parity is valid */
@@ -510,7 +512,7 @@ int32_t ribjasper_text_pack_matches(const uint8_t pack[18]);
      symbols: the output, 24 bytes */
 void ribjasper_text_pack_symbols(const uint8_t pack[18], uint8_t symbols[24]);
 
-/* The kinds of a frame of the Q channel. */
+/* These are the kinds of a frame of the Q channel. */
 #define RIBJASPER_Q_PROGRAM 0   /* the position: track, index, time, absolute */
 #define RIBJASPER_Q_TRACK 1     /* the table of contents: a track and the start of its music (absolute) */
 #define RIBJASPER_Q_FIRST 2     /* the first track, and the disc's type (disc: 0 CD-DA or CD-ROM, 16 CD-i, 32 XA) */
@@ -520,8 +522,9 @@ void ribjasper_text_pack_symbols(const uint8_t pack[18], uint8_t symbols[24]);
 #define RIBJASPER_Q_ISRC 6      /* the recording code of the track, twelve characters in text, and frame */
 #define RIBJASPER_Q_OTHER 7     /* bits without fields: mode, and bytes 1 to 9 in text */
 
-/* A frame of the Q channel. The comment of each kind, above, names the fields that this kind uses. The other fields are
-   written as zeros, and ignored when they are read. Times are numbers of blocks, 75 a second, below 450,000. */
+/* This struct is a frame of the Q channel. The comment of each kind, above, names the fields that this kind uses. The
+   other fields are written as zeros, and ignored when they are read. Times are numbers of blocks, 75 a second, below
+   450,000. */
 typedef struct ribjasper_q_frame {
     uint32_t kind;     /* one of the kinds above */
     uint32_t time;     /* kind 0: the distance from the start of the track's music; kinds 1 to 4: the time of the lead-in */
@@ -575,7 +578,7 @@ void ribjasper_blocks_to_planar(const uint8_t *blocks, size_t count, uint8_t *pl
      blocks, room: the output, and the number of blocks that fit into it */
 void ribjasper_blocks_from_planar(const uint8_t *planar, size_t count, uint8_t *blocks, size_t room);
 
-/* A tally: detailed counts of the blocks that a player was fed. Begin with zeros. Each count saturates. */
+/* A tally has detailed counts of the blocks that a player was fed. Begin with zeros. Each count saturates. */
 typedef struct ribjasper_tally {
     uint64_t blocks;         /* blocks */
     uint64_t clean;          /* packs without a wrong symbol */
@@ -599,15 +602,15 @@ typedef struct ribjasper_tally {
 int32_t ribjasper_player_feed_counted(ribjasper_player *player, const uint8_t block[RIBJASPER_BLOCK],
                                       ribjasper_tally *tally);
 
-/* The result of converting a stream. `bytes` is the number of bytes written, and `blocks` is the number of program
-   blocks. `bad` is the number of packs with no codeword near; such packs are written as 24 zeros. */
+/* This struct is the result of converting a stream. `bytes` is the number of bytes written, and `blocks` is the number
+   of program blocks. `bad` is the number of packs with no codeword near; such packs are written as 24 zeros. */
 typedef struct ribjasper_converted {
     uint64_t bytes;
     uint32_t blocks;
     uint32_t bad;
 } ribjasper_converted;
 
-/* The return values of calls on whole streams. They equal the exit statuses of the program. */
+/* These are the return values of calls on whole streams. They equal the exit statuses of the program. */
 #define RIBJASPER_CONVERTED 0 /* done */
 #define RIBJASPER_DAMAGED 1   /* done, but packs are bad */
 #define RIBJASPER_USAGE 2     /* the form is above 2 or `lead_in` above 450,000 */
@@ -666,10 +669,10 @@ int32_t ribjasper_convert(const uint8_t *stream, size_t length, uint32_t form, u
    exceptions: doubtful codewords, and words on which two readings agree. If you pass the readings in another order,
    only the reading that is named as the source may change, if several readings are equal. */
 
-/* The result of mending two readings. Each word is counted in exactly one of five numbers. `both` counts words whose
-   codeword both readings have. `of_first` and `of_second` count words whose codeword only one reading has. `agreed`
-   counts words at which no codeword counts and both readings agree on one. `none` counts words without a codeword,
-   which are written as 24 zeros. The sum of the five numbers is the number of words, which is bytes / 24. */
+/* This struct is the result of mending two readings. Each word is counted in exactly one of five numbers. `both` counts
+   words whose codeword both readings have. `of_first` and `of_second` count words whose codeword only one reading has.
+   `agreed` counts words at which no codeword counts and both readings agree on one. `none` counts words without a
+   codeword, which are written as 24 zeros. The sum of the five numbers is the number of words, which is bytes / 24. */
 typedef struct ribjasper_mended {
     uint64_t bytes;
     uint32_t blocks;
@@ -698,8 +701,9 @@ int32_t ribjasper_mend(const uint8_t *first, size_t first_length, const uint8_t 
 #define RIBJASPER_AGREED 254     /* instead of the number of a reading: two readings agree on the codeword */
 #define RIBJASPER_NO_READING 255 /* there is no codeword */
 
-/* The result of mending any number of readings. Readings are numbered from 0. Entries after the last reading are 0. The
-   sum of all numbers in `of_reading`, `agreed` and `none` is the number of words, which is bytes / 24. */
+/* This struct is the result of mending any number of readings. Readings are numbered from 0. Entries after the last
+   reading are 0. The sum of all numbers in `of_reading`, `agreed` and `none` is the number of words, which is bytes /
+   24. */
 typedef struct ribjasper_mended_readings {
     uint64_t bytes;    /* bytes written */
     uint32_t blocks;   /* program blocks */
@@ -747,9 +751,9 @@ int32_t ribjasper_mend_stream(const uint8_t *readings, size_t length, uint32_t c
                               uint8_t *blocks, size_t room, uint8_t *sources, size_t words,
                               ribjasper_mended_readings *result);
 
-/* A report on mended readings. `counts` is the result of the calls above, and `lost` has the number of lost words of
-   each reading. A word of a reading is lost if it has no wrong symbol and counts, but the output has another codeword
-   or none. */
+/* This struct is a report on mended readings. `counts` is the result of the calls above, and `lost` has the number of
+   lost words of each reading. A word of a reading is lost if it has no wrong symbol and counts, but the output has
+   another codeword or none. */
 typedef struct ribjasper_mend_reported {
     ribjasper_mended_readings counts;
     uint32_t lost[RIBJASPER_READINGS];
@@ -766,8 +770,8 @@ int32_t ribjasper_mend_stream_report(const uint8_t *readings, size_t length, uin
                                      uint8_t *blocks, size_t room, uint8_t *sources, size_t words,
                                      ribjasper_mend_reported *report);
 
-/* A row of a plan, which describes one picture of a script. Times are numbers of program blocks, 75 a second, from the
-   absolute time 00:00:00. Packs are numbered from 0. */
+/* This struct is a row of a plan. It describes one picture of a script. Times are numbers of program blocks, 75 a
+   second, from the absolute time 00:00:00. Packs are numbered from 0. */
 typedef struct ribjasper_plan_row {
     uint32_t line;  /* the line of the script with its `show`, from 1 */
     uint32_t ready; /* the ready time of the picture */
@@ -778,7 +782,7 @@ typedef struct ribjasper_plan_row {
     uint8_t late;   /* 1 if the change does not fit before the ready time, also an empty change; otherwise 0 */
 } ribjasper_plan_row;
 
-/* The result of a plan. */
+/* This struct is the result of a plan. */
 typedef struct ribjasper_planned {
     uint32_t pictures; /* pictures of the script */
     uint32_t blocks;   /* program blocks of the disc */
@@ -788,8 +792,8 @@ typedef struct ribjasper_planned {
     uint32_t number;   /* the number that the reason below explains, or 0 */
 } ribjasper_planned;
 
-/* The reasons why there is no plan. The program's `author` checks them in this order. (It checks the length of the
-   script only after the lines of the sheet.) */
+/* These are the reasons why there is no plan. The program's `author` checks them in this order. (It checks the length
+   of the script only after the lines of the sheet.) */
 #define RIBJASPER_TEXT_TOO_LONG 1   /* the sheet or the script has more than 67,108,864 bytes */
 #define RIBJASPER_SHEET_REFUSED 2   /* a line of the sheet is refused; the number is the reason: 1 unknown-command,
     2 second-file, 3 misplaced, 4 bad-argument, 5 repeated, 6 no-index, 7 not-audio, 8 number-order, 9 index-order,
@@ -802,7 +806,7 @@ typedef struct ribjasper_planned {
 #define RIBJASPER_CD_TEXT_TOO_LONG 7 /* the number is how many packs the CD-TEXT needs; at most 256 are allowed */
 #define RIBJASPER_LEAD_IN_SHORT 8   /* the lead-in is too short; the number is how many blocks it needs */
 
-/* The answers of ribjasper_plan, besides RIBJASPER_USAGE, RIBJASPER_NO_ROOM and RIBJASPER_NO_MEMORY. */
+/* ribjasper_plan returns these answers, or RIBJASPER_USAGE, RIBJASPER_NO_ROOM or RIBJASPER_NO_MEMORY. */
 #define RIBJASPER_PLANNED 0     /* each picture is on time */
 #define RIBJASPER_NOT_PLANNED 3 /* `result` has the reason, and no row is written */
 #define RIBJASPER_LATE 4        /* pictures are late; their rows have `late` 1 */
@@ -826,7 +830,8 @@ int32_t ribjasper_plan(const uint8_t *sheet, size_t sheet_length, const uint8_t 
                        uint32_t lead_in, uint32_t audio, ribjasper_plan_row *rows, size_t room,
                        ribjasper_planned *result);
 
-/* An index line of a cue sheet, with the data of its track. Times are numbers of blocks, 75 a second, below 450,000. */
+/* This struct is an index line of a cue sheet, with the data of its track. Times are numbers of blocks, 75 a second,
+   below 450,000. */
 typedef struct ribjasper_sheet_row {
     uint32_t time;    /* the time of the index in the file */
     uint32_t pregap;  /* the silence before the track */
@@ -838,7 +843,8 @@ typedef struct ribjasper_sheet_row {
     uint8_t isrc[12]; /* the ISRC, or zeros */
 } ribjasper_sheet_row;
 
-/* The result of reading a cue sheet. If the sheet is refused, all fields except `line` and `why` are 0. */
+/* This struct is the result of reading a cue sheet. If the sheet is refused, all fields except `line` and `why` are 0.
+   */
 typedef struct ribjasper_sheet_told {
     uint32_t rows;         /* index lines, at most 9,900 */
     uint32_t tracks;       /* tracks, 1 to 99 */
@@ -859,7 +865,7 @@ typedef struct ribjasper_sheet_told {
 RIBJASPER_NODISCARD int32_t ribjasper_sheet(const uint8_t *sheet, size_t length, ribjasper_sheet_row *rows, size_t room,
                                             ribjasper_sheet_told *result);
 
-/* The kinds of texts of a cue sheet. */
+/* These are the kinds of texts of a cue sheet. */
 #define RIBJASPER_TITLE 0
 #define RIBJASPER_PERFORMER 1
 #define RIBJASPER_SONGWRITER 2
@@ -887,10 +893,10 @@ RIBJASPER_NODISCARD int32_t ribjasper_sheet_text(const uint8_t *sheet, size_t le
 #define RIBJASPER_Q_BAD_FIELD 254 /* the CRC is right, but a field is out of its range */
 #define RIBJASPER_Q_BAD_CHECK 255 /* the CRC is wrong; this includes 96 zero bits */
 
-/* A row of a survey, which describes one block of a stream. The row counts the words whose last symbol is in the block.
-   In program block b these are the words 4 b - 7 to 4 b - 4 (none below 0). In a block of RIBJASPER_PACKS they are its
-   four words. In a lead-in block there are none. The sums over all rows are the numbers clean, one, two, bad, q-good
-   and q-bad of the program's command `check`. */
+/* This struct is a row of a survey. It describes one block of a stream. The row counts the words whose last symbol is
+   in the block. In program block b these are the words 4 b - 7 to 4 b - 4 (none below 0). In a block of RIBJASPER_PACKS
+   they are its four words. In a lead-in block there are none. The sums over all rows are the numbers clean, one, two,
+   bad, q-good and q-bad of the program's command `check`. */
 typedef struct ribjasper_row {
     uint32_t absolute; /* the absolute time in blocks, if the frame is of kind 0; otherwise RIBJASPER_NO_TIME */
     uint8_t clean;     /* words that are codewords */
@@ -903,7 +909,7 @@ typedef struct ribjasper_row {
     uint8_t empty;     /* 1 if all 96 bytes are zero, or 0 */
 } ribjasper_row;
 
-/* The result of a survey. */
+/* This struct is the result of a survey. */
 typedef struct ribjasper_surveyed {
     uint32_t blocks; /* whole blocks, lead-in included */
     uint32_t rest;   /* bytes after the last whole block; 0 if the stream is not torn */
@@ -928,14 +934,14 @@ int32_t ribjasper_survey(const uint8_t *stream, size_t length, uint32_t form, ui
      packs: the output, 72 bytes */
 void ribjasper_block_text_packs(const uint8_t block[RIBJASPER_BLOCK], uint8_t packs[72]);
 
-/* The result of listing texts. If the answer of the call does not need a number, it is 0. */
+/* This struct is the result of listing texts. If the answer of the call does not need a number, it is 0. */
 typedef struct ribjasper_listed {
     uint64_t bytes; /* bytes written, if the texts are not refused */
     uint32_t seq;   /* the number of the missing or invalid pack, 0 to 255 */
     uint32_t byte;  /* the number of the invalid byte in this pack */
 } ribjasper_listed;
 
-/* Why the texts of a lead-in are refused. */
+/* These answers say why the texts of a lead-in are refused. */
 #define RIBJASPER_TEXT_MISSING 8    /* pack `seq` is missing */
 #define RIBJASPER_TEXT_NO_SIZE 9    /* one of the three packs with the sizes is missing */
 #define RIBJASPER_TEXT_MALFORMED 10 /* byte `byte` of pack `seq` is invalid */
