@@ -79,129 +79,129 @@ outputs (*sinks*). A clause `ensures name { .. }` is a statement that is true af
 
 | Sign | Meaning |
 |---|---|
-| `first.old`, `first.new` | An argument that the call may change, before and after the call. |
-| `words.now` | An argument that the call only reads. |
-| `result` | The return value of the call. |
-| `x.0`, `x.1`, `x.name` | A part of a tuple, by its place, and a part of a record, by its name. |
-| `S.left first.old` | The bytes that can still be read from a source: `Some` list if they are known, otherwise `None`. |
-| `K.held out.old` | The bytes that were written to a sink, if they are known. |
-| `S.faults`, `S.ends` | The number of reads that failed, and the number of reads that reported the end. |
-| `S.Source` | The bytes and the counts of a source, as one value. |
+| `first.old`, `first.new` | These are an argument that the call may change, before and after the call. |
+| `words.now` | This is an argument that the call only reads. |
+| `result` | This is the return value of the call. |
+| `x.0`, `x.1`, `x.name` | These are parts of a tuple, by their place, and a part of a record, by its name. |
+| `S.left first.old` | These are the bytes that can still be read from a source: `Some` list if they are known, otherwise `None`. |
+| `K.held out.old` | These are the bytes that were written to a sink, if they are known. |
+| `S.faults`, `S.ends` | These are the number of reads that failed, and the number of reads that reported the end. |
+| `S.Source` | This is one value with the bytes and the counts of a source. |
 | `(x : A) → P`, `(x y : A) → P` | For every x (and every y) of A, P is true. |
 | `(x : A) × P` | There is an x of A for which P is true. |
-| `a ≡ b`, `a ≢ b` | a equals b; a does not equal b. |
+| `a ≡ b`, `a ≢ b` | The first means that a equals b, the second that a does not equal b. |
 | `a → b` | If a is true, b is true. Between types, it is the type of functions from a to b. |
-| `a × b`, `a ⊎ b`, `¬ a`, `a ↔ b` | a and b; a or b; not a; a if and only if b. |
-| `⊤`, `⊥` | The statement that is always true, and the one that is always false. |
-| `λ x. e` | The function that maps x to e. |
-| `ℕ`, `a - b` | The natural numbers. If a - b would be negative, it is 0. |
-| `[]`, `x ∷ xs`, `xs ++ ys` | The empty list; a list with x in front of xs; two lists joined. |
-| `record`, `pub name : A` | Several statements under one name, all of which are true; or a value of several parts. |
-| `record { name = e; .. }` | The value whose parts are these. |
-| `abbrev`, `unfoldable` | A name for the right side of the definition. The two words differ only for the checker. |
-| `data`, `name : A → B ..` | A statement that is true in one of these ways and in no other; or a value of one of these kinds. |
-| `{A : Type 0}` | An argument that the checker finds by itself. |
+| `a × b`, `a ⊎ b`, `¬ a`, `a ↔ b` | These mean: a and b; a or b; not a; a if and only if b. |
+| `⊤`, `⊥` | The first statement is always true, the second is always false. |
+| `λ x. e` | This is the function that maps x to e. |
+| `ℕ`, `a - b` | ℕ is the type of natural numbers. If a - b would be negative, it is 0. |
+| `[]`, `x ∷ xs`, `xs ++ ys` | These are the empty list, the list with x in front of xs, and two lists joined. |
+| `record`, `pub name : A` | A record is one name for several statements, all of which are true; or it is a value of several parts. |
+| `record { name = e; .. }` | This is the value whose parts are these. |
+| `abbrev`, `unfoldable` | Both define a name for the right side of the definition. They differ only for the checker. |
+| `data`, `name : A → B ..` | This defines a statement that is true in one of these ways and in no other; or a value of one of these kinds. |
+| `{A : Type 0}` | This is an argument that the checker finds by itself. |
 
 `slice_index xs n` is element n of a list, counted from 0. If the list has no such element, it is 0. `pixel_at` and `word_of` depend on this.
 """.strip()
 
 # What the words of the standard library mean.
 WORDS = {
-    "All": "A statement is true for each element of a list.",
-    "AllByRecursion": "A statement is true for each element of a list.",
-    "Appends": "If the contents of an output are known, exactly these bytes were appended to them.",
-    "Bool": "A truth value, `true` or `false`.",
-    "Consumes": "If the contents of an input are known, exactly these bytes were removed from their front.",
-    "Contains": "The list has this element.",
-    "Err": "The result of a call that failed, with the reason.",
-    "ForSome": "There is a value for which this statement is true.",
-    "Global": "The heap.",
-    "IfErr": "If the result is `Err`, this statement is true for its reason.",
-    "IfOk": "If the result is `Ok`, this statement is true for its value.",
-    "IfSome": "If there is a value, this statement is true for it.",
-    "IsAtEnd": "If the contents of an input are known, nothing is left of them.",
-    "IsErr": "The result is `Err`.",
-    "IsErrOf": "The result is `Err` with this reason.",
-    "IsOk": "The result is `Ok`.",
-    "IsTrue": "The value is `true`.",
-    "List": "A finite list.",
-    "MatchBool": "If a truth value is `true`, the first statement is true; if it is `false`, the second one is.",
-    "MatchOption": "If there is no value, the first statement is true; if there is one, the second statement is true for it.",
-    "MatchResult": "If the result is `Ok`, the first statement is true for its value; if it is `Err`, the second one is true for its reason.",
-    "None": "No value.",
-    "Ok": "The result of a call that succeeded, with its value.",
-    "OnErr": "If the result is `Err`, this statement is true.",
-    "OnOk": "If the result is `Ok`, this statement is true.",
-    "Option": "A value, or no value.",
-    "ReadConsumes": "A read removed exactly the bytes that it returned.",
-    "Result": "`Ok` with a value, or `Err` with a reason.",
-    "Some": "A value that exists.",
-    "StartsWith": "The list begins with this other list.",
-    "String": "A text.",
-    "Unit": "The type with only one value.",
-    "before_first": "The elements before the first one of this kind.",
-    "bit_at": "Bit k of a number, counted from the lowest bit.",
-    "bit_xor": "The exclusive or of two numbers, bit by bit.",
-    "box_owns": "A box holds this value and owns its memory.",
-    "bytes_eq": "Whether two lists of bytes are equal.",
-    "coded_list": "A list of numbers as bytes in memory, one after another.",
-    "codes": "The characters of a text as numbers.",
-    "concat": "The lists of a list, joined.",
-    "count_by": "The number of elements of this kind.",
-    "decimal": "A number in decimal digits, without a leading zero.",
-    "digit_char": "The character of a digit.",
-    "digit_value": "The number that the character of a digit means.",
-    "digits_value": "The number that a list of digits means.",
-    "drop": "A list without its first n elements.",
-    "enumerate_from": "Each element with its number, counted from n.",
-    "false": "The truth value of a false statement.",
-    "filter": "The elements of this kind, in their order.",
-    "filter_map": "The values of a function, for the elements for which it has one.",
-    "find": "The first element of this kind, if there is one.",
-    "flat_map": "The lists that a function returns for each element, joined.",
-    "fold": "The value of a function that is applied to the elements one after another.",
-    "is_ascii_digit": "Whether a character is one of 0 to 9.",
-    "is_ascii_hexdigit": "Whether a character is one of 0 to 9, a to f, A to F.",
-    "is_ascii_uppercase": "Whether a character is one of A to Z.",
-    "is_err": "Whether a result is `Err`.",
-    "is_none": "Whether there is no value.",
-    "is_ok": "Whether a result is `Ok`.",
-    "is_prefix": "Whether a list is the beginning of another.",
-    "is_some": "Whether there is a value.",
-    "length": "The number of elements of a list.",
-    "lines": "The lines of a text, which end with line feeds.",
-    "list_all": "Whether all elements are of this kind.",
-    "list_any": "Whether some element is of this kind.",
-    "map": "The values of a function for all elements of a list.",
-    "max": "The greater of two numbers.",
-    "min": "The smaller of two numbers.",
-    "nat_eq": "Whether two numbers are equal.",
-    "nat_le": "Whether a number is at most another.",
-    "nat_lt": "Whether a number is below another.",
-    "negsuc": "A number below zero: `negsuc n` is - n - 1.",
-    "not": "The other truth value.",
-    "option_map": "The value of a function, if there is a value to apply it to.",
-    "pos": "An integer from 0 on.",
-    "position": "The index of the first element of this kind.",
-    "range_with_len": "A list of n numbers that count up from a first number.",
-    "replicate": "A list of n equal elements.",
-    "reverse": "A list in reverse order.",
-    "slice_index": "Element n of a list, counted from 0; or 0 if there is none.",
-    "slice_index_or": "Element n of a list, counted from 0; or another value if there is none.",
-    "slice_range": "The elements of a list between two indices.",
-    "slice_set": "A list with another value at index n.",
-    "slice_split": "The parts of a list between the elements of this kind.",
-    "starts_with": "Whether a list begins with another.",
-    "str_eq_ignore_ascii_case": "Whether two texts are equal except for capital letters.",
-    "str_to_ascii_uppercase": "A text in capital letters.",
-    "string_bytes": "A text as bytes.",
-    "suc": "The next number.",
-    "sum_by": "The sum of the values of a function for all elements.",
-    "take": "The first n elements of a list.",
-    "true": "The truth value of a true statement.",
-    "unwrap_or": "The value, if there is one, or another value.",
-    "zero": "0",
-    "zip": "Two lists as one list of pairs.",
+    "All": "This says that a statement is true for each element of a list.",
+    "AllByRecursion": "This says that a statement is true for each element of a list.",
+    "Appends": "This says: if the contents of an output are known, exactly these bytes were appended to them.",
+    "Bool": "This type has the truth values `true` and `false`.",
+    "Consumes": "This says: if the contents of an input are known, exactly these bytes were removed from their front.",
+    "Contains": "This says that the list has this element.",
+    "Err": "This is the result of a call that failed, with the reason.",
+    "ForSome": "This says that there is a value for which this statement is true.",
+    "Global": "This is the heap.",
+    "IfErr": "This says: if the result is `Err`, this statement is true for its reason.",
+    "IfOk": "This says: if the result is `Ok`, this statement is true for its value.",
+    "IfSome": "This says: if there is a value, this statement is true for it.",
+    "IsAtEnd": "This says: if the contents of an input are known, nothing is left of them.",
+    "IsErr": "This says that the result is `Err`.",
+    "IsErrOf": "This says that the result is `Err` with this reason.",
+    "IsOk": "This says that the result is `Ok`.",
+    "IsTrue": "This says that the value is `true`.",
+    "List": "This is the type of finite lists.",
+    "MatchBool": "This says: if a truth value is `true`, the first statement is true; if it is `false`, the second one is.",
+    "MatchOption": "This says: if there is no value, the first statement is true; if there is one, the second statement is true for it.",
+    "MatchResult": "This says: if the result is `Ok`, the first statement is true for its value; if it is `Err`, the second one is true for its reason.",
+    "None": "This means that there is no value.",
+    "Ok": "This is the result of a call that succeeded, with its value.",
+    "OnErr": "This says: if the result is `Err`, this statement is true.",
+    "OnOk": "This says: if the result is `Ok`, this statement is true.",
+    "Option": "A value of this type is `Some` with a value, or `None`.",
+    "ReadConsumes": "This says that a read removed exactly the bytes that it returned.",
+    "Result": "A value of this type is `Ok` with a value, or `Err` with a reason.",
+    "Some": "This means that there is a value.",
+    "StartsWith": "This says that the list begins with this other list.",
+    "String": "This is the type of texts.",
+    "Unit": "This type has only one value.",
+    "before_first": "This function returns the elements before the first one for which another function is true.",
+    "bit_at": "This function returns bit k of a number, counted from the lowest bit.",
+    "bit_xor": "This function returns the exclusive or of two numbers, bit by bit.",
+    "box_owns": "This says that a box holds this value and owns its memory.",
+    "bytes_eq": "This function returns whether two lists of bytes are equal.",
+    "coded_list": "This function returns a list of numbers as bytes in memory, one after another.",
+    "codes": "This function returns the characters of a text as numbers.",
+    "concat": "This function joins the lists of a list.",
+    "count_by": "This function returns the number of elements for which another function is true.",
+    "decimal": "This function returns a number in decimal digits, without a leading zero.",
+    "digit_char": "This function returns the character of a digit.",
+    "digit_value": "This function returns the number that the character of a digit means.",
+    "digits_value": "This function returns the number that a list of digits means.",
+    "drop": "This function removes the first n elements of a list.",
+    "enumerate_from": "This function pairs each element with its number, counted from n.",
+    "false": "This is the truth value of a false statement.",
+    "filter": "This function returns the elements for which another function is true, in their order.",
+    "filter_map": "This function applies a function to each element, and keeps the values that exist.",
+    "find": "This function returns the first element for which another function is true, if there is one.",
+    "flat_map": "This function applies a function to each element, and joins the lists that it returns.",
+    "fold": "This function applies a function to a value and each element of a list, one after another.",
+    "is_ascii_digit": "This function returns whether a character is one of 0 to 9.",
+    "is_ascii_hexdigit": "This function returns whether a character is one of 0 to 9, a to f, A to F.",
+    "is_ascii_uppercase": "This function returns whether a character is one of A to Z.",
+    "is_err": "This function returns whether a result is `Err`.",
+    "is_none": "This function returns whether there is no value.",
+    "is_ok": "This function returns whether a result is `Ok`.",
+    "is_prefix": "This function returns whether a list is the beginning of another.",
+    "is_some": "This function returns whether there is a value.",
+    "length": "This function returns the number of elements of a list.",
+    "lines": "This function splits a text into its lines, which end with line feeds.",
+    "list_all": "This function returns whether another function is true for all elements.",
+    "list_any": "This function returns whether another function is true for some element.",
+    "map": "This function applies a function to each element of a list.",
+    "max": "This function returns the greater of two numbers.",
+    "min": "This function returns the smaller of two numbers.",
+    "nat_eq": "This function returns whether two numbers are equal.",
+    "nat_le": "This function returns whether a number is at most another.",
+    "nat_lt": "This function returns whether a number is below another.",
+    "negsuc": "`negsuc n` is the integer - n - 1.",
+    "not": "This function returns the other truth value.",
+    "option_map": "This function applies a function to a value, if there is one.",
+    "pos": "`pos n` is the integer n.",
+    "position": "This function returns the index of the first element for which another function is true.",
+    "range_with_len": "This function returns a list of n numbers that count up from a first number.",
+    "replicate": "This function returns a list of n equal elements.",
+    "reverse": "This function returns a list in reverse order.",
+    "slice_index": "This function returns element n of a list, counted from 0; or 0 if there is none.",
+    "slice_index_or": "This function returns element n of a list, counted from 0; or another value if there is none.",
+    "slice_range": "This function returns the elements of a list between two indices.",
+    "slice_set": "This function replaces the value at index n of a list.",
+    "slice_split": "This function splits a list at the elements for which another function is true.",
+    "starts_with": "This function returns whether a list begins with another.",
+    "str_eq_ignore_ascii_case": "This function returns whether two texts are equal except for capital letters.",
+    "str_to_ascii_uppercase": "This function returns a text in capital letters.",
+    "string_bytes": "This function returns a text as bytes.",
+    "suc": "`suc n` is n + 1.",
+    "sum_by": "This function returns the sum of the values of a function for all elements.",
+    "take": "This function returns the first n elements of a list.",
+    "true": "This is the truth value of a true statement.",
+    "unwrap_or": "This function returns the value, if there is one, or another value.",
+    "zero": "This is the number 0.",
+    "zip": "This function makes one list of pairs from two lists.",
 }
 
 
