@@ -645,8 +645,8 @@ int32_t ribjasper_convert(const uint8_t *stream, size_t length, uint32_t form, u
    graphics at a word if it has the idle pack there and another reading shows that the word is not idle. For this, the
    other reading needs a codeword with no wrong symbol, or a graphics pack with one or two wrong symbols. A graphics
    pack has mode and item 9 and a known instruction. A reading lacks graphics at each word from which it is quiet up to
-   a word at which it misses graphics, forwards or backwards. A codeword other than the idle pack is doubtful if it has
-   a wrong symbol and its mode and item is not one of 8, 9, 10 and 24, the values that discs use.
+   a word at which it misses graphics, forwards or backwards. A codeword is doubtful if it has a wrong symbol and a mode
+   and item that discs do not use. Discs use 8, 9, 10 and 24. The idle pack is never doubtful.
 
    Two kinds of codewords do not count. The first kind is the idle pack of a reading that lacks graphics at the word.
    The second kind is a doubtful codeword at a word at which some reading is quiet.
