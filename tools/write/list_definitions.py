@@ -468,7 +468,7 @@ class Book:
                 continue
             if where != before:
                 out += ["```", ""] * (before is not None)
-                out += [f"[{module.crate}, {module.name}]({self.link(module)})", "", "```"]
+                out += [f"[{module.crate}, {module.name}]({self.link(module)})", "```"]
             else:
                 out += [""]
             out += module.blocks[name]
