@@ -1,5 +1,5 @@
 -- How many symbols are not 0, by eights.
-use Rattle.std.proofs.Common.{ne_eqb, ap₂, take, drop, append-nil, length-append, length-take-le, Fits, ◌≡◌, ℕ, zero, suc, ◌+◌, ◌≤◌, ◌-◌, ◌^◌, cond, List, [], ◌∷◌, ◌++◌, length, map, min, refl, sym, ap, ◌∙◌, arith}
+use Rattle.std.proofs.Common.{ne_eqb, ap₂, take, drop, append-nil, append_assoc, length-append, length-take-le, Fits, ◌≡◌, ℕ, zero, suc, ◌+◌, ◌≤◌, ◌-◌, ◌^◌, cond, List, [], ◌∷◌, ◌++◌, length, map, min, refl, sym, ap, ◌∙◌, arith}
 use Rattle.std.specs.Prelude.{replicate}
 use Rattle.std.specs.Simd.Lanes.{sum_l, sel_l, zip2, top, fold_l, Each2, Steps}
 use lib.Dec.{ltb}
@@ -7,6 +7,7 @@ use Rattle.std.proofs.lemmas.Bool.Decides.{nat_tests}
 use mir.Syntax.{w8}
 use Rattle.std.proofs.lemmas.Simd.{tops_compared, sum-zip2, length-zip2, adds_fit, sum_fits, fold-sum}
 use Rattle.std.proofs.lemmas.List.{length-drop, length-map, take_all, take-append-le, take-append-drop, drop_all, drop-drop}
+use borrow.Rule.Slice.PartMut.{put_mid}
 use Rattle.rw_code.specs.Codeword.{differences}
 
 -- a 1 for each symbol that is not 0
@@ -51,7 +52,7 @@ lanes_at_most_one xs =
 
 -- ---- Eights that are put one behind the other.
 
-pub three_eights : (zeros one two three low middle high : List ℕ) → length zeros ≡ 24 → length low ≡ 8
+three_eights : (zeros one two three low middle high : List ℕ) → length zeros ≡ 24 → length low ≡ 8
     → length middle ≡ 8 → length high ≡ 8
     → one ≡ take 0 zeros ++ low ++ drop 8 zeros → two ≡ take 8 one ++ middle ++ drop 16 one
     → three ≡ take 16 two ++ high ++ drop 24 two
@@ -74,6 +75,44 @@ three_eights zeros one two three low middle high size low_size middle_size high_
     ∙ ap (λ l. l ++ high ++ drop 24 two) two_front
     ∙ ap (λ l. low ++ middle ++ high ++ l) (drop_all 24 two (omega arith))
     ∙ append-nil (low ++ middle ++ high)
+
+pub eights_size : (low middle high : List ℕ) → length low ≡ 8 → length middle ≡ 8 → length high ≡ 8
+    → length (low ++ middle ++ high) ≡ 24
+eights_size low middle high low_size middle_size high_size =
+    omega
+    (arith, low_size, middle_size, high_size, length-append (low ++ middle) high, length-append low middle)
+
+-- two pieces of eight leave room for a third
+pub eights_room : (one two : List ℕ) → length one ≡ 8 → length two ≡ 8
+    → 24 ≤ length (put_mid 8 8 (one ++ replicate 16 0) two)
+eights_room one two one_size two_size =
+    let begun : List ℕ = one ++ replicate 16 0 in
+    let size : length begun ≡ 24 = omega (arith, one_size, length-append one (replicate {A = ℕ} 16 0)) in
+    omega (
+      arith,
+      two_size,
+      length-append (take 8 begun) (two ++ drop 8 (drop 8 begun)),
+      length-append two (drop 8 (drop 8 begun)),
+      length-take-le 8 begun (omega (arith, size)),
+      length-drop 8 (drop 8 begun),
+      length-drop 8 begun,
+      size,
+    )
+
+-- three pieces of eight, each copied behind the one before
+pub eights_put : (low middle high one two three : List ℕ) → length low ≡ 8 → length middle ≡ 8
+    → length high ≡ 8 → one ≡ low → two ≡ middle → three ≡ high
+    → put_mid 16 8 (put_mid 8 8 (one ++ replicate 16 0) two) three ≡ low ++ middle ++ high
+eights_put low middle high one two three low_size middle_size high_size first second third =
+    let begun : List ℕ = one ++ replicate 16 0 in
+    let more : List ℕ = put_mid 8 8 begun two in
+    three_eights (replicate 24 0) begun more (put_mid 16 8 more three) low middle high refl low_size
+    middle_size high_size
+    (ap (λ l. l ++ replicate 16 0) first)
+    (ap₂ (λ x y. take 8 begun ++ (x ++ y)) second (drop-drop 8 8 begun)
+    ∙ sym (append_assoc (take 8 begun) middle (drop 16 begun)))
+    (ap₂ (λ x y. take 16 more ++ (x ++ y)) third (drop-drop 8 16 more)
+    ∙ sym (append_assoc (take 16 more) high (drop 24 more)))
 
 -- ---- The weight of a word by its eights.
 

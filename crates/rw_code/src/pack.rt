@@ -41,7 +41,9 @@ impl Pack {
         requires { AreSyndromes word.now syndromes.lanes }
         ensures { MatchOption result (¬ IsCodeword word.now) (λ p. IsCodeword word.now × (p ≡ word.now)) }
     {
-        if syndromes.are_zero(word) {
+        // A codeword is a word.
+        words_have_24_symbols(word);
+        if syndromes.lanes == 0 {
             Some(Pack { word: *word })
         } else {
             None

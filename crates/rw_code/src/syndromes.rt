@@ -32,20 +32,9 @@ impl Syndromes {
         let bytes = word.bytes();
         let mut lanes = 0;
         for i in 0..SYMBOLS {
-            lanes ^= entry(i, bytes[i] as usize);
+            lanes ^= SYNDROMES[i][bytes[i] as usize];
         }
         Syndromes { lanes }
-    }
-
-    /// Whether all six are 0.
-    #[inline]
-    pub(crate) fn are_zero(self, word: &Word) -> bool
-        requires { AreSyndromes word.now self.lanes }
-        ensures { IsTrue result ↔ IsCodeword word.now }
-    {
-        // A codeword is a word.
-        words_have_24_symbols(word);
-        self.lanes == 0
     }
 
     /// The four over all symbols, each by itself.

@@ -58,9 +58,11 @@ impl Word {
         requires { All (λ symbol. symbol < symbol_values) (low ++ middle ++ high) }
         ensures { result ≡ low ++ middle ++ high }
     {
-        Word {
-            bytes: joined(low, middle, high),
-        }
+        let mut bytes = [0; SYMBOLS];
+        bytes[..8].copy_from_slice(&low);
+        bytes[8..16].copy_from_slice(&middle);
+        bytes[16..SYMBOLS].copy_from_slice(&high);
+        Word { bytes }
     }
 
     /// The symbol at a position.
@@ -131,26 +133,6 @@ pub fn words_have_24_symbols(word: &Word)
 {
     // A proof knows the invariant where a field is named.
     let _ = &word.bytes;
-}
-
-// Three times eight bytes as one array.
-#[inline]
-fn joined(low: [u8; 8], middle: [u8; 8], high: [u8; 8]) -> [u8; SYMBOLS]
-    ensures { result ≡ low ++ middle ++ high }
-{
-    let mut bytes = [0; SYMBOLS];
-    put_eight(&mut bytes, 0, low);
-    put_eight(&mut bytes, 8, middle);
-    put_eight(&mut bytes, 16, high);
-    bytes
-}
-
-#[inline]
-fn put_eight(bytes: &mut [u8; SYMBOLS], at: usize, eight: [u8; 8])
-    requires { at ≤ 16 }
-    ensures { bytes.new ≡ take at bytes.old ++ eight ++ drop (at + 8) bytes.old }
-{
-    bytes[at..at + 8].copy_from_slice(&eight);
 }
 
 // A 1 for each of eight symbols that is not 0.

@@ -1,10 +1,10 @@
 -- Words by vectors of sixteen lanes: their lanes one by one.
-use Rattle.std.proofs.Common.{◌≡◌, ℕ, ◌+◌, ◌-◌, ◌*◌, ◌/◌, ◌%◌, ◌<◌, ◌≤◌, ◌==◌, List, [], ◌∷◌, ◌++◌, length, get_or, map, take, drop, inl, inr, refl, sym, ap, ap₂, ◌∙◌, arith}
+use Rattle.std.proofs.Common.{◌≡◌, ℕ, ◌+◌, ◌-◌, ◌*◌, ◌/◌, ◌%◌, ◌<◌, ◌≤◌, ◌==◌, List, [], ◌∷◌, ◌++◌, length, get_or, map, min, take, drop, inl, inr, refl, sym, ap, ap₂, ◌∙◌, arith}
 use Rattle.std.specs.Prelude.{if◌then◌else◌, slice_index}
 use Rattle.std.specs.List.{range_with_len}
 use Rattle.std.specs.Simd.Lanes.{chunk}
 use Rattle.std.proofs.lemmas.Bool.{cases_lt}
-use Rattle.std.proofs.lemmas.List.{get_or-append_right, get_or-drop, get_or-map, get_or-take, get_or_append_left, length-drop, length-map, length-take-le}
+use Rattle.std.proofs.lemmas.List.{drop_all, drop-append-le, get_or-append_right, get_or-drop, get_or-map, get_or-take, get_or_append_left, length-append, length-drop, length-map, length-take-le}
 use Rattle.std.proofs.lemmas.Simd.{get_or-chunk, length-chunk, pick_l_whole}
 use Rattle.bit_lists.specs.Counting.{below}
 use Rattle.cdg_io.specs.Run.{run_gives}
@@ -12,7 +12,7 @@ use Rattle.rw_interleave.specs.Gathering.{gathered, gather_gives, gather_next}
 use Rattle.rw_interleave.specs.Interleave.{swapped}
 use Rattle.rw_interleave.specs.Windows.{four_in, sloping_in, slots_in}
 use Rattle.rw_interleave.proofs.Ranges.{map_range}
-use Rattle.rw_interleave.proofs.Windows.{block_gives, four_words, joined_put, slots_same, start, symbol_is}
+use Rattle.rw_interleave.proofs.Windows.{block_gives, joined_put, none_in, slots_same, start, symbol_is, words_full, words_short}
 
 -- a vector, lane by lane
 pub by_lanes : (n : ℕ) (v : List ℕ) → length v ≡ n → v ≡ map (λ i. get_or v i 0) (range_with_len 0 n)
@@ -182,12 +182,49 @@ raw_same early late block symbols early_size late_size low n within =
           ∙ sym (ap (λ x. x % 64) there')
     ]
 
--- where seven slots have come, four words come
-pub full_gives : (early late block : List ℕ) (count : ℕ) (words : List (List ℕ)) → length early ≡ 72
-    → length late ≡ 96 → length block ≡ 96 → count ≡ 7
-    → words ≡ map (λ first. gathered (slots_in (early ++ (late ++ block)) first 8)) (below 4)
+-- ---- The words of a block of which eight slots have come.
+
+-- one slot more
+whole_more : (b : List ℕ) (count j : ℕ) (words : List (List ℕ)) → count ≤ 7 → length words ≡ j
+    → drop (7 - count) words ≡ run_gives gather_next gather_gives (start b count) (slots_in b 7 j)
+    → drop (7 - count) (words ++ gathered (slots_in b j 8) ∷ [])
+    ≡ run_gives gather_next gather_gives (start b count) (slots_in b 7 (j + 1))
+whole_more b count j words few size done =
+    let word = gathered (slots_in b j 8) in
+    elim (cases_lt (count + j) 7) [
+      | inl short ↦
+          let none : drop (7 - count) words ≡ [] = drop_all (7 - count) words (omega (arith, size, short)) in
+          let still : drop (7 - count) (words ++ word ∷ []) ≡ [] =
+          drop_all (7 - count) (words ++ word ∷ [])
+          (omega (arith, size, short, length-append words (word ∷ []))) in
+          words_short b count j _ few short (still ∙ sym none ∙ done)
+      | inr full ↦
+          words_full b count j (drop (7 - count) words) _ word few full done refl
+          (drop-append-le (7 - count) words (word ∷ []) (omega (arith, size, full)))
+    ]
+
+-- the four words behind seven slots, without those that lack slots
+whole_four : (b : List ℕ) (count : ℕ) → count ≤ 7
+    → drop (7 - count) (map (λ j. gathered (slots_in b j 8)) (below 4))
+    ≡ run_gives gather_next gather_gives (start b count) (slots_in b 7 4)
+whole_four b count few =
+    let word : ℕ → List ℕ = λ j. gathered (slots_in b j 8) in
+    let no : List (List ℕ) = [] in
+    let none : drop (7 - count) no ≡ run_gives gather_next gather_gives (start b count) (slots_in b 7 0) =
+    drop_all (7 - count) no (omega arith)
+    ∙ sym (ap (λ l. run_gives gather_next gather_gives (start b count) l) (none_in b 7)) in
+    let one = whole_more b count 0 [] few refl none in
+    let two = whole_more b count 1 (word 0 ∷ []) few refl one in
+    let three = whole_more b count 2 (word 0 ∷ word 1 ∷ []) few refl two in
+    whole_more b count 3 (word 0 ∷ word 1 ∷ word 2 ∷ []) few refl three
+
+-- the words that come with a block
+pub block_words : (early late block : List ℕ) (count : ℕ) (words four : List (List ℕ)) → length early ≡ 72
+    → length late ≡ 96 → length block ≡ 96 → count ≤ 7
+    → four ≡ map (λ first. gathered (slots_in (early ++ (late ++ block)) first 8)) (below 4)
+    → words ≡ drop (min (7 - count) 4) four
     → words ≡ run_gives gather_next gather_gives (start (early ++ late) count) (slots_in block 0 4)
-full_gives early late block count words early_size late_size block_size full is =
+block_words early late block count words four early_size late_size block_size few is left =
     let symbols : List ℕ = map (λ (x : ℕ). x % 64) block in
     let raw : List ℕ = early ++ (late ++ block) in
     let row : List ℕ = early ++ (late ++ symbols) in
@@ -196,9 +233,22 @@ full_gives early late block count words early_size late_size block_size full is 
     let same = raw_same early late block symbols early_size late_size low in
     let word : (j : ℕ) → j < 4 → gathered (slots_in raw j 8) ≡ gathered (slots_in row j 8) =
     λ j lt. ap gathered (slots_same raw row j j 8 (λ k lt'. same (24 * j + k) (omega (arith, lt, lt')))) in
-    is
-    ∙ block_gives (early ++ late) row block count _ (omega (arith, full))
+    let zeroth = word 0 (omega arith) in
+    let first = word 1 (omega arith) in
+    let second = word 2 (omega arith) in
+    let third = word 3 (omega arith) in
+    let clean : four ≡ map (λ j. gathered (slots_in row j 8)) (below 4) =
+    is ∙ (λ i. zeroth i ∷ first i ∷ second i ∷ third i ∷ []) in
+    let all : words ≡ drop (7 - count) four =
+    left
+    ∙ elim (cases_lt 4 (7 - count)) [
+      | inl short ↦
+          let size = ap length is in
+          drop_all (min (7 - count) 4) four (omega (arith, short, size))
+          ∙ sym (drop_all (7 - count) four (omega (arith, short, size)))
+      | inr full ↦ let most : min (7 - count) 4 ≡ 7 - count = omega (arith, full) in
+          ap (λ n. drop n four) most
+    ] in
+    block_gives (early ++ late) row block count words few
     (joined_put early late symbols block early_size late_size low)
-    (four_words row _ _ _ _ (word 0 (omega arith)) (word 1 (omega arith)) (word 2 (omega arith))
-    (word 3 (omega arith))
-    ∙ ap (λ n. run_gives gather_next gather_gives (slots_in row (7 - n) n) (slots_in row 7 4)) (sym full))
+    (all ∙ ap (drop (7 - count)) clean ∙ whole_four row count few)

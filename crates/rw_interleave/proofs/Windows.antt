@@ -164,22 +164,6 @@ words_full b count j words words' word few ge done is add =
     (sym (step_full b count j ge).1)
     ∙ sym (given_more b count j few)
 
--- once seven slots have come, four words come with a block
-pub four_words : (b : List ℕ) (one two three four : List ℕ) → one ≡ gathered (slots_in b 0 8)
-    → two ≡ gathered (slots_in b 1 8) → three ≡ gathered (slots_in b 2 8) → four ≡ gathered (slots_in b 3 8)
-    → one ∷ two ∷ three ∷ four ∷ [] ≡ run_gives gather_next gather_gives (start b 7) (slots_in b 7 4)
-four_words b one two three four first second third fourth =
-    let none : [] ≡ run_gives gather_next gather_gives (start b 7) (slots_in b 7 0) =
-    sym (ap (λ l. run_gives gather_next gather_gives (start b 7) l) (none_in b 7)) in
-    let one_there = words_full b 7 0 [] (one ∷ []) one (omega arith) (omega arith) none first refl in
-    let two_there =
-    words_full b 7 1 (one ∷ []) (one ∷ two ∷ []) two (omega arith) (omega arith) one_there second refl in
-    let three_there =
-    words_full b 7 2 (one ∷ two ∷ []) (one ∷ two ∷ three ∷ []) three (omega arith) (omega arith) two_there
-    third refl in
-    words_full b 7 3 (one ∷ two ∷ three ∷ []) (one ∷ two ∷ three ∷ four ∷ []) four (omega arith) (omega arith)
-    three_there fourth refl
-
 -- ---- A word.
 
 symbol_in : (b : List ℕ) (j p : ℕ) → p < 24

@@ -1,4 +1,4 @@
-// The four words that come with a block behind seven slots, sixteen symbols at a time.
+// The words of a block behind seven slots, sixteen symbols at a time.
 ghost use Rattle.std.specs.Prelude.{◌≡◌, ◌<◌, ◌≤◌, ◌+◌, ◌%◌, ◌/◌, ◌==◌, if◌then◌else◌, ◌++◌, drop, length, map, slice_index, take};
 ghost use Rattle.bit_lists.specs.Counting.{below};
 ghost use Rattle.raw_subcode.specs.Sizes.{slots_a_block};
@@ -13,40 +13,10 @@ use raw_subcode::{BLOCK_BYTES, SLOTS_A_BLOCK};
 use rw_code::Word;
 use std::simd::prelude::*;
 
-/// The words that come with a block behind seven slots. Position p of the slots is that of the slot p % 8 after the
-/// first, so that four positions from a multiple of four on stand in four slots, one after the other, each at the next
-/// place. The places that are written here as numbers are those of positions 0, 4, 16 and 20 of a word, and of 8 and 12
-/// of two words.
-#[inline(always)]
-pub(crate) fn four_words(
-    early: &[u8; EARLY_BYTES],
-    late: &[u8; BLOCK_BYTES],
-    block: &[u8; BLOCK_BYTES],
-) -> ArrayVec<Word, SLOTS_A_BLOCK>
-    ensures { result.items ≡ map
-        (λ first. gathered (slots_in (early.now ++ (late.now ++ block.now)) first span))
-        (below slots_a_block) }
-{
-    let even = turned(early, late, block, 8, 108, 56, 156);
-    let odd = turned(early, late, block, 32, 132, 80, 180);
-    ArrayVec::from([
-        word(turned(early, late, block, 0, 100, 16, 116), even),
-        word(turned(early, late, block, 24, 124, 40, 140), odd),
-        word(
-            turned(early, late, block, 48, 148, 64, 164),
-            even.rotate_elements_left::<8>(),
-        ),
-        word(
-            turned(early, late, block, 72, 172, 88, 188),
-            odd.rotate_elements_left::<8>(),
-        ),
-    ])
-}
-
 // The word of the symbols at positions 0 to 7 and 16 to 23 of its slots, and of those between, which are the first eight
 // of the others. 1 and 18, 2 and 5, 3 and 23 are exchanged (`swapped`).
 #[inline(always)]
-fn word(outer: u8x16, middle: u8x16) -> Word
+pub(crate) fn word(outer: u8x16, middle: u8x16) -> Word
     requires outer { length outer ≡ 16 }
     requires middle { length middle ≡ 16 }
     ensures { result ≡ map
@@ -67,7 +37,7 @@ fn word(outer: u8x16, middle: u8x16) -> Word
 
 // The bytes at the next place of each next slot, four from each of four places on.
 #[inline(always)]
-fn turned(
+pub(crate) fn turned(
     early: &[u8; EARLY_BYTES],
     late: &[u8; BLOCK_BYTES],
     block: &[u8; BLOCK_BYTES],

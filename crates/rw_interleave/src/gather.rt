@@ -11,7 +11,7 @@ ghost use Rattle.rw_interleave.specs.Interleave.{packs_kept_back, word_of, whole
 ghost use Rattle.rw_interleave.specs.Windows.{before_bytes, row_bytes, slot_in, slots_in, early_bytes, AreRowSymbols, slots_after_block, words_from_block};
 
 use crate::Slot;
-use crate::four_words::four_words;
+use crate::four_words::{turned, word};
 use crate::slot::{PACKS_KEPT_BACK, SPAN};
 use arrayvec::ArrayVec;
 use cdg_io::Stage;
@@ -19,6 +19,7 @@ use raw_subcode::{BLOCK_BYTES, SLOTS_A_BLOCK, SYMBOLS_A_SLOT};
 use rw_code::Word;
 use std::alloc::{AllocError, Global};
 use std::marker::Model;
+use std::simd::prelude::*;
 
 /// Gathers words from slots, one at a time, or from the four of a block at once. Seen as the last slots, at most seven.
 /// It takes no memory.
@@ -118,29 +119,33 @@ impl Gather {
         self.gather_block(block)
     }
 
-    /// The same, for a block that is not seen to be idle. It is a function of its own so that idle blocks do not pay for
-    /// its variables.
+    /// Gathers the words of a block that is not seen to be idle. Idle blocks do not pay for its variables.
+    ///
+    /// Position p of the slots is in slot p % 8. So four positions from a multiple of four on are in four slots, one
+    /// after the other, each at the next place. The numbers are the places of positions 0, 4, 16 and 20 of each word, and of
+    /// positions 8 and 12 of two words.
     #[inline(never)]
     pub fn gather_block(&mut self, block: &[u8; BLOCK_BYTES]) -> ArrayVec<Word, SLOTS_A_BLOCK>
         ensures next { self.new ≡ slots_after_block self.old block.now }
         ensures gives { result.items ≡ words_from_block self.old block.now }
     {
-        if self.count < PACKS_KEPT_BACK {
-            return self.gather_first(block);
+        let even = turned(&self.early, &self.late, block, 8, 108, 56, 156);
+        let odd = turned(&self.early, &self.late, block, 32, 132, 80, 180);
+        let zeroth = turned(&self.early, &self.late, block, 0, 100, 16, 116);
+        let first = turned(&self.early, &self.late, block, 24, 124, 40, 140);
+        let second = turned(&self.early, &self.late, block, 48, 148, 64, 164);
+        let third = turned(&self.early, &self.late, block, 72, 172, 88, 188);
+        let mut words = ArrayVec::from([
+            word(zeroth, even),
+            word(first, odd),
+            word(second, even.rotate_elements_left::<8>()),
+            word(third, odd.rotate_elements_left::<8>()),
+        ]);
+        // The first words of a stream lack slots.
+        let unfinished = (PACKS_KEPT_BACK - self.count).min(SLOTS_A_BLOCK);
+        for _ in 0..unfinished {
+            words.remove(0);
         }
-        let words = four_words(&self.early, &self.late, block);
-        self.move_up(block);
-        words
-    }
-
-    // The same at the start of a stream, where fewer words may come.
-    #[inline(never)]
-    fn gather_first(&mut self, block: &[u8; BLOCK_BYTES]) -> ArrayVec<Word, SLOTS_A_BLOCK>
-        ensures next { self.new ≡ slots_after_block self.old block.now }
-        ensures gives { result.items ≡ words_from_block self.old block.now }
-    {
-        let symbols = symbols_of(block);
-        let words = first_words(&self.early, &self.late, &symbols, self.count);
         self.move_up(block);
         words
     }
@@ -349,29 +354,6 @@ fn last_three(four: &[u8; BLOCK_BYTES]) -> [u8; EARLY_BYTES]
     let mut slots = [0; EARLY_BYTES];
     slots.copy_from_slice(&four[SYMBOLS_A_SLOT..SYMBOLS_A_SLOT + EARLY_BYTES]);
     slots
-}
-
-// The words that come with a block at the start of a stream, where so many slots have come before it.
-#[inline(never)]
-fn first_words(
-    early: &[u8; EARLY_BYTES],
-    late: &[u8; BLOCK_BYTES],
-    block: &[u8; BLOCK_BYTES],
-    count: usize,
-) -> ArrayVec<Word, SLOTS_A_BLOCK>
-    requires count { count ≤ packs_kept_back }
-    requires symbols { AreRowSymbols early.now late.now block.now }
-    ensures { result.items ≡ run_gives gather_next gather_gives (slots_in (early.now ++ (late.now
-        ++ block.now)) (packs_kept_back - count) count)
-        (slots_in (early.now ++ (late.now ++ block.now)) packs_kept_back slots_a_block) }
-{
-    let mut words = ArrayVec::new();
-    for first in 0..SLOTS_A_BLOCK {
-        if count + first >= SPAN - 1 {
-            words.push(word_at(early, late, block, first));
-        }
-    }
-    words
 }
 
 // The word of eight slots from one on. Symbol i of a pack goes to position p of the slots (`swapped`), p % 8 slots

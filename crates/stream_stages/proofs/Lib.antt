@@ -5,6 +5,7 @@ pub mod FormWords
 pub mod StageRuns
 pub mod Playing
 pub mod Conversion
+mod Converting
 pub mod WatchedBlocks
 pub mod PumpedBlocks
 pub mod PlayRuns

@@ -39,6 +39,11 @@ abbrev pub words_or_idle : Option (ArrayVec (List ℕ)) → ArrayVec (List ℕ)
 words_or_idle (Some words) = words
 words_or_idle None = record { items = replicate slots_a_block idle_pack }
 
+-- these words, or none at all
+abbrev pub words_or_none : Option (ArrayVec (List ℕ)) → List (List ℕ)
+words_or_none (Some words) = words.items
+words_or_none None = []
+
 -- the state at the start of a stream
 abbrev pub fresh_words : Form → ℕ → BlockWords
 fresh_words form lead_in = record { form = form; lead_in = lead_in; gather = [] }

@@ -1,5 +1,5 @@
 -- A stage at work on the blocks of a whole input, and what it leaves for the call to write.
-use Rattle.std.specs.Prelude.{◌≡◌, ◌≢◌, ℕ, ◌+◌, ◌*◌, ◌≤◌, nat_lt, if◌then◌else◌, List, [], length, map, take, Option, Result, Ok, Err, IfOk}
+use Rattle.std.specs.Prelude.{◌≡◌, ◌≢◌, ℕ, ◌+◌, ◌-◌, ◌*◌, ◌≤◌, nat_lt, if◌then◌else◌, List, [], length, map, take, Option, Result, Ok, Err, IfOk}
 use Rattle.std.specs.Io.KnownBytes.{Appends, Consumes, IsAtEnd}
 use Rattle.cdg_io.specs.Change.{Bytes, Change, Fed}
 use Rattle.cdg_io.specs.Moves.{AppendsPrefix}
@@ -49,6 +49,11 @@ play_stop pump_stop.ReadFault = ReadFault
 play_stop pump_stop.WriteFault = WriteFault
 play_stop (pump_stop.Torn unit) = Torn unit
 play_stop pump_stop.TooLong = TooLong
+
+-- the answer of a pump as that of a player, after so many bad words
+abbrev pub played_of : ℕ → ℕ → Result Pumped PumpStop → Result Played PlayStop
+played_of lead_in bad (Ok pumped) = Ok (record { blocks = pumped.units - lead_in; bad = bad })
+played_of lead_in bad (Err stop) = Err (play_stop stop)
 
 -- what the drawing of some bytes up to a moment leaves: what stands, and how many packs are bad
 pub record IsViewed (at : Moment) (bytes : List ℕ) (now : Standing) (bad : ℕ) : Type 0 where

@@ -24,38 +24,6 @@ pub struct BlockPacks {
 }
 
 impl BlockPacks {
-    /// Takes a block, and puts its packs to the front of a place: how many bytes they are. It does not look whether the
-    /// block is idle.
-    #[inline(never)]
-    pub fn take_block(&mut self, block: &[u8; BLOCK_BYTES], place: &mut [u8]) -> usize
-        requires { block_bytes ≤ length place.old }
-        ensures next { self.new ≡ packs_next self.old block.now }
-        ensures put { place.new ≡ given_bytes (packs_give self.old block.now) ++ drop result place.old }
-        ensures count { result ≡ length (given_bytes (packs_give self.old block.now)) }
-        ensures fits { result ≤ block_bytes }
-    {
-        match self.words.gathered(block) {
-            Some(words) => self.put_packs(&words, place),
-            None => 0,
-        }
-    }
-
-    // The same, for a block that comes alone. It is gathered only where it is not quickly seen to be idle.
-    #[inline]
-    fn take_alone(&mut self, block: &[u8; BLOCK_BYTES], place: &mut [u8]) -> usize
-        requires { block_bytes ≤ length place.old }
-        ensures next { self.new ≡ packs_next self.old block.now }
-        ensures put { place.new ≡ given_bytes (packs_give self.old block.now) ++ drop result place.old }
-        ensures count { result ≡ length (given_bytes (packs_give self.old block.now)) }
-        ensures fits { result ≤ block_bytes }
-    {
-        idle_is_codeword();
-        if self.words.stays_idle(block) {
-            return put_zeros(place, BLOCK_BYTES);
-        }
-        self.take_block(block, place)
-    }
-
     // Puts what is found for words to the front of a place.
     #[inline]
     fn put_packs(&mut self, words: &ArrayVec<Word, SLOTS_A_BLOCK>, place: &mut [u8]) -> usize
@@ -70,19 +38,6 @@ impl BlockPacks {
         if are_near_idle(words) {
             return put_zeros(place, SYMBOLS_A_SLOT * words.len());
         }
-        self.put_each(words, place)
-    }
-
-    // The same, word by word.
-    #[inline]
-    fn put_each(&mut self, words: &ArrayVec<Word, SLOTS_A_BLOCK>, place: &mut [u8]) -> usize
-        requires { block_bytes ≤ length place.old }
-        ensures words { self.new.words ≡ self.old.words }
-        ensures bad { self.new.bad ≡ bad_after self.old.bad words.now.items }
-        ensures put { place.new ≡ cdg_bytes (map finding words.now.items) ++ drop result place.old }
-        ensures count { result ≡ length (cdg_bytes (map finding words.now.items)) }
-        ensures fits { result ≤ block_bytes }
-    {
         let mut at = 0;
         for word in words.as_slice() {
             let pack = recovered(word, &mut self.bad);
@@ -92,7 +47,7 @@ impl BlockPacks {
         at
     }
 
-    // Takes the blocks that a row begins with and that are quickly seen to be idle. Only their bytes are looked at, and
+    // Passes the blocks that a row begins with and that are quickly seen to be idle. Only their bytes are looked at, and
     // their zeros are put at once.
     #[inline]
     fn pass_idle(&self, row: &mut &[u8], buffer: &mut [u8], start: usize, most: u32) -> PassedUnits
@@ -130,10 +85,15 @@ impl BlockPacks {
         ensures within { (start ≤ result.end) × (result.end ≤ length buffer.new) }
         ensures behind { drop result.end buffer.new ≡ drop result.end buffer.old }
     {
-        let (blocks, _) = row.as_chunks::<BLOCK_BYTES>();
+        idle_is_codeword();
+        let (whole, _) = row.as_chunks::<BLOCK_BYTES>();
         let room = (buffer.len() - start) / BLOCK_BYTES;
-        let most = blocks.len().min(room).min(most as usize);
-        let count = self.count_idle(&blocks[..most]);
+        let most = whole.len().min(room).min(most as usize);
+        let blocks = &whole[..most];
+        let mut count = 0;
+        while count < blocks.len() && self.words.stays_idle(&blocks[count]) {
+            count += 1;
+        }
         let size = BLOCK_BYTES * count;
         let end = start + size;
         clear(&mut buffer[start..end]);
@@ -142,23 +102,6 @@ impl BlockPacks {
             units: count as u32,
             end,
         }
-    }
-
-    // How many blocks at the front are quickly seen to be idle.
-    #[inline]
-    fn count_idle(&self, blocks: &[[u8; BLOCK_BYTES]]) -> usize
-        ensures within { result ≤ length blocks.now }
-        ensures stays { All (λ block. packs_next self.now block ≡ self.now) (take result blocks.now) }
-        ensures gives { All (λ block. packs_give self.now block ≡ Some (replicate block_bytes 0))
-            (take result blocks.now) }
-    {
-        idle_is_codeword();
-        for (i, block) in blocks.iter().enumerate() {
-            if !self.words.stays_idle(block) {
-                return i;
-            }
-        }
-        blocks.len()
     }
 }
 
@@ -175,9 +118,17 @@ impl UnitStage for BlockPacks {
     #[cold]
     #[inline(never)]
     fn take_unit(&mut self, unit: &[u8], given: &mut Option<Piece>) {
-        let mut packs = [0; BLOCK_BYTES];
-        let count = self.take_alone(block_of(unit), &mut packs);
+        idle_is_codeword();
+        let block = block_of(unit);
         let mut piece = Piece::new();
+        if self.words.stays_idle(block) {
+            piece.set_zeros(BLOCK_BYTES);
+            *given = Some(piece);
+            return;
+        }
+        let words = self.words.gathered(block);
+        let mut packs = [0; BLOCK_BYTES];
+        let count = self.put_packs(&words, &mut packs);
         piece.set(&packs[..count]);
         *given = Some(piece);
     }
@@ -201,7 +152,8 @@ impl UnitStage for BlockPacks {
             if units == most || row.len() < BLOCK_BYTES || buffer.len() - end < BLOCK_BYTES {
                 return PassedUnits { units, end };
             }
-            end += self.take_block(block_of(*row), &mut buffer[end..]);
+            let words = self.words.gathered(block_of(*row));
+            end += self.put_packs(&words, &mut buffer[end..]);
             *row = &row[BLOCK_BYTES..];
             units += 1;
         }

@@ -6,7 +6,7 @@ ghost use Rattle.cdg_io.specs.Run.{run_gives, run_state};
 ghost use Rattle.rw_code.specs.Packs.{idle_pack};
 ghost use Rattle.rw_interleave.specs.Gathering.{gather_gives, gather_next};
 ghost use Rattle.rw_interleave.specs.Windows.{slots_in};
-ghost use Rattle.stream_stages.specs.Steps.{IdlesOn, fresh_words, words_or_idle, slot_of, slots_of, words_next, words_give};
+ghost use Rattle.stream_stages.specs.Steps.{IdlesOn, fresh_words, words_or_idle, slot_of, slots_of, words_or_none, words_next, words_give};
 ghost use Rattle.rw_code.specs.Codeword.{IsCodeword};
 ghost use Rattle.rw_code.specs.Finding.{finding};
 
@@ -111,23 +111,20 @@ impl BlockWords {
         }
     }
 
-    /// The words that come with a block. It does not look whether the block is idle.
+    /// The words that come with a block, none in the lead-in. It does not look whether the block is idle.
     #[inline]
     #[tactic(auto, unfolding(crate::specs::Steps::words_next, crate::specs::Steps::words_give))]
-    pub(crate) fn gathered(
-        &mut self,
-        block: &[u8; BLOCK_BYTES],
-    ) -> Option<ArrayVec<Word, SLOTS_A_BLOCK>>
+    pub(crate) fn gathered(&mut self, block: &[u8; BLOCK_BYTES]) -> ArrayVec<Word, SLOTS_A_BLOCK>
         ensures next { self.new ≡ words_next self.old block.now }
-        ensures gives { result ≡ words_give self.old block.now }
+        ensures gives { result.items ≡ words_or_none (words_give self.old block.now) }
     {
         if self.lead_in > 0 {
             self.lead_in -= 1;
-            return None;
+            return ArrayVec::new();
         }
         match self.form {
-            Form::Raw | Form::Sector => Some(self.gather.gather_block(block)),
-            Form::Cooked => Some(slots(block)),
+            Form::Raw | Form::Sector => self.gather.gather_block(block),
+            Form::Cooked => slots(block),
         }
     }
 }

@@ -125,7 +125,7 @@ fn lines(lead_in: u32, form: Form, blocks: u32, counting: &Counting) -> Lines
         &mut text,
         lead_in.min(blocks),
         program,
-        words_in(form, program),
+        words_or_none(form, program),
     );
     let counts = &counting.words.second;
     push_wrong(&mut text, counts);
@@ -134,7 +134,7 @@ fn lines(lead_in: u32, form: Form, blocks: u32, counting: &Counting) -> Lines
     text
 }
 
-fn words_in(form: Form, blocks: u32) -> u32
+fn words_or_none(form: Form, blocks: u32) -> u32
     requires { blocks ≤ most_units }
     ensures { result ≡ word_count form blocks }
 {

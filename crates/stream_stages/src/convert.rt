@@ -1,17 +1,11 @@
 // The conversion of a stream to packs.
-ghost use Rattle.std.specs.Prelude.{◌≡◌, ◌≤◌, ◌-◌, List, ℕ, IfSome};
+ghost use Rattle.std.specs.Prelude.{◌≡◌, ◌≤◌, List, ℕ, IfSome};
 ghost use Rattle.std.specs.List.{concat};
 ghost use Rattle.disc_time.specs.Counts.{most_lead_in};
 ghost use Rattle.raw_subcode.specs.declared.form.Form.{Form};
 ghost use Rattle.stream_stages.specs.Plays.{Plays, conversion};
-ghost use Rattle.stream_stages.specs.Steps.{fresh_words, packs_next, packs_give};
-ghost use Rattle.cdg_io.specs.Causes.{TellsFault};
-ghost use Rattle.cdg_io.specs.Change.{moved};
-ghost use Rattle.cdg_io.specs.Pump.{Pumps};
-ghost use Rattle.cdg_io.specs.Reads.{ReadsUnits};
-ghost use Rattle.raw_subcode.specs.Channels.{unit_size};
-ghost use Rattle.raw_subcode.specs.Sizes.{most_units};
-ghost use Rattle.stream_stages.specs.Watch.{on_units};
+ghost use Rattle.stream_stages.specs.Steps.{fresh_words};
+ghost use Rattle.stream_stages.specs.Watch.{played_of};
 ghost use Rattle.rw_interleave.specs.Stream.{all_packs};
 ghost use Rattle.stream_stages.specs.Convert.{IsConverted, IsDamagedStream, Restores};
 
@@ -83,12 +77,15 @@ impl Converter {
     {
         damaged_streams_give_packs();
         self.begin(lead_in, form);
-        match pump_packs(form, source, &mut self.stages, out) {
-            Ok(pumped) => Ok(Played {
-                blocks: pumped.units.saturating_sub(lead_in),
-                bad: self.stages.blocks.bad,
-            }),
-            Err(stop) => Err(play_stop(stop)),
+        match form {
+            Form::Sector => {
+                let pumped = pump_units(source, MOST_UNITS, &mut self.stages, out);
+                played(lead_in, self.stages.blocks.bad, pumped)
+            }
+            Form::Raw | Form::Cooked => {
+                let pumped = pump_units(source, MOST_UNITS, &mut self.stages.blocks, out);
+                played(lead_in, self.stages.blocks.bad, pumped)
+            }
         }
     }
 
@@ -102,23 +99,15 @@ impl Converter {
     }
 }
 
-// Feeds the blocks of an input to what gives their packs, and writes these.
-fn pump_packs<S: Source, K: Sink>(
-    form: Form,
-    source: &mut S,
-    stages: &mut SectorBlocks<BlockPacks>,
-    out: &mut K,
-) -> Result<Pumped, PumpStop>
-    ensures pumps { (taken : List ℕ) × Pumps (record { size = unit_size form; limit = most_units })
-        (record { next = on_units form packs_next; gives = on_units form packs_give })
-        (moved S.left K.held (source.old, stages.old.blocks, out.old)
-        (source.new, stages.new.blocks, out.new)) result taken }
-    ensures reads { ReadsUnits S.Source (unit_size form) most_units source.old
-        source.new result }
-    ensures write_fault { TellsFault PumpStop.WriteFault (K.faults out.old) (K.faults out.new) result }
+// The answer of a player to that of the pump under it.
+fn played(lead_in: u32, bad: u32, answer: Result<Pumped, PumpStop>) -> Result<Played, PlayStop>
+    ensures { result ≡ played_of lead_in bad answer }
 {
-    match form {
-        Form::Sector => pump_units(source, MOST_UNITS, stages, out),
-        Form::Raw | Form::Cooked => pump_units(source, MOST_UNITS, &mut stages.blocks, out),
+    match answer {
+        Ok(pumped) => Ok(Played {
+            blocks: pumped.units.saturating_sub(lead_in),
+            bad,
+        }),
+        Err(stop) => Err(play_stop(stop)),
     }
 }

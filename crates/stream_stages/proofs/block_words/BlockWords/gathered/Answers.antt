@@ -1,4 +1,5 @@
-use Rattle.std.proofs.Common.{◌∙◌, arith}
+use Rattle.std.proofs.Common.{◌∙◌, ap, arith}
+use Rattle.stream_stages.specs.Steps.{words_or_none}
 use Rattle.stream_stages.proofs.Blocks.{raw_state, raw_gives, cooked_state, cooked_gives, taken_next, taken_gives}
 use Rattle.stream_stages.proofs.block_words.BlockWords.gathered.Goals as goal
 
@@ -11,8 +12,8 @@ returns-in-Raw-clause-next c =
 pub returns-in-Raw-clause-gives : goal.returns-in-Raw-clause-gives
 returns-in-Raw-clause-gives c =
     let s = c.args.self.now in
-    taken_gives s c.args.block.now _ (omega arith)
-    (c.gather_block.ensures.gives ∙ raw_gives s.form s.gather c.args.block.now c.in-Raw.is c.told-block)
+    ap words_or_none (taken_gives s c.args.block.now _ (omega arith)
+    (c.gather_block.ensures.gives ∙ raw_gives s.form s.gather c.args.block.now c.in-Raw.is c.told-block))
 
 pub returns-in-Cooked-clause-next : goal.returns-in-Cooked-clause-next
 returns-in-Cooked-clause-next c =
@@ -23,5 +24,5 @@ returns-in-Cooked-clause-next c =
 pub returns-in-Cooked-clause-gives : goal.returns-in-Cooked-clause-gives
 returns-in-Cooked-clause-gives c =
     let s = c.args.self.now in
-    taken_gives s c.args.block.now _ (omega arith)
-    (c.slots.ensures ∙ cooked_gives s.form s.gather c.args.block.now c.in-Cooked.is)
+    ap words_or_none (taken_gives s c.args.block.now _ (omega arith)
+    (c.slots.ensures ∙ cooked_gives s.form s.gather c.args.block.now c.in-Cooked.is))

@@ -2,7 +2,7 @@ use Rattle.std.proofs.Common.{◌≡◌, ◌≤◌, ◌*◌, ◌++◌, drop, len
 use Rattle.rw_code.specs.Finding.{finding}
 use Rattle.rw_interleave.specs.Texts.{cdg_bytes}
 use Rattle.stream_stages.specs.Steps.{bad_after}
-use Rattle.stream_stages.proofs.block_packs.BlockPacks.put_each.Given as goal
+use Rattle.stream_stages.proofs.block_packs.BlockPacks.put_packs.Given as goal
 
 abbrev pub invariant-loop-word : goal.invariant-loop-word
 invariant-loop-word l = record {
