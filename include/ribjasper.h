@@ -4,14 +4,15 @@
    Link with -lribjasper. The command pkg-config --cflags --libs ribjasper prints all flags.
 
    Terms. Subcode is the data next to the audio of a Compact Disc, in eight channels P to W. A block is the 96 bytes of
-   subcode for 1/75 second. The low six bits of each byte, channels R to W, are a symbol. A pack is 24 symbols with one
-   graphics instruction and parity; each block has room for four packs. A word is a pack as a drive read it, perhaps with
-   wrong symbols. A codeword is a word with valid parity. A codeword is near a word if it differs from the word in at most
-   two symbols. The lead-in is the part of a disc before the program, which contains the tracks.
+   subcode for 1/75 second. The low six bits of each byte, channels R to W, are a symbol. A pack is the 24 symbols that a
+   stream carries or a .cdg file contains: an instruction for the picture, and parity. Each block has room for four packs.
+   A word is 24 symbols as they were read: a pack, perhaps with wrong symbols. A codeword is 24 symbols with valid parity.
+   It is near a word if it differs from the word in at most two symbols. The idle pack is 24 zeros; it is a codeword. The
+   program of a disc is the part with the tracks. The lead-in is the part before the program.
 
-   Players. A player is a value of the type ribjasper_player. It receives blocks or packs and knows the picture that they
-   have drawn. The library has no global state, so players are independent. You may move a player byte for byte while no
-   call uses it, if you do not use the old place any more. To get two players that show the same, use
+   Players. A player is a value of the type ribjasper_player. It receives blocks or packs, and has the picture that they
+   draw. The library has no global state, so players are independent. While no call uses a player, you may move its bytes
+   to another place and use only the new place from then on. To get two players that show the same, use
    ribjasper_player_copy.
 
    Threads. You may make calls from any thread. A call with a const player only reads the player, so any number of threads
@@ -27,9 +28,9 @@
 
    Failure. A call that fails leaves its player unchanged. It also writes nothing, except where its comment says so.
 
-   Memory. If a player is closed, ribjasper_player_open allocates 65,080 bytes with malloc, in one request. Any other
-   call whose comment says that it allocates memory frees this memory before it returns. No other call allocates memory.
-   A call needs at most 16,384 bytes of stack; a call that mends needs at most 81,920. */
+   Memory. If a player is closed, ribjasper_player_open allocates 65,080 bytes with malloc, in one request. Any other call
+   whose comment says that it allocates memory frees this memory before it returns. No other call allocates memory. A call
+   needs at most 16,384 bytes of stack; a call that mends needs at most 81,920. */
 #ifndef RIBJASPER_H
 #define RIBJASPER_H
 
@@ -65,12 +66,13 @@ uint32_t ribjasper_version(void);
 /* These are the answers of calls. An answer is a return value that says whether a call succeeded. The same number means
    the same in every call that returns an answer. Some calls return something else, as their comments explain.
    ribjasper_player_take returns a count. ribjasper_correct, ribjasper_pack_touches, ribjasper_tile_weight and
-   ribjasper_text_pack_matches return a number. ribjasper_q_decode returns codes of its own. Older names for the same
-   numbers are further below. */
+   ribjasper_text_pack_matches return a number. ribjasper_q_decode returns codes of its own. The comments of the calls use
+   other names for the same numbers, for example RIBJASPER_DONE for RIBJASPER_ANSWER_DONE. These names are older; you may
+   use both. */
 typedef enum ribjasper_answer {
-    RIBJASPER_ANSWER_REFUSED = -1,       /* a player is closed, a number is out of range, or (open) out of memory */
+    RIBJASPER_ANSWER_REFUSED = -1,       /* a player is closed or cannot be opened, or a number is out of range */
     RIBJASPER_ANSWER_DONE = 0,           /* done */
-    RIBJASPER_ANSWER_DAMAGED = 1,        /* done, but packs are damaged */
+    RIBJASPER_ANSWER_DAMAGED = 1,        /* done, but some words have no codeword */
     RIBJASPER_ANSWER_USAGE = 2,          /* a number is out of range, in calls on whole streams and texts */
     RIBJASPER_ANSWER_BAD_INPUT = 3,      /* the stream, the file or the text is refused */
     RIBJASPER_ANSWER_LATE = 4,           /* done, but pictures are late */
@@ -112,13 +114,13 @@ void ribjasper_answer_text(int32_t answer, char text[RIBJASPER_ANSWER_TEXT]);
 #define RIBJASPER_PACKS_A_BLOCK 4       /* packs of a block */
 #define RIBJASPER_BLOCKS_A_SECOND 75    /* blocks in a second */
 #define RIBJASPER_PACKS_A_SECOND 300    /* packs in a second */
-#define RIBJASPER_PACKS_BEHIND 7        /* by how many packs the picture lags behind the blocks of a raw stream */
+#define RIBJASPER_PACKS_BEHIND 7        /* how many packs at the end of a raw stream are not complete yet */
 #define RIBJASPER_MOST_LEAD_IN 450000   /* maximum number of blocks of a lead-in */
-#define RIBJASPER_MOST_AUDIO 449999     /* maximum number of blocks of the audio of a plan */
+#define RIBJASPER_MOST_AUDIO 449999     /* maximum number of audio blocks in ribjasper_plan */
 #define RIBJASPER_MOST_BLOCKS 1000000   /* maximum number of blocks of a whole stream */
 #define RIBJASPER_MOST_TEXT 67108864    /* maximum number of bytes of a sheet or a script */
 #define RIBJASPER_MOST_SHEET_ROWS 9900  /* maximum number of index lines of a sheet */
-#define RIBJASPER_MOST_TEXTS 1048576    /* maximum number of bytes of the texts of a lead-in */
+#define RIBJASPER_MOST_TEXTS 1048576    /* ribjasper_texts never writes more bytes */
 
 /* Returns the number of blocks that are complete after a time.
      milliseconds: the time since the first block began */
@@ -136,20 +138,21 @@ uint64_t ribjasper_time_of_blocks(uint32_t blocks);
      packs: the number of packs */
 uint64_t ribjasper_time_of_packs(uint32_t packs);
 
-/* These are the forms of a stream. A form says how the bytes of a stream are stored. RIBJASPER_RAW means raw blocks of
-   96 bytes. RIBJASPER_PACKS means packs of 24 bytes whose symbols are already next to each other, four packs in each
-   block of 96 bytes; a player corrects them by their parity. RIBJASPER_SECTORS means sectors of 2,448 bytes, each with
-   2,352 bytes of audio and a raw block. Only calls on whole streams accept sectors.
+/* These are the forms of a stream. A form says how the bytes of a stream are stored. RIBJASPER_RAW means raw blocks of 96
+   bytes. RIBJASPER_PACKS (the form `cooked` of the program) means packs of 24 bytes, four in each block of 96 bytes.
+   Their symbols are already next to each other, and a player corrects them by their parity. RIBJASPER_SECTORS means
+   sectors of 2,448 bytes, each with 2,352 bytes of audio and a raw block. Only calls on whole streams accept sectors.
 
-   The packs of a .cdg file may have no parity. Then no codeword is near them. If you feed them as RIBJASPER_PACKS, they
-   draw nothing, and every word counts as bad. ribjasper_packs_parity detects such a file. Either draw its packs with
-   ribjasper_player_draw_all, which ignores parity, or compute their parity first with ribjasper_packs_seal. */
+   The packs of a .cdg file may have no valid parity. Do not feed such packs as RIBJASPER_PACKS: usually no codeword is
+   near them, so they draw nothing and count as bad words. (Its idle packs are codewords nevertheless.)
+   ribjasper_packs_parity detects such a file. Either draw its packs with ribjasper_player_draw_all, which ignores parity,
+   or first compute their parity with ribjasper_packs_seal. */
 #define RIBJASPER_RAW 0
 #define RIBJASPER_PACKS 1
 #define RIBJASPER_SECTORS 2
 
-/* A player. Initialize a new player with RIBJASPER_CLOSED or with zeros; a static variable consists of zeros. Change a
-   player only by the calls below. Never use two copies of the bytes of an open player. */
+/* A player. Initialize a new player with RIBJASPER_CLOSED or with zeros. Change a player only by the calls below. Never
+   use two copies of the bytes of an open player. */
 typedef struct ribjasper_player {
     struct {
         void *at;
@@ -192,45 +195,44 @@ void ribjasper_player_close(ribjasper_player *player);
    Returns RIBJASPER_DONE, or RIBJASPER_REFUSED if the player is closed or a number is out of range. */
 RIBJASPER_NODISCARD int32_t ribjasper_player_begin(ribjasper_player *player, uint32_t form, uint32_t lead_in);
 
-/* Feeds an open player the next block of its stream, and draws the packs that are complete with this block. The player
-   corrects each pack to the codeword near it. If no codeword is near a pack, the pack draws nothing. In a raw stream, the
-   symbols of a pack are spread over up to three blocks. So the last seven packs (RIBJASPER_PACKS_BEHIND) are not drawn
-   yet, and the picture is 23 milliseconds behind the blocks. In the form RIBJASPER_PACKS, every pack is drawn at once.
-   You may feed any number of blocks.
+/* Feeds an open player the next block of its stream, and draws the words that are complete with this block. The player
+   corrects each word to the codeword near it, and draws this codeword. If no codeword is near a word, the word draws
+   nothing. In a raw stream, the symbols of a word are spread over up to three blocks. So the last seven words
+   (RIBJASPER_PACKS_BEHIND) are not drawn yet, and the picture is 23 milliseconds behind the blocks. In the form
+   RIBJASPER_PACKS, every word is drawn at once. You may feed any number of blocks.
      player: the player
      block: 96 bytes
    Returns RIBJASPER_DONE, or RIBJASPER_REFUSED if the player is closed. */
 int32_t ribjasper_player_feed(ribjasper_player *player, const uint8_t block[RIBJASPER_BLOCK]);
 
-/* This struct is a pack as it was read. If a codeword is near the pack, `symbols` are the 24 symbols of this codeword
-   (6 bits each), and `wrong` is the number of corrected symbols, 0 to 2. Otherwise `wrong` is -1, and `symbols` are the
-   symbols as they were read; such a pack draws nothing. */
+/* This struct is a word of a stream. If a codeword is near the word, `symbols` are the 24 symbols of this codeword (6
+   bits each), and `wrong` is the number of corrected symbols, 0 to 2. Otherwise `wrong` is -1, and `symbols` are the
+   symbols as they were read; such a word draws nothing. */
 typedef struct ribjasper_pack {
     uint8_t symbols[24];
     int32_t wrong;
 } ribjasper_pack;
 
-/* Feeds an open player the next block, as ribjasper_player_feed does, and writes the packs that are complete with this
+/* Feeds an open player the next block, as ribjasper_player_feed does, and writes the words that are complete with this
    block.
      player: the player
      block: 96 bytes
-     packs: the output, with room for four packs; packs beyond the returned number stay unchanged
-   Returns the number of packs, 0 to 4, or RIBJASPER_REFUSED if the player is closed. */
+     packs: the output, with room for four words; entries beyond the returned number stay unchanged
+   Returns the number of words, 0 to 4, or RIBJASPER_REFUSED if the player is closed. */
 int32_t ribjasper_player_take(ribjasper_player *player, const uint8_t block[RIBJASPER_BLOCK], ribjasper_pack packs[4]);
 
 /* Draws one pack, as players draw the packs of a .cdg file: the low six bits of each byte are a symbol, and parity is
    ignored. You may draw packs and feed blocks in any order. The screen shows what all of them have drawn since
-   ribjasper_player_begin, in this order. Drawing a pack does not disturb the stream of blocks.
+   ribjasper_player_open or ribjasper_player_begin, in this order. Drawing a pack does not disturb the stream of blocks.
      player: the player
      pack: 24 bytes
    Returns RIBJASPER_DONE, or RIBJASPER_REFUSED if the player is closed. */
 int32_t ribjasper_player_draw(ribjasper_player *player, const uint8_t pack[24]);
 
-/* This struct is the part of the screen that a call may have changed. The part is a rectangle with the pixels from
-   column `left` to column `right` - 1, in the rows `top` to `bottom` - 1. If `left` is 300, the rectangle is empty.
-   `colours` is 1 if the colour table may have changed, otherwise 0. `levels` is 1 if the levels may have changed,
-   otherwise 0. If colours or levels changed, any pixel may look different, although its number is the same. Nothing
-   else changed. */
+/* This struct is the part of the screen that a call may have changed. The part is a rectangle with the pixels from column
+   `left` to column `right` - 1, in the rows `top` to `bottom` - 1. If `left` is 300, the rectangle is empty. `colours` is
+   1 if the colour table may have changed, otherwise 0. `levels` is 1 if the levels may have changed, otherwise 0. If
+   colours or levels changed, any pixel may look different, although its number is the same. Nothing else changed. */
 typedef struct ribjasper_change {
     uint32_t left;
     uint32_t top;
@@ -241,9 +243,9 @@ typedef struct ribjasper_change {
 } ribjasper_change;
 
 /* Feeds an open player many blocks, as ribjasper_player_feed does with one, and reports the part of the screen that may
-   have changed. This part is the smallest rectangle around the tiles that were drawn. If the memory was cleared or
-   scrolled, it is the window. If the border was set, it is the whole screen. One call for many blocks is faster than a
-   call for each block.
+   have changed. This part is the smallest rectangle around the tiles that were drawn. If a memory preset or a scroll was
+   drawn, the rectangle is the window. If a border preset was drawn, it is the whole screen. One call for many blocks is
+   faster than a call for each block.
      player: the player
      blocks: the blocks, 96 bytes each, one after another
      count: the number of blocks
@@ -261,10 +263,10 @@ int32_t ribjasper_player_feed_all(ribjasper_player *player, const uint8_t *block
 int32_t ribjasper_player_draw_all(ribjasper_player *player, const uint8_t *packs, size_t count, ribjasper_change *change);
 
 /* This struct has the counts of a player. The counts begin at 0 when the player is opened or a new stream begins. A
-   player that was restored from a checkpoint continues with the counts of the checkpoint. `words` is the number of
-   packs that the blocks contained, `blocks` is the number of blocks, and `bad` is the number of packs with no codeword
-   near. Packs that you draw yourself are not counted. `form` and `lead_in` are those of the player. `blocks` and `bad`
-   saturate at 4,294,967,295. */
+   player that was restored from a checkpoint continues with the counts of the checkpoint. `blocks` is the number of
+   blocks, including the lead-in. `words` is the number of words that were complete in the program blocks. `bad` is the
+   number of these words with no codeword near. Packs that you draw yourself are not counted. `form` and `lead_in` are
+   those of the player's stream. `blocks` and `bad` saturate at 4,294,967,295. */
 typedef struct ribjasper_counts {
     uint64_t words;
     uint32_t form;
@@ -307,16 +309,16 @@ RIBJASPER_NODISCARD
 int32_t ribjasper_player_rect(const ribjasper_player *player, uint32_t x, uint32_t y, uint32_t width, uint32_t height,
                               uint8_t *pixels, size_t room, uint32_t stride);
 
-/* Writes the red, green and blue values of all pixels of the screen. The three bytes of pixel (x, y) begin at byte 3 (300
-   y + x).
+/* Writes the red, green and blue values of all pixels of the screen. The three bytes of pixel (x, y) begin at byte
+   3 (300 y + x).
      player: the player
      bytes: the output, 194,400 bytes
    Returns RIBJASPER_DONE, or RIBJASPER_REFUSED if the player is closed. */
 int32_t ribjasper_player_picture(const ribjasper_player *player, uint8_t bytes[RIBJASPER_PICTURE]);
 
-/* These are the formats of pixels. Each format has a number, and its comment lists the bytes of a pixel in order. If
-   the colour of a pixel has the transparency level L, its opacity is 255 - (4 L + L / 16). So level 0 is opaque (255),
-   and level 63 is transparent (0). */
+/* These are the formats of pixels. Each format has a number, and its comment lists the bytes of a pixel in order. If the
+   colour of a pixel has the transparency level L, its opacity is 255 - (4 L + L / 16). So level 0 is opaque (255), and
+   level 63 is transparent (0). */
 #define RIBJASPER_INDEXED 0     /* 1 byte: the number of its colour */
 #define RIBJASPER_RGB 1         /* 3 bytes: red, green, blue; each is 17 times the four bits of the colour */
 #define RIBJASPER_RGBA 2        /* 4 bytes: red, green, blue, 255 */
@@ -448,7 +450,7 @@ int32_t ribjasper_player_seek_packs(ribjasper_player *player, const uint8_t *pac
 #define RIBJASPER_TOUCHES_COLOURS 903 /* colours of the table */
 #define RIBJASPER_TOUCHES_LEVELS 904
 
-/* Reports what the instruction of a pack can change on any screen. It changes nothing else.
+/* Reports what the instruction of a pack can change on any screen. The instruction changes nothing else.
      pack: 24 bytes
    Returns 0 to 899 for a tile of the memory (50 times its row plus its column), or one of RIBJASPER_TOUCHES_NOTHING to
    RIBJASPER_TOUCHES_LEVELS. The result is not a ribjasper_answer. */
@@ -465,9 +467,9 @@ int32_t ribjasper_pack_touches(const uint8_t pack[24]);
 RIBJASPER_NODISCARD
 int32_t ribjasper_pack_change(const uint8_t pack[24], uint8_t across, uint8_t down, ribjasper_change *change);
 
-/* Returns the smallest number of packs that draw a tile over any earlier content, 1 to 4, or -1 if a number is above 15.
-   The number depends only on the colours of the tile, not on their places. (If a tile has one colour and already shows
-   it, it needs no pack.) The result is not a ribjasper_answer.
+/* Returns the smallest number of packs that draw a tile over any earlier content, 1 to 4, or -1 if a colour number is
+   above 15. The result depends only on the set of colours in the tile, not on their places. (If a tile already has the
+   right content, it needs no pack.) The result is not a ribjasper_answer.
      pixels: the colour numbers of the tile, row by row */
 int32_t ribjasper_tile_weight(const uint8_t pixels[72]);
 
@@ -478,16 +480,16 @@ int32_t ribjasper_tile_weight(const uint8_t pixels[72]);
    result is not a ribjasper_answer. */
 int32_t ribjasper_correct(const uint8_t word[24], uint8_t out[24]);
 
-/* This struct counts packs with valid and with invalid parity. `invalid` also counts packs with a wrong symbol. The sum
-   of the three numbers is the number of packs. */
+/* This struct counts packs with valid and with invalid parity. A pack with even one wrong symbol counts as `invalid`. The
+   sum of the three numbers is the number of packs. */
 typedef struct ribjasper_parity {
     uint64_t idle;    /* packs whose 24 symbols are 0; their parity is valid */
     uint64_t valid;   /* other packs whose parity is valid */
     uint64_t invalid; /* packs whose parity is not valid */
 } ribjasper_parity;
 
-/* Counts packs by their parity. Use it to detect a .cdg file without parity: then `valid` is 0, or far below `invalid`.
-   The low six bits of each byte are a symbol.
+/* Counts packs by their parity. In a .cdg file without parity, `valid` is 0 or far below `invalid`. The low six bits of
+   each byte are a symbol.
      packs: the packs, 24 bytes each, one after another
      count: the number of packs
      parity: the output */
@@ -513,26 +515,26 @@ int32_t ribjasper_text_pack_matches(const uint8_t pack[18]);
 void ribjasper_text_pack_symbols(const uint8_t pack[18], uint8_t symbols[24]);
 
 /* These are the kinds of a frame of the Q channel. */
-#define RIBJASPER_Q_PROGRAM 0   /* the position: track, index, time, absolute */
-#define RIBJASPER_Q_TRACK 1     /* the table of contents: a track and the start of its music (absolute) */
-#define RIBJASPER_Q_FIRST 2     /* the first track, and the disc's type (disc: 0 CD-DA or CD-ROM, 16 CD-i, 32 XA) */
-#define RIBJASPER_Q_LAST 3      /* the last track */
+#define RIBJASPER_Q_PROGRAM 0   /* the position in the program: track, index, time and absolute */
+#define RIBJASPER_Q_TRACK 1     /* table of contents: a track (track) and the start of its music (absolute) */
+#define RIBJASPER_Q_FIRST 2     /* the first track (track), the disc's type (disc): 0 CD-DA or CD-ROM, 16 CD-i, 32 XA */
+#define RIBJASPER_Q_LAST 3      /* the last track (track) */
 #define RIBJASPER_Q_LEAD_OUT 4  /* the start of the lead-out (absolute) */
-#define RIBJASPER_Q_CATALOGUE 5 /* the catalogue number, thirteen digits in text, and frame */
-#define RIBJASPER_Q_ISRC 6      /* the recording code of the track, twelve characters in text, and frame */
-#define RIBJASPER_Q_OTHER 7     /* bits without fields: mode, and bytes 1 to 9 in text */
+#define RIBJASPER_Q_CATALOGUE 5 /* the catalogue number: thirteen digits (text); frame */
+#define RIBJASPER_Q_ISRC 6      /* the recording code of the track: twelve characters (text); frame */
+#define RIBJASPER_Q_OTHER 7     /* any other frame: its ADR (mode), and its bytes 1 to 9 (text) */
 
-/* This struct is a frame of the Q channel. The comment of each kind, above, names the fields that this kind uses. The
-   other fields are written as zeros, and ignored when they are read. Times are numbers of blocks, 75 a second, below
-   450,000. */
+/* This struct is a frame of the Q channel. All kinds use `control`, and the kinds 0 to 4 use `time`. The comment of each
+   kind, above, names its further fields. ribjasper_q_decode writes zeros to all other fields, and ribjasper_q_encode
+   ignores them. Times are numbers of blocks, 75 a second, below 450,000. */
 typedef struct ribjasper_q_frame {
     uint32_t kind;     /* one of the kinds above */
-    uint32_t time;     /* kind 0: the distance from the start of the track's music; kinds 1 to 4: the time of the lead-in */
+    uint32_t time;     /* kind 0: the distance from the start of the music; kinds 1 to 4: the time in the lead-in */
     uint32_t absolute; /* the time from the start of the program area */
     uint8_t control;   /* 0 to 15: 8 four channels, 4 data, 2 copying permitted, 1 pre-emphasis */
-    uint8_t mode;      /* 0 to 15 */
+    uint8_t mode;      /* the field ADR, 0 to 15 */
     uint8_t track;     /* 1 to 99 */
-    uint8_t index;     /* 0 to 99; 0 is the pause before a track */
+    uint8_t index;     /* 0 to 99; 0 is the pause before the music of a track */
     uint8_t disc;      /* any byte */
     uint8_t frame;     /* 0 to 74, the frame of the absolute time */
     uint8_t text[13];  /* ASCII characters, or unchanged bytes */
@@ -581,18 +583,18 @@ void ribjasper_blocks_from_planar(const uint8_t *planar, size_t count, uint8_t *
 /* A tally has detailed counts of the blocks that a player was fed. Begin with zeros. Each count saturates. */
 typedef struct ribjasper_tally {
     uint64_t blocks;         /* blocks */
-    uint64_t clean;          /* packs without a wrong symbol */
-    uint64_t one;            /* packs with one wrong symbol, which was corrected */
-    uint64_t two;            /* packs with two wrong symbols, which were corrected */
-    uint64_t bad;            /* packs with no codeword near */
+    uint64_t clean;          /* words without a wrong symbol */
+    uint64_t one;            /* words with one wrong symbol, which was corrected */
+    uint64_t two;            /* words with two wrong symbols, which were corrected */
+    uint64_t bad;            /* words with no codeword near */
     uint64_t frames;         /* valid frames of the Q channel, at most one in each block; 0 for RIBJASPER_PACKS */
     uint64_t bad_frames;     /* frames that are not valid */
     uint64_t frame_block;    /* the number of the block of the last valid frame, from 1, or 0 */
     ribjasper_q_frame frame; /* this frame, or zeros */
 } ribjasper_tally;
 
-/* Feeds an open player the next block, as ribjasper_player_feed does, and adds its packs and its Q frame to a tally. If
-   you use the tally from the first block on, its counts of packs and frames are those of the program's command `check`
+/* Feeds an open player the next block, as ribjasper_player_feed does, and adds its words and its Q frame to a tally. If
+   you use the tally from the first block on, its counts of words and frames are those of the program's command `check`
    for all blocks so far. Saving, restoring or copying a player does not include the tally, so keep a copy of the tally
    together with a checkpoint.
      player: the player
@@ -602,8 +604,8 @@ typedef struct ribjasper_tally {
 int32_t ribjasper_player_feed_counted(ribjasper_player *player, const uint8_t block[RIBJASPER_BLOCK],
                                       ribjasper_tally *tally);
 
-/* This struct is the result of converting a stream. `bytes` is the number of bytes written, and `blocks` is the number
-   of program blocks. `bad` is the number of packs with no codeword near; such packs are written as 24 zeros. */
+/* This struct is the result of converting a stream. `bytes` is the number of bytes written, and `blocks` is the number of
+   program blocks. `bad` is the number of words with no codeword near; such words are written as 24 zeros. */
 typedef struct ribjasper_converted {
     uint64_t bytes;
     uint32_t blocks;
@@ -612,14 +614,15 @@ typedef struct ribjasper_converted {
 
 /* These are the return values of calls on whole streams. They equal the exit statuses of the program. */
 #define RIBJASPER_CONVERTED 0 /* done */
-#define RIBJASPER_DAMAGED 1   /* done, but packs are bad */
+#define RIBJASPER_DAMAGED 1   /* done, but some words have no codeword */
 #define RIBJASPER_USAGE 2     /* the form is above 2 or `lead_in` above 450,000 */
-#define RIBJASPER_TORN 3      /* the stream does not consist of whole units, or has more than 1,000,000 of them */
+#define RIBJASPER_TORN 3      /* the input is refused: a stream does not consist of whole blocks or sectors, or has
+                                 more than 1,000,000 of them; or a line of a sheet has an error */
 #define RIBJASPER_NO_ROOM 6   /* the output is too small */
 #define RIBJASPER_NO_MEMORY 7 /* out of memory, only from calls that allocate */
 
-/* Converts a stream to its packs, with damage corrected, and writes 24 bytes for each pack. B program blocks have 4 B - 7
-   packs (none if B is below 2). In the form RIBJASPER_PACKS they have 4 B packs (the comment of RIBJASPER_PACKS explains
+/* Converts a stream to its packs, with damage corrected, and writes 24 bytes for each word. B program blocks have 4 B - 7
+   words (none if B is below 2). In the form RIBJASPER_PACKS they have 4 B words (the comment of RIBJASPER_PACKS explains
    .cdg files without parity).
      stream, length: the stream, and its length in bytes
      form: RIBJASPER_RAW, RIBJASPER_PACKS or RIBJASPER_SECTORS
@@ -632,47 +635,49 @@ RIBJASPER_NODISCARD
 int32_t ribjasper_convert(const uint8_t *stream, size_t length, uint32_t form, uint32_t lead_in, uint8_t *packs,
                           size_t room, ribjasper_converted *result);
 
-/* Mending. A disc may be read several times. The calls below take all readings and choose the best codeword for each
-   word. The symbols of word n are in the program blocks n / 4 to (n + 7) / 4. A block is unread if its 96 bytes are 0.
-   If you know that a block was not read, write zeros over it.
+/* Mending. A disc may be read several times. From all readings, the calls below choose the best codeword for each word.
+   The symbols of word n are in the program blocks n / 4 to (n + 7) / 4. A block is unread if its 96 bytes are 0. If you
+   know that a block was not read, write zeros over it.
 
-   A reading has a codeword at a word if the codeword differs from the symbols of the reading in at most two symbols.
-   The number of these symbols is the distance of the codeword. If one of the blocks of the word is unread, the idle
-   pack (24 zeros) has the distance 3. If all blocks of the word are unread, the reading has nothing there. A reading is
-   quiet at a word if it has the idle pack there, or nothing.
+   A reading has a codeword at a word if the codeword is near the word of this reading. The number of symbols in which
+   they differ is the distance of the codeword, 0 to 2. There are two exceptions. If a block of the word is unread and the
+   codeword is the idle pack, its distance is 3. If all blocks of the word are unread, the word is unread, and the reading
+   has no codeword there. A reading is quiet at a word if it has the idle pack there, or if the word is unread.
 
    Sometimes a drive returns no graphics for a part of a disc, so its reading has idle packs there. A reading misses
    graphics at a word if it has the idle pack there and another reading shows that the word is not idle. For this, the
-   other reading needs a codeword with no wrong symbol, or a graphics pack with one or two wrong symbols. A graphics
-   pack has mode and item 9 and a known instruction. A reading lacks graphics at each word from which it is quiet up to
-   a word at which it misses graphics, forwards or backwards. A codeword is doubtful if it has a wrong symbol and a mode
-   and item that discs do not use. Discs use 8, 9, 10 and 24. The idle pack is never doubtful.
+   other reading needs a codeword other than the idle pack: at distance 0, or a graphics pack at any distance. A graphics
+   pack has mode and item 9 and a known instruction. A reading lacks graphics at every word of a quiet stretch in which it
+   misses graphics. (A quiet stretch is a row of words at which the reading is quiet.) A codeword is doubtful if its
+   distance is 1 or 2 and discs do not use its mode and item. Discs use 8, 9, 10 and 24. The idle pack is never doubtful.
 
-   Two kinds of codewords do not count. The first kind is the idle pack of a reading that lacks graphics at the word.
-   The second kind is a doubtful codeword at a word at which some reading is quiet.
+   Two kinds of codewords do not count. The first kind is the idle pack of a reading that lacks graphics at the word. The
+   second kind is a doubtful codeword at a word at which some reading is quiet.
 
    Of the codewords that count, the result is the one with the smallest distance. If several have this distance, the
    result is the one that most readings have; if there is a tie, there is no result. If no codeword counts, two readings
-   may agree on a codeword. Both must have been read at this word and have no codeword there. Then the result is the
-   codeword on which they agree, unless two other readings agree on a different one. Two readings agree on a codeword if
-   this sum is at most four: twice the number of symbols that both have equally wrong, plus the number of symbols in
-   which they differ.
+   may agree on a codeword. For this, both must have no codeword at the word, and the word must not be unread in either.
+   The result is then the codeword on which they agree, unless another pair of readings agrees on a different one. Two
+   readings agree on a codeword if this sum is at most four: twice the number of symbols that both have equally wrong,
+   plus the number of symbols in which they differ.
 
-   Suppose that a reading has no wrong symbol in any word. Then it is the result at every word, under two conditions.
-   First, where another reading has a codeword without a wrong symbol, it is the same codeword or the idle pack. Second,
-   where this reading has the idle pack, no other reading has a graphics pack, not even with one or two wrong symbols.
-   Random symbols look like such a graphics pack once in 28 million words. The Q frames of this reading may be good, bad
-   or absent.
+   Suppose that a reading has a codeword at distance 0 at every word. Then these codewords are the result, under two
+   conditions. First, if another reading has a codeword at distance 0, it is the same codeword or the idle pack. Second,
+   if this reading has the idle pack, no other reading has a graphics pack at any distance. Random symbols look like a
+   graphics pack once in 28 million words. The Q frames of this reading do not matter. (But if P and Q of an idle block
+   are 0, the block is unread, and the distance of its idle packs is not 0.)
 
    If each reading has at most two wrong symbols in each word, the result contains every pack. Suppose that only one
    reading has codewords that count. Then the result is what ribjasper_convert writes for this reading, with two
-   exceptions: doubtful codewords, and words on which two readings agree. If you pass the readings in another order,
-   only the reading that is named as the source may change, if several readings are equal. */
+   exceptions: doubtful codewords, and words on which two readings agree. The order of the readings does not change the
+   result. At a word at which several readings have the same codeword at the same distance, the order decides only which
+   reading is named as the source. */
 
 /* This struct is the result of mending two readings. Each word is counted in exactly one of five numbers. `both` counts
    words whose codeword both readings have. `of_first` and `of_second` count words whose codeword only one reading has.
    `agreed` counts words at which no codeword counts and both readings agree on one. `none` counts words without a
-   codeword, which are written as 24 zeros. The sum of the five numbers is the number of words, which is bytes / 24. */
+   codeword, which are written as 24 zeros. The sum of the five numbers is the number of words. `bytes` is 24 times this
+   number, and `blocks` is the number of program blocks. */
 typedef struct ribjasper_mended {
     uint64_t bytes;
     uint32_t blocks;
@@ -683,14 +688,14 @@ typedef struct ribjasper_mended {
     uint32_t none;
 } ribjasper_mended;
 
-/* Mends two readings of one stream of raw blocks into packs, and writes 24 bytes for each word. B program blocks have 4
-   B - 7 words (none if B is below 2). The two readings may be the same memory.
+/* Mends two readings of one stream of raw blocks into packs, and writes 24 bytes for each word. B program blocks have
+   4 B - 7 words (none if B is below 2). The two readings may be the same memory.
      first, first_length, second, second_length: the readings, and the length of each in bytes
      lead_in: the number of blocks at the start of each reading that are ignored, at most 450,000
      packs, room: the output, and its size in bytes
      result: the counts
-   Returns RIBJASPER_CONVERTED, or RIBJASPER_DAMAGED if some word has no codeword. Otherwise the call writes nothing,
-   and returns the first of these answers that applies. RIBJASPER_USAGE: `lead_in` is out of range. RIBJASPER_TORN: the
+   Returns RIBJASPER_CONVERTED, or RIBJASPER_DAMAGED if some word has no codeword. Otherwise the call writes nothing, and
+   returns the first of these answers that applies. RIBJASPER_USAGE: `lead_in` is out of range. RIBJASPER_TORN: the
    lengths differ, are not whole blocks, or are more than 1,000,000 blocks. RIBJASPER_NO_ROOM: the output is too small.
    This call allocates nothing. */
 RIBJASPER_NODISCARD
@@ -702,58 +707,56 @@ int32_t ribjasper_mend(const uint8_t *first, size_t first_length, const uint8_t 
 #define RIBJASPER_NO_READING 255 /* there is no codeword */
 
 /* This struct is the result of mending any number of readings. Readings are numbered from 0. Entries after the last
-   reading are 0. The sum of all numbers in `of_reading`, `agreed` and `none` is the number of words, which is bytes /
-   24. */
+   reading are 0. The sum of all numbers in `of_reading`, `agreed` and `none` is the number of words. */
 typedef struct ribjasper_mended_readings {
-    uint64_t bytes;    /* bytes written */
+    uint64_t bytes;    /* bytes written to `packs` or `blocks`; the sources are not included */
     uint32_t blocks;   /* program blocks */
     uint32_t agreed;   /* words whose codeword is an agreement of two readings */
     uint32_t none;     /* words without a codeword; 24 zeros are written for each */
     uint32_t reserved; /* 0 */
-    uint32_t of_reading[RIBJASPER_READINGS]; /* words whose codeword comes from this reading; of readings with the
-                                                same codeword and distance, only the first counts */
-    uint32_t dropped[RIBJASPER_READINGS];    /* words at which the reading has a codeword that does not count */
+    uint32_t of_reading[RIBJASPER_READINGS]; /* words whose codeword comes from this reading; if several readings have
+                                                it at the same distance, only the first is named as the source */
+    uint32_t dropped[RIBJASPER_READINGS];    /* words at which this reading has a codeword that does not count */
 } ribjasper_mended_readings;
 
-/* Mends several readings of one stream of raw blocks into packs. In memory, the readings follow each other, and all
-   have the same length.
-     readings, length: all readings, and their total length in bytes (in ribjasper_mend, a length is that of one
-       reading)
+/* Mends several readings of one stream of raw blocks into packs. In memory, the readings follow each other, and all have
+   the same length.
+     readings, length: all readings, and their total length in bytes (in ribjasper_mend, a length is that of one reading)
      count: the number of readings, 1 to 254
      lead_in: the number of lead-in blocks of each reading, at most 450,000
      packs, room: the output with 24 bytes for each word, and its size in bytes
      sources, words: the second output, and its size in bytes. It has one byte for each word: the number of the reading
-       whose codeword was chosen, RIBJASPER_AGREED or RIBJASPER_NO_READING. If you pass null and 0, this output is
-       omitted
+       whose codeword was chosen, RIBJASPER_AGREED or RIBJASPER_NO_READING. If you pass null and 0, the call does not
+       write this output
      result: the counts
-   Returns RIBJASPER_CONVERTED, or RIBJASPER_DAMAGED if some word has no codeword. Otherwise the call writes nothing,
-   and returns the first of these answers that applies. RIBJASPER_USAGE: `lead_in` or `count` is out of range.
-   RIBJASPER_TORN: the readings are not whole blocks of equal length, or have more than 1,000,000 blocks each.
-   RIBJASPER_NO_ROOM: `packs` is too small, or `words` is neither 0 nor the number of words. This call allocates
-   nothing. */
+   Returns RIBJASPER_CONVERTED, or RIBJASPER_DAMAGED if some word has no codeword. Otherwise the call writes nothing, and
+   returns the first of these answers that applies. RIBJASPER_USAGE: `lead_in` or `count` is out of range. RIBJASPER_TORN:
+   the readings are not whole blocks of equal length, or have more than 1,000,000 blocks each. RIBJASPER_NO_ROOM: `packs`
+   is too small, or `words` is above 0 and below the number of words. This call allocates nothing. */
 RIBJASPER_NODISCARD
 int32_t ribjasper_mend_readings(const uint8_t *readings, size_t length, uint32_t count, uint32_t lead_in,
                                 uint8_t *packs, size_t room, uint8_t *sources, size_t words,
                                 ribjasper_mended_readings *result);
 
-/* Mends readings as ribjasper_mend_readings does, into a stream of blocks. The stream is as long as each reading, including
-   the lead-in. The symbols of a mended word are those of its codeword. Every other symbol is that of the first reading
-   whose block is not unread, or 0 if all are unread. P and Q of a block come from the first reading with a good Q frame
-   there. If there is none, they come from the first reading that was read there. ribjasper_convert writes the codeword of
-   each mended word from this stream. If there is only one reading, the stream is that reading with its words corrected.
+/* Mends readings as ribjasper_mend_readings does, into a stream of blocks. The stream is as long as each reading,
+   including the lead-in. The symbols of a mended word are those of its codeword. Every other symbol is that of the first
+   reading whose block is not unread, or 0 if all are unread. P and Q of a block come from the first reading with a good Q
+   frame there. If there is none, they come from the first reading that was read there. If you convert this stream with
+   ribjasper_convert, the packs of all mended words are their codewords. If there is only one reading, the stream is that
+   reading with its words corrected.
      blocks, room: the output and its bytes, as many as a reading has; it must not overlap the readings
-     sources, words: as in ribjasper_mend_readings
-     result: the counts; result->bytes are the bytes of the stream
-   Returns the same as ribjasper_mend_readings; RIBJASPER_NO_ROOM if `room` is smaller than a reading. This call allocates
-   nothing. */
+     sources, words: as in ribjasper_mend_readings, but this output is always written
+     result: the counts; result->bytes is the size of the stream
+   Returns the same as ribjasper_mend_readings; RIBJASPER_NO_ROOM if `room` is smaller than a reading or `words` is below
+   the number of words. This call allocates nothing. */
 RIBJASPER_NODISCARD
 int32_t ribjasper_mend_stream(const uint8_t *readings, size_t length, uint32_t count, uint32_t lead_in,
                               uint8_t *blocks, size_t room, uint8_t *sources, size_t words,
                               ribjasper_mended_readings *result);
 
-/* This struct is a report on mended readings. `counts` is the result of the calls above, and `lost` has the number of
-   lost words of each reading. A word of a reading is lost if it has no wrong symbol and counts, but the output has
-   another codeword or none. */
+/* This struct is a report on mended readings. `counts` is the result that the calls above write, and `lost` has the
+   number of lost words of each reading. A word of a reading is lost if the reading has a codeword at distance 0 that
+   counts, but the output has another codeword or none. */
 typedef struct ribjasper_mend_reported {
     ribjasper_mended_readings counts;
     uint32_t lost[RIBJASPER_READINGS];
@@ -764,14 +767,14 @@ RIBJASPER_NODISCARD
 int32_t ribjasper_mend_report(const uint8_t *readings, size_t length, uint32_t count, uint32_t lead_in, uint8_t *packs,
                               size_t room, uint8_t *sources, size_t words, ribjasper_mend_reported *report);
 
-/* Does the same as ribjasper_mend_stream, and writes this report. */
+/* Does the same as ribjasper_mend_stream, but writes this report in place of the result. */
 RIBJASPER_NODISCARD
 int32_t ribjasper_mend_stream_report(const uint8_t *readings, size_t length, uint32_t count, uint32_t lead_in,
                                      uint8_t *blocks, size_t room, uint8_t *sources, size_t words,
                                      ribjasper_mend_reported *report);
 
-/* This struct is a row of a plan. It describes one picture of a script. Times are numbers of program blocks, 75 a
-   second, from the absolute time 00:00:00. Packs are numbered from 0. */
+/* This struct is a row of a plan. It describes one picture of a script. Times are numbers of program blocks, 75 a second,
+   from the absolute time 00:00:00. Packs are numbered from 0. */
 typedef struct ribjasper_plan_row {
     uint32_t line;  /* the line of the script with its `show`, from 1 */
     uint32_t ready; /* the ready time of the picture */
@@ -779,7 +782,7 @@ typedef struct ribjasper_plan_row {
     uint32_t need;  /* how many packs the change of the picture needs, at most 3,076 */
     uint32_t free;  /* how many packs are free for the change */
     uint32_t first; /* the first of these free packs */
-    uint8_t late;   /* 1 if the change does not fit before the ready time, also an empty change; otherwise 0 */
+    uint8_t late;   /* 1 if the change does not fit: first + need + 7 is above 4 ready; otherwise 0 */
 } ribjasper_plan_row;
 
 /* This struct is the result of a plan. */
@@ -792,8 +795,8 @@ typedef struct ribjasper_planned {
     uint32_t number;   /* the number that the reason below explains, or 0 */
 } ribjasper_planned;
 
-/* These are the reasons why there is no plan. The program's `author` checks them in this order. (It checks the length
-   of the script only after the lines of the sheet.) */
+/* These are the reasons why there is no plan. The program's `author` checks them in this order. (It checks the length of
+   the script only after the lines of the sheet.) */
 #define RIBJASPER_TEXT_TOO_LONG 1   /* the sheet or the script has more than 67,108,864 bytes */
 #define RIBJASPER_SHEET_REFUSED 2   /* a line of the sheet is refused; the number is the reason: 1 unknown-command,
     2 second-file, 3 misplaced, 4 bad-argument, 5 repeated, 6 no-index, 7 not-audio, 8 number-order, 9 index-order,
@@ -811,20 +814,18 @@ typedef struct ribjasper_planned {
 #define RIBJASPER_NOT_PLANNED 3 /* `result` has the reason, and no row is written */
 #define RIBJASPER_LATE 4        /* pictures are late; their rows have `late` 1 */
 
-/* Plans a disc from a cue sheet and a picture script, and writes one row for each picture. `late` in a row is only
-   about the picture of this row, as if all earlier pictures were on time. The program's `author` reports the first late
-   picture.
-     sheet, sheet_length, script, script_length: the texts of the cue sheet and of the script, and their lengths in
-       bytes
+/* Plans a disc from a cue sheet and a picture script, and writes one row for each picture. `late` is computed for each
+   picture as if all earlier pictures were on time. The program's `author` reports the first late picture.
+     sheet, sheet_length, script, script_length: the texts of the cue sheet and of the script, and their lengths in bytes
      lead_in: the number of lead-in blocks, at most 450,000
-     audio: the number of audio blocks, at most 449,999
+     audio: the number of audio blocks, at most 449,999 (above 449,849, the disc is too long)
      rows, room: the output, and the number of rows that fit into it
      result: the counts, or the reason why there is no plan
    Returns RIBJASPER_PLANNED or RIBJASPER_LATE if the rows were written. Otherwise no row is written.
    RIBJASPER_NOT_PLANNED: there is no plan, and `result` has the reason. RIBJASPER_NO_ROOM: there are more pictures than
    rows, and `result` has the numbers of pictures and blocks. RIBJASPER_USAGE: a number is out of range; `result` is not
-   written. RIBJASPER_NO_MEMORY: malloc failed; `result` is not written. The last answer comes only if neither text is
-   too long and no line is refused. This call allocates memory. */
+   written. RIBJASPER_NO_MEMORY: malloc failed; `result` is not written. The last answer comes only if neither text is too
+   long and no line is refused. This call allocates memory. */
 RIBJASPER_NODISCARD
 int32_t ribjasper_plan(const uint8_t *sheet, size_t sheet_length, const uint8_t *script, size_t script_length,
                        uint32_t lead_in, uint32_t audio, ribjasper_plan_row *rows, size_t room,
@@ -843,8 +844,7 @@ typedef struct ribjasper_sheet_row {
     uint8_t isrc[12]; /* the ISRC, or zeros */
 } ribjasper_sheet_row;
 
-/* This struct is the result of reading a cue sheet. If the sheet is refused, all fields except `line` and `why` are 0.
-   */
+/* This struct is the result of reading a cue sheet. If the sheet is refused, all fields except `line` and `why` are 0. */
 typedef struct ribjasper_sheet_told {
     uint32_t rows;         /* index lines, at most 9,900 */
     uint32_t tracks;       /* tracks, 1 to 99 */
@@ -858,10 +858,10 @@ typedef struct ribjasper_sheet_told {
      sheet, length: the text of the sheet, and its length in bytes
      rows, room: the output, and the number of rows that fit into it
      result: the counts, or the refused line
-   Returns RIBJASPER_CONVERTED if the rows were written. Otherwise no row is written. RIBJASPER_TORN: a line is refused,
-   and `result` has its number. RIBJASPER_NO_ROOM: there are more index lines than rows, and `result` has all counts.
-   RIBJASPER_USAGE: the sheet has more than 67,108,864 bytes; `result` is not written. RIBJASPER_NO_MEMORY: malloc
-   failed; `result` is not written. The last answer comes only if no line is refused. This call allocates memory. */
+   Returns RIBJASPER_CONVERTED if the rows were written. Otherwise no row is written. RIBJASPER_TORN: a line has an error,
+   and `result` has the number of this line. RIBJASPER_NO_ROOM: there are more index lines than rows, and `result` has all
+   counts. RIBJASPER_USAGE: the sheet has more than 67,108,864 bytes; `result` is not written. RIBJASPER_NO_MEMORY: malloc
+   failed; `result` is not written. The last answer comes only if no line has an error. This call allocates memory. */
 RIBJASPER_NODISCARD int32_t ribjasper_sheet(const uint8_t *sheet, size_t length, ribjasper_sheet_row *rows, size_t room,
                                             ribjasper_sheet_told *result);
 
@@ -878,8 +878,8 @@ RIBJASPER_NODISCARD int32_t ribjasper_sheet(const uint8_t *sheet, size_t length,
      bytes: the length of the text, 0 if the sheet has none
    Returns RIBJASPER_CONVERTED. RIBJASPER_NO_ROOM: the text is longer than the output, and only `bytes` is written. With
    every other answer, nothing is written. RIBJASPER_USAGE: there is no such kind or place, or the sheet has more than
-   67,108,864 bytes. RIBJASPER_TORN: a line is refused. RIBJASPER_NO_MEMORY: malloc failed; this comes only if no line
-   is refused. This call allocates memory. */
+   67,108,864 bytes. RIBJASPER_TORN: a line has an error. RIBJASPER_NO_MEMORY: malloc failed; this comes only if no line
+   has an error. This call allocates memory. */
 RIBJASPER_NODISCARD int32_t ribjasper_sheet_text(const uint8_t *sheet, size_t length, uint32_t kind, uint32_t place,
                                                  uint8_t *out, size_t room, uint32_t *bytes);
 
@@ -893,16 +893,16 @@ RIBJASPER_NODISCARD int32_t ribjasper_sheet_text(const uint8_t *sheet, size_t le
 #define RIBJASPER_Q_BAD_FIELD 254 /* the CRC is right, but a field is out of its range */
 #define RIBJASPER_Q_BAD_CHECK 255 /* the CRC is wrong; this includes 96 zero bits */
 
-/* This struct is a row of a survey. It describes one block of a stream. The row counts the words whose last symbol is
-   in the block. In program block b these are the words 4 b - 7 to 4 b - 4 (none below 0). In a block of RIBJASPER_PACKS
-   they are its four words. In a lead-in block there are none. The sums over all rows are the numbers clean, one, two,
-   bad, q-good and q-bad of the program's command `check`. */
+/* This struct is a row of a survey. It describes one block of a stream. The row counts the words whose last symbol is in
+   the block. In program block b these are the words 4 b - 7 to 4 b - 4 (none below 0). In a block of RIBJASPER_PACKS they
+   are its four words. In a lead-in block there are none. The sums over all rows are the numbers clean, one, two, bad,
+   q-good and q-bad of the program's command `check`. */
 typedef struct ribjasper_row {
     uint32_t absolute; /* the absolute time in blocks, if the frame is of kind 0; otherwise RIBJASPER_NO_TIME */
-    uint8_t clean;     /* words that are codewords */
+    uint8_t clean;     /* words without a wrong symbol */
     uint8_t one;       /* words with one wrong symbol */
     uint8_t two;       /* words with two wrong symbols */
-    uint8_t bad;       /* words with no codeword within two symbols */
+    uint8_t bad;       /* words with no codeword near */
     uint8_t q;         /* the kind of the frame, or one of the three numbers above */
     uint8_t track;     /* the track, if the frame is of kind 0 to 3; otherwise 0 */
     uint8_t index;     /* the index, if the frame is of kind 0; otherwise 0 */
@@ -912,7 +912,7 @@ typedef struct ribjasper_row {
 /* This struct is the result of a survey. */
 typedef struct ribjasper_surveyed {
     uint32_t blocks; /* whole blocks, lead-in included */
-    uint32_t rest;   /* bytes after the last whole block; 0 if the stream is not torn */
+    uint32_t rest;   /* bytes after the last whole block, 0 if the stream ends with a whole block */
 } ribjasper_surveyed;
 
 /* Surveys a stream: writes one row for each whole block.
@@ -922,8 +922,9 @@ typedef struct ribjasper_surveyed {
      rows, room: the output, and the number of rows that fit into it
      result: the counts
    Returns RIBJASPER_CONVERTED. Otherwise the call writes nothing, and returns the first of these answers that applies.
-   RIBJASPER_USAGE: a number is out of range. RIBJASPER_TORN: there are more than 1,000,000 whole blocks (the stream may
-   end within a block). RIBJASPER_NO_ROOM: there are more blocks than rows. This call allocates nothing. */
+   RIBJASPER_USAGE: a number is out of range. RIBJASPER_TORN: there are more than 1,000,000 whole blocks. (A stream that
+   ends within a block is not refused; `rest` counts its last bytes.) RIBJASPER_NO_ROOM: there are more blocks than rows.
+   This call allocates nothing. */
 RIBJASPER_NODISCARD
 int32_t ribjasper_survey(const uint8_t *stream, size_t length, uint32_t form, uint32_t lead_in, ribjasper_row *rows,
                          size_t room, ribjasper_surveyed *result);
@@ -952,11 +953,11 @@ typedef struct ribjasper_listed {
      lead_in: the number of lead-in blocks, at most 450,000
      out, room: the output, and its size in bytes
      result: the counts, or the missing or invalid pack
-   Returns RIBJASPER_CONVERTED. RIBJASPER_TEXT_MISSING, RIBJASPER_TEXT_NO_SIZE or RIBJASPER_TEXT_MALFORMED: the texts
-   are refused, and only `result` is written. With every other answer, nothing is written. RIBJASPER_USAGE: `form` or
-   `lead_in` is out of range. RIBJASPER_TORN: the stream is torn or too long. RIBJASPER_NO_ROOM: the output is too
-   small. RIBJASPER_NO_MEMORY: malloc failed; this comes only if the texts are not refused. This call allocates memory.
-   */
+   Returns RIBJASPER_CONVERTED. RIBJASPER_TEXT_MISSING, RIBJASPER_TEXT_NO_SIZE or RIBJASPER_TEXT_MALFORMED: the texts are
+   refused, and only `result` is written. With every other answer, nothing is written. RIBJASPER_USAGE: `form` or
+   `lead_in` is out of range. RIBJASPER_TORN: the stream ends within a block, or is too long. RIBJASPER_NO_ROOM: the
+   output is too small. RIBJASPER_NO_MEMORY: malloc failed; this comes only if the texts are not refused. This call
+   allocates memory. */
 RIBJASPER_NODISCARD
 int32_t ribjasper_texts(const uint8_t *stream, size_t length, uint32_t form, uint32_t lead_in, uint8_t *out, size_t room,
                         ribjasper_listed *result);
