@@ -739,11 +739,19 @@ int32_t ribjasper_mend_readings(const uint8_t *readings, size_t length, uint32_t
                                 ribjasper_mended_readings *result);
 
 /* Mends readings as ribjasper_mend_readings does, into a stream of blocks. The stream is as long as each reading,
-   including the lead-in. The symbols of a mended word are those of its codeword. Every other symbol is that of the first
-   reading whose block is not unread, or 0 if all are unread. P and Q of a block come from the first reading with a good Q
-   frame there. If there is none, they come from the first reading that was read there. If you convert this stream with
-   ribjasper_convert, the packs of all mended words are their codewords. If there is only one reading, the stream is that
-   reading with its words corrected.
+   including the lead-in. The symbols of a mended word are those of its codeword.
+
+   All other symbols of a block come from one reading whose block is not unread; if all are unread, they are 0. The
+   reading is the one that has the most symbols of mended words right in this block. If several have as many, the symbols
+   are those that most readings have. If several are as frequent, they are the greatest in lexicographic order.
+
+   P and Q of a block come from a reading with a good Q frame there. If there is none, they come from a reading whose block
+   is not unread. They are the bits that most of these readings have. If several are as frequent, they are the greatest in
+   lexicographic order.
+
+   The order of the readings changes no byte of the stream. If you convert this stream with ribjasper_convert, the packs of
+   all mended words are their codewords. If there is only one reading, the stream is that reading with its words
+   corrected.
      blocks, room: the output and its bytes, as many as a reading has; it must not overlap the readings
      sources, words: as in ribjasper_mend_readings, but this output is always written
      result: the counts; result->bytes is the size of the stream

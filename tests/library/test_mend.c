@@ -432,7 +432,7 @@ static void streams(void)
     CHECK(mend_stream(all, 1, 0, WORDS, &told) == RIBJASPER_CONVERTED && stays_outside(WORDS));
     CHECK(memcmp(streamed + EDGE, bare, BYTES) == 0 && all_are(named + EDGE, WORDS, 0));
     CHECK(told.bytes == BYTES && told.blocks == BLOCKS && told.of_reading[0] == WORDS && told.none == 0);
-    /* The channels P and Q are those of the first reading whose frame is good: the third, though the first has symbols. */
+    /* The channels P and Q are those of the only reading with a good Q frame: the third. */
     make_stream(all);
     make_stream(all + BYTES);
     make_stream(all + 2 * BYTES);
@@ -444,7 +444,7 @@ static void streams(void)
     CHECK(mend_stream(all, 3, 0, WORDS, &told) == RIBJASPER_CONVERTED && stays_outside(WORDS));
     for (k = 0; k < BYTES; k++)
         CHECK(channels_at(k) == ((k / 96 == 1 ? all[2 * BYTES + k] : bare[k]) & 0xc0) && symbol_at(k) == (bare[k] & 0x3f));
-    /* Where no frame is good they are those of the first that was read: the second, whose symbols are not all 0. */
+    /* If no frame is good, they are those of a reading that was read: the second, whose symbols are not all 0. */
     make_stream(all);
     make_stream(all + BYTES);
     memset(all + 96 * 3, 0, 96);
@@ -453,13 +453,13 @@ static void streams(void)
     CHECK(mend_stream(all, 2, 0, WORDS, &told) == RIBJASPER_CONVERTED && stays_outside(WORDS));
     for (k = 96 * 3; k < BYTES; k++)
         CHECK(channels_at(k) == 0x80);
-    /* Where nobody read a block it is that of the first, whose bits of P and Q may be noise. */
+    /* A block of which only bits P are set was read. */
     memset(all + BYTES + 96 * 3, 0, 96);
     memset(all + 96 * 3, 0x80, 96);
     CHECK(mend_stream(all, 2, 0, WORDS, &told) == RIBJASPER_CONVERTED);
     for (k = 96 * 3; k < BYTES; k++)
         CHECK(channels_at(k) == 0x80 && symbol_at(k) == 0);
-    /* Symbols of no whole word are those of the first reading that was read there: of the second in the first block. */
+    /* Symbols of no whole word come from a reading that was read there, and are the greatest of two different ones. */
     make_stream(all);
     make_stream(all + BYTES);
     for (k = 0; k < BYTES; k++)
@@ -470,22 +470,24 @@ static void streams(void)
     memset(all, 0, 96);
     CHECK(mend_stream(all, 2, 0, WORDS, &told) == RIBJASPER_CONVERTED && stays_outside(WORDS));
     for (k = 0; k < BYTES; k++)
-        CHECK(symbol_at(k) == (is_of_word(k) ? bare[k] & 0x3f : k < 96 ? 42 : 21));
-    /* A word that is lost in both, each in its own places: the symbols stay those of the first reading, and the stream gives
-       none for it, as the first reading does. All other words are as they were. */
+        CHECK(symbol_at(k) == (is_of_word(k) ? bare[k] & 0x3f : 42));
+    /* A word that is lost in both, each in its own places: the symbols of each block come from the reading with the greater
+       ones, and the stream has no codeword there. All other words are as they were. */
     make_stream(all);
     make_stream(all + BYTES);
     for (k = 0; k < 24; k++)
         word[k] = (uint8_t)(k % 5 == 0 ? preset[k] ^ 1 : preset[k]);
     put_word(all, 1, word);
-    put_word(bare, 1, word);
     for (k = 0; k < 24; k++)
         word[k] = (uint8_t)(k % 4 == 1 ? preset[k] ^ 3 : preset[k]);
     put_word(all + BYTES, 1, word);
+    for (k = 0; k < BYTES; k += 96)
+        memcpy(bare + k, memcmp(all + k, all + BYTES + k, 96) > 0 ? all + k : all + BYTES + k, 96);
+    CHECK(memcmp(bare, all, BYTES) != 0 && memcmp(bare, all + BYTES, BYTES) != 0);
     CHECK(mend_stream(all, 2, 0, WORDS, &told) == RIBJASPER_DAMAGED && stays_outside(WORDS));
     CHECK(named[EDGE + 1] == RIBJASPER_NO_READING && told.none == 1 && memcmp(streamed + EDGE, bare, BYTES) == 0);
     CHECK(ribjasper_convert(streamed + EDGE, BYTES, RIBJASPER_RAW, 0, packs, ROOM, &converted) == RIBJASPER_DAMAGED && converted.bad == 1);
-    /* A lead-in is written as it was first read; word 0 of the program is word 4 of the stream. */
+    /* A lead-in comes from the reading that was read there; word 0 of the program is word 4 of the stream. */
     make_stream(all);
     make_stream(all + BYTES);
     memcpy(word, preset, 24);
@@ -498,7 +500,7 @@ static void streams(void)
     CHECK(told.bytes == BYTES && told.blocks == 3 && named[EDGE] == 1 && all_are(streamed + EDGE, 96, 0x2a));
     CHECK(ribjasper_convert(streamed + EDGE, BYTES, RIBJASPER_RAW, 1, packs, ROOM, &converted) == RIBJASPER_CONVERTED);
     CHECK(converted.bytes == ROOM - 96 && memcmp(packs, preset, 24) == 0 && memcmp(streamed + EDGE + 96, all + BYTES + 96, BYTES - 96) == 0);
-    /* A program of one block, or of none, has no words: the stream is what was first read. */
+    /* A program of one block, or of none, has no words: each block comes from a reading that was read there. */
     for (uint32_t lead_in = 3; lead_in < 6; lead_in++) {
         memset(streamed, 7, sizeof streamed);
         CHECK(ribjasper_mend_stream(all, 2 * BYTES, 2, lead_in, streamed + EDGE, BYTES, NULL, 0, &told) == RIBJASPER_CONVERTED);
@@ -506,6 +508,58 @@ static void streams(void)
         CHECK(all_are(streamed + EDGE, 96, 0x2a) && memcmp(streamed + EDGE + 96, all + 96, BYTES - 96) == 0);
         CHECK(all_are(streamed, EDGE, 7) && all_are(streamed + EDGE + BYTES, EDGE, 7));
     }
+}
+
+/* Five readings, in each of their 120 orders, give the same stream. The first three have every word. The first and the third
+   agree on the other symbols. The last two have noise in channels R to W and the greatest other symbols. */
+static void streams_in_each_order(void)
+{
+    enum { COUNT = 5 };
+    static uint8_t each[COUNT][BYTES], all[COUNT * BYTES];
+    uint8_t right[BYTES];
+    ribjasper_mended_readings told;
+    int orders = 0;
+    for (size_t r = 0; r < COUNT; r++) {
+        static const uint8_t others[COUNT] = { 21, 42, 21, 63, 63 };
+        make_stream(each[r]);
+        for (size_t k = 0; k < BYTES; k++)
+            if (!is_of_word(k))
+                each[r][k] |= others[r];
+            else if (r > 2)
+                each[r][k] ^= (uint8_t)(1 + (k * 7) % 60);
+    }
+    memcpy(right, each[0], BYTES);
+    /* Block 1: all Q frames are good, and one reading has other bits P. */
+    for (size_t k = 96; k < 192; k++)
+        each[0][k] |= 0x80;
+    /* Block 2: two Q frames are good, and their bits P differ: the greater ones are taken. */
+    each[0][192] |= 0x80;
+    right[192] |= 0x80;
+    for (size_t r = 2; r < COUNT; r++)
+        each[r][200] ^= 0x40;
+    /* Block 3: only one reading was read, and its Q channel is no frame. */
+    for (size_t r = 0; r < COUNT; r++)
+        if (r != 2)
+            memset(each[r] + 288, 0, 96);
+    for (size_t k = 288; k < BYTES; k++) {
+        each[2][k] = (uint8_t)(0x80 | (each[2][k] & 0x3f));
+        right[k] = (uint8_t)(0x80 | (right[k] & 0x3f));
+    }
+    for (size_t code = 0; code < 3125; code++) {
+        size_t digits[COUNT], rest = code, seen = 0;
+        for (size_t place = 0; place < COUNT; place++, rest /= COUNT) {
+            digits[place] = rest % COUNT;
+            seen |= (size_t)1 << digits[place];
+        }
+        if (seen != 31)
+            continue;
+        for (size_t place = 0; place < COUNT; place++)
+            memcpy(all + place * BYTES, each[digits[place]], BYTES);
+        CHECK(mend_stream(all, COUNT, 0, WORDS, &told) == RIBJASPER_CONVERTED && stays_outside(WORDS));
+        CHECK(memcmp(streamed + EDGE, right, BYTES) == 0);
+        orders++;
+    }
+    CHECK(orders == 120);
 }
 
 /* One reading after another is whole in its turn, in streams of each length up to some blocks and each lead-in. */
@@ -580,6 +634,7 @@ int main(void)
     many_readings();
     refusals_of_many();
     streams();
+    streams_in_each_order();
     streams_of_all_lengths();
     refusals_of_streams();
     if (!failed)

@@ -6,8 +6,9 @@ Each case is a stream of a few blocks and two to four readings of it: whole, scr
 to W, with zeros there (all or a part), unread (all or a part), shifted, or another stream's. The packs, the sources and
 the counts of ribjasper_mend_readings, the stream, the sources and the counts of ribjasper_mend_stream, with a lead-in and
 without one, and the packs and counts of ribjasper_mend for the first two, have to be those of the rule, and the packs the
-same in the reverse order; and the words that are wrong are counted beside those of the best reading alone. No line is shared with the program: codewords are found in a table of all errors of one or two symbols by
-their sums (docs/FORMATS.md). Ends with 1 where something differs."""
+same in the reverse order, as the stream; and the words that are wrong are counted beside those of the best reading alone.
+No line is shared with the program: codewords are found in a table of all errors of one or two symbols by their sums
+(docs/FORMATS.md). Ends with 1 where something differs."""
 import argparse
 import binascii
 import ctypes
@@ -247,22 +248,38 @@ def mend(readings: Sequence[bytes], errors: Errors) -> tuple[list[bytes], list[i
     return packs, sources, [sum(mark) for mark in marks]
 
 
-def joined_block(blocks: Sequence[bytes]) -> bytes:
-    """Channels P and Q of the first block whose frame is good, or else of the first that was read; R to W of this."""
-    read = next((block for block in blocks if not is_unread(block)), blocks[0])
-    framed = next((block for block in blocks if is_frame(block)), read)
-    return bytes(one & 0xC0 | other & 0x3F for one, other in zip(framed, read))
+def most_frequent(values: Sequence[bytes]) -> bytes:
+    """The value that occurs most often; of several, the greatest."""
+    return max(values, key=lambda value: (values.count(value), value))
+
+
+def chosen_channels(blocks: Sequence[bytes]) -> bytes:
+    """Channels P and Q that most of the blocks with a good frame have, or else most that were read."""
+    framed = [block for block in blocks if is_frame(block)]
+    read = [block for block in blocks if not is_unread(block)]
+    return most_frequent([bytes(byte & 0xC0 for byte in block) for block in framed or read or blocks])
+
+
+def chosen_symbols(blocks: Sequence[bytes], known: Sequence[Optional[int]]) -> bytes:
+    """The symbols of a block that was read: of one with the most known symbols, and then what most have."""
+    read = [bytes(byte & 0x3F for byte in block) for block in blocks if not is_unread(block)] or [bytes(96)]
+    completed = [bytes(own if mended is None else mended for own, mended in zip(block, known)) for block in read]
+    matches = [sum(own == mended for own, mended in zip(block, known)) for block in read]
+    return max(zip(matches, (completed.count(own) for own in completed), completed))[2]
 
 
 def mended_stream(readings: Sequence[bytes], lead_in: int, errors: Errors) -> tuple[bytes, list[int]]:
     """The stream of readings whose first blocks are passed over, and the source of each word."""
-    places = range(0, len(readings[0]), 96)
-    out = bytearray(b"".join(joined_block([own[at : at + 96] for own in readings]) for at in places))
+    known: list[Optional[int]] = [None] * len(readings[0])
     packs, sources, _ = mend([own[96 * lead_in :] for own in readings], errors)
     for n, (pack, source) in enumerate(zip(packs, sources)):
         for place, symbol in zip(PLACES, pack if source != NONE else b""):
-            at = 96 * lead_in + 24 * n + place
-            out[at] = out[at] & 0xC0 | symbol
+            known[96 * lead_in + 24 * n + place] = symbol
+    out = bytearray()
+    for at in range(0, len(readings[0]), 96):
+        blocks = [own[at : at + 96] for own in readings]
+        symbols = chosen_symbols(blocks, known[at : at + 96])
+        out += bytes(high | low for high, low in zip(chosen_channels(blocks), symbols))
     return bytes(out), sources
 
 
@@ -423,6 +440,8 @@ def stream_differs(library: Library, readings: Sequence[bytes], lead_in: int, er
     right, right_sources = mended_stream(readings, lead_in, errors)
     return (
         blocks != right
+        # The order of the readings changes no byte.
+        or library.stream(readings[::-1], lead_in)[0] != right
         or sources != right_sources
         or status != (NONE in right_sources)
         or (told.bytes, told.blocks, told.none) != (length, length // 96 - lead_in, right_sources.count(NONE))

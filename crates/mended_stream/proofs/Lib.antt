@@ -1,9 +1,15 @@
-pub mod Choosing
+pub mod Bytes
 pub mod Codewords
+pub mod FoundSymbols
 pub mod Frames
+pub mod HeldBlocks
+pub mod Marks
+pub mod Ranks
 pub mod Recovered
+pub mod Reordered
 pub mod Single
 pub mod Standing
+pub mod StreamBlocks
 pub mod Streaming
 pub mod Under
 pub mod Writing

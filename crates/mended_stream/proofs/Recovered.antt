@@ -4,7 +4,7 @@ use Rattle.std.specs.declared.option.Option.{Option}
 use Rattle.std.proofs.Math.ListN.{get_or-map}
 use Rattle.std.proofs.Math.Seq.{drop-nil}
 use Rattle.std.proofs.lemmas.List.{drop-drop, get_or-drop, length-map, map-append, nil_from_length, take-append-drop}
-use Rattle.std.proofs.lemmas.List.FromFn.{fill_by_all}
+use Rattle.std.proofs.lemmas.List.FromFn.{fill_by_all, get_or-map-range_with_len, length-map-range_with_len}
 use Rattle.bit_lists.specs.Counting.{parts}
 use Rattle.raw_subcode.specs.Channels.{symbols_of, block_of, program_symbols}
 use Rattle.raw_subcode.specs.declared.form.Form.TheVariants.{Raw}
@@ -15,16 +15,16 @@ use Rattle.rw_code.proofs.Finding.{only_finding}
 use Rattle.rw_interleave.specs.Interleave.{place, swapped, whole_packs, word_of}
 use Rattle.rw_interleave.specs.Stream.{IsRecovered}
 use Rattle.rw_interleave.proofs.Places.{swapped-lt}
-use Rattle.rw_interleave.proofs.Ranges.{map_range}
 use Rattle.rw_mend.specs.Streams.{AreMended}
 use Rattle.rw_mend.specs.declared.choice.Mended.{Mended}
 use Rattle.rw_mend.specs.declared.candidates.Candidate.{Candidate}
-use Rattle.mended_stream.specs.Chosen.{read_byte}
-use Rattle.mended_stream.specs.Laws.{AreFoundAgain, read_word}
+use Rattle.rw_mend.specs.Words.{block_at}
+use Rattle.mended_stream.specs.Laws.{AreFoundAgain, IsReadSymbol, IsReadWord}
 use Rattle.mended_stream.specs.Stream.{IsMendedStream}
 use Rattle.mended_stream.specs.Symbols.{stream_place}
 use Rattle.mended_stream.proofs.Codewords.{own_codeword}
 use Rattle.mended_stream.proofs.Standing.{slot_of}
+use Rattle.mended_stream.proofs.StreamBlocks.{block_byte}
 
 -- ---- The program of a stream of whole blocks.
 
@@ -66,6 +66,12 @@ program_size lead_in bytes whole =
     ∙ length-drop (96 * lead_in) bytes in
     omega (arith, size, whole)
 
+-- byte p, in its block
+pub own_byte : (stream : List ℕ) (p : ℕ) → get_or stream p 0 ≡ get_or (block_at stream (p / 96)) (p % 96) 0
+own_byte stream p =
+    let there : 96 * (p / 96) + p % 96 ≡ p = omega arith in
+    sym (block_byte stream (p / 96) (p % 96) (omega arith) ∙ ap (λ k. get_or stream k 0) there)
+
 -- ---- Words.
 
 within : (lead_in size words n i : ℕ) → size % 96 ≡ 0 → words ≡ whole_packs (size / 96 - lead_in) → n < words
@@ -85,22 +91,33 @@ module _ (lead_in : ℕ) (readings : List (List ℕ)) (found : List (Option Mend
       let at : ℕ = stream_place lead_in n i in
       let inside : at < length stream =
       within lead_in (length stream) (length found) n i whole is.words lt small in
+      let there : 96 * (at / 96) + at % 96 ≡ at = omega arith in
       program_symbol lead_in (place n i) stream whole
-      ∙ (is.bytes at inside).mended n i own (record { word = lt; symbol = small; is = here; place = refl })
+      ∙ ap (λ x. x % 64) (own_byte stream at)
+      ∙ (is.blocks (at / 96) (omega (arith, inside, whole))).mended (at % 96) n i own (omega arith)
+      (record { word = lt; symbol = small; is = here; place = sym there })
 
   other_symbol : (n i : ℕ) → n < length found → i < 24 → get_or found n None ≡ None
-      → get_or symbols (place n i) 0 ≡ read_byte readings (stream_place lead_in n i) % 64
+      → IsReadSymbol lead_in readings found (stream_place lead_in n i) (get_or symbols (place n i) 0)
   other_symbol n i lt small none =
       let at : ℕ = stream_place lead_in n i in
       let inside : at < length stream =
       within lead_in (length stream) (length found) n i whole is.words lt small in
-      program_symbol lead_in (place n i) stream whole
-      ∙ (is.bytes at inside).others (λ m j own there.
-      let here = slot_of lead_in n i at small refl in
-      let other = slot_of lead_in m j at there.symbol there.place in
-      let same : m ≡ n = omega (arith, here.1, other.1) in
-      let lost : get_or found m None ≡ None = ap (λ k. get_or found k None) same ∙ none in
-      cc (lost, there.is))
+      let there : 96 * (at / 96) + at % 96 ≡ at = omega arith in
+      let block = is.blocks (at / 96) (omega (arith, inside, whole)) in
+      record {
+        symbols = symbols_of (block_at stream (at / 96));
+        chosen = block.symbols;
+        is =
+            program_symbol lead_in (place n i) stream whole
+            ∙ ap (λ x. x % 64) (own_byte stream at)
+            ∙ block.others (at % 96) (omega arith) (λ m j own place.
+            let here = slot_of lead_in n i at small refl in
+            let other = slot_of lead_in m j at place.symbol (place.place ∙ there) in
+            let same : m ≡ n = omega (arith, here.1, other.1) in
+            let lost : get_or found m None ≡ None = ap (λ k. get_or found k None) same ∙ none in
+            cc (lost, place.is));
+      }
 
   pub mended_word : (n : ℕ) (own : Mended) → n < length found → get_or found n None ≡ Some own
       → length own.pack ≡ 24 → word_of symbols n ≡ own.pack
@@ -110,12 +127,17 @@ module _ (lead_in : ℕ) (readings : List (List ℕ)) (found : List (Option Mend
       (λ i small. sym (mended_symbol n i own lt small here)))
 
   pub other_word : (n : ℕ) → n < length found → get_or found n None ≡ None
-      → word_of symbols n ≡ read_word lead_in readings n
+      → IsReadWord lead_in readings found n (word_of symbols n)
   unfolding word_of
-  other_word n lt none =
-      map_range (λ i. get_or symbols (place n i) 0)
-      (λ i. read_byte readings (stream_place lead_in n i) % 64) 0 24
-      (λ i from to. other_symbol n i lt to none)
+  other_word n lt none = record {
+    size = length-map-range_with_len (λ (i : ℕ). get_or symbols (place n i) 0) 0 24;
+    symbols =
+        λ i small.
+        subst (IsReadSymbol lead_in readings found (stream_place lead_in n i))
+        (sym
+        (get_or-map-range_with_len (λ (j : ℕ). get_or symbols (place n j) 0) 0 24 i i 0 small (omega arith)))
+        (other_symbol n i lt small none);
+  }
 
 only_itself : (codeword : List ℕ) (found : Option (List ℕ)) → IsCodeword codeword → IsFinding codeword found
     → found ≡ Some codeword
@@ -147,7 +169,9 @@ found_again words lead_in readings programs said found stream recovered are is w
           (again.each n (omega (arith, lt, count))));
       others =
           λ n lt none.
-          subst (λ w. IsFinding w (get_or recovered n None))
-          (other_word lead_in readings found stream is whole n lt none)
-          (again.each n (omega (arith, lt, count)));
+          record {
+            word = word_of symbols n;
+            is = other_word lead_in readings found stream is whole n lt none;
+            finding = again.each n (omega (arith, lt, count));
+          };
     }

@@ -1,10 +1,12 @@
--- Where the symbols of words stand in a stream.
-use Rattle.std.proofs.Common.{◌≡◌, ◌≢◌, ℕ, ◌+◌, ◌*◌, ◌/◌, ◌%◌, ◌<◌, Bool, true, ◌==◌, List, get_or, refl, sym, ap, ap₂, subst, ◌∙◌, arith}
-use Rattle.std.proofs.lemmas.Bool.{eqb-true}
+-- Where the symbols of words are in a stream.
+use Rattle.std.proofs.Common.{◌≡◌, ◌≢◌, ℕ, ◌+◌, ◌-◌, ◌*◌, ◌/◌, ◌%◌, ◌<◌, Bool, true, false, ◌==◌, List, get_or, refl, sym, ap, inl, inr, ◌∙◌, arith}
+use Rattle.std.specs.Prelude.{Option, Some, None, ◌&&◌, if◌then◌else◌, nat_lt, not}
+use Rattle.std.proofs.lemmas.Bool.{cases_lt, eq-eqb, eqb-true, le-ltb, lt-ltb, ne_eqb}
 use Rattle.bit_lists.proofs.Tests.{all_below, all_below-at}
 use Rattle.rw_interleave.specs.Interleave.{swapped}
 use Rattle.rw_interleave.proofs.Places.{swapped-lt}
-use Rattle.mended_stream.specs.Symbols.{IsByte, IsSymbol, stream_place}
+use Rattle.mended_stream.specs.Chosen.{symbol_or}
+use Rattle.mended_stream.specs.Symbols.{first_slot, held_symbol, stream_place, text_symbol}
 use Rattle.mended_stream.specs.declared.words.Words.{Words}
 
 -- symbols that are exchanged are exchanged back
@@ -19,7 +21,7 @@ pub swapped-swapped : (i : ℕ) → i < 24 → swapped (swapped i) ≡ i
 unfolding turns_back
 swapped-swapped i lt = eqb-true _ _ (all_below-at turns_back 24 i test_back lt)
 
--- the slot and the position at which a symbol of a word stands
+-- the slot and the position of a symbol of a word
 pub slot_of : (lead_in n i p : ℕ) → i < 24 → stream_place lead_in n i ≡ p
     → (p % 24 ≡ swapped i) × (p / 24 ≡ 4 * lead_in + p % 24 % 8 + n)
 slot_of lead_in n i p lt at =
@@ -30,7 +32,7 @@ slot_of lead_in n i p lt at =
     let slot : p / 24 ≡ 4 * lead_in + (n + s % 8) = omega (arith, here, small) in
     (position, slot ∙ omega (arith, ap (λ q. q % 8) position))
 
--- so it is told by them which symbol it is
+-- which symbol it is follows from them
 pub symbol_of : (lead_in n i p : ℕ) → i < 24 → stream_place lead_in n i ≡ p → i ≡ swapped (p % 24)
 symbol_of lead_in n i p lt at =
     sym (swapped-swapped i lt) ∙ ap swapped (sym (slot_of lead_in n i p lt at).0)
@@ -44,59 +46,70 @@ stands_at lead_in n p slot =
 
 -- ---- The symbol at a byte.
 
--- no word stands there
-pub none_before : (words : Words) (text : List ℕ) (p other : ℕ)
-    → p / 24 < 4 * words.lead_in + p % 24 % 8 → IsSymbol words text p other (other % 64)
-none_before words text p other before = record {
-  mended =
-      λ n i at.
-      let slot = slot_of words.lead_in n i p at.symbol at.place in
-      absurd (omega (arith, slot.1, before));
-  others = λ none. refl;
-}
+-- no word is there
+pub none_before : (words : Words) (text : List ℕ) (p : ℕ) → p / 24 < 4 * words.lead_in + p % 24 % 8
+    → held_symbol words text p ≡ None
+unfolding held_symbol
+none_before words text p before =
+    ap (λ t. if t then None else text_symbol words text p (p / 24 - first_slot words.lead_in p))
+    (lt-ltb (p / 24) (4 * words.lead_in + p % 24 % 8) before)
 
--- the word that stands there was not mended
-pub none_there : (words : Words) (text : List ℕ) (p other n : ℕ)
-    → p / 24 ≡ 4 * words.lead_in + p % 24 % 8 + n
-    → (n < words.count → get_or words.sources.now n 0 ≡ 255) → IsSymbol words text p other (other % 64)
-none_there words text p other n slot lost = record {
-  mended =
-      λ m i at.
-      let own = slot_of words.lead_in m i p at.symbol at.place in
-      let same : m ≡ n = omega (arith, own.1, slot) in
-      let within : n < words.count = omega (arith, same, at.word) in
-      absurd (at.found (ap (λ k. get_or words.sources.now k 0) same ∙ lost within));
-  others = λ none. refl;
-}
+-- word n is there
+pub word_there : (words : Words) (text : List ℕ) (p n : ℕ) → p / 24 ≡ 4 * words.lead_in + p % 24 % 8 + n
+    → held_symbol words text p ≡ text_symbol words text p n
+unfolding held_symbol
+word_there words text p n slot =
+    let number : p / 24 - (4 * words.lead_in + p % 24 % 8) ≡ n = omega (arith, slot) in
+    ap (λ t. if t then None else text_symbol words text p (p / 24 - first_slot words.lead_in p))
+    (le-ltb (p / 24) (4 * words.lead_in + p % 24 % 8) (omega (arith, slot)))
+    ∙ ap (text_symbol words text p) number
+
+lost_by : (words : Words) (text : List ℕ) (p n : ℕ) → (n < words.count → get_or words.sources.now n 0 ≡ 255)
+    → text_symbol words text p n ≡ None
+lost_by words text p n lost =
+    let symbol = Some (get_or text (24 * n + swapped (p % 24)) 0 % 64) in
+    elim (cases_lt n words.count) [
+      | inl within ↦
+          ap (λ t. if t && not (get_or words.sources.now n 0 == 255) then symbol else None)
+          (lt-ltb n words.count within)
+          ∙ ap (λ t. if not t then symbol else None)
+          (eq-eqb (get_or words.sources.now n 0) 255 (lost within))
+      | inr outside ↦
+          ap (λ t. if t && not (get_or words.sources.now n 0 == 255) then symbol else None)
+          (le-ltb n words.count outside)
+    ]
+
+-- word n is there, and was not mended
+pub none_there : (words : Words) (text : List ℕ) (p n : ℕ) → p / 24 ≡ 4 * words.lead_in + p % 24 % 8 + n
+    → (n < words.count → get_or words.sources.now n 0 ≡ 255) → held_symbol words text p ≡ None
+none_there words text p n slot lost = word_there words text p n slot ∙ lost_by words text p n lost
 
 -- it was
-pub symbol_there : (words : Words) (text : List ℕ) (p other n : ℕ)
-    → p / 24 ≡ 4 * words.lead_in + p % 24 % 8 + n → n < words.count → get_or words.sources.now n 0 ≢ 255
-    → IsSymbol words text p other (get_or text (24 * n + swapped (p % 24)) 0 % 64)
-symbol_there words text p other n slot within found = record {
-  mended =
-      λ m i at.
-      let own = slot_of words.lead_in m i p at.symbol at.place in
-      let same : n ≡ m = omega (arith, own.1, slot) in
-      let which : swapped (p % 24) ≡ i = sym (symbol_of words.lead_in m i p at.symbol at.place) in
-      ap₂ (λ a b. get_or text (24 * a + b) 0 % 64) same which;
-  others =
-      λ none.
-      absurd
-      (none n (swapped (p % 24)) (record {
-        word = within;
-        symbol = swapped-lt (p % 24) (omega arith);
-        found = found;
-        place = stands_at words.lead_in n p slot;
-      }));
-}
+pub symbol_there : (words : Words) (text : List ℕ) (p n : ℕ) → p / 24 ≡ 4 * words.lead_in + p % 24 % 8 + n
+    → n < words.count → get_or words.sources.now n 0 ≢ 255
+    → held_symbol words text p ≡ Some (get_or text (24 * n + swapped (p % 24)) 0 % 64)
+symbol_there words text p n slot within found =
+    let symbol = Some (get_or text (24 * n + swapped (p % 24)) 0 % 64) in
+    word_there words text p n slot
+    ∙ ap (λ t. if t && not (get_or words.sources.now n 0 == 255) then symbol else None)
+    (lt-ltb n words.count within)
+    ∙ ap (λ t. if not t then symbol else None) (ne_eqb (get_or words.sources.now n 0) 255 found)
 
--- a byte of two bits of one and of a symbol
-pub byte_of : (words : Words) (text : List ℕ) (p framed read symbol : ℕ) → symbol < 64
-    → IsSymbol words text p read symbol → IsByte words text p framed read (framed / 64 * 64 + symbol)
-byte_of words text p framed read symbol small is =
-    let low : symbol ≡ (framed / 64 * 64 + symbol) % 64 = omega (arith, small) in
-    record {
-      channels = omega (arith, small);
-      symbol = subst (IsSymbol words text p read) low is;
-    }
+-- ---- A symbol is below 64.
+
+small_if : (b : Bool) (symbol : Option ℕ) (n : ℕ) → symbol_or symbol n < 64
+    → symbol_or (if b then None else symbol) n < 64
+small_if true symbol n small = omega arith
+small_if false symbol n small = small
+
+small_then : (b : Bool) (symbol n : ℕ) → symbol < 64 → symbol_or (if b then Some symbol else None) n < 64
+small_then true symbol n small = small
+small_then false symbol n small = omega arith
+
+pub held_small : (words : Words) (text : List ℕ) (p n : ℕ) → symbol_or (held_symbol words text p) n < 64
+unfolding held_symbol
+held_small words text p n =
+    let m : ℕ = p / 24 - first_slot words.lead_in p in
+    small_if (nat_lt (p / 24) (first_slot words.lead_in p)) (text_symbol words text p m) n
+    (small_then (nat_lt m words.count && not (get_or words.sources.now m 0 == 255))
+    (get_or text (24 * m + swapped (p % 24)) 0 % 64) n (omega arith))

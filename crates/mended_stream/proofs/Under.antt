@@ -1,18 +1,18 @@
 -- The text of the words under a block.
-use Rattle.std.proofs.Common.{◌≡◌, ◌≢◌, ℕ, ◌+◌, ◌-◌, ◌*◌, ◌/◌, ◌%◌, ◌<◌, ◌≤◌, List, get_or, take, drop, ap, subst, ◌∙◌, arith}
+use Rattle.std.proofs.Common.{◌≡◌, ◌≢◌, ℕ, ◌+◌, ◌-◌, ◌*◌, ◌/◌, ◌%◌, ◌<◌, ◌≤◌, List, get_or, take, drop, ap, ◌∙◌, arith}
+use Rattle.std.specs.Prelude.{Some}
 use Rattle.std.proofs.lemmas.List.{get_or-drop, get_or-take}
 use Rattle.rw_interleave.specs.Interleave.{swapped}
-use Rattle.mended_stream.specs.Symbols.{AreMendedUnder, IsByte, IsSymbol}
+use Rattle.mended_stream.specs.Symbols.{AreMendedUnder, held_symbol}
 use Rattle.mended_stream.specs.declared.words.Words.{Words}
-use Rattle.mended_stream.proofs.Standing.{byte_of, symbol_there}
+use Rattle.mended_stream.proofs.Standing.{symbol_there}
 
--- a byte of a block under which each word was mended
-pub byte_under : (words : Words) (text : List ℕ) (b first k framed read at_row : ℕ) → AreMendedUnder words b
+-- a symbol of a block under which each word was mended
+pub symbol_under : (words : Words) (text : List ℕ) (b first k at_row : ℕ) → AreMendedUnder words b
     → first ≡ 4 * (b - words.lead_in) - 7 → k < 96
     → at_row ≡ 24 * (7 + k / 24 - k % 24 % 8) + swapped (k % 24)
-    → IsByte words text (96 * b + k) framed read
-    (framed / 64 * 64 + get_or text (24 * first + at_row) 0 % 64)
-byte_under words text b first k framed read at_row are at lt row =
+    → held_symbol words text (96 * b + k) ≡ Some (get_or text (24 * first + at_row) 0 % 64)
+symbol_under words text b first k at_row are at lt row =
     let p : ℕ = 96 * b + k in
     let slot : p / 24 ≡ 4 * b + k / 24 = omega arith in
     let position : p % 24 ≡ k % 24 = omega arith in
@@ -27,9 +27,7 @@ byte_under words text b first k framed read at_row are at lt row =
     are.found n (omega (arith, at, few, are.first)) (omega (arith, at, under, few, are.first)) in
     let which : 24 * n + swapped (p % 24) ≡ 24 * first + at_row =
     omega (arith, ap swapped position, row) in
-    byte_of words text p framed read (get_or text (24 * first + at_row) 0 % 64) (omega arith)
-    (subst (λ i. IsSymbol words text p read (get_or text i 0 % 64)) which
-    (symbol_there words text p read n there within found))
+    symbol_there words text p n there within found ∙ ap (λ i. Some (get_or text i 0 % 64)) which
 
 -- a symbol of the row of their text
 pub row_symbol : (text : List ℕ) (first count j : ℕ) → j < count

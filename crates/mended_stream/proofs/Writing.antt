@@ -1,11 +1,17 @@
 -- Blocks written over text that is still to be read.
-use Rattle.std.proofs.Common.{◌≡◌, ℕ, ◌+◌, ◌-◌, ◌*◌, ◌/◌, ◌%◌, ◌<◌, ◌≤◌, List, ◌++◌, length, get_or, take, drop, sym, ap, ap₂, ◌∙◌, subst, subst₂, inl, inr, arith, length-append}
-use Rattle.std.proofs.lemmas.Bool.Decides.{leb_tells}
+use Rattle.std.proofs.Common.{◌≡◌, ℕ, ◌+◌, ◌-◌, ◌*◌, ◌/◌, ◌%◌, ◌<◌, ◌≤◌, List, ◌++◌, length, get_or, take, drop, sym, ap, ◌∙◌, subst, inl, inr, arith, below_more, length-append}
+use Rattle.std.specs.Prelude.{Some}
+use Rattle.std.proofs.lemmas.Bool.{cases_eq, cases_lt}
 use Rattle.std.proofs.lemmas.List.{drop_at, drop-drop, get_or-drop, get_or-take, get_or_append_left, get_or-append_right, length-take-le, take_rest}
-use Rattle.mended_stream.specs.Chosen.{blocks_at, first_framed, first_read, framed_byte, read_byte}
-use Rattle.mended_stream.specs.Symbols.{AreBytes, IsByte}
+use Rattle.rw_interleave.specs.Interleave.{swapped}
+use Rattle.rw_interleave.proofs.Ranges.{map_range}
+use Rattle.rw_mend.specs.Words.{block_at}
+use Rattle.mended_stream.specs.Chosen.{IsChosen, blocks_at, symbol_rule}
+use Rattle.raw_subcode.specs.Channels.{symbols_of}
+use Rattle.mended_stream.specs.Symbols.{AreBlocks, IsStreamBlock, held_symbol, held_symbols}
 use Rattle.mended_stream.specs.declared.words.Words.{Words}
-use Rattle.mended_stream.proofs.Standing.{slot_of}
+use Rattle.mended_stream.proofs.Standing.{none_before, none_there, symbol_there}
+use Rattle.mended_stream.proofs.StreamBlocks.{block_same, block_with}
 
 -- lists that are the same from a place on have the same elements there
 pub same_behind : (now old : List ℕ) (m q : ℕ) → drop m now ≡ drop m old → m ≤ q
@@ -18,7 +24,7 @@ same_behind now old m q same from =
     ∙ get_or-drop m old (q - m) 0
     ∙ ap (λ k. get_or old k 0) there
 
--- the text of a word stands behind the blocks that are written before the last of its symbols
+-- the text of a word lies behind the blocks that are written before the last of its symbols
 text_behind : (words : Words) (size start p b n i : ℕ) → start ≡ size - 24 * words.count
     → (0 < words.count → 24 * words.count + 96 * words.lead_in + 24 * 7 ≤ size) → n < words.count
     → 96 * b ≤ p → p / 24 ≡ 4 * words.lead_in + p % 24 % 8 + n → 96 * b ≤ start + (24 * n + i)
@@ -29,27 +35,66 @@ text_behind words size start p b n i at late within from slot =
     let delay : p % 24 % 8 ≤ 7 = omega arith in
     omega (arith, at, room, first, delay, slot)
 
--- so a block is the same whether it is made of the text as it is or as it was
-pub same_byte : (words : Words) (now old : List ℕ) (size start p b framed read byte : ℕ)
-    → start ≡ size - 24 * words.count
+-- so the symbol of word n is the same in the text as it is and as it was
+same_word : (words : Words) (now old : List ℕ) (size start p b n : ℕ) → start ≡ size - 24 * words.count
+    → (0 < words.count → 24 * words.count + 96 * words.lead_in + 24 * 7 ≤ size)
+    → drop (96 * b) now ≡ drop (96 * b) old → 96 * b ≤ p → p / 24 ≡ 4 * words.lead_in + p % 24 % 8 + n
+    → held_symbol words (drop start now) p ≡ held_symbol words (drop start old) p
+same_word words now old size start p b n at late same from slot =
+    elim (cases_lt n words.count) [
+      | inr outside ↦
+          none_there words (drop start now) p n slot (λ within. absurd (omega (arith, within, outside)))
+          ∙ sym
+          (none_there words (drop start old) p n slot (λ within. absurd (omega (arith, within, outside))))
+      | inl within ↦
+          elim (cases_eq (get_or words.sources.now n 0) 255) [
+            | inl lost ↦
+                none_there words (drop start now) p n slot (λ own. lost)
+                ∙ sym (none_there words (drop start old) p n slot (λ own. lost))
+            | inr found ↦
+                let i : ℕ = swapped (p % 24) in
+                let behind : 96 * b ≤ start + (24 * n + i) =
+                text_behind words size start p b n i at late within from slot in
+                let read : get_or (drop start now) (24 * n + i) 0 ≡ get_or (drop start old) (24 * n + i) 0 =
+                get_or-drop start now (24 * n + i) 0
+                ∙ same_behind now old (96 * b) (start + (24 * n + i)) same behind
+                ∙ sym (get_or-drop start old (24 * n + i) 0) in
+                symbol_there words (drop start now) p n slot within found
+                ∙ ap (λ s. Some (s % 64)) read
+                ∙ sym (symbol_there words (drop start old) p n slot within found)
+          ]
+    ]
+
+same_symbol : (words : Words) (now old : List ℕ) (size start p b : ℕ) → start ≡ size - 24 * words.count
     → (0 < words.count → 24 * words.count + 96 * words.lead_in + 24 * 7 ≤ size)
     → drop (96 * b) now ≡ drop (96 * b) old → 96 * b ≤ p
-    → IsByte words (drop start now) p framed read byte → IsByte words (drop start old) p framed read byte
-same_byte words now old size start p b framed read byte at late same from is = record {
+    → held_symbol words (drop start now) p ≡ held_symbol words (drop start old) p
+same_symbol words now old size start p b at late same from =
+    elim (cases_lt (p / 24) (4 * words.lead_in + p % 24 % 8)) [
+      | inl before ↦
+          none_before words (drop start now) p before ∙ sym (none_before words (drop start old) p before)
+      | inr behind ↦
+          let n : ℕ = p / 24 - (4 * words.lead_in + p % 24 % 8) in
+          let slot : p / 24 ≡ 4 * words.lead_in + p % 24 % 8 + n = omega (arith, behind) in
+          same_word words now old size start p b n at late same from slot
+    ]
+
+pub same_symbols : (words : Words) (now old : List ℕ) (size start b : ℕ) → start ≡ size - 24 * words.count
+    → (0 < words.count → 24 * words.count + 96 * words.lead_in + 24 * 7 ≤ size)
+    → drop (96 * b) now ≡ drop (96 * b) old
+    → held_symbols words (drop start now) b ≡ held_symbols words (drop start old) b
+same_symbols words now old size start b at late same =
+    map_range (λ k. held_symbol words (drop start now) (96 * b + k))
+    (λ k. held_symbol words (drop start old) (96 * b + k)) 0 96 (λ k from to.
+    same_symbol words now old size start (96 * b + k) b at late same (omega arith))
+
+pub same_stream_block : (words : Words) (text other : List ℕ) (blocks : List (List ℕ)) (b : ℕ)
+    (block : List ℕ)
+    → held_symbols words text b ≡ held_symbols words other b → IsStreamBlock words text blocks b block
+    → IsStreamBlock words other blocks b block
+same_stream_block words text other blocks b block same is = record {
   channels = is.channels;
-  symbol = record {
-    mended =
-        λ n i place.
-        let slot = (slot_of words.lead_in n i p place.symbol place.place).1 in
-        let behind : 96 * b ≤ start + (24 * n + i) =
-        text_behind words size start p b n i at late place.word from slot in
-        is.symbol.mended n i place
-        ∙ ap (λ x. x % 64)
-        (get_or-drop start now (24 * n + i) 0
-        ∙ same_behind now old (96 * b) (start + (24 * n + i)) same behind
-        ∙ sym (get_or-drop start old (24 * n + i) 0));
-    others = is.symbol.others;
-  };
+  symbols = subst (λ known. IsChosen (symbol_rule known blocks) blocks (symbols_of block)) same is.symbols;
 }
 
 -- ---- A block written in its place.
@@ -75,40 +120,25 @@ put_there list block new m k is fits size lt =
     ∙ ap (λ j. get_or block j 0) (omega arith)
 
 -- one block more
-pub bytes_more : (words : Words) (text list block new framed read : List ℕ) (readings : List (List ℕ)) (b : ℕ)
-    → new ≡ take (96 * b) list ++ block ++ drop (96 * b + 96) list → 96 * b ≤ length list
-    → length block ≡ 96 → framed ≡ first_framed (blocks_at readings b)
-    → read ≡ first_read (blocks_at readings b)
-    → AreBytes words text readings (96 * b) list
-    → ((k : ℕ) → k < 96
-    → IsByte words text (96 * b + k) (get_or framed k 0) (get_or read k 0) (get_or block k 0))
-    → AreBytes words text readings (96 * (b + 1)) new
-bytes_more words text list block new framed read readings b is fits size framed_is read_is before here p lt =
-    elim (leb_tells (96 * b) p) [
-      | inl from ↦
-          let k : ℕ = p - 96 * b in
-          let small : k < 96 = omega (arith, lt, from.1) in
-          let at : 96 * b + k ≡ p = omega (arith, from.1) in
-          let number : p / 96 ≡ b = omega (arith, at, small) in
-          let rest : p % 96 ≡ k = omega (arith, at, small) in
-          let one : get_or framed k 0 ≡ framed_byte readings p =
-          ap (λ l. get_or l k 0) framed_is
-          ∙ ap₂ (λ m j. get_or (first_framed (blocks_at readings m)) j 0) (sym number) (sym rest) in
-          let other : get_or read k 0 ≡ read_byte readings p =
-          ap (λ l. get_or l k 0) read_is
-          ∙ ap₂ (λ m j. get_or (first_read (blocks_at readings m)) j 0) (sym number) (sym rest) in
-          let byte : get_or block k 0 ≡ get_or new p 0 =
-          sym (put_there list block new (96 * b) k is fits size small) ∙ ap (λ j. get_or new j 0) at in
-          subst (λ x. IsByte words text p (framed_byte readings p) (read_byte readings p) x) byte
-          (subst₂ (λ x y. IsByte words text p x y (get_or block k 0)) one other
-          (subst (λ j. IsByte words text j (get_or framed k 0) (get_or read k 0) (get_or block k 0)) at
-          (here k small)))
-      | inr under ↦
-          subst (λ x. IsByte words text p (framed_byte readings p) (read_byte readings p) x)
-          (sym (kept_before list block new (96 * b) p is fits under.1)) (before p under.1)
-    ]
+pub blocks_more : (words : Words) (text list block new : List ℕ) (readings : List (List ℕ)) (b : ℕ)
+    → new ≡ take (96 * b) list ++ block ++ drop (96 * b + 96) list → 96 * b + 96 ≤ length list
+    → length new ≡ length list → length block ≡ 96 → AreBlocks words text readings b list
+    → IsStreamBlock words text (blocks_at readings b) b block → AreBlocks words text readings (b + 1) new
+blocks_more words text list block new readings b is inside size long before here =
+    let fits : 96 * b ≤ length list = omega (arith, inside) in
+    below_more (λ c. IsStreamBlock words text (blocks_at readings c) c (block_at new c)) b
+    (λ c lt.
+    let kept : block_at list c ≡ block_at new c =
+    sym
+    (block_same new list c (omega (arith, lt, inside, size)) (omega (arith, lt, inside)) (λ k small.
+    kept_before list block new (96 * b) (96 * c + k) is fits (omega (arith, lt, small)))) in
+    subst (IsStreamBlock words text (blocks_at readings c) c) kept (before c lt))
+    (subst (IsStreamBlock words text (blocks_at readings b) b)
+    (sym
+    (block_with new block b (omega (arith, inside, size)) long (λ k small.
+    put_there list block new (96 * b) k is fits long small))) here)
 
--- what stands behind the block stays
+-- what is behind the block stays
 pub kept_behind : (list block new old : List ℕ) (b : ℕ)
     → new ≡ take (96 * b) list ++ block ++ drop (96 * b + 96) list → 96 * b ≤ length list → length block ≡ 96
     → drop (96 * b) list ≡ drop (96 * b) old → drop (96 * (b + 1)) new ≡ drop (96 * (b + 1)) old

@@ -1,28 +1,58 @@
--- What is found again in a mended stream.
-use Rattle.std.specs.Prelude.{◌≡◌, ◌%◌, ◌<◌, ℕ, List, [], length, map, slice_index_or, Option, Some, None}
-use Rattle.bit_lists.specs.Counting.{below}
+-- What follows for a mended stream.
+use Rattle.std.specs.Prelude.{◌≡◌, ◌/◌, ◌%◌, ◌<◌, ◌≤◌, true, ℕ, List, [], length, slice_index, slice_index_or, Option, Some, None}
+use Rattle.raw_subcode.specs.Channels.{p_bits, q_bits}
+use Rattle.raw_subcode.specs.Sizes.{block_bytes}
 use Rattle.rw_code.specs.Finding.{IsFinding}
 use Rattle.rw_code.specs.Sizes.{word_symbols}
 use Rattle.rw_mend.specs.declared.choice.Mended.{Mended}
-use Rattle.mended_stream.specs.Chosen.{read_byte}
+use Rattle.mended_stream.specs.Chosen.{IsChosen, blocks_at, channel_rule, channels_of, has_eligible_channels, is_framed_block, symbol_rule, votes_for}
+use Rattle.mended_stream.specs.Stream.{mended_symbols}
 use Rattle.mended_stream.specs.Symbols.{stream_place}
 
--- word n of the stream of the blocks that were first read
-abbrev pub read_word : ℕ → List (List ℕ) → ℕ → List ℕ
-read_word lead_in readings n =
-    map (λ i. read_byte readings (stream_place lead_in n i) % 64) (below word_symbols)
+-- The symbol at byte p of a reading: of the one whose symbols are chosen for this block of a stream.
+pub record IsReadSymbol (lead_in : ℕ) (readings : List (List ℕ)) (found : List (Option Mended)) (p symbol : ℕ)
+    : Type 0 where
+  pub symbols : List ℕ
+  pub chosen : IsChosen
+      (symbol_rule (mended_symbols lead_in found (p / block_bytes)) (blocks_at readings (p / block_bytes)))
+      (blocks_at readings (p / block_bytes)) symbols
+  pub is : symbol
+      ≡ slice_index (slice_index_or (blocks_at readings (p / block_bytes)) chosen.reading [])
+      (p % block_bytes) % 64
+
+-- word n of the symbols that are chosen
+pub record IsReadWord (lead_in : ℕ) (readings : List (List ℕ)) (found : List (Option Mended)) (n : ℕ)
+    (word : List ℕ) : Type 0 where
+  pub size : length word ≡ word_symbols
+  pub symbols : (i : ℕ) → i < word_symbols
+      → IsReadSymbol lead_in readings found (stream_place lead_in n i) (slice_index word i)
+
+-- What is found for word n of the symbols that are chosen.
+pub record IsReadFinding (lead_in : ℕ) (readings : List (List ℕ)) (found : List (Option Mended)) (n : ℕ)
+    (pack : Option (List ℕ)) : Type 0 where
+  pub word : List ℕ
+  pub is : IsReadWord lead_in readings found n word
+  pub finding : IsFinding word pack
 
 -- What is recovered from a mended stream: the codeword of each word that was mended, and of each other word what is found
--- for the symbols that were first read.
+-- for the symbols that are chosen.
 pub record AreFoundAgain (lead_in : ℕ) (readings : List (List ℕ)) (found : List (Option Mended))
     (recovered : List (Option (List ℕ))) : Type 0 where
   pub count : length recovered ≡ length found
   pub mended : (n : ℕ) (own : Mended) → n < length found → slice_index_or found n None ≡ Some own
       → slice_index_or recovered n None ≡ Some own.pack
   pub others : (n : ℕ) → n < length found → slice_index_or found n None ≡ None
-      → IsFinding (read_word lead_in readings n) (slice_index_or recovered n None)
+      → IsReadFinding lead_in readings found n (slice_index_or recovered n None)
 
--- there are some readings, and each is so long
-pub record AreAsLong (size : ℕ) (readings : List (List ℕ)) : Type 0 where
-  pub some : 0 < length readings
-  pub each : (r : ℕ) → r < length readings → length (slice_index_or readings r []) ≡ size
+-- Channels P and Q of a block are those of an eligible block of a reading, and no others have more votes.
+pub record HasChosenChannels (blocks : List (List ℕ)) (block : List ℕ) : Type 0 where
+  pub reading : ℕ
+  pub within : reading < length blocks
+  pub eligible : has_eligible_channels blocks (slice_index_or blocks reading []) ≡ true
+  pub q : q_bits block ≡ q_bits (slice_index_or blocks reading [])
+  pub p : p_bits block ≡ p_bits (slice_index_or blocks reading [])
+  pub most : (r : ℕ) → r < length blocks → has_eligible_channels blocks (slice_index_or blocks r []) ≡ true
+      → votes_for (channel_rule blocks) blocks (channels_of (slice_index_or blocks r []))
+      ≤ votes_for (channel_rule blocks) blocks (channels_of block)
+  pub framed : (r : ℕ) → r < length blocks → is_framed_block (slice_index_or blocks r []) ≡ true
+      → is_framed_block block ≡ true

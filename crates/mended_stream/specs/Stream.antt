@@ -1,21 +1,23 @@
 -- A stream mended from readings.
-use Rattle.std.specs.Prelude.{◌≡◌, ℕ, ◌-◌, ◌/◌, ◌%◌, ◌<◌, List, [], ◌++◌, length, map, drop, slice_index, slice_index_or, Option, Some, None}
-use Rattle.bit_lists.specs.Counting.{parts}
-use Rattle.raw_subcode.specs.Sizes.{block_bytes}
+use Rattle.std.specs.Prelude.{◌≡◌, ℕ, ◌+◌, ◌-◌, ◌*◌, ◌/◌, ◌%◌, ◌<◌, nat_lt, if◌then◌else◌, List, [], ◌++◌, length, map, drop, slice_index, slice_index_or, Option, Some, None}
+use Rattle.bit_lists.specs.Counting.{below, parts}
+use Rattle.raw_subcode.specs.Channels.{symbols_of}
+use Rattle.raw_subcode.specs.Sizes.{block_bytes, symbols_a_slot}
 use Rattle.rw_code.specs.Sizes.{word_symbols}
-use Rattle.rw_interleave.specs.Interleave.{whole_packs}
+use Rattle.rw_interleave.specs.Interleave.{swapped, whole_packs}
 use Rattle.rw_mend.specs.Drops.{AreDropCounts}
 use Rattle.rw_mend.specs.Losses.{AreLosses}
 use Rattle.rw_mend.specs.Many.{programs_of, words_in_each}
 use Rattle.rw_mend.specs.Streams.{AreMended}
 use Rattle.rw_mend.specs.Tallies.{AreTallies, source_byte}
+use Rattle.rw_mend.specs.Words.{block_at}
 use Rattle.rw_mend.specs.declared.choice.Mended.{Mended}
 use Rattle.rw_mend.specs.declared.tallies.Tallies.{Tallies}
 use Rattle.rw_mend.specs.declared.candidates.Candidate.{Candidate}
-use Rattle.mended_stream.specs.Chosen.{framed_byte, read_byte}
-use Rattle.mended_stream.specs.Symbols.{stream_place}
+use Rattle.mended_stream.specs.Chosen.{IsChosen, blocks_at, channel_rule, channels_of, symbol_rule}
+use Rattle.mended_stream.specs.Symbols.{first_slot, stream_place}
 
--- Symbol i of word n, which was mended into this codeword, stands at byte p of a stream.
+-- Symbol i of word n, which was mended into this codeword, is at byte p of a stream.
 pub record IsMendedPlace (lead_in : ℕ) (found : List (Option Mended)) (p n i : ℕ) (codeword : Mended) : Type 0
   where
     pub word : n < length found
@@ -23,26 +25,48 @@ pub record IsMendedPlace (lead_in : ℕ) (found : List (Option Mended)) (p n i :
     pub is : slice_index_or found n None ≡ Some codeword
     pub place : stream_place lead_in n i ≡ p
 
--- Byte p of a stream: channels P and Q of the reading that is taken for them; the symbol of a mended word, or else that of
--- the first reading that was read there.
-pub record IsMendedByte (lead_in : ℕ) (readings : List (List ℕ)) (found : List (Option Mended)) (p byte : ℕ)
-    : Type 0 where
-  pub channels : byte / 64 ≡ framed_byte readings p / 64
-  pub mended : (n i : ℕ) (own : Mended) → IsMendedPlace lead_in found p n i own
-      → byte % 64 ≡ slice_index own.pack i
-  pub others : ((n i : ℕ) (own : Mended) → ¬ IsMendedPlace lead_in found p n i own)
-      → byte % 64 ≡ read_byte readings p % 64
+-- symbol i of what is found for a word
+abbrev pub found_symbol : Option Mended → ℕ → Option ℕ
+found_symbol (Some own) i = Some (slice_index own.pack i)
+found_symbol None i = None
+
+-- the symbol of a mended word at byte p, if the byte belongs to one
+unfoldable pub mended_symbol : ℕ → List (Option Mended) → ℕ → Option ℕ
+mended_symbol lead_in found p = if nat_lt (p / symbols_a_slot) (first_slot lead_in p) then None
+    else found_symbol (slice_index_or found (p / symbols_a_slot - first_slot lead_in p) None)
+    (swapped (p % symbols_a_slot))
+
+-- the symbols of mended words in block b
+abbrev pub mended_symbols : ℕ → List (Option Mended) → ℕ → List (Option ℕ)
+mended_symbols lead_in found b =
+    map (λ k. mended_symbol lead_in found (block_bytes * b + k)) (below block_bytes)
+
+-- Block b of a stream. Channels P and Q are those chosen of the blocks of the readings. Each byte has the symbol of its
+-- mended word. Every other symbol is that of one reading: of the block whose symbols are chosen.
+pub record IsMendedBlock (lead_in : ℕ) (readings : List (List ℕ)) (found : List (Option Mended)) (b : ℕ)
+    (block : List ℕ) : Type 0 where
+  pub channels : IsChosen (channel_rule (blocks_at readings b)) (blocks_at readings b) (channels_of block)
+  pub symbols : IsChosen (symbol_rule (mended_symbols lead_in found b) (blocks_at readings b))
+      (blocks_at readings b) (symbols_of block)
+  pub mended : (k n i : ℕ) (own : Mended) → k < block_bytes
+      → IsMendedPlace lead_in found (block_bytes * b + k) n i own
+      → slice_index block k % 64 ≡ slice_index own.pack i
+  pub others : (k : ℕ) → k < block_bytes
+      → ((n i : ℕ) (own : Mended) → ¬ IsMendedPlace lead_in found (block_bytes * b + k) n i own)
+      → slice_index block k % 64
+      ≡ slice_index (slice_index_or (blocks_at readings b) symbols.reading []) k % 64
 
 -- The stream of what is found for the words of readings.
 pub record IsMendedStream (lead_in : ℕ) (readings : List (List ℕ)) (found : List (Option Mended))
     (stream : List ℕ) : Type 0 where
   pub size : length stream ≡ length (slice_index_or readings 0 [])
+  pub whole : length stream % block_bytes ≡ 0
   pub words : length found ≡ whole_packs (length stream / block_bytes - lead_in)
-  pub bytes : (p : ℕ) → p < length stream
-      → IsMendedByte lead_in readings found p (slice_index stream p)
+  pub blocks : (b : ℕ) → b < length stream / block_bytes
+      → IsMendedBlock lead_in readings found b (block_at stream b)
 
--- The readings are mended: their stream stands at the front of a buffer, and the bytes that name the sources of its words
--- at the front of another. What is behind them stays.
+-- The readings are mended: their stream is at the front of a buffer, and the bytes that name the sources of its words
+-- are at the front of another. What is behind them stays.
 pub record AreMendedIntoStream (count lead_in : ℕ) (readings old new old_sources new_sources : List ℕ)
     (tallies : Tallies) : Type 0 where
   pub said : List (List Candidate)

@@ -1,38 +1,52 @@
 -- The symbols of mended words in a stream.
-use Rattle.std.specs.Prelude.{◌≡◌, ◌≢◌, ◌+◌, ◌*◌, ◌/◌, ◌%◌, ◌<◌, ◌≤◌, ℕ, List, length, slice_index}
-use Rattle.raw_subcode.specs.Sizes.{block_bytes, symbols_a_slot}
-use Rattle.rw_code.specs.Sizes.{word_symbols}
-use Rattle.rw_interleave.specs.Interleave.{place}
+use Rattle.std.specs.Prelude.{◌≡◌, ◌≢◌, ◌==◌, ◌&&◌, ◌+◌, ◌-◌, ◌*◌, ◌/◌, ◌%◌, ◌<◌, ◌≤◌, not, nat_lt, if◌then◌else◌, ℕ, List, length, map, slice_index, Option, Some, None}
+use Rattle.bit_lists.specs.Counting.{below}
+use Rattle.raw_subcode.specs.Channels.{symbols_of}
+use Rattle.raw_subcode.specs.Sizes.{block_bytes, slots_a_block, symbols_a_slot}
+use Rattle.rw_interleave.specs.Interleave.{place, span, swapped}
 use Rattle.rw_mend.specs.Tallies.{no_source}
-use Rattle.mended_stream.specs.Chosen.{framed_byte, read_byte}
+use Rattle.rw_mend.specs.Words.{block_at}
+use Rattle.mended_stream.specs.Chosen.{IsChosen, blocks_at, channel_rule, channels_of, completed, symbol_rule}
 use Rattle.mended_stream.specs.declared.words.Words.{Words}
 
 -- the place of symbol i of word n in a stream with so many blocks of lead-in
 abbrev pub stream_place : ℕ → ℕ → ℕ → ℕ
 stream_place lead_in n i = block_bytes * lead_in + place n i
 
--- symbol i of word n stands at byte p, and the word was mended
-pub record IsMendedAt (words : Words) (p n i : ℕ) : Type 0 where
-  pub word : n < words.count
-  pub symbol : i < word_symbols
-  pub found : slice_index words.sources.now n ≢ no_source
-  pub place : stream_place words.lead_in n i ≡ p
+-- the slot of a stream in which the first word has its symbol at the position of byte p
+abbrev pub first_slot : ℕ → ℕ → ℕ
+first_slot lead_in p = slots_a_block * lead_in + p % symbols_a_slot % span
 
--- The symbol at byte p: of the text of the words that were mended, or else this one.
-pub record IsSymbol (words : Words) (text : List ℕ) (p other symbol : ℕ) : Type 0 where
-  pub mended : (n i : ℕ) → IsMendedAt words p n i → symbol ≡ slice_index text (symbols_a_slot * n + i) % 64
-  pub others : ((n i : ℕ) → ¬ IsMendedAt words p n i) → symbol ≡ other % 64
+-- the symbol of word n at byte p, where the text of a mended word has its symbols
+abbrev pub text_symbol : Words → List ℕ → ℕ → ℕ → Option ℕ
+text_symbol words text p n =
+    if nat_lt n words.count && not (slice_index words.sources.now n == no_source)
+    then Some (slice_index text (symbols_a_slot * n + swapped (p % symbols_a_slot)) % 64) else None
 
--- Byte p of the stream: channels P and Q of one byte, and the symbol of a word that was mended or else of another byte.
-pub record IsByte (words : Words) (text : List ℕ) (p framed read byte : ℕ) : Type 0 where
-  pub channels : byte / 64 ≡ framed / 64
-  pub symbol : IsSymbol words text p read (byte % 64)
+-- the symbol that the text of a mended word has for byte p, if the byte belongs to one
+unfoldable pub held_symbol : Words → List ℕ → ℕ → Option ℕ
+held_symbol words text p = if nat_lt (p / symbols_a_slot) (first_slot words.lead_in p) then None
+    else text_symbol words text p (p / symbols_a_slot - first_slot words.lead_in p)
 
--- block b of the stream: each byte of it is one, where these are the bytes of blocks for P and Q and for other symbols
-abbrev pub IsBlock : Words → List ℕ → ℕ → List ℕ → List ℕ → List ℕ → Type 0
-IsBlock words text b framed read block = (k : ℕ) → k < block_bytes
-    → IsByte words text (block_bytes * b + k) (slice_index framed k) (slice_index read k)
-    (slice_index block k)
+-- the same for each byte of block b
+abbrev pub held_symbols : Words → List ℕ → ℕ → List (Option ℕ)
+held_symbols words text b = map (λ k. held_symbol words text (block_bytes * b + k)) (below block_bytes)
+
+-- A block of channels P and Q of one block, and of the known symbols and those of another block.
+pub record IsBlock (known : List (Option ℕ)) (framed read block : List ℕ) : Type 0 where
+  pub channels : channels_of block ≡ channels_of framed
+  pub symbols : symbols_of block ≡ completed known read
+
+-- Block b of the stream: its channels P and Q and its symbols are those chosen of the blocks of readings.
+pub record IsStreamBlock (words : Words) (text : List ℕ) (blocks : List (List ℕ)) (b : ℕ) (block : List ℕ)
+    : Type 0 where
+  pub channels : IsChosen (channel_rule blocks) blocks (channels_of block)
+  pub symbols : IsChosen (symbol_rule (held_symbols words text b) blocks) blocks (symbols_of block)
+
+-- the first blocks of a stream
+abbrev pub AreBlocks : Words → List ℕ → List (List ℕ) → ℕ → List ℕ → Type 0
+AreBlocks words text readings count bytes = (b : ℕ) → b < count
+    → IsStreamBlock words text (blocks_at readings b) b (block_at bytes b)
 
 -- there is a source for each word
 abbrev pub HaveSources : Words → Type 0
@@ -41,11 +55,6 @@ HaveSources words = words.count ≤ length words.sources.now
 -- the text of all words
 abbrev pub HasWordText : Words → List ℕ → Type 0
 HasWordText words text = symbols_a_slot * words.count ≤ length text
-
--- Each byte of the stream that stands before a size.
-abbrev pub AreBytes : Words → List ℕ → List (List ℕ) → ℕ → List ℕ → Type 0
-AreBytes words text readings size bytes = (p : ℕ) → p < size
-    → IsByte words text p (framed_byte readings p) (read_byte readings p) (slice_index bytes p)
 
 -- Each word of which a symbol stands in block b was mended: the words of the block's slots, and of the seven before.
 pub record AreMendedUnder (words : Words) (b : ℕ) : Type 0 where

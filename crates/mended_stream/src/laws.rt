@@ -1,21 +1,41 @@
 // What follows from the definitions.
-ghost use Rattle.std.specs.Prelude.{◌≡◌, ◌+◌, ◌*◌, ◌/◌, ◌%◌, ◌<◌, ◌≤◌, [], ◌∷◌, List, ℕ, length, slice_index, slice_index_or};
+ghost use Rattle.std.specs.Prelude.{◌≡◌, ◌+◌, ◌*◌, ◌/◌, ◌%◌, ◌<◌, ◌≤◌, true, [], ◌∷◌, IsPermutation, List, ℕ, length, map, slice_index, slice_index_or};
 ghost use Rattle.std.specs.declared.option.Option.{Option};
-ghost use Rattle.raw_subcode.specs.Channels.{p_bits, program_symbols, q_bits};
+ghost use Rattle.raw_subcode.specs.Channels.{program_symbols, symbols_of};
 ghost use Rattle.raw_subcode.specs.Sizes.{block_bytes};
 ghost use Rattle.raw_subcode.specs.declared.form.Form.{Form};
+ghost use Rattle.bit_lists.specs.Counting.{parts};
 ghost use Rattle.rw_interleave.specs.Interleave.{word_of};
 ghost use Rattle.rw_interleave.specs.Stream.{IsRecovered};
 ghost use Rattle.rw_mend.specs.Streams.{AreMended};
-ghost use Rattle.rw_mend.specs.Words.{block_at};
+ghost use Rattle.rw_mend.specs.Words.{block_at, program_of};
 ghost use Rattle.rw_mend.specs.declared.choice.Mended.{Mended};
+ghost use Rattle.rw_mend.specs.declared.tallies.Tallies.{Tallies};
 ghost use Rattle.rw_mend.specs.declared.candidates.Candidate.{Candidate};
-ghost use Rattle.mended_stream.specs.Chosen.{blocks_at, first_framed};
-ghost use Rattle.mended_stream.specs.Laws.{AreAsLong, AreFoundAgain, read_word};
-ghost use Rattle.mended_stream.specs.Stream.{IsMendedPlace, IsMendedStream};
+ghost use Rattle.mended_stream.specs.Chosen.{blocks_at, channels_of, completed, has_eligible_channels, has_eligible_symbols};
+ghost use Rattle.mended_stream.specs.Laws.{AreFoundAgain, HasChosenChannels, IsReadWord};
+ghost use Rattle.mended_stream.specs.Stream.{AreMendedIntoStream, IsMendedPlace, IsMendedStream, mended_symbols};
 
-/// A law: a word of a mended stream is the codeword into which it was mended, without a wrong symbol; or, where it was
-/// not mended, it has the symbols that were first read.
+/// A law: another order of the readings changes no byte of their stream.
+pub fn the_order_of_readings_changes_no_byte()
+    ensures streams { (words lead_in : ℕ) (readings others : List (List ℕ))
+        (said saying : List (List Candidate)) (found other : List (Option Mended))
+        (stream turned : List ℕ) → IsPermutation readings others
+        → AreMended words (map (program_of lead_in) readings) said found
+        → AreMended words (map (program_of lead_in) others) saying other
+        → IsMendedStream lead_in readings found stream → IsMendedStream lead_in others other turned
+        → length turned ≡ length stream → turned ≡ stream }
+    ensures calls { (count lead_in : ℕ) (readings others old new turned old_sources sources named : List ℕ)
+        (told retold : Tallies) → 0 < count → length others ≡ length readings
+        → length readings ≡ count * (length readings / count)
+        → IsPermutation (parts count (length readings / count) readings)
+        (parts count (length others / count) others)
+        → AreMendedIntoStream count lead_in readings old new old_sources sources told
+        → AreMendedIntoStream count lead_in others old turned old_sources named retold → turned ≡ new }
+{}
+
+/// A law: a mended word is its codeword in the stream, without a wrong symbol. Any other word has the symbols that are
+/// chosen.
 pub fn each_word_stands_in_the_stream()
     ensures mended { (words lead_in n : ℕ) (readings programs : List (List ℕ)) (said : List (List Candidate))
         (found : List (Option Mended)) (stream : List ℕ) (own : Mended) → AreMended words programs said found
@@ -25,11 +45,11 @@ pub fn each_word_stands_in_the_stream()
     ensures others { (lead_in n : ℕ) (readings : List (List ℕ)) (found : List (Option Mended))
         (stream : List ℕ) → IsMendedStream lead_in readings found stream → length stream % block_bytes ≡ 0
         → n < length found → slice_index_or found n None ≡ None
-        → word_of (program_symbols Form.Raw stream lead_in) n ≡ read_word lead_in readings n }
+        → IsReadWord lead_in readings found n (word_of (program_symbols Form.Raw stream lead_in) n) }
 {}
 
-/// A law: what is recovered from a mended stream is the codeword of each word that was mended, and of each other word
-/// what is found for the symbols that were first read.
+/// A law: a conversion of the stream recovers the codeword of each mended word. For any other word it recovers what it
+/// finds for the symbols that are chosen.
 pub fn mended_packs_are_recovered()
     ensures { (words lead_in : ℕ) (readings programs : List (List ℕ)) (said : List (List Candidate))
         (found : List (Option Mended)) (stream : List ℕ) (recovered : List (Option (List ℕ)))
@@ -39,20 +59,32 @@ pub fn mended_packs_are_recovered()
         → AreFoundAgain lead_in readings found recovered }
 {}
 
-/// A law: the bits of channels P and Q of each block of a mended stream are those of the block that is chosen for them.
+/// A law: channels P and Q of each block of the stream are those of an eligible block of a reading, and no others have
+/// more votes. So the Q channel is a frame if that of a reading is one. If all eligible blocks agree, the stream has
+/// their bits; the same holds for symbols.
 pub fn frames_are_those_chosen()
-    ensures q { (lead_in b : ℕ) (readings : List (List ℕ)) (found : List (Option Mended)) (stream : List ℕ)
-        → IsMendedStream lead_in readings found stream → AreAsLong (length stream) readings
+    ensures chosen { (lead_in b : ℕ) (readings : List (List ℕ)) (found : List (Option Mended))
+        (stream : List ℕ) → IsMendedStream lead_in readings found stream
         → block_bytes * b + block_bytes ≤ length stream
-        → q_bits (block_at stream b) ≡ q_bits (first_framed (blocks_at readings b)) }
-    ensures p { (lead_in b : ℕ) (readings : List (List ℕ)) (found : List (Option Mended)) (stream : List ℕ)
-        → IsMendedStream lead_in readings found stream → AreAsLong (length stream) readings
-        → block_bytes * b + block_bytes ≤ length stream
-        → p_bits (block_at stream b) ≡ p_bits (first_framed (blocks_at readings b)) }
+        → HasChosenChannels (blocks_at readings b) (block_at stream b) }
+    ensures agreed { (lead_in b : ℕ) (readings : List (List ℕ)) (found : List (Option Mended))
+        (stream channels : List ℕ)
+        → IsMendedStream lead_in readings found stream → block_bytes * b + block_bytes ≤ length stream
+        → ((r : ℕ) → r < length readings
+        → has_eligible_channels (blocks_at readings b) (slice_index_or (blocks_at readings b) r []) ≡ true
+        → channels_of (slice_index_or (blocks_at readings b) r []) ≡ channels)
+        → channels_of (block_at stream b) ≡ channels }
+    ensures symbols { (lead_in b : ℕ) (readings : List (List ℕ)) (found : List (Option Mended))
+        (stream symbols : List ℕ)
+        → IsMendedStream lead_in readings found stream → block_bytes * b + block_bytes ≤ length stream
+        → ((r : ℕ) → r < length readings
+        → has_eligible_symbols (blocks_at readings b) (slice_index_or (blocks_at readings b) r []) ≡ true
+        → completed (mended_symbols lead_in found b) (slice_index_or (blocks_at readings b) r []) ≡ symbols)
+        → symbols_of (block_at stream b) ≡ symbols }
 {}
 
-/// A law: the stream of one reading is that reading with its words corrected: channels P and Q are its own; each byte whose
-/// symbol is of no word that was mended is its own; and so is each word that was not mended.
+/// A law: the stream of one reading is that reading with its words corrected. It has the reading's channels P and Q, its
+/// bytes outside mended words, and its words that were not mended.
 pub fn one_reading_is_corrected()
     ensures channels { (lead_in p : ℕ) (reading : List ℕ) (found : List (Option Mended)) (stream : List ℕ)
         → IsMendedStream lead_in (reading ∷ []) found stream → p < length stream

@@ -1,13 +1,14 @@
-// The reading that is taken for each block.
-ghost use Rattle.std.specs.Prelude.{◌≡◌, ◌<◌, ◌≤◌, ◌+◌, ◌*◌, [], length, slice_index_or};
+// Readings in memory, and which of their blocks are eligible.
+ghost use Rattle.std.specs.Prelude.{◌≡◌, ◌<◌, ◌≤◌, ◌+◌, ◌*◌, ◌/◌, true, ℕ, [], length, map, slice_index_or};
+ghost use Rattle.raw_subcode.specs.Channels.{symbols_of};
 ghost use Rattle.raw_subcode.specs.Sizes.{block_bytes};
-ghost use Rattle.rw_mend.specs.Words.{block_at, is_unread_block};
-ghost use Rattle.mended_stream.specs.Chosen.{blocks_at, first_framed, first_read, is_framed_block};
-ghost use Rattle.mended_stream.specs.Readings.{AreHeld, held_parts};
+ghost use Rattle.rw_mend.specs.Words.{block_at};
+ghost use Rattle.mended_stream.specs.Chosen.{channels_of, has_eligible_channels, has_eligible_symbols, is_framed_block, is_read_block};
+ghost use Rattle.mended_stream.specs.Readings.{AreHeld, AreMarks, HaveSamePart, held_blocks};
 
 use q_channel::is_frame;
 use raw_subcode::{BLOCK_BYTES, Block};
-use rw_mend::is_unread_block;
+use rw_mend::{MOST_READINGS, is_unread_block};
 
 /// Readings of equal length, one behind another.
 #[derive(Clone, Copy)]
@@ -19,48 +20,95 @@ pub(crate) struct HeldReadings<'a> {
 }
 
 impl<'a> HeldReadings<'a> {
-    /// The block of the first reading whose Q channel is a frame there, or else of the first that was read there.
-    pub(crate) fn framed(&self, b: usize) -> &'a [u8]
-        requires held { AreHeld self.now }
-        requires inside { block_bytes * b + block_bytes ≤ self.now.size }
-        ensures block { result.now ≡ first_framed (blocks_at (held_parts self.now) b) }
-        ensures size { length result.now ≡ block_bytes }
-    {
-        for r in 0..self.count {
-            let block = self.block(r, b);
-            if is_framed(block) {
-                return block;
-            }
-        }
-        self.read(b)
-    }
-
-    /// The block of the first reading that was read there, or else of the first.
-    pub(crate) fn read(&self, b: usize) -> &'a [u8]
-        requires held { AreHeld self.now }
-        requires inside { block_bytes * b + block_bytes ≤ self.now.size }
-        ensures block { result.now ≡ first_read (blocks_at (held_parts self.now) b) }
-        ensures size { length result.now ≡ block_bytes }
-    {
-        for r in 0..self.count {
-            let block = self.block(r, b);
-            if !is_unread_block(block) {
-                return block;
-            }
-        }
-        self.block(0, b)
-    }
-
-    fn block(&self, r: usize, b: usize) -> &'a [u8]
+    pub(crate) fn block(&self, r: usize, b: usize) -> &'a [u8]
         requires held { AreHeld self.now }
         requires within { r < self.now.count }
         requires inside { block_bytes * b + block_bytes ≤ self.now.size }
-        ensures block { result.now ≡ block_at (slice_index_or (held_parts self.now) r []) b }
+        ensures block { result.now ≡ slice_index_or (held_blocks self.now b) r [] }
         ensures size { length result.now ≡ block_bytes }
     {
         let at = self.size * r + BLOCK_BYTES * b;
         &self.bytes[at..at + BLOCK_BYTES]
     }
+
+    /// Whether all readings have the same bits P and Q in block b.
+    pub(crate) fn have_same_channels(&self, b: usize) -> bool
+        requires held { AreHeld self.now }
+        requires inside { block_bytes * b + block_bytes ≤ self.now.size }
+        ensures { result ≡ true → HaveSamePart channels_of (held_blocks self.now b) }
+    {
+        let first = self.block(0, b);
+        for r in 1..self.count {
+            if !have_same_channels(first, self.block(r, b)) {
+                return false;
+            }
+        }
+        true
+    }
+
+    /// Whether block b is the same in all readings.
+    pub(crate) fn have_same_block(&self, b: usize) -> bool
+        requires held { AreHeld self.now }
+        requires inside { block_bytes * b + block_bytes ≤ self.now.size }
+        ensures { result ≡ true → HaveSamePart (λ block. block) (held_blocks self.now b) }
+    {
+        let first = self.block(0, b);
+        for r in 1..self.count {
+            if first != self.block(r, b) {
+                return false;
+            }
+        }
+        true
+    }
+
+    /// The readings whose symbols are eligible in block b.
+    pub(crate) fn eligible_symbols(&self, b: usize) -> [bool; MOST_READINGS]
+        requires held { AreHeld self.now }
+        requires inside { block_bytes * b + block_bytes ≤ self.now.size }
+        ensures { AreMarks (has_eligible_symbols (held_blocks self.now b))
+            (held_blocks self.now b) result }
+    {
+        let mut is_any = false;
+        let mut marks = [false; MOST_READINGS];
+        for r in 0..self.count {
+            marks[r] = !is_unread_block(self.block(r, b));
+            is_any |= marks[r];
+        }
+        if is_any { marks } else { [true; MOST_READINGS] }
+    }
+
+    /// The readings whose channels P and Q are eligible in block b.
+    pub(crate) fn eligible_channels(&self, b: usize) -> [bool; MOST_READINGS]
+        requires held { AreHeld self.now }
+        requires inside { block_bytes * b + block_bytes ≤ self.now.size }
+        ensures { AreMarks (has_eligible_channels (held_blocks self.now b))
+            (held_blocks self.now b) result }
+    {
+        let mut is_any = false;
+        let mut marks = [false; MOST_READINGS];
+        for r in 0..self.count {
+            marks[r] = is_framed(self.block(r, b));
+            is_any |= marks[r];
+        }
+        if is_any {
+            marks
+        } else {
+            self.eligible_symbols(b)
+        }
+    }
+}
+
+// Whether two blocks have the same bits P and Q. A loop over all bytes is faster than one that stops early.
+fn have_same_channels(one: &[u8], other: &[u8]) -> bool
+    requires one { length one.now ≡ block_bytes }
+    requires other { length other.now ≡ block_bytes }
+    ensures { result ≡ true → channels_of other.now ≡ channels_of one.now }
+{
+    let mut same = true;
+    for k in 0..BLOCK_BYTES {
+        same &= one[k] / 64 == other[k] / 64;
+    }
+    same
 }
 
 // Whether the Q channel of a block is a frame.

@@ -13,9 +13,10 @@ use rw_interleave::PACKS_KEPT_BACK;
 use rw_mend::{MendReport, Tallies, mend_report};
 
 /// Mends readings of a raw stream, 1 to 254 of equal length that lie one behind another, into a stream as long as each.
-/// A symbol of a word that is mended is that of its codeword, and another one that of the first reading that was read at
-/// its block. Channels P and Q of a block are those of the first reading whose Q channel is a frame there, or else of the
-/// first that was read there. A byte for each word names its source.
+/// A mended word has the symbols of its codeword. The other symbols of a block are those of one reading that was read
+/// there: the one with the most mended symbols of the block, then with the symbols that most readings have. Channels P
+/// and Q of a block are those that most readings have whose Q channel is a frame there, or else most that were read
+/// there. If this does not decide, the greatest bits win. A byte for each word names its source.
 pub fn mend_stream(
     readings: &[u8],
     count: usize,

@@ -1,10 +1,12 @@
 // The symbols of words in their places.
-ghost use Rattle.std.specs.Prelude.{◌≡◌, ◌≢◌, true, ◌<◌, ◌≤◌, ◌+◌, ◌-◌, ◌*◌, ◌/◌, ◌%◌, ◌^◌, List, ℕ, length, slice_index};
+ghost use Rattle.std.specs.Prelude.{◌≡◌, ◌≢◌, true, ◌<◌, ◌≤◌, ◌+◌, ◌-◌, ◌*◌, ◌/◌, ◌%◌, ◌^◌, List, None, ℕ, length, slice_index, slice_index_or};
 ghost use Rattle.raw_subcode.specs.Sizes.{block_bytes, most_units, symbols_a_slot};
 ghost use Rattle.rw_interleave.specs.Interleave.{swapped};
 ghost use Rattle.rw_mend.specs.Tallies.{no_source};
-ghost use Rattle.mended_stream.specs.Symbols.{AreMendedUnder, HasWordText, HaveSources, IsBlock, IsSymbol};
+ghost use Rattle.mended_stream.specs.Chosen.{symbol_or};
+ghost use Rattle.mended_stream.specs.Symbols.{AreMendedUnder, HasWordText, HaveSources, IsBlock, held_symbol, held_symbols};
 
+use crate::parts::symbol_or;
 use raw_subcode::{BLOCK_BYTES, SLOTS_A_BLOCK, SYMBOLS_A_SLOT};
 use rw_interleave::{PACKS_KEPT_BACK, place};
 use rw_mend::NO_READING;
@@ -56,37 +58,14 @@ pub(crate) struct Words<'a> {
 }
 
 impl<'a> Words<'a> {
-    /// Block b of a stream: channels P and Q of one block, and the symbols of the words in a text that were mended, and
-    /// elsewhere those of another block.
-    pub(crate) fn block(
-        &self,
-        text: &[u8],
-        b: usize,
-        framed: &[u8],
-        read: &[u8],
-    ) -> [u8; BLOCK_BYTES]
-        requires sources { HaveSources self.now }
-        requires text { HasWordText self.now text.now }
-        requires lead_in { self.now.lead_in ≤ most_units }
-        requires number { b ≤ most_units }
-        requires framed { length framed.now ≡ block_bytes }
-        requires read { length read.now ≡ block_bytes }
-        ensures { IsBlock self.now text.now b framed.now read.now result }
-    {
-        if self.are_all_mended(b) {
-            self.mended_block(text, b, framed)
-        } else {
-            self.mixed_block(text, b, framed, read)
-        }
-    }
-
-    // The same where each word of which a symbol stands in the block was mended: it is not looked at word by word.
-    fn mended_block(&self, text: &[u8], b: usize, framed: &[u8]) -> [u8; BLOCK_BYTES]
+    /// Block b of a stream where each word with a symbol in the block was mended: channels P and Q of one block, and the
+    /// symbols of the text. It is not looked at word by word.
+    pub(crate) fn mended_block(&self, text: &[u8], b: usize, framed: &[u8]) -> [u8; BLOCK_BYTES]
         requires text { HasWordText self.now text.now }
         requires number { b ≤ most_units }
         requires mended { AreMendedUnder self.now b }
         requires framed { length framed.now ≡ block_bytes }
-        ensures { (read : List ℕ) → IsBlock self.now text.now b framed.now read result }
+        ensures { (read : List ℕ) → IsBlock (held_symbols self.now text.now b) framed.now read result }
     {
         let first = SLOTS_A_BLOCK * (b - self.lead_in) - PACKS_KEPT_BACK;
         let row = &text[SYMBOLS_A_SLOT * first..SYMBOLS_A_SLOT * (first + WORDS_UNDER)];
@@ -97,8 +76,8 @@ impl<'a> Words<'a> {
         block
     }
 
-    // Whether each of these words was mended.
-    fn are_all_mended(&self, b: usize) -> bool
+    /// Whether each of these words was mended.
+    pub(crate) fn are_all_mended(&self, b: usize) -> bool
         requires sources { HaveSources self.now }
         requires lead_in { self.now.lead_in ≤ most_units }
         requires number { b ≤ most_units }
@@ -116,43 +95,58 @@ impl<'a> Words<'a> {
         are_found(&self.sources[first..first + WORDS_UNDER])
     }
 
-    // Block b where they were not.
-    fn mixed_block(&self, text: &[u8], b: usize, framed: &[u8], read: &[u8]) -> [u8; BLOCK_BYTES]
+    /// The symbols of mended words in block b.
+    pub(crate) fn symbols(&self, text: &[u8], b: usize) -> [Option<u8>; BLOCK_BYTES]
         requires sources { HaveSources self.now }
         requires text { HasWordText self.now text.now }
         requires lead_in { self.now.lead_in ≤ most_units }
         requires number { b ≤ most_units }
-        requires framed { length framed.now ≡ block_bytes }
-        requires read { length read.now ≡ block_bytes }
-        ensures { IsBlock self.now text.now b framed.now read.now result }
+        ensures { result ≡ held_symbols self.now text.now b }
     {
-        let mut block = [0; BLOCK_BYTES];
+        let mut symbols = [None; BLOCK_BYTES];
         for k in 0..BLOCK_BYTES {
-            block[k] = framed[k] / 64 * 64 + self.symbol(text, BLOCK_BYTES * b + k, read[k]);
+            symbols[k] = self.symbol(text, BLOCK_BYTES * b + k);
         }
-        block
+        symbols
     }
 
-    // The symbol at byte p of a stream: that of the text where the word that it belongs to was mended, or else another.
+    // The symbol of the mended word at byte p of a stream, if one is there.
     #[inline]
-    fn symbol(&self, text: &[u8], p: usize, other: u8) -> u8
+    fn symbol(&self, text: &[u8], p: usize) -> Option<u8>
         requires sources { HaveSources self.now }
         requires text { HasWordText self.now text.now }
         requires lead_in { self.now.lead_in ≤ most_units }
         requires number { p < 2 ^ 32 }
-        ensures symbol { IsSymbol self.now text.now p other result }
-        ensures small { result < 64 }
+        ensures { result ≡ held_symbol self.now text.now p }
     {
         let position = p % SYMBOLS_A_SLOT;
         let slot = p / SYMBOLS_A_SLOT;
         let first = SLOTS_A_BLOCK * self.lead_in + position % (PACKS_KEPT_BACK + 1);
         if slot < first {
-            return other % 64;
+            return None;
         }
         let n = slot - first;
         if n >= self.count || self.sources[n] == NO_READING {
-            return other % 64;
+            return None;
         }
-        text[SYMBOLS_A_SLOT * n + place(position) as usize % SYMBOLS_A_SLOT] % 64
+        Some(text[SYMBOLS_A_SLOT * n + place(position) as usize % SYMBOLS_A_SLOT] % 64)
     }
+}
+
+/// A block of channels P and Q of one block, and of the known symbols and those of another block.
+pub(crate) fn mixed_block(
+    known: &[Option<u8>; BLOCK_BYTES],
+    framed: &[u8],
+    read: &[u8],
+) -> [u8; BLOCK_BYTES]
+    requires small { (k n : ℕ) → k < block_bytes → symbol_or (slice_index_or known.now k None) n < 64 }
+    requires framed { length framed.now ≡ block_bytes }
+    requires read { length read.now ≡ block_bytes }
+    ensures { IsBlock known.now framed.now read.now result }
+{
+    let mut block = [0; BLOCK_BYTES];
+    for k in 0..BLOCK_BYTES {
+        block[k] = framed[k] / 64 * 64 + symbol_or(known[k], read[k]);
+    }
+    block
 }

@@ -1,11 +1,11 @@
-use Rattle.std.proofs.Common.{◌≡◌, ◌≤◌, ◌+◌, ◌-◌, ◌*◌, ℕ, length, get_or, drop, ap, ◌∙◌, subst, arith, length-drop}
-use Rattle.mended_stream.specs.Readings.{held_parts}
-use Rattle.mended_stream.specs.Symbols.{IsByte}
-use Rattle.mended_stream.proofs.Writing.{bytes_more, kept_behind, same_byte, text_is}
+use Rattle.std.proofs.Common.{◌≡◌, ◌≤◌, ◌+◌, ◌-◌, ◌*◌, ℕ, length, drop, ap, ◌∙◌, subst, arith, length-drop}
+use Rattle.mended_stream.specs.Readings.{held_blocks, held_parts}
+use Rattle.mended_stream.specs.Symbols.{IsStreamBlock}
+use Rattle.mended_stream.proofs.Writing.{blocks_more, kept_behind, same_stream_block, same_symbols, text_is}
 use Rattle.mended_stream.proofs.blocks.write_blocks.Goals as goal
 
-pub block-block-requires-clause-text : goal.block-block-requires-clause-text
-block-block-requires-clause-text c =
+pub stream_block-block-requires-clause-text : goal.stream_block-block-requires-clause-text
+stream_block-block-requires-clause-text c =
     let start : ℕ = c.args.readings.now.size - 24 * c.args.words.now.count in
     let list = c.loop-b.blocks in
     omega (
@@ -25,21 +25,20 @@ loop-b-preserved c =
     let list = c.loop-b.blocks in
     let b = c.loop-b.b in
     let start : ℕ = readings.size - 24 * words.count in
-    let block = c.block-block.result in
+    let block = c.stream_block-block.result in
     let inside : 96 * b + 96 ≤ readings.size = omega (arith, c.loop-b-test.true, c.requires.whole) in
-    let fits : 96 * b ≤ length list = omega (arith, inside, c.requires.room, c.loop-b.invariant.size) in
-    let size : length block ≡ 96 = omega (arith, c.block-block.type_inv) in
+    let fits : 96 * b + 96 ≤ length list =
+    omega (arith, inside, c.requires.room, c.loop-b.invariant.size) in
+    let size : length block ≡ 96 = omega (arith, c.stream_block-block.type_inv) in
     record {
       size = c.put.ensures.size ∙ c.loop-b.invariant.size;
-      behind = kept_behind list block c.put.new.blocks old b c.put.ensures.blocks fits size
+      behind = kept_behind list block c.put.new.blocks old b c.put.ensures.blocks (omega (arith, fits)) size
           c.loop-b.invariant.behind;
-      bytes = bytes_more words (drop start old) list block c.put.new.blocks c.framed.result.now
-          c.read.result.now (held_parts readings) b c.put.ensures.blocks fits size c.framed.ensures.block
-          c.read.ensures.block c.loop-b.invariant.bytes (λ k lt.
-          same_byte words list old readings.size start (96 * b + k) b (get_or c.framed.result.now k 0)
-          (get_or c.read.result.now k 0) (get_or block k 0) (omega arith) c.requires.late
-          c.loop-b.invariant.behind (omega arith)
-          (subst (λ l. IsByte words l (96 * b + k) (get_or c.framed.result.now k 0)
-          (get_or c.read.result.now k 0) (get_or block k 0)) (text_is list start)
-          (c.block-block.ensures k lt)));
+      blocks = blocks_more words (drop start old) list block c.put.new.blocks (held_parts readings) b
+          c.put.ensures.blocks fits c.put.ensures.size size c.loop-b.invariant.blocks
+          (same_stream_block words (drop start list) (drop start old) (held_blocks readings b) b block
+          (same_symbols words list old readings.size start b (omega arith) c.requires.late
+          c.loop-b.invariant.behind)
+          (subst (λ text. IsStreamBlock words text (held_blocks readings b) b block) (text_is list start)
+          c.stream_block-block.ensures));
     }

@@ -1,11 +1,11 @@
 use Rattle.std.proofs.Common.{◌≡◌, ◌*◌, drop, length}
 use Rattle.mended_stream.specs.Readings.{held_parts}
-use Rattle.mended_stream.specs.Symbols.{AreBytes}
+use Rattle.mended_stream.specs.Symbols.{AreBlocks}
 use Rattle.mended_stream.proofs.blocks.write_blocks.Given as goal
 
 abbrev pub invariant-loop-b : goal.invariant-loop-b
 invariant-loop-b l = record {
   size : length l.blocks ≡ length l.fn.blocks;
   behind : drop (96 * l.b) l.blocks ≡ drop (96 * l.b) l.fn.blocks;
-  bytes : AreBytes l.words (drop l.start l.fn.blocks) (held_parts l.readings) (96 * l.b) l.blocks;
+  blocks : AreBlocks l.words (drop l.start l.fn.blocks) (held_parts l.readings) l.b l.blocks;
 }

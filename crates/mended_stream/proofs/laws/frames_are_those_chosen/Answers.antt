@@ -1,8 +1,25 @@
-use Rattle.mended_stream.proofs.Frames.{p_chosen, q_chosen}
+use Rattle.std.proofs.Common.{length, arith}
+use Rattle.raw_subcode.specs.Channels.{symbols_of}
+use Rattle.rw_mend.specs.Words.{block_at}
+use Rattle.mended_stream.specs.Chosen.{blocks_at, channel_rule, channels_of, symbol_rule}
+use Rattle.mended_stream.specs.Stream.{mended_symbols}
+use Rattle.mended_stream.proofs.Frames.{all_agree, channels_chosen}
+use Rattle.mended_stream.proofs.HeldBlocks.{blocks_length}
 use Rattle.mended_stream.proofs.laws.frames_are_those_chosen.Goals as goal
 
-pub returns-clause-q : goal.returns-clause-q
-returns-clause-q c lead_in b readings found stream = q_chosen lead_in readings found stream b
+pub returns-clause-chosen : goal.returns-clause-chosen
+returns-clause-chosen c lead_in b readings found stream is inside =
+    channels_chosen (blocks_at readings b) (block_at stream b)
+    ((is.blocks b (omega (arith, inside))).channels)
 
-pub returns-clause-p : goal.returns-clause-p
-returns-clause-p c lead_in b readings found stream = p_chosen lead_in readings found stream b
+pub returns-clause-agreed : goal.returns-clause-agreed
+returns-clause-agreed c lead_in b readings found stream channels is inside same =
+    all_agree (channel_rule (blocks_at readings b)) (blocks_at readings b) (length readings)
+    (channels_of (block_at stream b)) channels (blocks_length readings b)
+    ((is.blocks b (omega (arith, inside))).channels) same
+
+pub returns-clause-symbols : goal.returns-clause-symbols
+returns-clause-symbols c lead_in b readings found stream symbols is inside same =
+    all_agree (symbol_rule (mended_symbols lead_in found b) (blocks_at readings b)) (blocks_at readings b)
+    (length readings) (symbols_of (block_at stream b)) symbols (blocks_length readings b)
+    ((is.blocks b (omega (arith, inside))).symbols) same

@@ -16,8 +16,9 @@ returns c =
     let fits : 24 * words ≤ size = omega (arith, number, c.requires.whole) in
     stream_done count c.args.lead_in start readings c.args.blocks.now c.write_blocks.new.blocks
     c.mend_report-report.new.packs c.args.sources.now c.mend_report-report.new.sources _
-    c.mend_report-report.result.tallies c.mend_report-report.result.lost c.write_blocks.ensures.bytes
+    c.mend_report-report.result.tallies c.mend_report-report.result.lost c.write_blocks.ensures.blocks
     c.requires.some c.requires.few
     c.requires.equal
-    number refl refl c.requires.sources refl fits c.requires.room c.mend_report-report.ensures
+    c.requires.whole number refl refl c.requires.sources refl fits c.requires.room
+    c.mend_report-report.ensures
     c.write_blocks.ensures.size c.write_blocks.ensures.behind

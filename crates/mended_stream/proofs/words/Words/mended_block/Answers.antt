@@ -1,8 +1,11 @@
-use Rattle.std.proofs.Common.{◌≡◌, ◌<◌, ◌+◌, ◌-◌, ◌*◌, ◌/◌, ◌%◌, ℕ, List, length, get_or, take, drop, sym, ap, ◌∙◌, refl, subst, arith, below_more, length-take, length-drop}
-use Rattle.std.proofs.Math.ListN.{set, length-set}
-use Rattle.std.proofs.lemmas.List.{get_or-set_other, get_or-set_same}
-use Rattle.mended_stream.specs.Symbols.{IsByte}
-use Rattle.mended_stream.proofs.Under.{byte_under, row_symbol}
+use Rattle.std.proofs.Common.{◌≡◌, ◌<◌, ◌+◌, ◌-◌, ◌*◌, ◌/◌, ◌%◌, ℕ, List, length, get_or, take, drop, sym, ap, ◌∙◌, refl, arith, length-take, length-drop}
+use Rattle.std.specs.Prelude.{None, Some}
+use Rattle.std.proofs.Math.ListN.{length-set}
+use Rattle.std.proofs.lemmas.List.FromFn.{get_or-map-range_with_len}
+use Rattle.mended_stream.specs.Chosen.{symbol_or}
+use Rattle.mended_stream.specs.Symbols.{held_symbol, held_symbols}
+use Rattle.mended_stream.proofs.Bytes.{block_of_bytes, byte_set}
+use Rattle.mended_stream.proofs.Under.{row_symbol, symbol_under}
 use Rattle.mended_stream.proofs.words.Words.mended_block.Goals as goal
 
 pub bounds-row-text_place : goal.bounds-row-text_place
@@ -31,25 +34,33 @@ loop-k-preserved c =
     let k = c.loop-k.k in
     let f : ℕ = get_or c.args.framed.now k 0 in
     let at : ℕ = c.text_place.result in
-    let x : ℕ = f / 64 * 64 + get_or (take n (drop (24 * first) text)) at 0 % 64 in
+    let symbol : ℕ = get_or (take n (drop (24 * first) text)) at 0 % 64 in
+    let x : ℕ = f / 64 * 64 + symbol in
     let within : k < length block = omega (arith, c.loop-k-test.true, c.loop-k.invariant.size) in
     let small : at < n = omega (arith, c.text_place.ensures.bound) in
-    let symbol : f / 64 * 64 + get_or text (24 * first + at) 0 % 64 ≡ x =
-    ap (λ y. f / 64 * 64 + y % 64) (sym (row_symbol text first n at small)) in
+    let low : x % 64 ≡ symbol = omega arith in
     record {
       size = length-set block k x ∙ c.loop-k.invariant.size;
-      bytes =
-          λ read. below_more (λ j. IsByte words text (96 * b + j) (get_or c.args.framed.now j 0)
-          (get_or read j 0) (get_or (set block k x) j 0)) k
-          (λ j lt.
-          subst (λ y. IsByte words text (96 * b + j) (get_or c.args.framed.now j 0) (get_or read j 0) y)
-          (sym (get_or-set_other block k j x 0 (λ e. omega (arith, e, lt))))
-          (c.loop-k.invariant.bytes read j lt))
-          (subst (λ y. IsByte words text (96 * b + k) f (get_or read k 0) y)
-          (symbol ∙ sym (get_or-set_same block k x 0 within))
-          (byte_under words text b first k f (get_or read k 0) at c.requires.mended refl
-          (omega (arith, c.loop-k-test.true)) c.text_place.ensures.value));
+      high = byte_set (λ j y. y / 64 ≡ get_or c.args.framed.now j 0 / 64) block k x within
+          c.loop-k.invariant.high (omega arith);
+      low = byte_set (λ j y. held_symbol words text (96 * b + j) ≡ Some (y % 64)) block k x within
+          c.loop-k.invariant.low
+          (symbol_under words text b first k at c.requires.mended refl (omega (arith, c.loop-k-test.true))
+          c.text_place.ensures.value
+          ∙ ap (λ s. Some (s % 64)) (sym (row_symbol text first n at small))
+          ∙ ap Some (sym low));
     }
 
 pub returns : goal.returns
-returns c read k lt = c.loop-k.invariant.bytes read k (omega (arith, lt, c.loop-k-test.false))
+returns c read =
+    let words = c.args.self.now in
+    let text = c.args.text.now in
+    let b = c.args.b in
+    block_of_bytes (held_symbols words text b) c.args.framed.now read c.loop-k.block c.requires.framed
+    c.loop-k.invariant.size
+    (λ k lt. c.loop-k.invariant.high k (omega (arith, lt, c.loop-k-test.false)))
+    (λ k lt.
+    sym
+    (ap (λ s. symbol_or s (get_or read k 0))
+    (get_or-map-range_with_len (λ (j : ℕ). held_symbol words text (96 * b + j)) 0 96 k k None lt (omega arith)
+    ∙ c.loop-k.invariant.low k (omega (arith, lt, c.loop-k-test.false)))))

@@ -1,0 +1,10 @@
+use Rattle.mended_stream.proofs.Reordered.{same_calls, same_stream}
+use Rattle.mended_stream.proofs.laws.the_order_of_readings_changes_no_byte.Goals as goal
+
+pub returns-clause-streams : goal.returns-clause-streams
+returns-clause-streams c words lead_in readings others said saying found other stream turned =
+    same_stream words lead_in readings others said saying found other stream turned
+
+pub returns-clause-calls : goal.returns-clause-calls
+returns-clause-calls c count lead_in readings others old new turned old_sources sources named told retold =
+    same_calls count lead_in readings others old new turned old_sources sources named told retold

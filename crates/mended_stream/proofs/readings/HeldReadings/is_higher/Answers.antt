@@ -1,0 +1,18 @@
+use Rattle.std.proofs.Common.{◌∙◌, ap, get_or, []}
+use Rattle.mended_stream.specs.Readings.{held_blocks, matches_in, part_of, rule_of}
+use Rattle.mended_stream.proofs.Ranks.{gt_is, higher_part}
+use Rattle.mended_stream.proofs.readings.HeldReadings.is_higher.Goals as goal
+
+pub returns : goal.returns
+returns c =
+    let part = c.args.part.now in
+    let blocks = held_blocks c.args.self.now c.args.b in
+    higher_part (rule_of part blocks) blocks (get_or blocks c.args.one []) (get_or blocks c.args.other [])
+    c.matches-matches.result c.matches-its_matches.result c.votes-votes.result c.votes-its_votes.result
+    c.of-own.result c.of-its.result c.gt.result
+    (gt_is c.of-own.result c.of-its.result c.gt.result c.gt.ensures)
+    (c.matches-matches.ensures.value ∙ ap (matches_in part) c.block.ensures.block)
+    (c.matches-its_matches.ensures.value ∙ ap (matches_in part) c.block-2.ensures.block)
+    (c.of-own.ensures ∙ ap (part_of part) c.block-3.ensures.block)
+    (c.of-its.ensures ∙ ap (part_of part) c.block-4.ensures.block) c.votes-votes.ensures
+    c.votes-its_votes.ensures c.if-matches-its_matches.false c.if-votes-its_votes.false
