@@ -10,8 +10,8 @@ use Rattle.disc_time.specs.Counts.{most_lead_in}
 use Rattle.raw_subcode.specs.Sizes.{most_units}
 use Rattle.rw_interleave.specs.Interleave.{whole_packs}
 
--- what a checkpoint keeps: the lead-in blocks still to come and those read, the program blocks read, the bad words so
--- far, the symbols of the last seven slots with zeros before the first, and what stands
+-- the fields of a checkpoint: the lead-in blocks that are not read yet and those that are, the program blocks read,
+-- the bad words so far, the symbols of the last seven slots (zeros before the first slot), and the state of the screen
 pub record Checkpoint : Type 0 where
   pub to_come : ℕ
   pub lead_in : ℕ
@@ -20,7 +20,7 @@ pub record Checkpoint : Type 0 where
   pub slots : List ℕ
   pub standing : Standing
 
--- the checkpoint of these counts and slots, and of what stands
+-- the checkpoint of these counts, slots and state of the screen
 abbrev pub kept : StreamCounts → List ℕ → Standing → Checkpoint
 kept counts slots now = record {
   to_come = counts.to_come;
@@ -63,7 +63,7 @@ abbrev pub with_parts : List ℕ → Checkpoint → List Part → List ℕ
 with_parts file c [] = file
 with_parts file c (part ∷ rest) = with_parts (file ++ part_bytes c part) c rest
 
--- the bytes that the check is of
+-- the bytes that the check covers
 abbrev pub body : Checkpoint → List ℕ
 body c = flat_map (part_bytes c) body_parts
 
@@ -73,7 +73,7 @@ file_of c = body c ++ bytes_of 2 (check_of (body c))
 
 -- Reading
 
--- what stands by a file: row by row from the left
+-- the state of the screen in a file: its memory row by row from the left
 abbrev pub standing_in : List ℕ → Standing
 standing_in file = record {
   memory = rows_of (λ x y. number file Memory (screen_width * y + x));
@@ -95,7 +95,7 @@ checkpoint_in file = record {
   standing = standing_in file;
 }
 
--- what stands is a whole screen of colours, levels and offsets in their ranges
+-- the state of the screen is complete, and its colours, levels and offsets are in their ranges
 pub record IsSoundStanding (now : Standing) : Type 0 where
   pub whole : IsWholeStanding now
   pub memory : (x y : ℕ) → x < screen_width → y < screen_height → pixel_at now.memory x y < 16
@@ -105,7 +105,7 @@ pub record IsSoundStanding (now : Standing) : Type 0 where
   pub h : now.h ≤ 5
   pub v : now.v ≤ 11
 
--- the counts, the symbols of the slots and what stands are in their ranges
+-- the counts, the symbols of the slots and the state of the screen are in their ranges
 pub record IsSoundCheckpoint (c : Checkpoint) : Type 0 where
   pub lead_in : c.to_come + c.lead_in ≤ most_lead_in
   pub blocks : c.lead_in + c.program ≤ most_units

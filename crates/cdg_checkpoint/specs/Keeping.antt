@@ -1,4 +1,4 @@
--- The state before any stream, and what the state after one is saved as.
+-- The state before any stream, and the file that saves the state after one.
 use Rattle.std.specs.Prelude.{◌≡◌, ℕ, ◌-◌, List, min, []}
 use Rattle.cdg_checkpoint.specs.Checkpoint.{Checkpoint, file_of}
 use Rattle.cdg_io.specs.declared.stage.Then.{Then}
@@ -11,8 +11,7 @@ use Rattle.raw_subcode.specs.declared.form.Form.TheVariants.{Raw}
 use Rattle.stream_stages.specs.Steps.{fresh_words}
 use Rattle.cdg_checkpoint.specs.declared.checkpointer.Checkpointer.{Checkpointer}
 
--- nothing was read: no slot is kept, no pack is left to draw, no word is bad, all that stands is zero, and
--- there is no file
+-- nothing is read yet: there are no slots, no packs to draw, no bad words and no file, and the screen is all zero
 pub record HasReadNothing (c : Checkpointer) : Type 0 where
   pub words : words_of c.words ≡ fresh_words Raw 0
   pub left : (painting_of c.words).left ≡ 0
@@ -20,7 +19,7 @@ pub record HasReadNothing (c : Checkpointer) : Type 0 where
   pub stands : (painting_of c.words).screen ≡ blank
   pub file : c.file ≡ []
 
--- the file of the checkpoint of this state, after so many blocks of which the first are the lead-in
+-- the file of the checkpoint of this state, after so many blocks; the first of them are the lead-in
 pub record IsKept (blocks lead_in : ℕ) (s : Then BlockWords Painting) (file : List ℕ) : Type 0 where
   pub checkpoint : Checkpoint
   pub to_come_is : checkpoint.to_come ≡ lead_in - blocks

@@ -1,4 +1,4 @@
--- Playing that goes on from a checkpoint, and a stream that is cut in two there.
+-- Resuming from a checkpoint, and a stream that is cut in two there.
 use Rattle.std.specs.Prelude.{◌≡◌, ◌≢◌, ℕ, ◌+◌, ◌-◌, ◌*◌, ◌/◌, ◌%◌, ◌<◌, ◌≤◌, ⊤, Bool, true, false, List, [], ◌++◌, length, map, nat_lt, if◌then◌else◌, take, drop, min, slice_index_or, Option, None, Result, Ok, Err, IfOk}
 use Rattle.std.specs.List.{range_with_len}
 use Rattle.std.specs.Io.KnownBytes.{Appends, Consumes, IsAtEnd}
@@ -26,11 +26,11 @@ use Rattle.stream_stages.specs.declared.played.PlayStop.{PlayStop}
 use Rattle.stream_stages.specs.declared.played.PlayStop.TheVariants as play
 use Rattle.disc_time.specs.Counts.{most_lead_in}
 
--- the symbols of the saved slots, and then those of the program in the rest of the stream
+-- the symbols of the saved slots, and then the symbols of the program in the rest of the stream
 abbrev pub resumed_symbols : Checkpoint → List ℕ → List ℕ
 resumed_symbols c rest = drop (empty_symbols c.program) c.slots ++ program_symbols Raw rest c.to_come
 
--- how many packs come between the checkpoint and a time
+-- how many packs are between the checkpoint and a time
 abbrev pub packs_until : Checkpoint → ℕ → ℕ
 packs_until c time = whole_packs time - whole_packs c.program
 
@@ -38,8 +38,8 @@ packs_until c time = whole_packs time - whole_packs c.program
 abbrev pub blocks_after : Checkpoint → List ℕ → ℕ
 blocks_after c rest = c.program + (length rest / block_bytes - c.to_come)
 
--- What stands at a time after the checkpoint, and how many words are bad: the words that come with the rest of the
--- stream draw on what stood.
+-- The screen at a time after the checkpoint, and the count of bad words. The words of the rest of the stream draw on
+-- the saved screen.
 pub record IsGoneOn (c : Checkpoint) (time : ℕ) (rest : List ℕ) (now : Standing) (bad : ℕ) : Type 0 where
   pub found : List (Option (List ℕ))
   pub count : length found ≡ packs_until c (blocks_after c rest)
@@ -50,7 +50,7 @@ pub record IsGoneOn (c : Checkpoint) (time : ℕ) (rest : List ℕ) (now : Stand
   pub stands : now ≡ standing_after c.standing instrs
   pub bad_is : bad ≡ c.bad + bad_count (take (packs_until c time) found)
 
--- the answer at a time after the checkpoint of a file, and the pixmap that is written
+-- the result for a time after the checkpoint of a file, and the pixmap that is written
 pub record IsResumed (file : List ℕ) (time : ℕ) (rest : List ℕ) (resumed : Resumed)
     (text : List ℕ) : Type 0 where
   pub blocks : resumed.blocks ≡ blocks_after (checkpoint_in file) rest
@@ -58,8 +58,8 @@ pub record IsResumed (file : List ℕ) (time : ℕ) (rest : List ℕ) (resumed :
   pub gone_on : IsGoneOn (checkpoint_in file) time rest now resumed.bad
   pub text_is : text ≡ pixmap now
 
--- how the first input is answered to, for a time: it is the file of a checkpoint that is not later, or the first
--- reason why not
+-- the result of reading the first input, for a time: the file of a checkpoint that is not later, or the first reason
+-- why not
 abbrev pub IsAcceptedBy : Result (Unit {0}) ResumeStop → ℕ → List ℕ → Type 0
 IsAcceptedBy (Ok done) time file = IsCheckpointFile file × ((checkpoint_in file).program ≤ time)
 IsAcceptedBy (Err (BadSave byte)) time file = IsBadAt file byte
@@ -68,9 +68,8 @@ IsAcceptedBy (Err (BeforeSave blocks)) time file = IsCheckpointFile file
 IsAcceptedBy (Err FirstFault) time file = ⊤
 IsAcceptedBy (Err stop) time file = ⊥
 
--- How the first input was read: this was taken of it, at most one byte more than a checkpoint has, and its
--- end was told where there was no such byte. Where a read failed, no more than the bytes of a checkpoint were
--- taken, and the file is what was taken until then.
+-- The first input was read: at most one byte more than a checkpoint has, and its end was seen if there was no such
+-- byte. If a read failed, at most the bytes of a checkpoint were read before it, and they are the file.
 pub record ReadsSaved {T : Type 0} (saved : Input) (result : Result T ResumeStop)
     (file : List ℕ) : Type 0 where
   pub most : length file ≤ file_size + 1
@@ -87,7 +86,7 @@ pub record ReadsSaved {T : Type 0} (saved : Input) (result : Result T ResumeStop
 abbrev pub blocks_left : Checkpoint → ℕ
 blocks_left c = most_units - (c.lead_in + c.program)
 
--- how the rest of the stream, of so many bytes, is answered to
+-- the result for a rest of the stream with so many bytes
 abbrev pub IsGoneOnBy : Result Resumed ResumeStop → Checkpoint → ℕ → ℕ → Type 0
 IsGoneOnBy (Ok resumed) c time len = (len ≤ blocks_left c * block_bytes) × (len % block_bytes ≡ 0)
     × (time ≤ c.program + (len / block_bytes - c.to_come))
@@ -108,7 +107,7 @@ pub record TimeAfter : Type 0 where
 abbrev pub time_after : Checkpoint → ℕ → TimeAfter
 time_after checkpoint time = record { checkpoint = checkpoint; time = time }
 
--- The rest of a stream was taken, and nothing was written.
+-- The rest of a stream was read, and nothing was written.
 pub record GoesOn (to : TimeAfter) (left : Change Bytes) (now : Standing)
     (result : Result Resumed ResumeStop) (taken : List ℕ) : Type 0 where
   pub taken_from : Consumes left.before left.after taken
@@ -127,11 +126,11 @@ is_before_rest_end (PastEnd blocks) = false
 is_before_rest_end WriteFault = false
 is_before_rest_end stop = true
 
--- how the end of the rest is told
+-- the last read, at the end of the rest
 abbrev pub EndsAsResumed : Result Resumed ResumeStop → Count → Count → Type 0
 EndsAsResumed = ToldUnless is_before_rest_end
 
--- what is answered after so many program blocks
+-- the result after so many program blocks
 abbrev pub reached : ℕ → ℕ → ℕ → Result Resumed ResumeStop
 reached blocks time bad = if nat_lt blocks time then Err (PastEnd blocks) else Ok (record {
   blocks = blocks;
@@ -143,19 +142,19 @@ abbrev pub saved_slots : Checkpoint → List (List ℕ)
 saved_slots c = map (λ k. symbols_of (take symbols_a_slot (drop (symbols_a_slot * k) c.slots)))
     (range_with_len (7 - min 7 (4 * c.program)) (min 7 (4 * c.program)))
 
--- what an answer says of the first input: it was refused, or could not be read, or was accepted
+-- what a result says about the first input: refused, not readable, or accepted
 abbrev pub acceptance : Result Resumed ResumeStop → Result (Unit {0}) ResumeStop
 acceptance (Err FirstFault) = Err FirstFault
 acceptance (Err (BadSave byte)) = Err (BadSave byte)
 acceptance (Err (BeforeSave blocks)) = Err (BeforeSave blocks)
 acceptance _ = Ok tt
 
--- the answer to an accepted checkpoint and the rest of a stream, of so many bytes
+-- the result for an accepted checkpoint and a rest of the stream with so many bytes
 abbrev pub IsResumedBy : Result Resumed ResumeStop → Checkpoint → ℕ → ℕ → Type 0
 IsResumedBy (Err WriteFault) c time len = ⊤
 IsResumedBy result c time len = IsGoneOnBy result c time len
 
--- A call that was given an accepted file took the rest of the stream, and wrote the picture at the end.
+-- A call with an accepted file read the rest of the stream, and wrote the picture at the end.
 pub record Resumes (file : List ℕ) (time : ℕ) (passed : Passed) (result : Result Resumed ResumeStop)
     (taken : List ℕ) : Type 0 where
   pub taken_from : Consumes passed.left.before passed.left.after taken
@@ -164,25 +163,25 @@ pub record Resumes (file : List ℕ) (time : ℕ) (passed : Passed) (result : Re
   pub done : IfOk result (λ resumed. IsAtEnd passed.left.after × (time ≤ resumed.blocks)
       × ((text : List ℕ) × IsResumed file time taken resumed text
       × Appends passed.held.before passed.held.after text))
-  -- any other stop than a failed write: nothing is put
+  -- any stop but a failed write: nothing is written
   pub stopped : (stop : ResumeStop) → result ≡ Err stop → stop ≢ WriteFault
       → Appends passed.held.before passed.held.after []
   pub torn : (block : ℕ) → result ≡ Err (Torn block) → IsAtEnd passed.left.after
   pub past_end : (blocks : ℕ) → result ≡ Err (PastEnd blocks)
       → IsAtEnd passed.left.after × (blocks ≡ blocks_after (checkpoint_in file) taken) × (blocks < time)
-  -- a write failed: the rest is read to its end, and a prefix of the text is put
+  -- a write failed: the rest is read to its end, and a prefix of the text is written
   pub cut : result ≡ Err WriteFault
       → IsAtEnd passed.left.after × ((text : List ℕ) × (resumed : Resumed)
       × IsResumed file time taken resumed text
       × AppendsPrefix passed.held.before passed.held.after text)
 
--- the first part of a stream is whole blocks, no more than are read
+-- the first part of a stream is whole blocks, at most the limit
 pub record IsFirstPart (lead_in : ℕ) (bytes : List ℕ) : Type 0 where
   pub lead_in_most : lead_in ≤ most_lead_in
   pub most : length bytes ≤ most_units * block_bytes
   pub whole : length bytes % block_bytes ≡ 0
 
--- the answer as that of a player of the whole stream, who reads one input
+-- the result as that of a player of the whole stream, which reads one input
 abbrev pub as_played : Result Resumed ResumeStop → Result Played PlayStop
 as_played (Ok resumed) = Ok (record { blocks = resumed.blocks; bad = resumed.bad })
 as_played (Err WriteFault) = Err play.WriteFault
@@ -191,8 +190,7 @@ as_played (Err TooLong) = Err play.TooLong
 as_played (Err (PastEnd blocks)) = Err (play.PastEnd blocks)
 as_played (Err stop) = Err play.ReadFault
 
--- What a call that resumes tells of the faults of both inputs and of the output: each where its count rose, and nowhere
--- else.
+-- A call that resumes reports a fault of an input or of the output exactly if its count rose.
 pub record TellsResume {T : Type 0} (saved rest out : Change ℕ) (result : Result T ResumeStop) : Type 0 where
   pub first : TellsFault FirstFault saved.before saved.after result
   pub second : TellsFault SecondFault rest.before rest.after result

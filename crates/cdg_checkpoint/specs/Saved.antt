@@ -25,7 +25,7 @@ use Rattle.stream_stages.specs.Watch.{play_stop}
 abbrev pub last_symbols : ℕ → List ℕ → List ℕ
 last_symbols count symbols = drop (length symbols) (replicate count 0 ++ symbols)
 
--- the checkpoint after all blocks of a stream of raw blocks, the first of which are its lead-in
+-- the checkpoint after all blocks of a stream of raw blocks; the first of them are the lead-in
 pub record IsCheckpointOf (bytes : List ℕ) (lead_in : ℕ) (c : Checkpoint) : Type 0 where
   pub found : List (Option (List ℕ))
   pub recovered : IsRecovered Raw (program_symbols Raw bytes lead_in) found
@@ -38,7 +38,7 @@ pub record IsCheckpointOf (bytes : List ℕ) (lead_in : ℕ) (c : Checkpoint) : 
   pub slots_are : c.slots ≡ last_symbols slots_bytes (program_symbols Raw bytes lead_in)
   pub stands : c.standing ≡ standing_after blank instrs
 
--- the answer to whole blocks, and the file of their checkpoint
+-- the result for whole blocks, and the file of their checkpoint
 pub record IsSaved (lead_in : ℕ) (bytes : List ℕ) (pumped : Pumped) (text : List ℕ) : Type 0 where
   pub units : pumped.units ≡ length bytes / block_bytes
   pub checkpoint : Checkpoint
@@ -49,7 +49,7 @@ pub record IsSaved (lead_in : ℕ) (bytes : List ℕ) (pumped : Pumped) (text : 
 abbrev pub is_before_end : PumpStop → Bool
 is_before_end stop = is_early (play_stop stop)
 
--- how a call reads that writes the file of a checkpoint
+-- the reads of a call that writes the file of a checkpoint
 abbrev pub saving : ℕ → WholeReading Pumped PumpStop
 saving lead_in = record {
   cut = record { size = block_bytes; limit = most_units };
@@ -58,12 +58,12 @@ saving lead_in = record {
   gives = IsSaved lead_in;
 }
 
--- A call took these bytes: it writes the file of their checkpoint at the end.
+-- A call read these bytes and writes the file of their checkpoint at the end.
 abbrev pub Saves : ℕ → Passed → Result Pumped PumpStop → List ℕ → Type 0
 Saves lead_in passed result taken = WritesAtEnd (saving lead_in) passed result taken
 
--- The file that is kept after these bytes were taken: where all was read it is that of the checkpoint after them, and
--- it was put, or a prefix of it where a write failed; and else it is the one that was kept before.
+-- The file that is kept after these bytes were read. If all was read, it is the file of the checkpoint after them, and
+-- it was written, or a prefix of it if a write failed. Otherwise it is the file that was kept before.
 abbrev pub KeepsFile : ℕ → List ℕ → Change Bytes → Change (List ℕ) → Result Pumped PumpStop → Type 0
 KeepsFile lead_in taken held file (Ok pumped) = IsSaved lead_in taken pumped file.after
     × Appends held.before held.after file.after
@@ -71,6 +71,6 @@ KeepsFile lead_in taken held file (Err WriteFault) = (pumped : Pumped)
     × IsSaved lead_in taken pumped file.after × AppendsPrefix held.before held.after file.after
 KeepsFile lead_in taken held file (Err stop) = file.after ≡ file.before
 
--- how the end of the input is told
+-- the last read, at the end of the input
 abbrev pub EndsAsSaved : Result Pumped PumpStop → Count → Count → Type 0
 EndsAsSaved = ToldUnless is_before_end

@@ -27,7 +27,7 @@ pub data Part : Type 0 where
 abbrev pub slots_bytes : ℕ
 slots_bytes = 168
 
--- the bytes that the check is of, all but its own two
+-- the size of the bytes that the check covers: all but its own two
 abbrev pub body_size : ℕ
 body_size = 65043
 
@@ -57,7 +57,7 @@ row Colours = record { first = 64995; count = 16; size = 2 }
 row Levels = record { first = 65027; count = 16; size = 1 }
 row Check = record { first = body_size; count = 1; size = 2 }
 
--- the parts that the check is of, in the order of their bytes
+-- the parts that the check covers, in the order of their bytes
 abbrev pub body_parts : List Part
 body_parts = Mark ∷ ToCome ∷ LeadIn ∷ Program ∷ Bad ∷ Slots ∷ Memory ∷ Border ∷ Across ∷ Down ∷ Colours ∷
     Levels ∷ []
@@ -83,7 +83,7 @@ number file part k = number_at file (row part).size (byte_of part k)
 abbrev pub mark : ℕ
 mark = number_at (codes "CDGSAVE1") 8 0
 
--- the symbols of the last seven slots that stand for no slot, after so many program blocks
+-- how many symbols of the last seven slots belong to no slot, after so many program blocks
 abbrev pub empty_symbols : ℕ → ℕ
 empty_symbols program = symbols_a_slot * (packs_kept_back - min packs_kept_back (slots_a_block * program))
 
@@ -109,7 +109,7 @@ IsFieldInRange file Check k = number file Check 0 ≡ check_of (take body_size f
 abbrev pub IsPartInRange : List ℕ → Part → Type 0
 IsPartInRange file part = (k : ℕ) → k < (row part).count → IsFieldInRange file part k
 
--- a field of this part begins at the byte, is out of its range, and is the first of the part that is
+-- the first field of this part that is not in its range begins at the byte
 pub record IsOutOfPart (file : List ℕ) (part : Part) (byte : ℕ) : Type 0 where
   pub k : ℕ
   pub field : k < (row part).count
@@ -117,7 +117,7 @@ pub record IsOutOfPart (file : List ℕ) (part : Part) (byte : ℕ) : Type 0 whe
   pub out : ¬ IsFieldInRange file part k
   pub earlier : (j : ℕ) → j < k → IsFieldInRange file part j
 
--- the first field of all that is out of its range begins at the byte
+-- the first field of the file that is not in its range begins at the byte
 pub record IsFirstOut (file : List ℕ) (byte : ℕ) : Type 0 where
   pub early : List Part
   pub part : Part
@@ -126,19 +126,19 @@ pub record IsFirstOut (file : List ℕ) (byte : ℕ) : Type 0 where
   pub earlier : AllByRecursion (IsPartInRange file) early
   pub here : IsOutOfPart file part byte
 
--- the bytes are a checkpoint's file
+-- the bytes are the valid file of a checkpoint
 pub record IsCheckpointFile (file : List ℕ) : Type 0 where
   pub size : length file ≡ file_size
   pub ranges : AllByRecursion (IsPartInRange file) all_parts
 
--- The bytes are none, and this is the byte that tells it: their length where they are too few, the first byte past
--- the file where they are too many, and else the first byte of the first field out of its range.
+-- The bytes are not valid, and this is the first invalid byte: their length if they are too few, the first byte past
+-- the file if they are too many, and else the first byte of the first field that is not in its range.
 pub record IsBadAt (file : List ℕ) (byte : ℕ) : Type 0 where
   pub short : length file < file_size → byte ≡ length file
   pub long : file_size < length file → byte ≡ file_size
   pub field : length file ≡ file_size → IsFirstOut file byte
 
--- the first of so many bytes from a byte on that is not below a bound
+-- the first of so many bytes, from a byte on, that is not below a bound
 pub record IsFirstAbove (file : List ℕ) (first count bound byte : ℕ) : Type 0 where
   pub k : ℕ
   pub within : k < count

@@ -14,15 +14,14 @@ use Rattle.stream_stages.specs.Drawn.{painting_next}
 use Rattle.stream_stages.specs.declared.block_words.BlockWords.{BlockWords}
 use Rattle.stream_stages.specs.declared.painting.Painting.{Painting}
 
--- the words of a stream, and what they draw, after a block
+-- the words of a stream and the screen that they draw, after a block
 abbrev pub words_drawn : Then BlockWords Painting → List ℕ → Then BlockWords Painting
 words_drawn s block = record {
   first = words_next s.first block;
   second = then_second painting_next s.second (words_give s.first block);
 }
 
--- These bytes were taken, and where they are whole blocks to the end, the stage is in the last state of its run over
--- them.
+-- These bytes were read. If they are whole blocks to the end, the stage is in the last state of its run over them.
 pub record TracksBlocks {S : Type 0} (limit : ℕ) (next : S → List ℕ → S) (fed : Fed S)
     (result : Result Pumped PumpStop) (taken : List ℕ) : Type 0 where
   pub taken_from : Consumes fed.left.before fed.left.after taken

@@ -1,4 +1,4 @@
-// The first field of a file that is out of its range.
+// The first field of a file that is not in its range.
 ghost use Rattle.std.specs.Prelude.{◌≡◌, ◌≤◌, ◌+◌, ◌<◌, ℕ, length, MatchResult, slice_index, take};
 ghost use Rattle.bit_lists.specs.Check.{check_of};
 ghost use Rattle.std.specs.List.{AllByRecursion};
@@ -16,7 +16,7 @@ use disc_time::MOST_LEAD_IN;
 use raw_subcode::{MOST_UNITS, SLOTS_A_BLOCK, SYMBOLS_A_SLOT};
 use rw_interleave::PACKS_KEPT_BACK;
 
-// How many bytes of the slots stand for no slot, after so many blocks of the program.
+// How many bytes of the slots belong to no slot, after so many blocks of the program.
 fn empty_symbols(program: u32) -> usize
     ensures value { result ≡ empty_symbols program }
     ensures most { result ≤ slots_bytes }
@@ -25,11 +25,11 @@ fn empty_symbols(program: u32) -> usize
     SYMBOLS_A_SLOT * (PACKS_KEPT_BACK - PACKS_KEPT_BACK.min(slots))
 }
 
-/// Are these bytes the file of a checkpoint?
+/// Checks that these bytes are the valid file of a checkpoint.
 ///
 /// # Errors
-/// The byte that shows that they are none: their length where that is less than 65,045, 65,045 where it is more,
-/// and else the first byte of the first field that is out of its range.
+/// The number of the first invalid byte: the length of the bytes if it is below 65,045, or 65,045 if there are more
+/// bytes, or the first byte of the first field that is not in its range.
 pub fn judge(bytes: &[u8]) -> Result<(), u32>
     ensures { MatchResult result (λ _. IsCheckpointFile bytes.now) (IsBadAt bytes.now) }
 {
@@ -39,7 +39,7 @@ pub fn judge(bytes: &[u8]) -> Result<(), u32>
     check_fields(bytes)
 }
 
-// Are all fields in their ranges? If not, the first byte of the first one.
+// Checks that all fields are in their ranges. The error is the first byte of the first field that is not.
 fn check_fields(bytes: &[u8]) -> Result<(), u32>
     requires { length bytes.now ≡ file_size }
     ensures { MatchResult result (λ _. AllByRecursion (IsPartInRange bytes.now) all_parts)
@@ -60,7 +60,8 @@ fn check_fields(bytes: &[u8]) -> Result<(), u32>
     check_check(bytes)
 }
 
-// Are all fields of a part in their ranges? If not, the first byte of the first one of the part.
+// The next functions check that all fields of a part are in their ranges. The error is the first byte of the first one
+// that is not.
 
 fn check_mark(bytes: &[u8]) -> Result<(), u32>
     requires { length bytes.now ≡ file_size }
@@ -192,7 +193,7 @@ fn check_of_body(bytes: &[u8]) -> u16
     crc16(&bytes[..CHECK])
 }
 
-// Are all these bytes below a bound? If not, where the first one stands.
+// Checks that all these bytes are below a bound. The error is the place of the first one that is not.
 fn check_bytes(bytes: &[u8], first: usize, count: usize, bound: u8) -> Result<(), u32>
     requires file { length bytes.now ≡ file_size }
     requires within { first + count ≤ file_size }

@@ -1,4 +1,4 @@
-// What saves and resumes, and the checkpoint after a stream.
+// Saving the checkpoint after a stream.
 ghost use Rattle.std.specs.Prelude.{IfOk, ◌≡◌, ◌≢◌, ◌≤◌, ◌-◌, List, ℕ, length, min, IfSome, IfErr, Err};
 ghost use Rattle.cdg_checkpoint.specs.Keeping.{HasReadNothing, IsKept};
 ghost use Rattle.disc_time.specs.Counts.{most_lead_in};
@@ -22,22 +22,22 @@ use rw_interleave::whole_packs;
 use std::alloc::{AllocError, Global};
 use stream_stages::{BlockWords, Painting};
 
-/// Saves checkpoints of streams and resumes from them, one at a time. All its memory is taken at the start;
-/// each call begins anew, whatever stopped the one before.
+/// Saves checkpoints of streams and resumes from them, one at a time. All memory is allocated at the start. Each call
+/// is independent of the calls before.
 #[derive(Drop)]
 pub struct Checkpointer {
-    /// The last slots of a stream, and what it drew.
+    /// The last slots of a stream, and its picture.
     pub words: Then<BlockWords, Painting>,
     /// The file of a checkpoint.
     pub file: CheckpointFile,
 }
 
 impl Checkpointer {
-    /// Takes the memory of the screen and of a file.
+    /// Allocates the screen and a file.
     ///
     /// # Errors
     ///
-    /// `AllocError` where that memory is not found.
+    /// `AllocError` if out of memory.
     pub fn start(alloc: Global) -> Result<Checkpointer, AllocError>
         ensures { IfOk result HasReadNothing }
     {
@@ -52,12 +52,12 @@ impl Checkpointer {
         })
     }
 
-    /// Writes the checkpoint after a stream of raw blocks, once it was read to its end. `lead_in` is at most
-    /// 450,000 blocks.
+    /// Writes the checkpoint after a stream of raw blocks, after reading all of it. `lead_in` is at most 450,000
+    /// blocks.
     ///
     /// # Errors
-    /// `Torn`, `TooLong` and `ReadFault` as the input says: then nothing is written. After `WriteFault` the
-    /// sink holds a prefix.
+    /// `Torn`, `TooLong` and `ReadFault` for the input: then nothing is written. After `WriteFault` the sink holds a
+    /// prefix.
     pub fn save<S: Source, K: Sink>(
         &mut self,
         lead_in: u32,
@@ -67,14 +67,14 @@ impl Checkpointer {
         requires { lead_in ≤ most_lead_in }
         ensures saves { (taken : List ℕ) × Saves lead_in
             (passed S.left K.held (source.old, out.old) (source.new, out.new)) result taken }
-        // The file that was put is kept, and none is changed before the input was read to its end.
+        // The written file is kept, and no file is changed before the input was read to its end.
         ensures file { (taken : List ℕ) × Consumes (S.left source.old) (S.left source.new) taken
             × KeepsFile lead_in taken (change K.held out.old out.new) (from_to self.old.file self.new.file)
             result }
-        // Where nothing failed, the answer is that of the whole input's length.
+        // If nothing failed, the length of the whole input determines the result.
         ensures answer { IfSome (S.left source.old)
             (λ all. IsUnlessFault result (answer_of block_bytes most_units (length all))) }
-        // Where the output is not written it is as it was.
+        // If nothing is written, the output is unchanged.
         ensures untouched { IfErr result (λ stop. stop ≢ PumpStop.WriteFault → out.new ≡ out.old) }
         ensures read_fault { TellsFault PumpStop.ReadFault
             (S.faults source.old) (S.faults source.new) result }
@@ -95,7 +95,7 @@ impl Checkpointer {
         }
     }
 
-    // Brings back the state before a stream, all of whose packs are drawn.
+    // Restores the state before a stream. All packs are drawn at once.
     fn begin(&mut self, lead_in: u32)
         ensures words { words_of self.new.words ≡ fresh_words Form.Raw lead_in }
         ensures left { (painting_of self.new.words).left ≡ whole_packs most_units }
@@ -110,7 +110,7 @@ impl Checkpointer {
         painting.screen.reset();
     }
 
-    // Composes the file of what was read of a stream.
+    // Makes the file of the part of the stream that was read.
     fn keep(&mut self, pumped: Pumped, lead_in: u32)
         ensures { IsKept pumped.units lead_in self.old.words self.new.file }
     {

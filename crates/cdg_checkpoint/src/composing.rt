@@ -1,4 +1,4 @@
-// The file of a checkpoint, written.
+// Making the file of a checkpoint.
 ghost use Rattle.std.specs.Prelude.{◌≡◌, ◌≤◌, ◌+◌, ◌++◌, [], ◌∷◌, List, ℕ, length};
 ghost use Rattle.cdg_screen.specs.Memory.{seen};
 ghost use Rattle.cdg_screen.specs.Standing.{Standing};
@@ -18,8 +18,8 @@ pub(crate) const MARK: &[u8; 8] = b"CDGSAVE1";
 const COLOUR_COUNT: u8 = 16;
 
 impl PlainFile {
-    /// Becomes the file of these counts, of the symbols of the last seven slots, zeros before the first, and
-    /// of what stands on the screen.
+    /// Becomes the file of these counts, of the symbols of the last seven slots (zeros before the first slot) and of
+    /// the screen.
     pub fn compose(
         &mut self,
         counts: &StreamCounts,

@@ -2,17 +2,17 @@
 ghost use Rattle.std.specs.Prelude.{◌≡◌, ◌≤◌, ◌+◌, ◌<◌, length, slice_index};
 ghost use Rattle.cdg_checkpoint.specs.Table.{Bad, LeadIn, Program, ToCome, file_size, number, number_at};
 
-/// How far a stream was read.
+/// How much of a stream was read.
 #[derive(Clone, Copy)]
 pub struct StreamCounts {
-    /// The blocks of the lead-in that are still to come, at most 450,000.
+    /// The blocks of the lead-in that are not read yet, at most 450,000.
     pub to_come: u32,
-    /// The blocks of the lead-in that were read; with those still to come at most 450,000.
+    /// The blocks of the lead-in that were read. The lead-in has at most 450,000 blocks.
     pub lead_in: u32,
-    /// The blocks of the program that were read; with those of the lead-in at most 1,000,000, and none while
-    /// the lead-in lasts.
+    /// The blocks of the program that were read: 0 before the end of the lead-in. With the lead-in, at most 1,000,000
+    /// blocks.
     pub program: u32,
-    /// The words with no codeword within two symbols among those that came so far.
+    /// The words read so far with no codeword within two symbols.
     pub bad: u32,
 }
 
@@ -57,7 +57,7 @@ pub(crate) fn counts_in(bytes: &[u8]) -> StreamCounts
     }
 }
 
-// The number in the four bytes from a byte on.
+// The number in the four bytes from this byte on.
 fn number(bytes: &[u8], at: usize) -> u32
     requires { at + 4 ≤ length bytes.now }
     ensures { result ≡ number_at bytes.now 4 at }
@@ -65,7 +65,7 @@ fn number(bytes: &[u8], at: usize) -> u32
     u32::from_be_bytes([bytes[at], bytes[at + 1], bytes[at + 2], bytes[at + 3]])
 }
 
-/// The number in the two bytes from a byte on.
+/// The number in the two bytes from this byte on.
 pub(crate) fn short_number(bytes: &[u8], at: usize) -> u16
     requires { at + 2 ≤ length bytes.now }
     ensures { result ≡ number_at bytes.now 2 at }

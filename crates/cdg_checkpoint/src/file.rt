@@ -11,8 +11,8 @@ use cdg_screen::Screen;
 use std::alloc::{AllocError, Global};
 use std::marker::Model;
 
-/// A `PlainFile` on the heap, seen as the list of its bytes. All memory is taken at the start, and what it holds cannot
-/// grow.
+/// A `PlainFile` on the heap, viewed as the list of its bytes. All memory is allocated at the start; the file never
+/// grows.
 #[derive(Drop)]
 pub struct CheckpointFile {
     pub plain: Box<PlainFile>,
@@ -27,7 +27,7 @@ impl Model for CheckpointFile {
 }
 
 impl CheckpointFile {
-    /// An empty file, with memory for all of it.
+    /// An empty file, with memory for a whole file.
     pub fn start(alloc: Global) -> Result<CheckpointFile, AllocError>
         ensures { IfOk result (λ f. f ≡ []) }
     {
@@ -42,27 +42,27 @@ impl CheckpointFile {
         self.plain.bytes()
     }
 
-    /// Reads an input to its end, but at most 65,046 bytes of it.
+    /// Reads an input to its end, at most 65,046 bytes.
     ///
     /// # Errors
-    /// `Failed` where a read failed.
+    /// `Failed` if a read failed.
     pub fn read<S: Source>(&mut self, source: &mut S) -> Result<(), Failed>
         ensures reads { ReadsCheckpointFile S.Source source.old source.new self.new result }
     {
         self.plain.read(source)
     }
 
-    /// Is this the file of a checkpoint?
+    /// Checks that this is the valid file of a checkpoint.
     ///
     /// # Errors
-    /// The byte that shows that it is none, as `judge` says.
+    /// The number of the first invalid byte, as in `judge`.
     pub fn check(&self) -> Result<(), u32>
         ensures { MatchResult result (λ _. IsCheckpointFile self.now) (IsBadAt self.now) }
     {
         self.plain.check()
     }
 
-    /// The counts in a file of its full length.
+    /// The counts in a file of full length.
     pub fn counts(&self) -> StreamCounts
         requires { length self.now ≡ file_size }
         ensures to_come { result.to_come ≡ number self.now ToCome 0 }
@@ -73,15 +73,15 @@ impl CheckpointFile {
         self.plain.counts()
     }
 
-    /// Becomes the file of these counts, of the symbols of the last seven slots, zeros before the first, and
-    /// of what stands on the screen.
+    /// Becomes the file of these counts, of the symbols of the last seven slots (zeros before the first slot) and of
+    /// the screen.
     pub fn compose(&mut self, counts: &StreamCounts, slots: &[u8; SLOTS_BYTES], screen: &Screen)
         ensures { self.new ≡ file_of (kept counts.now slots.now screen.now) }
     {
         self.plain.compose(counts, slots, &screen.plain);
     }
 
-    /// Brings back what stood, by the file of a checkpoint.
+    /// Restores the screen from the valid file of a checkpoint.
     pub fn bring_back(&self, screen: &mut Screen)
         requires { IsCheckpointFile self.now }
         ensures { screen.new ≡ standing_in self.now }

@@ -1,4 +1,4 @@
-// Laws: files are read back, and what goes on from a checkpoint shows what the whole stream does.
+// Laws: files are read back, and a resumed stream shows the same as the whole stream.
 ghost use Rattle.std.specs.Prelude.{◌≡◌, ◌≢◌, ◌≤◌, ◌-◌, ◌/◌, ◌%◌, ◌++◌, List, ℕ, length, Some, Result, Err, ◌<◌, ◌^◌};
 ghost use Rattle.cdg_io.specs.Change.{Bytes, Change, from_to};
 ghost use Rattle.cdg_screen.specs.Standing.{Standing};
@@ -16,8 +16,8 @@ ghost use Rattle.stream_stages.specs.Screen.{IsScreenAt, IsShownBy, Shows, momen
 ghost use Rattle.cdg_checkpoint.specs.Saved.{IsCheckpointOf, IsSaved};
 ghost use Rattle.cdg_instructions.specs.Sizes.{screen_pixels};
 
-/// A law: what is written is read. The file of each checkpoint has 65,045 bytes, and holds its counts, its
-/// slots and its memory.
+/// A law: what is written is read back. The file of each checkpoint has 65,045 bytes and contains its counts, slots
+/// and memory.
 pub fn files_are_read_back()
     ensures size { (c : Checkpoint) → length (file_of c) ≡ file_size }
     ensures to_come { (c : Checkpoint) → c.to_come < 2 ^ 32 → number (file_of c) ToCome 0 ≡ c.to_come }
@@ -30,15 +30,14 @@ pub fn files_are_read_back()
         → number (file_of c) Memory k ≡ written_value c Memory k % 256 }
 {}
 
-/// A law: the file of a checkpoint whose numbers are in their ranges is accepted, and the checkpoint in it
-/// is that one.
+/// A law: the file of a checkpoint whose numbers are in their ranges is valid, and reading it gives this checkpoint.
 pub fn sound_checkpoints_are_accepted()
     ensures accepted { (c : Checkpoint) → IsSoundCheckpoint c → IsCheckpointFile (file_of c) }
     ensures same { (c : Checkpoint) → IsSoundCheckpoint c → checkpoint_in (file_of c) ≡ c }
 {}
 
-/// A law: what stands at a time after the checkpoint of some whole blocks, with the rest of the stream,
-/// stands then in the whole stream too, and as many words are bad.
+/// A law: a checkpoint after whole blocks, resumed with the rest of the stream, has at each time the screen and the
+/// count of bad words of the whole stream.
 pub fn a_resumed_stream_is_the_whole()
     ensures { (bytes rest : List ℕ) (lead_in time bad : ℕ) (c : Checkpoint) (now : Standing)
         → length bytes % block_bytes ≡ 0 → length rest % block_bytes ≡ 0 → IsCheckpointOf bytes lead_in c
@@ -46,10 +45,9 @@ pub fn a_resumed_stream_is_the_whole()
         → IsViewed (moment Form.Raw lead_in time) (bytes ++ rest) now bad }
 {}
 
-/// A law: let a stream be cut after whole blocks. The file that `save` writes of its first part is accepted;
-/// `resume`, given this file and the rest, answers as the length of the whole stream says; and where the rest
-/// is whole blocks too, it writes and answers at a time what the screen of the whole stream is then, and
-/// nothing else is.
+/// A law: cut a stream after whole blocks. The file that `save` writes for the first part is valid. `resume` of this
+/// file and the rest returns what the length of the whole stream determines. If the rest is whole blocks too, `resume`
+/// writes the screen of the whole stream at this time, and only this screen.
 pub fn a_saved_stream_goes_on_as_the_whole()
     ensures accepted { (lead_in : ℕ) (bytes file : List ℕ) (pumped : Pumped) → IsFirstPart lead_in bytes
         → IsSaved lead_in bytes pumped file
@@ -63,8 +61,7 @@ pub fn a_saved_stream_goes_on_as_the_whole()
         → length bytes / block_bytes - lead_in ≤ time → IsResumed file time rest resumed text
         → IsScreenAt (moment Form.Raw lead_in time) (bytes ++ rest) text resumed.bad
         × (resumed.blocks ≡ length (bytes ++ rest) / block_bytes - lead_in) }
-    // The same of a call of `resume` that was given this file and this rest: it is a call that shows the time
-    // of the whole stream.
+    // The same for a call of `resume` with this file and this rest: the call shows the time of the whole stream.
     ensures whole { (lead_in time : ℕ) (bytes rest file taken : List ℕ) (pumped : Pumped)
         (result : Result Resumed ResumeStop) (left : Bytes) (out : Change Bytes)
         → IsFirstPart lead_in bytes → IsSaved lead_in bytes pumped file
@@ -74,7 +71,7 @@ pub fn a_saved_stream_goes_on_as_the_whole()
         → Shows pixmap (moment Form.Raw lead_in time)
         (record { left = from_to (Some (bytes ++ rest)) left; held = out })
         (as_played result) (bytes ++ taken) }
-    // One time of a stream has one screen.
+    // A stream has one screen at each time.
     ensures only { (lead_in time bad other_bad : ℕ) (bytes text other : List ℕ)
         → IsScreenAt (moment Form.Raw lead_in time) bytes text bad
         → IsScreenAt (moment Form.Raw lead_in time) bytes other other_bad

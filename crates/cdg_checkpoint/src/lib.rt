@@ -1,5 +1,5 @@
-//! Checkpoints in the middle of a stream: the state of a player is saved to a file of 65,045 bytes, and playing goes on
-//! from it.
+//! Checkpoints in the middle of a stream: the state of a player is saved to a file of 65,045 bytes and restored from
+//! it.
 #![tactic(auto)]
 
 mod checking;

@@ -19,10 +19,10 @@ use std::marker::Model;
 
 pub const FILE_BYTES: usize = 65_045;
 
-/// The bytes of the last seven slots in it.
+/// The bytes of the last seven slots in a file.
 pub const SLOTS_BYTES: usize = PACKS_KEPT_BACK * SYMBOLS_A_SLOT;
 
-/// The file, and the byte that shows that an input has more.
+/// A file, and one more byte to detect a longer input.
 pub(crate) const ROOM: usize = FILE_BYTES + 1;
 
 const CHUNK: usize = 4096;
@@ -30,7 +30,8 @@ const CHUNK: usize = 4096;
 // Zeros. An element of a table is copied in one go.
 static EMPTY: [[u8; ROOM]; 1] = [[0; ROOM]];
 
-/// A file of at most 65,046 bytes, seen as the list of them. It is plain numbers, and stands wherever its holder does.
+/// A file of at most 65,046 bytes, viewed as the list of its bytes. It needs no heap: a caller can allocate it
+/// anywhere.
 #[derive(Drop)]
 pub struct PlainFile {
     pub(crate) bytes: [u8; ROOM],
@@ -49,7 +50,7 @@ impl Model for PlainFile {
 }
 
 impl PlainFile {
-    /// An empty file. It is inlined, so that it is made where it will stand, and takes no stack.
+    /// An empty file. It is inlined, so that it is built in place and needs no stack.
     #[inline(always)]
     pub fn empty() -> PlainFile
         ensures { result ≡ [] }
@@ -67,17 +68,17 @@ impl PlainFile {
         &self.bytes[..self.count]
     }
 
-    /// Is this the file of a checkpoint?
+    /// Checks that this is the valid file of a checkpoint.
     ///
     /// # Errors
-    /// The byte that shows that it is none, as `judge` says.
+    /// The number of the first invalid byte, as in `judge`.
     pub fn check(&self) -> Result<(), u32>
         ensures { MatchResult result (λ _. IsCheckpointFile self.now) (IsBadAt self.now) }
     {
         judge(self.bytes())
     }
 
-    /// The counts in a file of its full length.
+    /// The counts in a file of full length.
     pub fn counts(&self) -> StreamCounts
         requires { length self.now ≡ file_size }
         ensures to_come { result.to_come ≡ number self.now ToCome 0 }
@@ -97,7 +98,7 @@ impl PlainFile {
         slot_in(self.bytes(), k)
     }
 
-    /// Brings back what stood, by the file of a checkpoint.
+    /// Restores the screen from the valid file of a checkpoint.
     pub fn bring_back(&self, screen: &mut PlainScreen)
         requires { IsCheckpointFile self.now }
         ensures { seen screen.new ≡ standing_in self.now }
@@ -119,10 +120,10 @@ impl PlainFile {
         self.count += bytes.len();
     }
 
-    /// Reads an input to its end, but at most 65,046 bytes of it.
+    /// Reads an input to its end, at most 65,046 bytes.
     ///
     /// # Errors
-    /// `Failed` where a read failed.
+    /// `Failed` if a read failed.
     pub fn read<S: Source>(&mut self, source: &mut S) -> Result<(), Failed>
         ensures reads { ReadsCheckpointFile S.Source source.old source.new self.new result }
     {

@@ -1,4 +1,4 @@
-// What stood, brought back.
+// Restoring a screen.
 ghost use Rattle.std.specs.Prelude.{◌≡◌, ◌*◌, ◌<◌, All, length, drop, take};
 ghost use Rattle.cdg_instructions.specs.Sizes.{colour_values, screen_pixels};
 ghost use Rattle.cdg_screen.specs.Memory.{seen};
@@ -24,7 +24,7 @@ pub(crate) fn slot_in(bytes: &[u8], k: usize) -> [u8; SYMBOLS_A_SLOT]
     slot
 }
 
-/// Brings back what stood, by the file of a checkpoint.
+/// Restores the screen from the valid file of a checkpoint.
 pub(crate) fn restore(screen: &mut PlainScreen, bytes: &[u8])
     requires { IsCheckpointFile bytes.now }
     ensures { seen screen.new ≡ standing_in bytes.now }

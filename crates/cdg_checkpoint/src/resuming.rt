@@ -1,4 +1,4 @@
-// Playing that goes on from a checkpoint.
+// Resuming from a checkpoint.
 ghost use Rattle.std.specs.Prelude.{◌≡◌, ◌≢◌, ◌≤◌, ◌<◌, ◌+◌, ◌-◌, ◌^◌, List, ℕ, [], length, IfSome, IfErr, IsErr, IsOk, Err};
 ghost use Rattle.disc_time.specs.Counts.{last_block};
 ghost use Rattle.cdg_io.specs.Causes.{TellsFault};
@@ -18,17 +18,15 @@ use raw_subcode::{Form, MOST_UNITS, SLOTS_A_BLOCK};
 use rw_interleave::{Gather, PACKS_KEPT_BACK, Slot, whole_packs};
 
 impl Checkpointer {
-    /// Writes the picture at a moment of a stream of raw blocks, from a checkpoint and the rest of the
-    /// stream: a pixmap of what stands after the packs that are whole at program block `at`, at most 449,999.
-    /// Of `saved` at most 65,046 bytes are taken, and they are left in `file`. The rest is not touched before
-    /// the checkpoint is accepted.
+    /// Writes the picture at a moment of a stream of raw blocks, from a checkpoint and the rest of the stream: a
+    /// pixmap of the screen after the packs that are whole at program block `at`, at most 449,999. At most 65,046
+    /// bytes of `saved` are read, into `file`. The rest is not read before the checkpoint is found valid.
     ///
     /// # Errors
     ///
-    /// In this order: `BadSave` where the first input is no checkpoint, `BeforeSave` where the moment is
-    /// before it; `TooLong`, `Torn` and `PastEnd` as the whole stream says. Then nothing is written.
-    /// `FirstFault` and `SecondFault` come from a read of that input alone. After `WriteFault` the sink holds
-    /// a prefix.
+    /// In this order: `BadSave` if the first input is not a valid checkpoint, `BeforeSave` if the moment is before the
+    /// checkpoint; `TooLong`, `Torn` and `PastEnd` for the whole stream. Then nothing is written. `FirstFault` and
+    /// `SecondFault` are failed reads of the first and second input. After `WriteFault` the sink holds a prefix.
     pub fn resume<S: Source, T: Source, K: Sink>(
         &mut self,
         at: u32,
@@ -37,18 +35,18 @@ impl Checkpointer {
         out: &mut K,
     ) -> Result<Resumed, ResumeStop>
         requires { at ≤ last_block }
-        // The checkpoint is accepted, or refused for the first reason.
+        // The checkpoint is valid, or refused for the first reason.
         ensures accepted { IsAcceptedBy (acceptance result) at self.new.file }
         ensures reads { ReadsSaved (input S.Source saved.old saved.new) result self.new.file }
-        // Where it is refused, the rest is not touched.
+        // If the checkpoint is refused, the rest is not read.
         ensures rest_untouched { IsErr (acceptance result) → rest.new ≡ rest.old }
         ensures resumes { IsOk (acceptance result)
             → (taken : List ℕ) × Resumes self.new.file at
             (passed T.left K.held (rest.old, out.old) (rest.new, out.new)) result taken }
-        // Where nothing failed, the answer is that of the checkpoint and the length of the rest.
+        // If nothing failed, the checkpoint and the length of the rest determine the result.
         ensures answer { IsOk (acceptance result) → IfSome (T.left rest.old)
             (λ all. IsResumedBy result (checkpoint_in self.new.file) at (length all)) }
-        // Where the output is not written it is as it was.
+        // If nothing is written, the output is unchanged.
         ensures untouched { IfErr result (λ stop. stop ≢ ResumeStop.WriteFault → out.new ≡ out.old) }
         ensures faults { TellsResume (change S.faults saved.old saved.new) (change T.faults rest.old rest.new)
             (change K.faults out.old out.new) result }
@@ -110,7 +108,7 @@ impl Checkpointer {
         }
     }
 
-    // Is what was read a checkpoint that is not later than a moment?
+    // Checks that the file is a valid checkpoint that is not later than a moment.
     fn accepted(&self, at: u32) -> Result<(), ResumeStop>
         ensures accepted { IsAcceptedBy result at self.now.file }
         ensures no_fault { result ≢ Err ResumeStop.FirstFault }
@@ -164,7 +162,7 @@ impl Checkpointer {
         }
     }
 
-    // What was played, where the program reaches the moment.
+    // What was played, if the program reaches the moment.
     fn resumed(&self, counts: &StreamCounts, pumped: Pumped, at: u32) -> Result<Resumed, ResumeStop>
         requires { counts.now.program + pumped.units < 2 ^ 32 }
         ensures accepted { IsOk (acceptance result) }
@@ -182,7 +180,7 @@ impl Checkpointer {
         })
     }
 
-    // Brings back the state of a checkpoint.
+    // Restores the state of a checkpoint.
     fn begin_again(&mut self, counts: &StreamCounts, at: u32)
         requires at { at ≤ last_block }
         requires file { IsCheckpointFile self.old.file }
@@ -210,7 +208,7 @@ impl Checkpointer {
     }
 }
 
-/// A gatherer of the slots that a checkpoint keeps, the oldest first: it goes on as the one that was saved.
+/// A gatherer of the slots of a checkpoint, the oldest first. It continues as the one that was saved.
 pub fn gathered_slots(file: &PlainFile) -> Gather
     requires { IsCheckpointFile file.now }
     ensures { result ≡ run_state gather_next [] (saved_slots (checkpoint_in file.now)) }

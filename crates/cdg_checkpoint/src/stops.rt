@@ -1,11 +1,11 @@
-// How a call ends that goes on from a checkpoint.
+// The results of a call that resumes from a checkpoint.
 
 /// What was played after a checkpoint.
 #[derive(Clone, Copy, Debug, PartialEq, Eq)]
 pub struct Resumed {
-    /// The blocks of the program, those before the checkpoint too.
+    /// The blocks of the program, including those before the checkpoint.
     pub blocks: u32,
-    /// The words with no codeword within two symbols up to the moment, those before the checkpoint too.
+    /// The words with no codeword within two symbols up to the moment, including those before the checkpoint.
     pub bad: u32,
 }
 
@@ -16,11 +16,11 @@ pub enum ResumeStop {
     FirstFault,
     /// A read of the rest of the stream failed.
     SecondFault,
-    /// A write failed: the sink took a prefix of the picture.
+    /// A write failed: the sink holds a prefix of the picture.
     WriteFault,
-    /// The first input is no checkpoint, as this byte shows.
+    /// The first input is not a valid checkpoint: this is its first invalid byte.
     BadSave { byte: u32 },
-    /// The moment is before the checkpoint, which comes after this many program blocks.
+    /// The moment is before the checkpoint, which is after this many program blocks.
     BeforeSave { blocks: u32 },
     /// The rest of the stream ended within the block of this number in the whole stream, counted from 0.
     Torn { block: u32 },

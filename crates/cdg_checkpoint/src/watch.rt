@@ -1,4 +1,4 @@
-// A stage at work on the blocks of a whole input, of which nothing is written.
+// Feeding a whole input to a stage, with no output.
 ghost use Rattle.std.specs.Prelude.{◌≤◌, List, ℕ};
 ghost use Rattle.cdg_io.specs.Change.{fed};
 ghost use Rattle.cdg_io.specs.Reads.{ReadsUnits};
@@ -8,7 +8,7 @@ ghost use Rattle.cdg_checkpoint.specs.Tracked.{TracksBlocks};
 use cdg_io::{Failed, Piece, PumpStop, Pumped, Source, Stage, SteadySink, pump};
 use raw_subcode::BLOCK_BYTES;
 
-/// Feeds the blocks of an input, at most `limit`, to a stage, which keeps what it learns of them.
+/// Feeds the blocks of an input, at most `limit`, to a stage, which keeps its state.
 pub(crate) fn watch<S: Source, G: Stage<Item = [u8; BLOCK_BYTES], Out = Piece>>(
     limit: u32,
     source: &mut S,
@@ -24,7 +24,7 @@ pub(crate) fn watch<S: Source, G: Stage<Item = [u8; BLOCK_BYTES], Out = Piece>>(
     pump(source, limit, stage, &mut SteadySink::new())
 }
 
-/// The same where no block may be left: then the input has to be empty.
+/// The same for a limit of 0: the input must be empty.
 pub(crate) fn watch_some<S: Source, G: Stage<Item = [u8; BLOCK_BYTES], Out = Piece>>(
     limit: u32,
     source: &mut S,

@@ -23,7 +23,7 @@ tile_colour colour0 colour1 lines i j = if has_bit (5 - i) (slice_index lines j)
 abbrev pub drawn_pixel : ℕ → ℕ → List ℕ → ℕ → ℕ
 drawn_pixel colour0 colour1 lines p = tile_colour colour0 colour1 lines (p % tile_width) (p / tile_width)
 
--- the 72 pixels of a tile after instructions of its place, which are given the last one first
+-- the 72 pixels of a tile after the instructions for its row and column; the last instruction is the first of the list
 unfoldable pub tile_from : List ℕ → List Instr → List ℕ
 tile_from old [] = old
 tile_from old (SetTile colour0 colour1 row column lines ∷ before) =
@@ -33,16 +33,16 @@ tile_from old (XorTile colour0 colour1 row column lines ∷ before) =
     map (λ p. bit_xor (drawn_pixel colour0 colour1 lines p) (slice_index older p)) (below tile_pixels)
 tile_from old (_ ∷ before) = tile_from old before
 
--- the same of instructions in order
+-- the same for instructions in order
 abbrev pub tile_after : List ℕ → List Instr → List ℕ
 tile_after old instrs = tile_from old (reverse instrs)
 
--- the instructions of this place turn the old tile into the new one
+-- the instructions for this row and column turn the old tile into the new one
 pub record Turns (row column : ℕ) (old new : List ℕ) (instrs : List Instr) : Type 0 where
   pub of_place : All (IsOfPlace row column) instrs
   pub result : tile_after old instrs ≡ new
 
--- m is the least number of instructions of this place that turn the old tile into the new one
+-- m is the smallest number of instructions for this row and column that turn the old tile into the new one
 pub record IsLeast (row column : ℕ) (old new : List ℕ) (m : ℕ) : Type 0 where
   pub enough : (instrs : List Instr) × Turns row column old new instrs × (length instrs ≡ m)
   pub needed : (instrs : List Instr) → Turns row column old new instrs → m ≤ length instrs

@@ -1,4 +1,4 @@
--- What instructions do, as one of few kinds.
+-- The effects of instructions, as a few kinds.
 use Rattle.std.specs.Prelude.{◌≡◌, ◌⊎◌, ℕ, ◌<◌, ◌≤◌, Bool, true, false, List, [], ◌∷◌, All, Option, Some, None, IfSome, ⊤}
 use Rattle.cdg_instructions.specs.declared.instr.Instr.{Instr}
 use Rattle.cdg_instructions.specs.declared.instr.Instr.TheVariants.{MemoryPreset, BorderPreset, SetTile, XorTile, ScrollPreset, ScrollCopy, Transparency, ColoursLow, ColoursHigh}
@@ -7,7 +7,7 @@ use Rattle.cdg_instructions.specs.declared.effect.Effect.{Effect}
 use Rattle.cdg_instructions.specs.declared.effect.Effect.TheVariants.{Nothing, Clear, Border, Draw, Scroll, Levels, Colours}
 use Rattle.cdg_instructions.specs.Sizes.{colour_values}
 
--- a tile as it is drawn
+-- the tile that an instruction draws
 abbrev pub drawn_tile : Bool → ℕ → ℕ → ℕ → ℕ → List ℕ → Effect
 drawn_tile exclusive colour0 colour1 row column lines = Draw (record {
   row = row;
@@ -17,7 +17,7 @@ drawn_tile exclusive colour0 colour1 row column lines = Draw (record {
   exclusive = exclusive;
 })
 
--- a move of the memory by which a colour comes in, or none
+-- a move of the memory, and the colour that fills the free pixels, if any
 abbrev pub scroll_by : Option ℕ → ℕ → ℕ → ℕ → ℕ → Effect
 scroll_by incoming across h down v = Scroll (record {
   across = across;
@@ -27,7 +27,7 @@ scroll_by incoming across h down v = Scroll (record {
   v = v;
 })
 
--- what an instruction does
+-- the effect of an instruction
 abbrev pub effect_of : Instr → Effect
 effect_of (MemoryPreset colour repeat) = Clear colour
 effect_of (BorderPreset colour) = Border colour

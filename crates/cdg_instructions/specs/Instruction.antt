@@ -1,4 +1,4 @@
--- What the graphics instructions say, and the codewords that say it.
+-- The graphics instructions and their codewords.
 use Rattle.std.specs.Prelude.{◌≡◌, ◌≢◌, ℕ, ◌+◌, ◌*◌, ◌/◌, ◌%◌, ◌<◌, ◌≤◌, List, [], ◌∷◌, ◌++◌, length, map, flat_map, take, drop, replicate, slice_index, All, Contains, ◌==◌, if◌then◌else◌, min, ⊤}
 use Rattle.bit_lists.specs.Counting.{below}
 use Rattle.rw_code.specs.Codeword.{IsCodeword}
@@ -14,7 +14,7 @@ content_of word = take 16 (drop 4 word)
 abbrev pub content : List ℕ → ℕ → ℕ
 content word i = slice_index word (4 + i)
 
--- the numbers by which symbol 1 of a graphics word names its instruction
+-- the numbers of the graphics instructions, in symbol 1 of a word
 abbrev pub known_codes : List ℕ
 known_codes = 1 ∷ 2 ∷ 6 ∷ 20 ∷ 24 ∷ 28 ∷ 30 ∷ 31 ∷ 38 ∷ []
 
@@ -23,8 +23,8 @@ pub record IsGraphics (word : List ℕ) (code : ℕ) : Type 0 where
   pub mode_is : slice_index word 0 ≡ 9
   pub code_is : slice_index word 1 ≡ code
 
--- a move is bits 5 and 4 of its symbol, where 3 is read as 0, and an offset its low bits, cut off at the greatest
--- that is allowed
+-- a move is in bits 5 and 4 of a symbol, and 3 is read as 0; an offset is in the low bits, and at most the largest
+-- offset
 abbrev pub move : ℕ → ℕ
 move symbol = if symbol / 16 == 3 then 0 else symbol / 16
 
@@ -40,7 +40,7 @@ offset_down symbol = min (symbol % 16) 11
 abbrev pub table_colour : List ℕ → ℕ → ℕ
 table_colour word k = 64 * content word (2 * k) + content word (2 * k + 1)
 
--- the fields of a tile instruction, as a word holds them
+-- the fields of a tile instruction in a word
 pub record IsTile (word : List ℕ) (colour0 colour1 row column : ℕ) (lines : List ℕ) : Type 0 where
   pub colour0_is : colour0 ≡ content word 0 % 16
   pub colour1_is : colour1 ≡ content word 1 % 16
@@ -48,7 +48,7 @@ pub record IsTile (word : List ℕ) (colour0 colour1 row column : ℕ) (lines : 
   pub column_is : column ≡ content word 3
   pub lines_are : lines ≡ drop 4 (content_of word)
 
--- the fields of a scroll, as a word holds them
+-- the fields of a scroll in a word
 pub record IsScroll (word : List ℕ) (colour across h down v : ℕ) : Type 0 where
   pub colour_is : colour ≡ content word 0 % 16
   pub across_is : across ≡ move (content word 1)
@@ -74,7 +74,7 @@ Means word (ColoursHigh colours) = IsGraphics word 31 × (colours ≡ map (table
 Means word (XorTile colour0 colour1 row column lines) = IsGraphics word 38
     × IsTile word colour0 colour1 row column lines
 
--- the two symbols of a table's colour
+-- the two symbols of a colour of the table
 abbrev pub colour_symbols : ℕ → List ℕ
 colour_symbols colour = colour / 64 ∷ colour % 64 ∷ []
 
@@ -86,7 +86,8 @@ tile_symbols colour0 colour1 row column lines = colour0 ∷ colour1 ∷ row ∷ 
 abbrev pub scroll_symbols : ℕ → ℕ → ℕ → ℕ → ℕ → List ℕ
 scroll_symbols colour across h down v = colour ∷ (16 * across + h) ∷ (16 * down + v) ∷ replicate 13 0
 
--- symbols 0 and 1 and then the content of the codeword that is written; Idle is 24 zeros, and Foreign and Unknown have none
+-- symbols 0 and 1, then the content, of the codeword that is written; Idle is 24 zeros; nothing is written for Foreign
+-- and Unknown
 abbrev pub written_symbols : Instr → List ℕ
 written_symbols Idle = replicate 18 0
 written_symbols (MemoryPreset colour repeat) = 9 ∷ 1 ∷ colour ∷ repeat ∷ replicate 14 0
@@ -102,11 +103,11 @@ written_symbols (XorTile colour0 colour1 row column lines) =
     9 ∷ 38 ∷ tile_symbols colour0 colour1 row column lines
 written_symbols _ = []
 
--- symbols 0, 1 and 4 to 19 of a word: all but the parity
+-- symbols 0, 1 and 4 to 19 of a word, without the parity
 abbrev pub message_of : List ℕ → List ℕ
 message_of word = take 2 word ++ content_of word
 
--- the codeword that is written for an instruction: the one with these symbols
+-- the codeword that is written for an instruction has these symbols
 pub record IsWritten (instr : Instr) (word : List ℕ) : Type 0 where
   pub codeword : IsCodeword word
   pub message : message_of word ≡ written_symbols instr

@@ -1,9 +1,9 @@
--- Words whose parity is made good.
+-- Words whose parity is corrected.
 use Rattle.std.specs.Prelude.{◌≡◌, ℕ, List, length}
 use Rattle.rw_code.specs.Codeword.{IsCodeword}
 use Rattle.cdg_instructions.specs.Instruction.{message_of}
 
--- the codeword that 24 symbols make when their parity, at 2, 3 and 20 to 23, is made good
+-- the codeword of 24 symbols after their parity, at 2, 3 and 20 to 23, is corrected
 pub record IsMadeGood (symbols word : List ℕ) : Type 0 where
   pub size : length symbols ≡ 24
   pub codeword : IsCodeword word

@@ -1,11 +1,11 @@
--- What a word means, as a function: the steps of stages that read packs are functions.
+-- The meaning of a word, as a function, which the steps of stages that read packs need.
 use Rattle.std.specs.Prelude.{ℕ, ◌%◌, ◌==◌, if◌then◌else◌, List, slice_index, drop, map}
 use Rattle.cdg_instructions.specs.Instruction.{content, content_of, move, offset_across, offset_down, table_colour}
 use Rattle.bit_lists.specs.Counting.{below}
 use Rattle.cdg_instructions.specs.declared.instr.Instr.{Instr}
 use Rattle.cdg_instructions.specs.declared.instr.Instr.TheVariants.{Idle, Foreign, Unknown, MemoryPreset, BorderPreset, SetTile, XorTile, ScrollPreset, ScrollCopy, Transparency, ColoursLow, ColoursHigh}
 
--- what a graphics word of this number means
+-- the meaning of a graphics word with this number
 abbrev pub graphics : List ℕ → ℕ → Instr
 graphics word code =
     if code == 1 then MemoryPreset (content word 0 % 16) (content word 1 % 16)
@@ -23,10 +23,10 @@ graphics word code =
     (content word 3) (drop 4 (content_of word))
     else Unknown
 
--- what a word of this mode and this number means: mode 9 is graphics, mode 0 nothing
+-- the meaning of a word with this mode and number: mode 9 is graphics, mode 0 is idle
 abbrev pub meaning_by : List ℕ → ℕ → ℕ → Instr
 meaning_by word mode code = if mode == 0 then Idle else if mode == 9 then graphics word code else Foreign
 
--- what a word means
+-- the meaning of a word
 unfoldable pub meaning : List ℕ → Instr
 meaning word = meaning_by word (slice_index word 0) (slice_index word 1)

@@ -6,7 +6,7 @@ use Rattle.std.specs.Prelude.{ℕ}
 abbrev pub tile_width : ℕ
 tile_width = 6
 
--- the lines of a tile: twelve symbols follow those that say where it stands (IEC 60908)
+-- the lines of a tile: twelve symbols follow the tile's row and column (IEC 60908)
 abbrev pub tile_height : ℕ
 tile_height = 12
 

@@ -1,41 +1,41 @@
-// What an instruction does: the one place that takes instructions apart for those who carry them out.
+// The effect of an instruction, for callers that carry out instructions.
 ghost use Rattle.std.specs.Prelude.{◌≡◌};
 ghost use Rattle.cdg_instructions.specs.Effect.{IsEffectInRange, effect_of};
 ghost use Rattle.cdg_instructions.specs.Instruction.{InRange};
 
 use crate::Instr;
 
-/// What an instruction does, as one of few kinds.
+/// The effect of an instruction, as one of a few kinds.
 #[derive(Clone, Copy)]
 pub enum Effect {
-    /// All stays as it is.
+    /// Nothing changes.
     Nothing,
     /// The whole memory becomes one colour.
     Clear { colour: u8 },
     /// The border becomes one colour.
     Border { colour: u8 },
-    /// A tile is drawn, where it is on the memory.
+    /// A tile is drawn if it is in the memory.
     Draw { tile: DrawnTile },
     /// The memory moves, and the offsets are set.
     Scroll { scroll: Scrolling },
     /// The levels of all sixteen colours are set.
     Levels { levels: [u8; 16] },
-    /// Eight colours from a place of the table on are set: 0 or 8.
+    /// Eight colours of the table are set, from entry 0 or 8 on.
     Colours { first: u8, colours: [u16; 8] },
 }
 
 /// A tile as it is drawn.
 #[derive(Clone, Copy)]
 pub struct DrawnTile {
-    /// 0 to 31. Rows 0 to 17 are on the memory.
+    /// 0 to 31. Rows 0 to 17 are in the memory.
     pub row: u8,
-    /// 0 to 63. Columns 0 to 49 are on the memory.
+    /// 0 to 63. Columns 0 to 49 are in the memory.
     pub column: u8,
-    /// The numbers of the colours where a bit of `lines` is 0, and where it is 1.
+    /// The colour numbers of a bit 0 and of a bit 1 of `lines`.
     pub colours: [u8; 2],
     /// Twelve lines from the top, six bits each, the leftmost pixel at bit 5.
     pub lines: [u8; 12],
-    /// Whether the colours are combined with what stands there, by exclusive or.
+    /// Whether the colours are combined with the pixels there by exclusive or.
     pub exclusive: bool,
 }
 
@@ -46,7 +46,8 @@ pub struct Scrolling {
     pub across: u8,
     /// 0: no move down, 1: down by 12 pixels, 2: up by 12 pixels.
     pub down: u8,
-    /// The number of the colour that comes in. Where there is none, what leaves at an end comes in at the other.
+    /// The number of the colour that fills the free pixels. With `None` the pixels that leave at one end enter at the
+    /// other.
     pub incoming: Option<u8>,
     /// 0 to 5: by how many pixels the screen begins further right in the memory.
     pub h: u8,
@@ -55,7 +56,7 @@ pub struct Scrolling {
 }
 
 impl Instr {
-    /// What the instruction does.
+    /// The effect of the instruction.
     #[inline]
     pub fn effect(&self) -> Effect
         ensures effect { result ≡ effect_of self.now }

@@ -1,4 +1,4 @@
-// What a pack means.
+// Reading the instruction of a pack.
 ghost use Rattle.std.specs.Prelude.{◌≡◌, ◌<◌, ◌≤◌, ◌⊎◌, ℕ, List, drop, length, map, slice_index, All};
 ghost use Rattle.rw_code.specs.Codeword.{IsWord};
 ghost use Rattle.cdg_instructions.specs.Instruction.{Means, InRange, content_of, move, table_colour};
@@ -17,8 +17,7 @@ use rw_code::{Pack, SYMBOLS, Word};
 
 /// The instruction that a pack holds.
 ///
-/// Bits that an instruction does not use are passed over, a move of 3 is read as none, and an offset that is too
-/// great is cut off at the greatest.
+/// Unused bits are ignored. A move of 3 is read as no move. An offset that is too large is read as the largest offset.
 pub fn read(pack: &Pack) -> Instr
     ensures meaning { Means pack.now result }
     ensures range { InRange result }
@@ -26,7 +25,7 @@ pub fn read(pack: &Pack) -> Instr
     read_word(&pack.word())
 }
 
-/// The same of any word: the parity has no part in it.
+/// The instruction of any word. The parity symbols are ignored.
 pub fn read_word(word: &Word) -> Instr
     ensures meaning { Means word.now result }
     ensures range { InRange result }
@@ -39,7 +38,7 @@ pub fn read_word(word: &Word) -> Instr
     }
 }
 
-// The instruction that the symbols of a graphics pack say.
+// The instruction of the symbols of a graphics pack.
 fn graphics(symbols: &[u8; SYMBOLS]) -> Instr
     requires symbols { IsWord symbols.now }
     requires mode { slice_index symbols.now 0 ≡ 9 }
@@ -133,7 +132,7 @@ fn scroll(symbols: &[u8; SYMBOLS]) -> Instr
     }
 }
 
-// A move, where 3 is read as none.
+// A move. 3 is read as no move.
 fn moved(symbol: u8) -> u8
     requires { symbol < 64 }
     ensures moved { result ≡ move symbol }
@@ -191,7 +190,7 @@ pub fn only_one_meaning()
     ensures { (word : List ℕ) (one other : Instr) → Means word one → Means word other → one ≡ other }
 {}
 
-/// What a pack means is a function of it.
+/// The meaning of a pack is unique.
 pub fn each_pack_has_a_meaning()
     ensures is { (word : List ℕ) → Means word (meaning word) }
     ensures only { (word : List ℕ) (instr : Instr) → Means word instr → instr ≡ meaning word }

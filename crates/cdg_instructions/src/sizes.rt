@@ -4,7 +4,7 @@
 /// How many pixels a tile is wide: a line of a tile is a symbol, with a bit for each of six pixels (IEC 60908).
 pub const TILE_WIDTH: usize = 6;
 
-/// How many lines a tile has: twelve symbols follow those that say where it stands (IEC 60908).
+/// How many lines a tile has: twelve symbols follow the tile's row and column (IEC 60908).
 pub const TILE_HEIGHT: usize = 12;
 
 /// How many columns of tiles the memory has (IEC 60908).

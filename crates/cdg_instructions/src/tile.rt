@@ -26,7 +26,7 @@ impl Model for Tile {
 }
 
 impl Tile {
-    /// The tile of these numbers, where all are below 16.
+    /// The tile of these numbers if all are below 16.
     pub fn new(pixels: &[u8; PIXELS]) -> Option<Tile>
         ensures { MatchOption result
             (¬ All (λ pixel. pixel < 16) pixels.now)
@@ -59,7 +59,7 @@ impl Tile {
     }
 }
 
-// Whether all numbers are below 16. It looks at all of them, so that many can be compared at once.
+// Whether all numbers are below 16. The loop has no early exit, so that the compiler can vectorize it.
 fn are_colours(pixels: &[u8; PIXELS]) -> bool
     ensures { IsTrue result ↔ ((k : ℕ) → k < tile_pixels → slice_index pixels.now k < 16) }
 {

@@ -7,8 +7,8 @@ use Rattle.cdg_instructions.specs.declared.effect.Scrolling.{Scrolling}
 use Rattle.cdg_instructions.specs.Sizes.{colour_count, colour_values, level_values, screen_height, screen_width, tile_height, tile_width}
 use Rattle.cdg_screen.specs.Standing.{Standing, covers, is_inside, rows_of, source_x, source_y}
 
--- The memory as rows that begin at a moving origin: pixel (0, 0) is element `left` of row `top`, and what is past an
--- end goes on at the other.
+-- The memory as rows with a moving origin: pixel (0, 0) is element `left` of row `top`, and rows and columns wrap
+-- around.
 pub record MemoryRows : Type 0 where
   pub rows : List (List ℕ)
   pub left : ℕ
@@ -20,7 +20,7 @@ at memory x y =
     let row = slice_index_or memory.rows ((y + memory.top) % screen_height) [] in
     slice_index row ((x + memory.left) % screen_width)
 
--- rows of 300 numbers of colours, and an origin among them at whole tiles, so that no tile goes on at the other end
+-- rows of 300 colour numbers, and an origin at whole tiles, so that no tile wraps around
 pub record IsMemory (memory : MemoryRows) : Type 0 where
   pub count : length memory.rows ≡ screen_height
   pub widths : (y : ℕ) → y < screen_height → length (slice_index_or memory.rows y []) ≡ screen_width
@@ -34,7 +34,7 @@ pub record IsMemory (memory : MemoryRows) : Type 0 where
 abbrev pub Becomes : MemoryRows → (ℕ → ℕ → ℕ) → Type 0
 Becomes memory f = (x y : ℕ) → x < screen_width → y < screen_height → at memory x y ≡ f x y
 
--- a colour that is drawn over another
+-- the colour that results from drawing one colour over another
 abbrev pub drawn_over : Bool → ℕ → ℕ → ℕ
 drawn_over exclusive colour old = if exclusive then bit_xor colour old else colour
 
@@ -42,7 +42,7 @@ drawn_over exclusive colour old = if exclusive then bit_xor colour old else colo
 abbrev pub line_colour : ℕ → ℕ → ℕ → ℕ → ℕ
 line_colour colour0 colour1 line i = if has_bit (5 - i) line then colour1 else colour0
 
--- pixel (x, y) after a tile is drawn over others, where it is on the memory
+-- pixel (x, y) after a tile is drawn, if the tile is in the memory
 abbrev pub with_tile : DrawnTile → (ℕ → ℕ → ℕ) → ℕ → ℕ → ℕ
 with_tile tile old x y =
     if covers tile.row tile.column x y
@@ -52,7 +52,7 @@ with_tile tile old x y =
     (old x y)
     else old x y
 
--- pixel (x, y) after all have moved, and another came in or this colour
+-- pixel (x, y) after all pixels have moved; the free pixels wrap around or have this colour
 abbrev pub moved_in : Option ℕ → ℕ → ℕ → (ℕ → ℕ → ℕ) → ℕ → ℕ → ℕ
 moved_in (Some colour) across down old x y =
     if is_inside screen_width (source_x across x) && is_inside screen_height (source_y down y)
@@ -63,7 +63,7 @@ moved_in None across down old x y = old (source_x across x % screen_width) (sour
 abbrev pub scrolled : Scrolling → (ℕ → ℕ → ℕ) → ℕ → ℕ → ℕ
 scrolled scroll old x y = moved_in scroll.incoming scroll.across scroll.down old x y
 
--- the ranges of what stands beside the memory
+-- the ranges of the fields beside the memory
 pub record IsInRange (border : ℕ) (colours levels : List ℕ) (h v : ℕ) : Type 0 where
   pub border_below : border < colour_count
   pub colours_count : length colours ≡ colour_count
@@ -73,7 +73,7 @@ pub record IsInRange (border : ℕ) (colours levels : List ℕ) (h v : ℕ) : Ty
   pub h_most : h ≤ 5
   pub v_most : v ≤ 11
 
--- what a screen keeps: its memory as rows with a moving origin, and what stands beside it
+-- the fields of a screen: its memory as rows with a moving origin, and the fields beside it
 pub record Kept : Type 0 where
   pub memory : MemoryRows
   pub border : ℕ
@@ -82,7 +82,7 @@ pub record Kept : Type 0 where
   pub h : ℕ
   pub v : ℕ
 
--- what stands there
+-- the state of a screen with these fields
 abbrev pub seen : Kept → Standing
 seen kept = record {
   memory = rows_of (at kept.memory);

@@ -1,4 +1,4 @@
--- What stands in the memory and on the screen after a list of instructions.
+-- The state of a screen after a list of instructions.
 use Rattle.std.specs.Prelude.{◌≡◌, ℕ, ◌+◌, ◌-◌, ◌*◌, ◌/◌, ◌%◌, Bool, List, [], ◌∷◌, map, reverse, slice_index, slice_index_or, ◌==◌, nat_le, nat_lt, ◌&&◌, if◌then◌else◌, bit_xor}
 use Rattle.bit_lists.specs.Counting.{below}
 use Rattle.cdg_instructions.specs.Drawing.{tile_colour}
@@ -6,8 +6,8 @@ use Rattle.cdg_instructions.specs.declared.instr.Instr.{Instr}
 use Rattle.cdg_instructions.specs.declared.instr.Instr.TheVariants.{MemoryPreset, BorderPreset, SetTile, XorTile, ScrollPreset, ScrollCopy, Transparency, ColoursLow, ColoursHigh}
 use Rattle.cdg_instructions.specs.Sizes.{colour_count, last_column, last_row, screen_height, screen_width, tile_height, tile_width, window_bottom, window_right}
 
--- what stands at a moment: the memory as 216 rows of 300 pixels from the top left, the border, sixteen colours and levels,
--- and the offsets of the screen
+-- the state of a screen: the memory as 216 rows of 300 pixels from the top left, the border, sixteen colours and
+-- levels, and the offsets of the screen
 pub record Standing : Type 0 where
   pub memory : List (List ℕ)
   pub border : ℕ
@@ -24,7 +24,7 @@ pixel_at rows x y = slice_index (slice_index_or rows y []) x
 unfoldable pub rows_of : (ℕ → ℕ → ℕ) → List (List ℕ)
 rows_of pixel = map (λ y. map (λ x. pixel x y) (below screen_width)) (below screen_height)
 
--- the rows of the memory, of its pixels in one list, row by row from the left
+-- the rows of the memory, from its pixels in one list, row by row from the left
 abbrev pub rows_in : List ℕ → List (List ℕ)
 rows_in pixels = rows_of (λ x y. slice_index pixels (screen_width * y + x))
 
@@ -32,7 +32,7 @@ rows_in pixels = rows_of (λ x y. slice_index pixels (screen_width * y + x))
 unfoldable pub sixteen : (ℕ → ℕ) → List ℕ
 sixteen number = map number (below colour_count)
 
--- all zero, as at the start
+-- a screen of zeros, as at the start
 abbrev pub blank : Standing
 blank = record {
   memory = rows_of (λ x y. 0);
@@ -43,30 +43,30 @@ blank = record {
   v = 0;
 }
 
--- whether the tile of a row and column is on the memory and holds the pixel
+-- whether the tile of a row and column is in the memory and contains the pixel
 abbrev pub covers : ℕ → ℕ → ℕ → ℕ → Bool
 covers row column x y =
     nat_le row last_row && nat_le column last_column && x / tile_width == column && y / tile_height == row
 
--- Where a pixel comes from in a scroll, plus the size in that direction, so that it is no negative number:
--- a move of 1 goes right or down, one of 2 left or up, by one tile.
+-- The source of a pixel in a scroll, plus the size in that direction, which avoids negative numbers. A move of 1 is
+-- right or down by one tile, and a move of 2 is left or up.
 abbrev pub source : ℕ → ℕ → ℕ → ℕ → ℕ
 source size step direction x =
     if direction == 1 then x + size - step else (if direction == 2 then x + size + step else x + size)
 
--- where a pixel comes from across, plus the width of the memory
+-- the source column of a pixel, plus the width of the memory
 abbrev pub source_x : ℕ → ℕ → ℕ
 source_x across x = source screen_width tile_width across x
 
--- where a pixel comes from down, plus the height of the memory
+-- the source row of a pixel, plus the height of the memory
 abbrev pub source_y : ℕ → ℕ → ℕ
 source_y down y = source screen_height tile_height down y
 
--- whether it comes from the memory and not from outside
+-- whether the source is in the memory
 abbrev pub is_inside : ℕ → ℕ → Bool
 is_inside size from = nat_le size from && nat_lt from (2 * size)
 
--- In the next five definitions the instructions are given the last one first, and `start` is what stood before all of
+-- In the next five definitions the last instruction is the first of the list, and `start` is the state before all of
 -- them.
 
 -- pixel (x, y) of the memory
@@ -117,7 +117,7 @@ offsets_from start (ScrollPreset colour across h down v ∷ before) = (h, v)
 offsets_from start (ScrollCopy colour across h down v ∷ before) = (h, v)
 offsets_from start (_ ∷ before) = offsets_from start before
 
--- what stands after the instructions, given in order, where this stood before
+-- the state after the instructions, in order, from this state
 abbrev pub standing_after : Standing → List Instr → Standing
 standing_after start instrs =
     let before = reverse instrs in
@@ -131,11 +131,11 @@ standing_after start instrs =
       v = offsets.1;
     }
 
--- it has the rows and the numbers that a screen has, and no more: it is as after no instructions
+-- the rows and numbers are complete and in their ranges: no instructions leave the state as it is
 abbrev pub IsWholeStanding : Standing → Type 0
 IsWholeStanding now = standing_after now [] ≡ now
 
--- pixel (x, y) of the screen: in the window the memory, moved by the offsets, and elsewhere the border
+-- pixel (x, y) of the screen: in the window the memory, moved by the offsets, and outside the border
 abbrev pub screen_pixel : Standing → ℕ → ℕ → ℕ
 screen_pixel now x y =
     if nat_le tile_width x && nat_le x window_right && nat_le tile_height y && nat_le y window_bottom

@@ -1,4 +1,4 @@
--- The picture and the state as they are written.
+-- The output of the picture and of the state.
 use Rattle.std.specs.Prelude.{ℕ, ◌*◌, ◌/◌, ◌%◌, List, [], ◌∷◌, ◌++◌, flat_map, slice_index, codes}
 use Rattle.bit_lists.specs.Counting.{below}
 use Rattle.bit_lists.specs.Digits.{digits, hex_digits, line_feed}

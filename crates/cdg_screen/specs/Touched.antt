@@ -1,4 +1,4 @@
--- What an instruction can change, whatever stands.
+-- The parts of a screen that an instruction can change, on any screen.
 use Rattle.std.specs.Prelude.{◌≡◌, ◌/◌, ◌<◌, ℕ, ◌&&◌, nat_le, if◌then◌else◌}
 use Rattle.cdg_instructions.specs.declared.instr.Instr.{Instr}
 use Rattle.cdg_instructions.specs.declared.instr.Instr.TheVariants.{MemoryPreset, BorderPreset, SetTile, XorTile, ScrollPreset, ScrollCopy, Transparency, ColoursLow, ColoursHigh}
@@ -7,12 +7,12 @@ use Rattle.cdg_screen.specs.Standing.{Standing, pixel_at}
 use Rattle.cdg_screen.specs.declared.touching.Touched.{Touched}
 use Rattle.cdg_screen.specs.declared.touching.Touched.TheVariants.{Nothing, Tile, All, Border, Colours, Levels}
 
--- a tile of the memory, or nothing where it is outside
+-- a tile of the memory, or nothing if the tile is outside
 abbrev pub tile_touched : ℕ → ℕ → Touched
 tile_touched row column =
     if nat_le row last_row && nat_le column last_column then Tile row column else Nothing
 
--- what an instruction touches: an instruction of a tile touches it whatever it draws
+-- the part of a screen that an instruction touches: a tile instruction touches its tile, whatever it draws
 abbrev pub touched_by : Instr → Touched
 touched_by (MemoryPreset colour repeat) = All
 touched_by (BorderPreset colour) = Border
@@ -25,17 +25,17 @@ touched_by (ColoursLow colours) = Colours
 touched_by (ColoursHigh colours) = Colours
 touched_by _ = Nothing
 
--- what stands beside the memory is the same in both, part by part
+-- the fields beside the memory are equal in both states
 pub record IsSameBeside (old new : Standing) : Type 0 where
   pub border : new.border ≡ old.border
   pub colours : new.colours ≡ old.colours
   pub levels : new.levels ≡ old.levels
 
--- the screen begins at the same place of the memory
+-- the offsets are equal
 abbrev pub IsSamePlace : Standing → Standing → Type 0
 IsSamePlace old new = (new.h ≡ old.h) × (new.v ≡ old.v)
 
--- From what stood before, only what was touched may have changed.
+-- Only the touched part differs between the two states.
 abbrev pub KeepsTheRest : Touched → Standing → Standing → Type 0
 KeepsTheRest Nothing old new = new ≡ old
 KeepsTheRest (Tile row column) old new =

@@ -1,15 +1,15 @@
 // A table of all lines of tiles, by which the pixels of a line are drawn at once.
 
-/// The line whose six bits are all set.
+/// A line with all six bits set.
 pub(crate) const FULL_LINE: u8 = 63;
 
 /// How many lines of six bits there are.
 const LINE_COUNT: usize = 64;
 
-/// How many bytes a number of the table has: one for each of six pixels, and two more.
+/// The bytes of an entry of the table: one for each of six pixels, and two unused ones.
 pub(crate) const LINE_BYTES: usize = 8;
 
-/// The six bits of each line in six bytes of a number, that of the leftmost pixel in the lowest of them.
+/// The six bits of each line in six bytes of a number. The bit of the leftmost pixel is in the lowest byte.
 pub(crate) static LINES: [u64; LINE_COUNT] = [
     0x000000000000,
     0x010000000000,

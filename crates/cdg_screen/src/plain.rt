@@ -1,4 +1,4 @@
-// What stands on a screen, and what an instruction makes of it.
+// The state of a screen, and how an instruction changes it.
 ghost use Rattle.std.specs.Prelude.{◌≡◌, ◌<◌, ◌≤◌, ℕ, [], ◌∷◌, slice_index, length, All, IfOk, ◌+◌, ◌-◌, ◌&&◌, nat_le, nat_lt, if◌then◌else◌};
 ghost use Rattle.cdg_instructions.specs.Effect.{effect_of};
 ghost use Rattle.cdg_instructions.specs.Instruction.{InRange};
@@ -23,14 +23,14 @@ const TOP: u32 = TILE_HEIGHT as u32;
 
 const BOTTOM: u32 = WINDOW_BOTTOM as u32;
 
-/// What stands after instructions: a memory of 300 by 216 pixels, a border, sixteen colours and levels, and the
-/// offsets of the screen.
+/// The state of a screen: a memory of 300 by 216 pixels, a border, sixteen colours and levels, and the offsets of the
+/// screen.
 ///
-/// A pixel is the number of its colour, 0 to 15. The screen has 300 by 216 pixels too: a window of 288 by 192 of them,
-/// which begins at (6, 12) and shows the memory moved by the offsets, and the border around it.
+/// A pixel is the number of its colour, 0 to 15. The screen also has 300 by 216 pixels. Its window of 288 by 192
+/// pixels begins at (6, 12) and shows the memory, moved by the offsets. The border is around the window.
 ///
-/// It is plain numbers, and stands wherever its holder does: in memory that a caller gives, or on the heap in a
-/// `Screen`. All zero it is a blank screen.
+/// The struct holds only numbers: a caller can allocate it anywhere, and a `Screen` holds it on the heap. All zero, it
+/// is a blank screen.
 #[derive(Drop)]
 #[repr(C)]
 pub struct PlainScreen {
@@ -67,7 +67,7 @@ impl Model for PlainScreen {
 }
 
 impl PlainScreen {
-    /// A screen on which all is zero. It is inlined, so that it is made where it will stand, and takes no stack.
+    /// A screen of zeros. It is inlined, so that it is built in place and needs no stack.
     #[inline(always)]
     pub fn blank() -> PlainScreen
         ensures { seen result ≡ blank }
@@ -82,7 +82,7 @@ impl PlainScreen {
         }
     }
 
-    /// Makes all zero again.
+    /// Sets everything to zero.
     pub fn reset(&mut self)
         ensures { seen self.new ≡ blank }
     {
@@ -94,8 +94,8 @@ impl PlainScreen {
         self.v = 0;
     }
 
-    /// What stands becomes exactly this: the pixels of the memory row by row from the top left, 216 rows of 300 numbers
-    /// below 16, the border, the colours as 0xRGB, the levels, and the offsets across and down.
+    /// Sets the whole state: the pixels of the memory row by row from the top left (216 rows of 300 numbers below 16),
+    /// the border, the colours as 0xRGB, the levels, and the offsets across and down.
     pub fn restore(
         &mut self,
         pixels: &[u8],
@@ -127,7 +127,7 @@ impl PlainScreen {
         (self.h, self.v) = offsets;
     }
 
-    /// What stands becomes what stands on another screen.
+    /// Copies the state of another screen.
     pub fn copy_from(&mut self, other: &PlainScreen)
         ensures { self.new ≡ other.now }
     {
@@ -139,7 +139,7 @@ impl PlainScreen {
         self.v = other.v;
     }
 
-    /// Carries out an instruction whose fields are in their ranges, as those of each instruction that was read are.
+    /// Carries out an instruction. Its fields must be in their ranges, as in each instruction that was read.
     pub fn obey(&mut self, instr: &Instr)
         requires { InRange instr.now }
         ensures { seen self.new ≡ standing_after (seen self.old) (instr.now ∷ []) }
@@ -159,7 +159,7 @@ impl PlainScreen {
         }
     }
 
-    /// Carries out an instruction that draws this tile. It is inlined, so that a tile that was just read is not copied.
+    /// Draws a tile. It is inlined, so that a tile that was just read is not copied.
     #[inline(always)]
     pub fn draw(&mut self, tile: &DrawnTile)
         requires { All (λ colour. colour < colour_count) tile.now.colours }
@@ -239,7 +239,7 @@ impl PlainScreen {
     }
 }
 
-// Sets eight colours of a table from a place on.
+// Sets eight colours of a table from an entry on.
 fn set_half(table: &mut [u16; COLOURS], at: u8, colours: &[u16; 8])
     requires place { at ≤ 8 }
     requires table { All (λ colour. colour < colour_values) table.old }

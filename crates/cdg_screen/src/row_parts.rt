@@ -1,9 +1,9 @@
-// Parts of rows of pixels, which go on at their front.
+// Parts of rows of pixels, which wrap around.
 ghost use Rattle.std.specs.Prelude.{◌≡◌, ◌<◌, ◌≤◌, ◌+◌, ◌-◌, ◌*◌, ◌%◌, ◌&&◌, nat_le, nat_lt, if◌then◌else◌, ℕ, length, slice_index};
 
 use cdg_instructions::TILE_WIDTH;
 
-/// A place that goes on at the front, less than twice as far: no division.
+/// A place that wraps around, at most once: no division.
 #[inline(always)]
 pub(crate) fn wrapped(place: usize, size: usize) -> usize
     requires { place < 2 * size }
@@ -12,7 +12,7 @@ pub(crate) fn wrapped(place: usize, size: usize) -> usize
     if place < size { place } else { place - size }
 }
 
-/// Makes the pixels from a place up to another one colour.
+/// Fills the pixels from one place to another with a colour.
 #[inline(always)]
 pub(crate) fn fill(columns: &mut [u8], from: usize, to: usize, colour: u8)
     requires order { from ≤ to }
@@ -20,7 +20,7 @@ pub(crate) fn fill(columns: &mut [u8], from: usize, to: usize, colour: u8)
     ensures { (i : ℕ) → slice_index columns.new i
         ≡ (if nat_le from i && nat_lt i to then colour else slice_index columns.old i) }
 {
-    // Each side of a whole row is as wide. A width that the compiler knows needs no call.
+    // Both sides of a whole row have this width. A constant width avoids a call.
     if to - from == TILE_WIDTH {
         columns[from..from + TILE_WIDTH].fill(colour);
     } else {
@@ -28,7 +28,7 @@ pub(crate) fn fill(columns: &mut [u8], from: usize, to: usize, colour: u8)
     }
 }
 
-/// Writes some pixels from a place on.
+/// Writes pixels from a place on.
 pub(crate) fn write_at(columns: &mut [u8], place: usize, pixels: &[u8])
     requires { place + length pixels.now ≤ length columns.old }
     ensures { (i : ℕ) → slice_index columns.new i

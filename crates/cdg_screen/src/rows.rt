@@ -1,4 +1,4 @@
-// Rows of the screen and of its memory, whole or some of their columns.
+// Rows of the screen and of its memory, or some columns of them.
 ghost use Rattle.std.specs.Prelude.{◌≡◌, ◌<◌, ◌≤◌, ◌+◌, ℕ, [], All, IfSome, length, slice_index, slice_index_or};
 ghost use Rattle.cdg_instructions.specs.Sizes.{colour_count, screen_height, screen_width};
 ghost use Rattle.cdg_screen.specs.Columns.{AreColumns};
@@ -21,8 +21,8 @@ impl PlainScreen {
         self.write_columns(0, y, row);
     }
 
-    /// Writes the numbers of the colours of pixels of row `y` of the screen, from column `x` on: one to each byte of
-    /// `columns`. They are all on the screen. It is inlined, since much of it goes where the place and the count are known.
+    /// Writes the colour numbers of row `y` of the screen, from column `x` on, one to each byte of `columns`. All of
+    /// them must be on the screen. It is inlined, since a constant place and count simplify it.
     #[inline(always)]
     pub fn write_columns(&self, x: usize, y: usize, columns: &mut [u8])
         requires width { x + length columns.old ≤ screen_width }
@@ -32,7 +32,7 @@ impl PlainScreen {
         ensures range { (i : ℕ) → slice_index columns.new i < colour_count }
     {
         let end = columns.len();
-        // Between these two is the window, and around it the border.
+        // The window is between these two columns, and the border outside.
         let left = TILE_WIDTH.saturating_sub(x).min(end);
         let right = (SCREEN_WIDTH - TILE_WIDTH).saturating_sub(x).min(end);
         if y < TILE_HEIGHT || y >= SCREEN_HEIGHT - TILE_HEIGHT || left == right {
@@ -47,8 +47,7 @@ impl PlainScreen {
         fill(columns, right, end, self.border);
     }
 
-    /// The same numbers where they stand side by side in the memory. None if the border or an end of a row of the memory
-    /// is among them.
+    /// The same numbers as a slice of the memory. `None` if they include the border or wrap around.
     pub fn columns(&self, x: usize, y: usize, count: usize) -> Option<&[u8]>
         requires width { x + count ≤ screen_width }
         requires height { y < screen_height }
@@ -89,7 +88,7 @@ impl Memory {
         row
     }
 
-    // Pixels of row y, from column x on, unless they go on at its front.
+    // Pixels of row y, from column x on, unless they wrap around.
     fn columns(&self, x: usize, y: usize, count: usize) -> Option<&[u8]>
         requires width { x + count ≤ screen_width }
         requires height { y < screen_height }
@@ -118,7 +117,7 @@ impl Memory {
         let count = columns.len().min(SCREEN_WIDTH - first);
         let rest = columns.len() - count;
         write_at(columns, 0, &row[first..first + count]);
-        // What is past the end of the row goes on at its front.
+        // Pixels past the end of the row continue at its start.
         if rest > 0 {
             write_at(columns, count, &row[..rest]);
         }

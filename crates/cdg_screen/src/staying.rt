@@ -1,4 +1,4 @@
-// Whether a change of the memory would leave it as it is.
+// Whether a change would leave the memory unchanged.
 ghost use Rattle.std.specs.Prelude.{◌≡◌, ◌<◌, ◌≤◌, ◌+◌, ◌-◌, ◌*◌, ◌%◌, ◌↔◌, ◌==◌, ◌&&◌, nat_le, nat_lt, if◌then◌else◌, ℕ, All, IsTrue, length, slice_index};
 ghost use Rattle.cdg_instructions.specs.Drawing.{tile_colour};
 ghost use Rattle.cdg_instructions.specs.Sizes.{colour_count, screen_height, screen_width, tile_width};
@@ -13,7 +13,7 @@ use cdg_instructions::{
     DrawnTile, SCREEN_HEIGHT, SCREEN_WIDTH, Scrolling, TILE_HEIGHT, TILE_WIDTH,
 };
 
-// A line that is drawn over another by exclusive or and leaves it as it is.
+// A line that changes nothing by exclusive or.
 const ZEROS: [u8; TILE_WIDTH] = [0; TILE_WIDTH];
 
 impl Memory {
@@ -29,7 +29,7 @@ impl Memory {
         true
     }
 
-    /// Whether a tile that is drawn, where it is on the memory, leaves each pixel as it is.
+    /// Whether drawing a tile, if it is in the memory, leaves each pixel unchanged.
     pub(crate) fn keeps_tile(&self, tile: &DrawnTile) -> bool
         requires { All (λ colour. colour < colour_count) tile.now.colours }
         ensures { IsTrue result ↔ Becomes self.now (with_tile tile.now (at self.now)) }
@@ -47,7 +47,7 @@ impl Memory {
         true
     }
 
-    // Whether a line of a tile that is drawn leaves its pixels as they are.
+    // Whether drawing a line of a tile leaves its pixels unchanged.
     #[inline(always)]
     fn keeps_line(&self, x: usize, y: usize, colours: [u8; 2], line: u8, exclusive: bool) -> bool
         requires width { x + tile_width ≤ screen_width }
@@ -60,14 +60,14 @@ impl Memory {
             (line_colour (slice_index colours 0) (slice_index colours 1) line (x' - x)) (at self.now x' y')
             else at self.now x' y') }
     {
-        // The origin moves by whole tiles, so no tile goes on at the other end.
+        // The origin moves by whole tiles, so no tile wraps around.
         let first = wrapped(x + self.left, SCREEN_WIDTH);
         let row = &self.rows[wrapped(y + self.top, SCREEN_HEIGHT)];
         let pixels = line_pixels(colours, line);
         leaves(&pixels, &row[first..first + TILE_WIDTH], exclusive)
     }
 
-    /// Whether a scroll leaves each pixel as it is.
+    /// Whether a scroll leaves each pixel unchanged.
     pub(crate) fn keeps_scrolled(&self, scroll: &Scrolling) -> bool
         requires { IsScrollInRange scroll.now }
         ensures { IsTrue result ↔ Becomes self.now (scrolled scroll.now (at self.now)) }
@@ -78,7 +78,7 @@ impl Memory {
         }
     }
 
-    // Whether a scroll by which what leaves at an end comes in at the other leaves each pixel as it is.
+    // Whether a scroll that wraps around leaves each pixel unchanged.
     fn keeps_scrolled_round(&self, across: u8, down: u8) -> bool
         requires across { across ≤ 2 }
         requires down { down ≤ 2 }
@@ -98,7 +98,7 @@ impl Memory {
         true
     }
 
-    // Whether a row is another one moved round.
+    // Whether a row is another row, rotated.
     fn keeps_row_round(&self, across: u8, y: usize, from: usize) -> bool
         requires across { across ≤ 2 }
         requires height { y < screen_height }
@@ -120,7 +120,7 @@ impl Memory {
         true
     }
 
-    // Whether a scroll by which a colour comes in leaves each pixel as it is.
+    // Whether a scroll that fills the free pixels with a colour leaves each pixel unchanged.
     fn keeps_scrolled_in(&self, across: u8, down: u8, colour: u8) -> bool
         requires across { across ≤ 2 }
         requires down { down ≤ 2 }
@@ -140,7 +140,7 @@ impl Memory {
         true
     }
 
-    // Whether a row is the one that comes to its place.
+    // Whether a row equals the row that moves to its place.
     fn keeps_row_in(&self, across: u8, down: u8, colour: u8, y: usize) -> bool
         requires across { across ≤ 2 }
         requires down { down ≤ 2 }
@@ -158,7 +158,7 @@ impl Memory {
         true
     }
 
-    // The pixel at a place after a scroll by which a colour comes in.
+    // The pixel at a place after a scroll that fills the free pixels with a colour.
     fn scrolled_in(&self, across: u8, down: u8, colour: u8, x: usize, y: usize) -> u8
         requires across { across ≤ 2 }
         requires down { down ≤ 2 }
@@ -181,7 +181,7 @@ impl Memory {
     }
 }
 
-// Whether the pixels of a line that are drawn over six others leave them as they are.
+// Whether drawing the pixels of a line over six others leaves them unchanged.
 #[inline(always)]
 fn leaves(pixels: &[u8; LINE_BYTES], others: &[u8], exclusive: bool) -> bool
     requires { length others.now ≡ tile_width }
@@ -195,7 +195,7 @@ fn leaves(pixels: &[u8; LINE_BYTES], others: &[u8], exclusive: bool) -> bool
     }
 }
 
-// Whether all pixels of a row have a colour. It looks at all of them, so that many can be compared at once.
+// Whether all pixels of a row have a colour. The loop has no early exit, so that the compiler can vectorize it.
 fn is_row_filled(row: &[u8; SCREEN_WIDTH], colour: u8) -> bool
     ensures { IsTrue result ↔ ((k : ℕ) → k < screen_width → slice_index row.now k ≡ colour) }
 {
@@ -206,7 +206,7 @@ fn is_row_filled(row: &[u8; SCREEN_WIDTH], colour: u8) -> bool
     filled
 }
 
-// Where a pixel comes from in a scroll, plus the size in that direction.
+// The source of a pixel in a scroll, plus the size in that direction.
 fn source(size: usize, step: usize, direction: u8, x: usize) -> usize
     requires size { size ≤ screen_width }
     requires step { step ≤ size }

@@ -1,4 +1,4 @@
-// What an instruction can change, whatever stands.
+// The parts of a screen that an instruction can change, on any screen.
 ghost use Rattle.std.specs.Prelude.{◌≡◌, ◌∷◌, []};
 ghost use Rattle.cdg_instructions.specs.declared.instr.Instr.{Instr};
 ghost use Rattle.cdg_screen.specs.Standing.{IsWholeStanding, Standing, standing_after};
@@ -7,11 +7,11 @@ ghost use Rattle.cdg_screen.specs.Touched.{KeepsTheRest, tile_touched, touched_b
 use crate::memory::is_on_memory;
 use cdg_instructions::{DrawnTile, Effect, Instr};
 
-/// What an instruction can change.
+/// The part of a screen that an instruction can change.
 #[derive(Clone, Copy)]
 pub enum Touched {
     Nothing,
-    /// Pixels of a tile of the memory: row 0 to 17, column 0 to 49. The screen shows it moved by the offsets.
+    /// Pixels of a tile of the memory: row 0 to 17, column 0 to 49. The screen shows the tile moved by the offsets.
     Tile { row: u8, column: u8 },
     /// The whole memory, and the offsets.
     All,
@@ -20,7 +20,7 @@ pub enum Touched {
     Levels,
 }
 
-/// What an instruction touches. One of a tile touches it whatever it draws there.
+/// The part of a screen that an instruction touches. A tile instruction touches its tile, whatever it draws.
 pub fn touches(instr: &Instr) -> Touched
     ensures { result ≡ touched_by instr.now }
 {
@@ -34,7 +34,7 @@ pub fn touches(instr: &Instr) -> Touched
     }
 }
 
-// A tile that is drawn, or nothing where it is not on the memory.
+// A tile of the memory, or nothing if the tile is outside.
 fn touched_tile(tile: &DrawnTile) -> Touched
     ensures { result ≡ tile_touched tile.now.row tile.now.column }
 {
