@@ -196,7 +196,7 @@ ROWS: list[tuple[str, list[str], str, int | None]] = [
     ("author --lead-in 0 --length 88:53:45", ["sheet", "script"], "a script of 500 pictures", AUTHORED),
     ("author --lead-in 0 --length 88:53:45", ["sheet", "shows"], "20,000 `show` lines without a change", AUTHORED),
     ("author --lead-in 0 --length 88:53:45", ["sheet", "fills"], "64 MiB of `fill` lines", AUTHORED),
-    ("press --lead-in 0 --length 88:53:45", ["sheet", "song"], "a `.cdg` file of its length", AUTHORED),
+    ("press --lead-in 0 --length 88:53:45", ["sheet", "song"], "a `.cdg` file as long as the audio", AUTHORED),
     ("merge --lead-in 0", ["authored", "authored"], "two clean readings", None),
     ("merge --lead-in 0", ["scratched", "again"], "two scratched readings", None),
     ("thin", ["cdg"], "a `.cdg` file", None),
