@@ -43,9 +43,9 @@ def _too_long(_number: int, _frame: FrameType | None) -> None:
 
 def summary(result: unittest.TestResult) -> str:
     skipped = collections.Counter(reason for _, reason in result.skipped)
-    told = f"desk: {result.testsRun - len(result.skipped)} tests run, {len(result.skipped)} skipped"
+    summary = f"desk: {result.testsRun - len(result.skipped)} tests run, {len(result.skipped)} skipped"
     reasons = "; ".join(f"{count}: {reason}" for reason, count in sorted(skipped.items()))
-    return f"{told} ({reasons})" if reasons else told
+    return f"{summary} ({reasons})" if reasons else summary
 
 
 def once_more(result: unittest.TestResult) -> unittest.TestResult:

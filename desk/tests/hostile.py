@@ -432,8 +432,8 @@ class Made(NamedTuple):
         if keep := os.environ.get("KEEP"):
             for name, content in self.inputs.items():
                 (Path(keep) / name.replace("/", "-")).write_bytes(content)
-        told = {name: (len(content), zlib.crc32(content), content[:40]) for name, content in self.inputs.items()}
-        return f"{' '.join(self.words)} {told}"
+        inputs = {name: (len(content), zlib.crc32(content), content[:40]) for name, content in self.inputs.items()}
+        return f"{' '.join(self.words)} {inputs}"
 
 
 @st.composite
@@ -561,23 +561,23 @@ def check(call: Made) -> int:
         with contextlib.chdir(folder):
             ran = desk(*words)
         after = state(folder)
-    said = f"{words}\nended with {ran.status}\n{ran.errors}"
-    assert ran.status in STATUSES, said
-    assert "Traceback" not in ran.errors, said
+    message = f"{words}\nended with {ran.status}\n{ran.errors}"
+    assert ran.status in STATUSES, message
+    assert "Traceback" not in ran.errors, message
     # A table stands on standard error if standard output is an output.
     if ran.status != 2 and "-" not in call.outputs:
-        assert all(line.startswith(PREFIX) for line in ran.errors.splitlines()), said
+        assert all(line.startswith(PREFIX) for line in ran.errors.splitlines()), message
     if ran.status not in WRITES:
         # A report that was refused may have made its folder and what it read before.
         if call.words[0] != "report":
-            assert after == before, f"{said}\nchanged: {sorted(set(after) ^ set(before))}"
-        assert ran.errors or call.words[0] == "report", said
+            assert after == before, f"{message}\nchanged: {sorted(set(after) ^ set(before))}"
+        assert ran.errors or call.words[0] == "report", message
     for name in set(after) | set(before):
         if after.get(name) != before.get(name):
-            assert may_appear(call, name), f"{said}\nchanged: {name}"
+            assert may_appear(call, name), f"{message}\nchanged: {name}"
             assert (
                 name not in before or before[name][0] == after[name][0]
-            ), f"{said}\nturned into something else: {name}"
+            ), f"{message}\nturned into something else: {name}"
     return ran.status
 
 

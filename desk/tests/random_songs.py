@@ -284,11 +284,11 @@ def main() -> int:
             path = Path(folder) / f"{number}.lrc"
             path.write_text(random_song(dice))
             seen = watch(path, Wishes(read_style("night"), sweep=dice.random() < 0.2))
-            told = [line for line in seen.made.warnings() if "no room" not in line]
+            warnings = [line for line in seen.made.warnings() if "no room" not in line]
             late += bool(seen.made.lateness.rows())
             faults += bool(seen.faults)
             worst = max(worst, seen.worst)
-            for line in [*seen.faults, *told]:
+            for line in [*seen.faults, *warnings]:
                 print(line, flush=True)
     print(
         f"{count} songs, {faults} with faults, {late} with lines that the desk reports as late; "

@@ -241,7 +241,7 @@ try {
     await ({ times, look }[mode] ?? main)();
 } catch (error) {
     found.failed = String(error?.stack ?? error);
-    found.told = await browser.value("document.body.innerText").catch(() => "");
+    found.text = await browser.value("document.body.innerText").catch(() => "");
 }
 writeFileSync(join(folder, "found.json"), JSON.stringify(found));
 browser.stop();

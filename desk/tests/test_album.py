@@ -113,8 +113,8 @@ class AlbumTest(SongsTest):
     def test_each_track_begins_clean_from_any_screen(self) -> None:
         self.album()
         program = self.program()
-        packs, told = packs_of_blocks(program, RAW, 0)
-        self.assertEqual((told.bad, len(program) // BLOCK), (0, PAUSE + sum(LENGTHS) + 2 * GAP))
+        packs, counts = packs_of_blocks(program, RAW, 0)
+        self.assertEqual((counts.bad, len(program) // BLOCK), (0, PAUSE + sum(LENGTHS) + 2 * GAP))
         for number, (start, length) in enumerate(zip(self.starts(), LENGTHS)):
             cut, _ = packs_of_blocks(program[BLOCK * start :], RAW, 0)
             with Player() as whole, Player() as skipped:
@@ -327,10 +327,10 @@ class PairTest(SongsTest):
             "default=nw=1",
             str(self.folder / "one.mp3"),
         ]
-        told = subprocess.run(words, capture_output=True, text=True, check=True).stdout
+        output = subprocess.run(words, capture_output=True, text=True, check=True).stdout
         for word in ("codec_name=mp3", "TAG:title=Song 1", "TAG:artist=Singer 1"):
-            self.assertIn(word, told)
-        self.assertAlmostEqual(float(told.partition("duration=")[2].split()[0]), 20, delta=0.1)
+            self.assertIn(word, output)
+        self.assertAlmostEqual(float(output.partition("duration=")[2].split()[0]), 20, delta=0.1)
 
     def test_karaoke_cd(self) -> None:
         self.pair("--karaoke-cd")

@@ -159,8 +159,8 @@ class SheetOfDumpsTest(FolderTest):
             )
             row = desk("identify", path).rows()[0]
             first_end, last_end = (f"{time // 4500:02}:{time // 75 % 60:02}:{time % 75:02}" for time in ends)
-            said = f"2 sessions: tracks 01 to 02, lead-out (by the usual gap, )?at {first_end}; track 03, lead-out .*{last_end}"
-            self.assertRegex(row["notes"], said, case)
+            message = f"2 sessions: tracks 01 to 02, lead-out (by the usual gap, )?at {first_end}; track 03, lead-out .*{last_end}"
+            self.assertRegex(row["notes"], message, case)
             by_session: dict[int | None, list[str]] = {None: ["00:20:00"] * 2, 1: ["00:20:00"] * 2, 2: ["00:32:00"]}
             for session, lengths in by_session.items():
                 session_words: list[Word] = []
@@ -254,12 +254,12 @@ class SheetOfDumpsTest(FolderTest):
         disc.texts = b"".join(texts)
         stream = known.lead_in(disc, 60) + program(disc, 0, disc.end, 0)
         path = self.write("dump", stream)
-        for words, wanted, said in (((), "Café".encode(), "UTF-8"), (("--latin-1",), b"Caf\xe9", "Latin-1")):
+        for words, wanted, message in (((), "Café".encode(), "UTF-8"), (("--latin-1",), b"Caf\xe9", "Latin-1")):
             out = self.folder / f"out{len(words)}.cue"
             ran = desk("sheet", path, "-o", out, *words)
             self.assertEqual(ran.status, 0, ran.errors)
             self.assertIn(b'TITLE "%b"' % wanted, out.read_bytes())
-            self.assertIn(said, ran.errors)
+            self.assertIn(message, ran.errors)
 
     def test_clone_cd(self) -> None:
         disc = three()

@@ -94,9 +94,9 @@ class AudioTest(FolderTest):
 
     def test_cut_files_are_told(self) -> None:
         whole = wav(bytes(4 * 44_100))
-        told = self.refused(self.sound(whole[: len(whole) // 2]))
-        self.assertIn("is cut off: 0.50 of 1.00 seconds are there", told)
-        self.assertIn("ffmpeg -i ", told)
+        errors = self.refused(self.sound(whole[: len(whole) // 2]))
+        self.assertIn("is cut off: 0.50 of 1.00 seconds are there", errors)
+        self.assertIn("ffmpeg -i ", errors)
         self.assertIn("ends before its samples begin", self.refused(self.sound(whole[:30], "b.wav")))
 
     def test_without_ffmpeg_the_line_is_told(self) -> None:
@@ -108,9 +108,9 @@ class AudioTest(FolderTest):
             (self.sound(b"ID3 no sound", "f.mp3"), "is no WAV file"),
         ):
             with mock.patch.dict(os.environ, {"PATH": str(self.folder)}):
-                told = self.refused(path)
-            self.assertIn(f"{what}, and ffmpeg is not installed", told)
-            self.assertIn(f"`ffmpeg -i {path} -vn -ar 44100 -ac 2 -c:a pcm_s16le OUT.wav` makes such a file", told)
+                errors = self.refused(path)
+            self.assertIn(f"{what}, and ffmpeg is not installed", errors)
+            self.assertIn(f"`ffmpeg -i {path} -vn -ar 44100 -ac 2 -c:a pcm_s16le OUT.wav` makes such a file", errors)
 
     @needs_ffmpeg
     def test_other_forms_are_converted(self) -> None:

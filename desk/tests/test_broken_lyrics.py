@@ -133,29 +133,31 @@ class ManyTest(FolderTest):
         return ran.status, ran.errors
 
     def test_too_many_letters(self) -> None:
-        status, told = self.lyrics(f"[00:08.00]{'la ' * 300_000}\n[00:20.00]\n")
-        self.assertEqual((status, "line 1: it has 899,999 letters, and 2,000 are the most" in told), (3, True), told)
-        status, told = self.lyrics("[00:08.00]la\n" * 10_001)
-        self.assertEqual((status, "there are 10,001 lines that are sung, and 10,000 are the most" in told), (3, True))
-        status, told = self.lyrics("no time\n" * 5000 + "[00:20.00]la\n[00:21.00]\n")
-        self.assertEqual((status, "there are 4900 more notes like these" in told, told.count("\n")), (0, True, 102))
+        status, errors = self.lyrics(f"[00:08.00]{'la ' * 300_000}\n[00:20.00]\n")
+        self.assertEqual(
+            (status, "line 1: it has 899,999 letters, and 2,000 are the most" in errors), (3, True), errors
+        )
+        status, errors = self.lyrics("[00:08.00]la\n" * 10_001)
+        self.assertEqual((status, "there are 10,001 lines that are sung, and 10,000 are the most" in errors), (3, True))
+        status, errors = self.lyrics("no time\n" * 5000 + "[00:20.00]la\n[00:21.00]\n")
+        self.assertEqual((status, "there are 4900 more notes like these" in errors, errors.count("\n")), (0, True, 102))
 
     def test_a_title_of_a_megabyte(self) -> None:
         for title in ("x" * MEGABYTE, "la " * (MEGABYTE // 3)):
-            status, told = self.lyrics(f"[ti:{title}]\n[00:20.00]la\n[00:21.00]\n")
-            self.assertEqual((status, "none is late" in told), (0, True), told)
+            status, errors = self.lyrics(f"[ti:{title}]\n[00:20.00]la\n[00:21.00]\n")
+            self.assertEqual((status, "none is late" in errors), (0, True), errors)
 
     def test_too_many_pictures(self) -> None:
         text = "".join(f"[00:{second}.00]One two\n" for second in range(10, 20))
         with mock.patch.object(song_script, "MOST_PICTURES", 50):
-            status, told = self.lyrics(text)
-        self.assertEqual((status, "pictures, and a script has 50 at most" in told), (3, True), told)
+            status, errors = self.lyrics(text)
+        self.assertEqual((status, "pictures, and a script has 50 at most" in errors), (3, True), errors)
         self.assertEqual(self.lyrics(text)[0], 0)
 
     def test_the_last_minutes_of_the_longest_disc(self) -> None:
         self.assertEqual(self.lyrics("[98:50.00]la\n[98:55.00]\n")[0], 0)
-        status, told = self.lyrics("[99:50.00]la\n[99:55.00]\n")
-        self.assertEqual((status, "is at [99:50.00], and a disc ends after 99 minutes" in told), (3, True), told)
+        status, errors = self.lyrics("[99:50.00]la\n[99:55.00]\n")
+        self.assertEqual((status, "is at [99:50.00], and a disc ends after 99 minutes" in errors), (3, True), errors)
 
 
 if __name__ == "__main__":

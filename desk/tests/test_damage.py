@@ -70,8 +70,8 @@ class DamageTest(FolderTest):
         for block in (40, 41, 950):
             stream = with_bad_q(stream, block)
         rows = self.found(stream)
-        said = program("check", "--lead-in", LEAD_IN, stdin=stream, statuses=(0, 1)).decode()
-        counts = dict(line.split() for line in said.splitlines())
+        output = program("check", "--lead-in", LEAD_IN, stdin=stream, statuses=(0, 1)).decode()
+        counts = dict(line.split() for line in output.splitlines())
         self.assertEqual(sum(int(row["bad"]) for row in rows), int(counts["bad"]))
         self.assertEqual(sum(int(row["corrected"]) for row in rows), int(counts["one"]) + int(counts["two"]))
         self.assertEqual(sum(int(row["q-bad"]) for row in rows), int(counts["q-bad"]))

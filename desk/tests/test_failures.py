@@ -35,20 +35,20 @@ def called(error: BaseException, writing: bool = False) -> tuple[type[Failure], 
 
 class TableTest(unittest.TestCase):
     def test_what_the_system_refuses(self) -> None:
-        for number, said in (
+        for number, message in (
             (errno.EACCES, "permission denied"),
             (errno.ENOENT, "no such file or directory"),
             (errno.EIO, "input/output error"),
             (errno.EISDIR, "is a directory"),
         ):
             error = OSError(number, os.strerror(number))
-            self.assertEqual(called(error), (Refusal, f"a\\tb: {said}", 3))
-            self.assertEqual(called(error, True), (Unwritten, f"a\\tb: {said}", 6))
+            self.assertEqual(called(error), (Refusal, f"a\\tb: {message}", 3))
+            self.assertEqual(called(error, True), (Unwritten, f"a\\tb: {message}", 6))
         self.assertEqual(called(OSError("odd"))[1], "a\\tb: odd")
         self.assertEqual(called(OSError())[1], "a\\tb: oserror")
 
     def test_what_is_wrong_with_a_file(self) -> None:
-        for error, said, status in (
+        for error, message, status in (
             (MemoryError(), "there is not enough memory for it", 7),
             (RecursionError(), "is nested too deeply", 3),
             (EOFError(), "ends too early", 3),
@@ -56,7 +56,7 @@ class TableTest(unittest.TestCase):
             (struct.error("odd"), "cannot be read", 3),
             (UnicodeDecodeError("utf-8", b"\xff", 0, 1, "odd"), "is no text in UTF-8", 3),
         ):
-            self.assertEqual(called(error)[1:], (f"a\\tb: {said}", status))
+            self.assertEqual(called(error)[1:], (f"a\\tb: {message}", status))
         self.assertIs(called(MemoryError())[0], NoMemory)
 
     @needs_pillow
@@ -69,9 +69,9 @@ class TableTest(unittest.TestCase):
             warnings.warn("could be decompression bomb DOS attack", Image.DecompressionBombWarning)
 
     def test_what_nobody_thought_of(self) -> None:
-        kind, said, status = called(KeyError("x\ny"))
-        self.assertEqual((kind, status, "\n" in said), (Fault, 8, False))
-        self.assertIn("a fault of the desk", said)
+        kind, message, status = called(KeyError("x\ny"))
+        self.assertEqual((kind, status, "\n" in message), (Fault, 8, False))
+        self.assertIn("a fault of the desk", message)
 
     def test_failures_stay(self) -> None:
         for failure in (Missing("this needs x"), Refusal("a", "b"), Unwritten("a", "b")):
@@ -144,8 +144,8 @@ class MemoryTest(FolderTest):
         )
         for words in calls:
             ran = desk(*words, preexec_fn=little)
-            told = f"ribjasper-desk: {dump}: there is not enough memory for it\n"
-            self.assertEqual((ran.status, ran.errors), (7, told), words)
+            message = f"ribjasper-desk: {dump}: there is not enough memory for it\n"
+            self.assertEqual((ran.status, ran.errors), (7, message), words)
             self.assertEqual(os.listdir(self.folder), ["dump"])
 
 

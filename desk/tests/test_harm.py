@@ -88,8 +88,8 @@ class SameFileTest(CallsTest):
             forces: tuple[tuple[str, ...], ...] = ((), ("--force",))
             for force in forces:
                 why = "is read here" if words[0] != "report" else "is the folder that is read"
-                told = self.refuses(*words, *force, why=why).errors
-                self.assertEqual(len(told.splitlines()), 1, told)
+                errors = self.refuses(*words, *force, why=why).errors
+                self.assertEqual(len(errors.splitlines()), 1, errors)
 
     def test_through_links(self) -> None:
         dump = self.write("x", b"dump")
@@ -394,8 +394,8 @@ class StoppedTest(CallsTest):
                     # The pipe opens when the command begins to read it.
                     with open(song, "wb"):
                         running.send_signal(number)
-                        told = running.communicate(timeout=60)[1]
-                self.assertEqual((running.returncode, told), (128 + number, b"ribjasper-desk: stopped\n"))
+                        errors = running.communicate(timeout=60)[1]
+                self.assertEqual((running.returncode, errors), (128 + number, b"ribjasper-desk: stopped\n"))
                 self.assertEqual(sorted(os.listdir(self.folder)), ["s.script", "song"])
                 self.assertEqual(script.read_bytes(), b"# old\n")
 

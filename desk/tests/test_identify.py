@@ -115,9 +115,9 @@ class IdentifyTest(FolderTest):
         ran = desk("identify", missing, self.folder, good)
         self.assertEqual(ran.status, 3)
         self.assertEqual([row["file"] for row in ran.rows()], [str(good)])
-        told = ran.errors.splitlines()
-        self.assertIn(f"{missing}: no such file or directory", told[0])
-        self.assertIn(f"{self.folder}: is a directory", told[1])
+        lines = ran.errors.splitlines()
+        self.assertIn(f"{missing}: no such file or directory", lines[0])
+        self.assertIn(f"{self.folder}: is a directory", lines[1])
         if os.geteuid() != 0:
             self.assertIn(f"{locked}: permission denied", desk("identify", locked).errors)
 

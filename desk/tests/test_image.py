@@ -148,9 +148,9 @@ class ImageTest(FolderTest):
     def test_texts_of_another_sheet_are_told(self) -> None:
         self.assertNotIn("its texts are not those", self.image().errors)
         self.sheet = self.write("b.cue", SHEET.replace("All the Gaps", "Other Gaps"))
-        told = self.image().errors
-        self.assertIn("its texts are not those of", told)
-        self.assertIn("2 differ, as `title 00 All the Gaps` of the stream", told)
+        errors = self.image().errors
+        self.assertIn("its texts are not those of", errors)
+        self.assertIn("2 differ, as `title 00 All the Gaps` of the stream", errors)
 
     def test_a_pressed_file_is_not_told_to_have_a_script(self) -> None:
         plain = self.write("b.cue", 'FILE "a.wav" WAVE\nTRACK 01 AUDIO\nINDEX 01 00:00:00\n')

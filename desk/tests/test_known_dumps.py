@@ -232,8 +232,8 @@ class KnownDumpsTest(FolderTest):
             with self.subTest(case):
                 path = self.dump(number, truth)
                 row = self.found(path)
-                told = row["form"], int(row["lead-in"]), row["graphics"]
-                self.assertEqual(told, (truth.form, truth.lead_in, truth.graphics), row)
+                result = row["form"], int(row["lead-in"]), row["graphics"]
+                self.assertEqual(result, (truth.form, truth.lead_in, truth.graphics), row)
                 self.assertIn(truth.note, row["notes"])
                 self.check_sheet(case, truth, path)
 

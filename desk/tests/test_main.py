@@ -62,8 +62,8 @@ class MainTest(FolderTest):
         with subprocess.Popen(words, stdout=subprocess.PIPE, stderr=subprocess.PIPE) as running:
             assert running.stdout and running.stderr
             running.stdout.close()
-            told = running.stderr.read()
-        self.assertEqual(told.splitlines()[-1], b"ribjasper-desk: standard output: broken pipe")
+            errors = running.stderr.read()
+        self.assertEqual(errors.splitlines()[-1], b"ribjasper-desk: standard output: broken pipe")
         self.assertEqual(running.returncode, 6)
 
 

@@ -472,11 +472,11 @@ class FaultsTest(MendCase):
     def test_zeros_of_a_reading_without_graphics_are_never_believed(self) -> None:
         half = self.whole[: BLOCK * (len(self.whole) // BLOCK // 2)]
         packs = self.mended(half, known.without_rw(self.whole), status=1)
-        told = re.search(r"(\d+) words have no codeword", self.ran.errors)
-        assert told
+        lost = re.search(r"(\d+) words have no codeword", self.ran.errors)
+        assert lost
         words = len(self.truth) // PACK
         self.assertEqual(packs[: len(packs) // 2 - 48 * PACK], self.truth[: len(packs) // 2 - 48 * PACK])
-        self.assertTrue(abs(int(told[1]) - words // 2) < 20, self.ran.errors)
+        self.assertTrue(abs(int(lost[1]) - words // 2) < 20, self.ran.errors)
 
     def test_maps_count_the_written_file(self) -> None:
         lead_in = known.lead_in(self.disc, 60)
@@ -512,8 +512,8 @@ class FaultsTest(MendCase):
             f"{BLOCK * 1060:#x} {size - BLOCK * 1060:#x} +",
         ]
         for name in ("one.map", "one.raw.map"):
-            told = self.write(name, "".join(f"{line}\n" for line in lines).encode())
-            ran = desk("mend", first, second, "-o", self.folder / "out.cdg", "--unread", told, "--force")
+            map_of = self.write(name, "".join(f"{line}\n" for line in lines).encode())
+            ran = desk("mend", first, second, "-o", self.folder / "out.cdg", "--unread", map_of, "--force")
             self.assertEqual(ran.status, 0, ran)
             self.assertIn("60 blocks were not read", ran.errors)
             self.assertEqual((self.folder / "out.cdg").read_bytes(), self.truth)

@@ -47,8 +47,8 @@ class PackageTest(FolderTest):
         self.assertIn("    identify ", self.run_well(program, "--help"))
         if has("ribjasper_version"):
             built = next(library.candidates())
-            told = self.run_well(program, "--version", RIBJASPER_LIBRARY=built)
-            self.assertEqual(told, f"ribjasper-desk {NUMBER}\n")
+            output = self.run_well(program, "--version", RIBJASPER_LIBRARY=built)
+            self.assertEqual(output, f"ribjasper-desk {NUMBER}\n")
 
     def room(self) -> Path:
         """An empty environment of Python."""
@@ -183,13 +183,13 @@ class PackageTest(FolderTest):
             self.assertIn(word, page)
 
     def test_no_program_changes_where_python_looks(self) -> None:
-        told = subprocess.run(
+        output = subprocess.run(
             ["git", "grep", "-n", r"sys\.path\.\(insert\|append\)", "--", "desk", "examples/song"],
             cwd=TOP,
             capture_output=True,
             text=True,
         ).stdout
-        self.assertEqual([line for line in told.splitlines() if "test_package.py" not in line], [])
+        self.assertEqual([line for line in output.splitlines() if "test_package.py" not in line], [])
 
 
 if __name__ == "__main__":

@@ -133,8 +133,8 @@ class PairsTest(FolderTest):
                     self.graphics["usual"], b""]  # fmt: skip
         program, starts = self.program(), self.starts()
         self.assertEqual(len(starts), 6)
-        whole, told = packs_of_blocks(program, RAW, 0)
-        self.assertEqual(told.bad, 0)
+        whole, counts = packs_of_blocks(program, RAW, 0)
+        self.assertEqual(counts.bad, 0)
         ends = [*(start - 75 for start in starts[1:]), len(program) // BLOCK]
         for number, (start, end, content) in enumerate(zip(starts, ends, contents)):
             later = LEAD if number == 1 else 0
@@ -261,10 +261,10 @@ class PairsTest(FolderTest):
     def test_loudness_and_fades(self) -> None:
         quiet = tone(self.folder / "one.wav", 14, 0.02)
         made = audio.treated(quiet, Treatment(loudness=-18.0, fade_in=1.0, fade_out=2.0))
-        told = subprocess.run(
+        output = subprocess.run(
             ["ffmpeg", "-nostdin", "-i", made, "-af", "ebur128", "-f", "null", "-"], capture_output=True, text=True
         ).stderr
-        found = float(told.rpartition("I:")[2].split()[0])
+        found = float(output.rpartition("I:")[2].split()[0])
         self.assertAlmostEqual(found, -18, delta=1.5)
         samples = struct.unpack(f"<{14 * 44_100 * 2}h", made.read_bytes()[44:])
         peaks = [max(abs(one) for one in samples[2 * 4410 * at : 2 * 4410 * (at + 1)]) for at in range(140)]

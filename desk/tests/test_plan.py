@@ -47,8 +47,8 @@ class PlanTest(FolderTest):
         sheet = self.write("a.cue", SHEET)
         late = next(row for row in desk("plan", sheet, script, "--length", "00:22:00").cells() if row[-1] == "yes")
         words = "author", "--lead-in", "30", "--length", "00:22:00", "--", sheet, script
-        told = subprocess.run([str(PROGRAM), *words], capture_output=True, text=True).stderr.split()
-        self.assertEqual(told, ["late", late[0], "need", late[4], "free", late[5]])
+        errors = subprocess.run([str(PROGRAM), *words], capture_output=True, text=True).stderr.split()
+        self.assertEqual(errors, ["late", late[0], "need", late[4], "free", late[5]])
 
     def test_length_of_audio(self) -> None:
         audio = write_wav(self.folder / "a.wav", 588 * 100 + 1)

@@ -48,14 +48,14 @@ class RefusalTest(FolderTest):
 
     def test_plan(self) -> None:
         sheet, script = self.write("a.cue", SHEET), self.write("a.script", SCRIPT)
-        told = self.refused("plan", script, sheet, "--length", "00:22:00")
+        errors = self.refused("plan", script, sheet, "--length", "00:22:00")
         self.assertEqual(
-            told, f"ribjasper-desk: {script}: is a picture script, and {sheet} is a cue sheet: give the sheet first\n"
+            errors, f"ribjasper-desk: {script}: is a picture script, and {sheet} is a cue sheet: give the sheet first\n"
         )
         for name, content in LYRICS.items():
             lyrics = self.write("song", content)
-            told = self.refused("plan", sheet, lyrics, "--length", "00:22:00")
-            self.assertIn(f"{lyrics}: is lyrics, and no picture script: `ribjasper-desk lyrics {lyrics}", told, name)
+            errors = self.refused("plan", sheet, lyrics, "--length", "00:22:00")
+            self.assertIn(f"{lyrics}: is lyrics, and no picture script: `ribjasper-desk lyrics {lyrics}", errors, name)
             self.assertIn("is lyrics, and no cue sheet", self.refused("plan", lyrics, script, "--length", "00:22:00"))
         # Other files are refused as before.
         other = self.write("b.script", b"show 00:01:00 00:01:00\nblah\n")
@@ -64,9 +64,9 @@ class RefusalTest(FolderTest):
     def test_album(self) -> None:
         for name, content in LYRICS.items():
             lyrics = self.write("song", content)
-            told = self.refused("album", lyrics, "-o", self.folder / "disc")
+            errors = self.refused("album", lyrics, "-o", self.folder / "disc")
             self.assertIn(
-                f"{lyrics}: is lyrics, and no list of songs: `ribjasper-desk album --new {lyrics}", told, name
+                f"{lyrics}: is lyrics, and no list of songs: `ribjasper-desk album --new {lyrics}", errors, name
             )
         self.assertIn("is no TOML", self.refused("album", self.write("a.toml", b"= 1\n"), "-o", self.folder / "disc"))
         self.assertIn("no such file", self.refused("album", self.folder / "none.toml", "-o", self.folder / "disc"))
@@ -84,8 +84,8 @@ class RefusalTest(FolderTest):
             self.assertIn(
                 "forms: raw, pq, planar, sector, sector-pq, sector-planar, cooked, cooked-sector, cdg", ran.errors
             )
-        told = self.refused("convert", dump, "-o", self.folder / "b.xyz", "--form", "raw")
-        self.assertIn("say --as FORM: raw, pq, planar", told)
+        errors = self.refused("convert", dump, "-o", self.folder / "b.xyz", "--form", "raw")
+        self.assertIn("say --as FORM: raw, pq, planar", errors)
 
 
 if __name__ == "__main__":

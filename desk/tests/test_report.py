@@ -88,11 +88,11 @@ class ReportTest(FolderTest):
         self.assertEqual(by_number[2]["damage"][0].split("-")[0], "402")
         self.assertEqual((by_number[2]["empty"], by_number[3]["jumps"], by_number[10]["rest"]), (21, 1, 85))
         self.assertEqual(by_number[0]["texts"][0], "title 00 Hello From the Subcode")
-        said = dict(
+        counts = dict(
             line.split() for line in program("check", "--lead-in", LEAD_IN, stdin=hello()).decode().splitlines()
         )
         for name in ("clean", "one", "two", "bad", "q-bad"):
-            self.assertEqual(by_number[0][name], int(said[name]))
+            self.assertEqual(by_number[0][name], int(counts[name]))
         summed = subprocess.run(["sha256sum", self.dumps / "box-0/dump-000"], capture_output=True, text=True).stdout
         self.assertEqual(by_number[0]["sha256"], summed.split()[0])
 
@@ -199,9 +199,9 @@ class ReportTest(FolderTest):
         while not (journal.exists() and journal.read_bytes().count(b"\n") >= 5) and running.poll() is None:
             time.sleep(0.002)
         running.send_signal(signal.SIGINT)
-        told = running.communicate()[1].decode()
-        self.assertEqual(running.returncode, 130, told)
-        self.assertEqual(told, "ribjasper-desk: stopped\n")
+        errors = running.communicate()[1].decode()
+        self.assertEqual(running.returncode, 130, errors)
+        self.assertEqual(errors, "ribjasper-desk: stopped\n")
         self.assertEqual([path.name for path in self.out.rglob(".ribjasper-*")], [])
 
     def test_parts_make_the_same_report(self) -> None:
@@ -274,10 +274,10 @@ class ReportTest(FolderTest):
         ran = desk("sums", *files, "--check", self.out / "dumps.dat")
         self.assertEqual(ran.status, 0, ran.errors)
         row = self.table()[0]
-        said = desk("sums", self.dumps / row["file"]).rows()[0]
+        sums = desk("sums", self.dumps / row["file"]).rows()[0]
         self.assertEqual(
             [row[name] for name in ("crc32", "md5", "sha1", "sha256")],
-            [said[name] for name in ("crc32", "md5", "sha1", "sha256")],
+            [sums[name] for name in ("crc32", "md5", "sha1", "sha256")],
         )
 
     def test_a_folder_that_cannot_be_entered_is_a_row(self) -> None:
@@ -446,10 +446,10 @@ class ClusterTest(FolderTest):
             time.sleep(0.1)
         time.sleep(3)
         scheduler.kill()
-        told = running.communicate(timeout=100)[1].decode()
-        self.assertEqual(running.returncode, 3, told)
-        self.assertEqual(len(told.splitlines()), 1, told)
-        self.assertIn(f"{address}: the scheduler went away", told)
+        errors = running.communicate(timeout=100)[1].decode()
+        self.assertEqual(running.returncode, 3, errors)
+        self.assertEqual(len(errors.splitlines()), 1, errors)
+        self.assertIn(f"{address}: the scheduler went away", errors)
 
     def test_no_scheduler(self) -> None:
         (self.folder / "dumps").mkdir()

@@ -188,9 +188,9 @@ class LrcTest(SongTest):
         song = self.song("[offset:+2000]\n[00:00.00]Heading\n[00:01.00]Gone\n[00:01.50]Half\n[00:05.00]La\n")
         self.assertEqual(words(song), [[("Half", 0)], [("La", 3)]])
         self.assertEqual([line.stays for line in song.lines][:1], [3])
-        told = "\n".join(song.notes)
-        self.assertIn("line 2 at [00:00.00] would be sung before the audio begins, and is left out: Heading", told)
-        self.assertIn("line 4 at [00:01.50] would begin 0.50 seconds before the audio", told)
+        notes = "\n".join(song.notes)
+        self.assertIn("line 2 at [00:00.00] would be sung before the audio begins, and is left out: Heading", notes)
+        self.assertIn("line 4 at [00:01.50] would begin 0.50 seconds before the audio", notes)
 
     def test_order_is_told_with_the_times_as_they_are_written(self) -> None:
         song = self.song("[00:05.00]One\n[0:03.0]Two\n[00:05.00]Three\n[00:05.00]Four\n")
@@ -201,16 +201,16 @@ class LrcTest(SongTest):
 
     def test_refusals(self) -> None:
         self.assertIn("no line has a time", self.refused("La\n"))
-        told = self.refused("[offset:x]\n[00:01.00]<00:02.00>a <00:01.00>b\n[00:05.00]<00:06.00>La <00:05.50>la\n")
-        self.assertIn("line 1: the offset x", told)
-        self.assertIn("line 2: the times of its words go back", told)
-        self.assertIn("line 3: the times of its words go back", told)
+        errors = self.refused("[offset:x]\n[00:01.00]<00:02.00>a <00:01.00>b\n[00:05.00]<00:06.00>La <00:05.50>la\n")
+        self.assertIn("line 1: the offset x", errors)
+        self.assertIn("line 2: the times of its words go back", errors)
+        self.assertIn("line 3: the times of its words go back", errors)
 
 
 class LettersTest(SongTest):
     def test_other_letters(self) -> None:
         text = "[00:05.00]\u00dcber \u2019n See\n"
-        for encoding, told in (
+        for encoding, note in (
             ("utf-8", ""),
             ("utf-8-sig", ""),
             ("utf-16", "UTF-16"),
@@ -220,10 +220,10 @@ class LettersTest(SongTest):
         ):
             song = self.song(text.encode(encoding))
             self.assertEqual(song.lines[0].text, "\u00dcber \u2019n See", encoding)
-            self.assertIn(told, "".join(song.notes))
-            self.assertEqual(bool(song.notes), bool(told))
-        told = self.refused(b"[00:01.00]a\n[00:05.00]\x81ber\n")
-        self.assertIn("is not UTF-8 (line 2, byte 22), and its encoding cannot be guessed; --encoding names it", told)
+            self.assertIn(note, "".join(song.notes))
+            self.assertEqual(bool(song.notes), bool(note))
+        errors = self.refused(b"[00:01.00]a\n[00:05.00]\x81ber\n")
+        self.assertIn("is not UTF-8 (line 2, byte 22), and its encoding cannot be guessed; --encoding names it", errors)
 
     def test_an_encoding_that_is_asked_for(self) -> None:
         for name in ("cp1251", "koi8-r", "utf-16", "shift_jis", "mac-cyrillic"):
@@ -286,9 +286,9 @@ class AssTest(SongTest):
         self.assertEqual(song.singers[:2], ["Eva", "Adam"])
 
     def test_all_faults_at_once(self) -> None:
-        told = self.refused(ASS.replace("0:00:05.00", "5 seconds").replace("0:00:12.00", "0:x"), "a.ass")
-        self.assertIn("line 9: 5 seconds is no time", told)
-        self.assertIn("line 11: 0:x is no time", told)
+        errors = self.refused(ASS.replace("0:00:05.00", "5 seconds").replace("0:00:12.00", "0:x"), "a.ass")
+        self.assertIn("line 9: 5 seconds is no time", errors)
+        self.assertIn("line 11: 0:x is no time", errors)
 
     def test_what_the_templater_reads_and_makes(self) -> None:
         song = self.song(TEMPLATER, "a.ass")
@@ -334,9 +334,9 @@ class UltraStarTest(SongTest):
 
     def test_faults(self) -> None:
         self.assertIn("line 1: a note comes before a line #BPM", self.refused(": 0 4 1 a\n", "a.txt"))
-        told = self.refused("#BPM:fast\n#GAP:soon\n: 0 4 1 a\n", "a.txt")
-        self.assertIn("line 1: #BPM is fast", told)
-        self.assertIn("line 2: #GAP is soon", told)
+        errors = self.refused("#BPM:fast\n#GAP:soon\n: 0 4 1 a\n", "a.txt")
+        self.assertIn("line 1: #BPM is fast", errors)
+        self.assertIn("line 2: #GAP is soon", errors)
 
 
 WEB_VTT = """WEBVTT - A song
@@ -376,8 +376,8 @@ class VttTest(SongTest):
         self.assertEqual([line.is_whole for line in song.lines], [True, True, False, False])
 
     def test_faults(self) -> None:
-        told = self.refused("WEBVTT\n\n00:05.5 -> 00:06\na\n\n0:5 --> 0:7\nb\n", "a.vtt")
-        self.assertIn("line 6: 0:5 --> 0:7 is no time", told)
+        errors = self.refused("WEBVTT\n\n00:05.5 -> 00:06\na\n\n0:5 --> 0:7\nb\n", "a.vtt")
+        self.assertIn("line 6: 0:5 --> 0:7 is no time", errors)
 
 
 class SrtTest(SongTest):
@@ -391,9 +391,9 @@ class SrtTest(SongTest):
         self.assertEqual([line.number for line in song.lines], [3, 4, 8])
 
     def test_faults(self) -> None:
-        told = self.refused("1\n00:00:05,500 --> 00:00:09,500\na\n\n2\n0:5 --> 0:7\nb\n\n3\nx --> y\nc\n", "a.srt")
-        self.assertIn("line 6: 0:5 --> 0:7 is no time", told)
-        self.assertIn("line 10: x --> y is no time", told)
+        errors = self.refused("1\n00:00:05,500 --> 00:00:09,500\na\n\n2\n0:5 --> 0:7\nb\n\n3\nx --> y\nc\n", "a.srt")
+        self.assertIn("line 6: 0:5 --> 0:7 is no time", errors)
+        self.assertIn("line 10: x --> y is no time", errors)
 
 
 def variable(number: int) -> bytes:

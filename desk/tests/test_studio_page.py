@@ -121,7 +121,7 @@ class PageTest(FolderTest):
             finally:
                 child.terminate()
         found: dict[str, Any] = json.loads((self.folder / "found.json").read_text())
-        self.assertNotIn("failed", found, found.get("told"))
+        self.assertNotIn("failed", found, found.get("text"))
         return found
 
     def drive(self, address: str, *mode: str) -> None:

@@ -211,8 +211,8 @@ class ServerTest(StudioTest):
             self.ask(server, "edit", {"edit": {"do": "move", "lines": [1], "by": 0.5}})
             found = self.ask(server, "packs?revision=1").content
             long = int.from_bytes(found[:4], "big")
-            told = json.loads(found[4 : 4 + long])
-            self.assertEqual((told["revision"], told["error"], told["late"]), (1, "", []))
+            result = json.loads(found[4 : 4 + long])
+            self.assertEqual((result["revision"], result["error"], result["late"]), (1, "", []))
             self.ask(server, "save", {})
         self.assertEqual(desk("pair", song, "-o", self.folder / "b").status, 0)
         self.assertEqual(found[4 + long :], (self.folder / "b.cdg").read_bytes())

@@ -23,8 +23,8 @@ class SumsTest(FolderTest):
         for row, path in zip(rows, self.files):
             self.assertEqual(int(row["size"]), path.stat().st_size)
             for name in ("md5", "sha1", "sha256"):
-                said = subprocess.run([f"{name}sum", path], capture_output=True, text=True).stdout.lstrip("\\")
-                self.assertEqual(row[name], said.split()[0])
+                output = subprocess.run([f"{name}sum", path], capture_output=True, text=True).stdout.lstrip("\\")
+                self.assertEqual(row[name], output.split()[0])
 
     def test_a_list(self) -> None:
         dat = self.folder / "out.dat"

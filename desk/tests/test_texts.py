@@ -17,8 +17,8 @@ class TextsTest(FolderTest):
 
     def test_the_texts_are_those_of_the_program(self) -> None:
         packs = self.packs(hello())
-        said = program("text", "--lead-in", LEAD_IN, stdin=hello()).decode()
-        self.assertEqual(self.listed, said)
+        output = program("text", "--lead-in", LEAD_IN, stdin=hello()).decode()
+        self.assertEqual(self.listed, output)
         script = TOP / "tests" / "peers" / "lead_in_packs.py"
         cycle = subprocess.run([sys.executable, script], input=hello()[: BLOCK * LEAD_IN], capture_output=True).stdout
         self.assertEqual(packs, cycle)
@@ -45,8 +45,8 @@ class TextsTest(FolderTest):
             self.assertEqual(ran.out.splitlines()[:-1], lines)
             blocks = out.read_bytes()
             self.assertEqual(len(blocks) % BLOCK, 0)
-            said = program("text", "--lead-in", len(blocks) // BLOCK, stdin=blocks).decode()
-            self.assertEqual(said, ran.out)
+            output = program("text", "--lead-in", len(blocks) // BLOCK, stdin=blocks).decode()
+            self.assertEqual(output, ran.out)
 
     def test_no_texts(self) -> None:
         sheet = b'FILE "a.wav" WAVE\nTRACK 01 AUDIO\nINDEX 01 00:00:00\n'

@@ -132,8 +132,8 @@ class TracksTest(FolderTest):
             path = self.write("cut", content)
             self.assertEqual((row["track"], int(row["size"])), (f"{number:02}", len(content)))
             for name in ("md5", "sha1"):
-                said = subprocess.run([f"{name}sum", path], capture_output=True, text=True).stdout
-                self.assertEqual(row[name], said.split()[0])
+                output = subprocess.run([f"{name}sum", path], capture_output=True, text=True).stdout
+                self.assertEqual(row[name], output.split()[0])
             self.assertEqual(row["crc32"], f"{zlib.crc32(content):08x}")
 
     def test_a_bin_with_its_sheet(self) -> None:
