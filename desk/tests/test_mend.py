@@ -44,6 +44,11 @@ def channels(block: bytes) -> bytes:
     return bytes(byte & 0xC0 for byte in block)
 
 
+def without_q(stream: bytes) -> bytes:
+    """A reading in which no bit of channel Q is set."""
+    return bytes(byte & 0xBF for byte in stream)
+
+
 def blocks_of(stream: bytes) -> list[bytes]:
     return [stream[at : at + BLOCK] for at in range(0, len(stream), BLOCK)]
 
@@ -567,6 +572,88 @@ class FaultsTest(MendCase):
         ran = desk("mend", *names, "--compare")
         self.assertEqual((ran.status, ran.rows()), (0, []), ran)
         self.assertIn("only P and Q are compared", ran.errors)
+
+
+@needs_library
+@needs_mending
+class PlacingTest(MendCase):
+    """Readings of which no Q frame, or only frames of stale blocks, say where they belong."""
+
+    def setUp(self) -> None:
+        super().setUp()
+        self.disc = known.album(1, 2)
+        self.whole = known.program(self.disc, 0, self.disc.end)
+        self.bare = without_q(self.whole)
+        self.truth = program("convert", "--lead-in", 0, stdin=self.whole)
+
+    def with_stale(self, stream: bytes, first: int, other: int, count: int) -> bytes:
+        """A stream in which some blocks are those of another moment."""
+        end, stale = BLOCK * (first + count), self.whole[BLOCK * other : BLOCK * (other + count)]
+        return stream[: BLOCK * first] + stale + stream[end:]
+
+    def test_stale_frames_do_not_place_a_reading(self) -> None:
+        """A reading without Q is as long as the other, and its words agree with it."""
+        gap = with_zeros(self.whole, 3000, 3100)
+        for first, other, count in ((2000, 777, 3), (2000, 777, 100), (0, 2011, 200), (777, 2222, 400)):
+            worse = self.with_stale(self.bare, first, other, count)
+            for readings in ((gap, worse), (worse, gap)):
+                self.assertEqual(self.mended(*readings), self.truth, (first, other, count, self.ran.errors))
+                self.assertIn("is of the absolute time 00:00:00", self.ran.errors)
+
+    def test_a_reading_of_the_same_length_where_nothing_is_shared(self) -> None:
+        """Only the reading without Q has graphics: its place is that of a reading which is as long."""
+        frames = known.without_rw(self.whole)
+        worse = self.with_stale(self.bare, 2000, 777, 100)
+        stale = range(4 * 2000 - 8, 4 * 2100)
+        packs = self.mended(frames, worse, status=1)
+        self.assertEqual(len(packs), len(self.truth))
+        for n in range(len(packs) // PACK):
+            if n not in stale:
+                self.assertEqual(packs[PACK * n : PACK * (n + 1)], self.truth[PACK * n : PACK * (n + 1)], n)
+
+    def test_two_stale_runs_with_one_lag(self) -> None:
+        """Blocks between two runs of one lag are not taken along with them."""
+        worse = self.with_stale(self.with_stale(self.bare, 2000, 1963, 20), 2100, 2063, 20)
+        gap = with_zeros(self.whole, 2025, 2095)
+        self.assertEqual(self.mended(gap, worse), self.truth, self.ran.errors)
+
+    def test_stale_blocks_at_the_end(self) -> None:
+        """Blocks without Q behind a stale run have the place of the frames before the run."""
+        end = len(self.whole) // BLOCK
+        worse = self.with_stale(
+            self.whole[: BLOCK * (end - 300)] + self.bare[BLOCK * (end - 300) :], end - 400, 311, 100
+        )
+        gap = with_zeros(self.whole, end - 250, end - 50)
+        self.assertEqual(self.mended(gap, worse), self.truth, self.ran.errors)
+
+    def test_a_reading_in_doubt_is_refused(self) -> None:
+        """Stale frames in a reading without Q that begins and ends elsewhere: nothing says where its other blocks belong."""
+        worse = self.with_stale(self.bare[BLOCK * 1000 : BLOCK * 4000], 2000, 777, 100)
+        first = with_zeros(self.whole, 4000, 4010)
+        out = self.folder / "out.cdg"
+        names = self.write("one", first), self.write("two", worse)
+        ran = desk("mend", *names, "-o", out)
+        self.assertEqual(ran.status, 3, ran)
+        self.assertIn(f"no Q frame or pack says where 2900 of the 3000 blocks of {names[1]} belong", ran.errors)
+        self.assertIn("--force leaves them out", ran.errors)
+        self.assertFalse(out.exists())
+        alone = program("convert", "--lead-in", 0, stdin=first, statuses=(0, 1))
+        self.assertEqual(self.mended(first, worse, status=1), alone)
+        self.assertIn("2900 blocks are left out", self.ran.errors)
+
+    def test_a_reading_without_q_begins_or_ends_as_another(self) -> None:
+        """Its words agree there, whatever its length."""
+        gap = with_zeros(self.whole, 1500, 1600)
+        for part in (self.bare[: BLOCK * 3000], self.bare[BLOCK * 1111 :]):
+            self.assertEqual(self.mended(gap, part), self.truth, self.ran.errors)
+            self.assertEqual(self.mended(self.with_stale(part, 1000, 555, 40), gap), self.truth, self.ran.errors)
+
+    def test_stale_frames_alone_say_no_time(self) -> None:
+        """Two readings without Q, stale blocks in one: they stay block beside block, and their time is not known."""
+        worse = self.with_stale(self.bare, 2000, 1611, 100)
+        gap = with_zeros(self.bare, 3000, 3100)
+        self.assertEqual(self.mended(gap, worse), self.truth, self.ran.errors)
+        self.assertIn("no Q frame says its absolute time", self.ran.errors)
 
 
 if __name__ == "__main__":

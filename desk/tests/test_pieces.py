@@ -2,7 +2,7 @@
 import unittest
 from unittest import mock
 
-from ribjasper.dumps.pieces import Piece, layers_of, lead_in_of
+from ribjasper.dumps.pieces import Piece, framed_pieces, layers_of, lead_in_of
 from ribjasper.dumps.survey import Stretch
 
 
@@ -18,16 +18,16 @@ class PiecesTest(unittest.TestCase):
         """A part that stands before the one that comes first on the disc, in one layer; stale blocks in one of their
         own."""
         swapped = [Stretch(0, 99, 500), Stretch(100, 299, 0)]
-        self.assertEqual(layers_of(swapped), [[Piece(0, 100, 500, 100), Piece(100, 300, -100, 200)]])
+        self.assertEqual(layers_of(framed_pieces(swapped)), [[Piece(0, 100, 500, 100), Piece(100, 300, -100, 200)]])
         stale = [Stretch(0, 999, 0), Stretch(1000, 1099, 200), Stretch(1100, 1999, 1100)]
-        own, beside = layers_of(stale)
+        own, beside = layers_of(framed_pieces(stale))
         self.assertEqual(own, [Piece(0, 1000, 0, 1000), Piece(1100, 2000, 0, 900)])
         self.assertEqual(beside, [Piece(1000, 1100, -800, 100)])
         self.assertEqual(layers_of([]), [[]])
 
     def test_stale_pieces_share_a_layer_where_they_can(self) -> None:
         stale = [Stretch(0, 999, 0), Stretch(1000, 1099, 200), Stretch(1100, 1999, 1100), Stretch(2000, 2099, 700)]
-        own, beside = layers_of([*stale, Stretch(2100, 2999, 2100)])
+        own, beside = layers_of(framed_pieces([*stale, Stretch(2100, 2999, 2100)]))
         self.assertEqual([piece.first for piece in own], [0, 1100, 2100])
         self.assertEqual([piece.first for piece in beside], [1000, 2000])
 

@@ -15,7 +15,8 @@ from ..dumps.damages import Damage, damages_of
 from ..dumps.forms import FORMS
 from ..dumps.loading import DumpOptions, Loaded
 from ..dumps.mending import Mended
-from ..dumps.readings import Reading, side_by_side
+from ..dumps.placing import side_by_side
+from ..dumps.readings import Reading
 from ..dumps.survey import Survey, has_graphics_bits
 
 # The kinds of Q frames by their numbers.
@@ -187,7 +188,10 @@ def mend(*dumps: Dump, as_stream: bool = False) -> Mended:
     for dump in dumps:
         if dump.is_packs:
             raise Refusal(dump.path, f"is {dump.form}: its packs are gathered already, and cannot be mended")
-    return mending.mend_laid(side_by_side([reading_of(dump) for dump in dumps]), as_stream)
+    laid = side_by_side([reading_of(dump) for dump in dumps])
+    if laid.doubts:
+        raise Refusal(dumps[0].path, *laid.doubts)
+    return mending.mend_laid(laid, as_stream)
 
 
 def reading_of(dump: Dump) -> Reading:

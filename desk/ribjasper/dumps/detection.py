@@ -85,8 +85,20 @@ class Found(NamedTuple):
             # Without checks the fields decide.
             is_so = it.fields >= LEAST_UNCHECKED * it.frames and is_no_chance(it.fields, it.frames, CHANCE_UNCHECKED)
             return Explained(True, it.fields / it.frames, it.fields) if is_so else None
+        by_q, by_words = self.explained_by_q(), self.explained_by_words()
+        if by_q is not None and by_words is not None and by_words.share >= LIKELY_BY_WORDS:
+            # Where most frames are bad the words say how much is explained.
+            return by_q._replace(share=max(by_q.share, by_words.share))
+        return by_q or by_words
+
+    def explained_by_q(self) -> Explained | None:
+        it = self.signs
         if is_no_chance(it.good, it.frames, CHANCE_FRAME) or is_no_chance(it.fields, it.frames, CHANCE_FIELDS):
             return Explained(True, it.good / max(it.frames, it.good), it.good)
+        return None
+
+    def explained_by_words(self) -> Explained | None:
+        it = self.signs
         if self.form.coding is Coding.CDG:
             is_so = it.carrying >= LEAST_PACKS * it.busy and is_no_chance(it.carrying, it.busy, CHANCE_PACK)
         else:

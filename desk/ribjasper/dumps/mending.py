@@ -6,12 +6,12 @@ import itertools
 import mmap
 import re
 import sys
-from dataclasses import dataclass
 from typing import Iterator, NamedTuple, Sequence
 
 from ..common import library
 from ..common.library import BLOCK, PACK, PACKS_A_BLOCK, SLOTS, MendReported
-from .columns import Run, both, busy, different, joined, runs, touching
+from .agreement import Packs, Shared, far_apart, packs_of_part, whole_words
+from .columns import Run, busy, different, joined, runs, touching
 from .readings import Laid, Reading
 from .survey import has_graphics_bits
 
@@ -50,11 +50,6 @@ class Mended(NamedTuple):
         """The blocks that these words are spread over."""
         blocks = (Run(run.first // PACKS_A_BLOCK, (run.last + SLOTS - 1) // PACKS_A_BLOCK) for run in self.lost_words())
         return joined(blocks, touching)
-
-
-def whole_words(blocks: int) -> int:
-    """How many words of so many blocks are whole."""
-    return max(0, PACKS_A_BLOCK * blocks - SLOTS + 1)
 
 
 @functools.total_ordering
@@ -150,23 +145,6 @@ def has_graphics(laid: Laid) -> bool:
 # ---- Whether readings are of one disc.
 
 
-@dataclass
-class Shared:
-    """In how many words two readings give packs that are not idle, and how many of these are the same."""
-
-    all: int = 0
-    same: int = 0
-
-
-def far_apart(parts: int) -> Iterator[int]:
-    """Numbers of parts, those that lie far from each other first."""
-    bits = max(1, (parts - 1).bit_length())
-    for number in range(1 << bits):
-        place = int(f"{number:0{bits}b}"[::-1], 2)
-        if place < parts:
-            yield place
-
-
 def in_common(laid: Laid) -> dict[tuple[int, int], Shared]:
     """What pairs of readings share, of parts that are spread over the disc, until it is enough."""
     found = {pair: Shared() for pair in itertools.combinations(range(len(laid.readings)), 2)}
@@ -176,30 +154,17 @@ def in_common(laid: Laid) -> dict[tuple[int, int], Shared]:
         if not wanted:
             break
         first = laid.lead_in + part * AT_ONCE
-        count_common(
-            found,
-            {number: packs_given(laid, number, first, min(laid.blocks, first + AT_ONCE)) for number in sorted(wanted)},
-        )
+        end = min(laid.blocks, first + AT_ONCE)
+        packs = {number: packs_within(laid, number, first, end) for number in sorted(wanted)}
+        for (a, b), own in found.items():
+            if a in packs and b in packs and own.all < ENOUGH:
+                own.add(packs[a], packs[b])
     return found
 
 
-def packs_given(laid: Laid, number: int, first: int, end: int) -> tuple[bytes, bytes]:
-    """The packs that a reading gives by itself in a part of the disc, and which of them are not idle."""
-    stream = bytes(laid.window(laid.readings[number], first, end))
-    if not has_graphics_bits(stream):
-        empty = bytes(whole_words(end - first))
-        return bytes(PACK * len(empty)), empty
-    packs = library.packs_of_blocks(stream, library.RAW, 0)[0]
-    return packs, busy(packs, PACK)
-
-
-def count_common(found: dict[tuple[int, int], Shared], packs: dict[int, tuple[bytes, bytes]]) -> None:
-    """Counts what pairs share in a part."""
-    for (a, b), own in found.items():
-        if a in packs and b in packs and own.all < ENOUGH:
-            common = both(packs[a][1], packs[b][1])
-            own.all += sum(common)
-            own.same += sum(common) - sum(both(common, busy(different(packs[a][0], packs[b][0]), PACK)))
+def packs_within(laid: Laid, number: int, first: int, end: int) -> Packs:
+    """The packs of a reading by itself in a part of the disc."""
+    return packs_of_part(bytes(laid.window(laid.readings[number], first, end)), end - first)
 
 
 # ---- Where two dumps differ.

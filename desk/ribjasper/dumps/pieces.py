@@ -15,17 +15,22 @@ TABLE = (library.Q_TRACK, library.Q_FIRST, library.Q_LAST, library.Q_LEAD_OUT)
 
 
 class Piece(NamedTuple):
-    """Neighbouring blocks of a dump, from the first up to the end, what is added to their numbers for their times, and
-    how many of them have a time of their own."""
+    """Neighbouring blocks of a dump, from the first up to the end, what is added to their numbers for their times, how
+    many of them have a time of their own, and how many others have their place by other evidence."""
 
     first: int
     end: int
     shift: int
     known: int
+    placed: int = 0
 
     @property
     def time(self) -> int:
         return self.first + self.shift
+
+    @property
+    def weight(self) -> int:
+        return self.known + self.placed
 
 
 def merged_pieces(pieces: Sequence[Piece]) -> list[Piece]:
@@ -48,9 +53,9 @@ def with_one_shift(stretches: Sequence[Stretch]) -> list[Piece]:
 
 
 def chain_of(pieces: Sequence[Piece]) -> list[Piece]:
-    """Of pieces in the order of the file those whose times go on too, from each to the next, and that have the most
-    frames together: what was read somewhere else, as stale subcode is, drops out."""
-    heaviest = sorted(sorted(pieces, key=lambda it: it.known, reverse=True)[:MOST_PIECES])
+    """Of pieces in the order of the file those whose times go on too, from each to the next, and that weigh the most
+    together: what was read somewhere else, as stale subcode is, drops out."""
+    heaviest = sorted(sorted(pieces, key=lambda it: it.weight, reverse=True)[:MOST_PIECES])
     chains: list[tuple[int, int]] = []  # the frames of the best chain up to a piece, and the piece before it
     for place, piece in enumerate(heaviest):
         before = max(
@@ -62,7 +67,7 @@ def chain_of(pieces: Sequence[Piece]) -> list[Piece]:
             ),
             default=(0, -1),
         )
-        chains.append((before[0] + piece.known, before[1]))
+        chains.append((before[0] + piece.weight, before[1]))
     if not chains:
         return []
     found, place = [], max(range(len(chains)), key=lambda it: chains[it][0])
@@ -72,23 +77,25 @@ def chain_of(pieces: Sequence[Piece]) -> list[Piece]:
     return found[::-1]
 
 
+def framed_pieces(stretches: Sequence[Stretch]) -> list[Piece]:
+    """The pieces of a dump in the order of the file, but for frames that are wrong."""
+    found = with_one_shift(stretches)
+    return merged_pieces([it for it in found if it.known >= FEWEST]) or found
+
+
 def pieces_of(stretches: Sequence[Stretch]) -> list[Piece]:
     """The pieces of a dump that go on from each to the next, but for frames that are wrong."""
-    found = with_one_shift(stretches)
-    found = merged_pieces([it for it in found if it.known >= FEWEST]) or found
-    return merged_pieces(chain_of(found))
+    return merged_pieces(chain_of(framed_pieces(stretches)))
 
 
-def layers_of(stretches: Sequence[Stretch]) -> list[list[Piece]]:
+def layers_of(pieces: Sequence[Piece]) -> list[list[Piece]]:
     """The pieces of a dump in layers: no two pieces of a layer claim one place of the disc. The pieces that go on from each
     to the next keep their places, in the first layer. Another piece, as stale subcode, is in the first layer where its
-    place is free; those with the most frames come first."""
-    found = with_one_shift(stretches)
-    found = merged_pieces([it for it in found if it.known >= FEWEST]) or found
-    run = chain_of(found)
+    place is free; those that weigh the most come first."""
+    run = chain_of(pieces)
     layers = [list(run)]
     kept = set(run)
-    for piece in sorted((it for it in found if it not in kept), key=lambda it: it.known, reverse=True):
+    for piece in sorted((it for it in pieces if it not in kept), key=lambda it: it.weight, reverse=True):
         free = (layer for layer in layers if not any(meet(piece, other) for other in layer))
         layer = next(free, None)
         if layer is None:

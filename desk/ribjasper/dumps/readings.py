@@ -1,13 +1,13 @@
 """Readings of one disc, side by side by the times of their Q frames."""
-from dataclasses import dataclass, field, replace
-from typing import Iterator, Sequence
+from dataclasses import dataclass, field
+from typing import Iterator
 
 from ..common.failures import Refusal
 from ..common.library import BLOCK
 from .loading import DumpOptions, Loaded, load_raw
-from .pieces import Piece, layers_of
+from .pieces import Piece
 from .columns import Run
-from .survey import Clock, has_graphics_bits
+from .survey import has_graphics_bits
 
 # So many blocks are read at a time.
 AT_ONCE = 1 << 13
@@ -24,6 +24,7 @@ class Reading:
     has_graphics: bool  # a bit of R to W is set
     unread: list[Run] = field(default_factory=list)
     is_beside: bool = False  # its parts claim places that the same file has already
+    lead_in: int = 0  # so many blocks of the file come before the absolute time zero
 
     @property
     def path(self) -> str:
@@ -41,16 +42,41 @@ class Reading:
                 raise Refusal(self.path, "became shorter while it was read")
             yield begin, content
 
+    def window(self, first: int, end: int) -> bytearray:
+        """The blocks from one absolute time up to another; zeros where there is none; of two for one time the first that
+        was read."""
+        stream = bytearray(BLOCK * (end - first))
+        self.fill(first, end, memoryview(stream))
+        return stream
+
+    def fill(self, first: int, end: int, stream: memoryview) -> None:
+        """Writes the blocks from one absolute time up to another over zeros."""
+        filled = 0
+        for part in sorted(self.parts, key=lambda it: it.time):
+            move = part.shift - first
+            begin, stop = max(part.first, -move), min(part.end, end - first - move)
+            for free in readable(self, begin, stop):
+                twice = min(free.last + 1, max(free.first, filled - move))
+                for block, content in self.blocks(free.first, twice):
+                    fill_gaps(stream[BLOCK * (block + move) :], content)
+                for block, content in self.blocks(twice, free.last + 1):
+                    at = BLOCK * (block + move)
+                    stream[at : at + len(content)] = content
+                filled = max(filled, free.last + 1 + move)
+
 
 @dataclass
 class Laid:
     """Readings side by side: the absolute time of the first block, if they have times, how many blocks there are, and
-    how many of these are lead-in."""
+    how many of these are lead-in. Notes say what was left out; doubts, why nothing should be mended."""
 
     readings: list[Reading]
     time: int
     blocks: int
     lead_in: int
+    has_times: bool = True
+    notes: list[str] = field(default_factory=list)
+    doubts: list[str] = field(default_factory=list)
 
     @property
     def size(self) -> int:
@@ -59,24 +85,11 @@ class Laid:
 
     def window(self, reading: Reading, first: int, end: int) -> bytearray:
         """The blocks of a reading; zeros where it has none; where it has one twice the first that was read."""
-        stream = bytearray(BLOCK * (end - first))
-        self.fill(reading, first, end, memoryview(stream))
-        return stream
+        return reading.window(self.time + first, self.time + end)
 
     def fill(self, reading: Reading, first: int, end: int, stream: memoryview) -> None:
         """Writes the blocks of a reading over zeros."""
-        filled = 0
-        for part in sorted(reading.parts, key=lambda it: it.time):
-            move = part.shift - self.time - first
-            begin, stop = max(part.first, -move), min(part.end, end - first - move)
-            for free in readable(reading, begin, stop):
-                twice = min(free.last + 1, max(free.first, filled - move))
-                for block, content in reading.blocks(free.first, twice):
-                    fill_gaps(stream[BLOCK * (block + move) :], content)
-                for block, content in reading.blocks(twice, free.last + 1):
-                    at = BLOCK * (block + move)
-                    stream[at : at + len(content)] = content
-                filled = max(filled, free.last + 1 + move)
+        reading.fill(self.time + first, self.time + end, stream)
 
 
 def fill_gaps(stream: memoryview, content: bytes) -> None:
@@ -106,41 +119,3 @@ def read_reading(path: str, words: DumpOptions) -> Reading:
     loaded = load_raw(path, words, "blocks that could be mended: its packs are gathered already")
     has_graphics = has_graphics_bits(loaded.stream)
     return Reading(loaded._replace(stream=b"") if loaded.form.is_plain() else loaded, [], has_graphics)
-
-
-def placed(reading: Reading) -> list[Reading]:
-    """A reading with its parts where their Q frames say. Parts that claim a place twice are readings of their own."""
-    survey = reading.loaded.survey
-    layers = layers_of(Clock(survey).stretches)
-    if not layers[0]:
-        return [reading]
-    # Blocks between two parts of different shift are left out, since nothing says to which they belong; blocks
-    # before the first and behind the last go with it. The lead-in, which has no time, stays out.
-    first = min(part.first for layer in layers for part in layer)
-    end = max(part.end for layer in layers for part in layer)
-    found = []
-    for number, layer in enumerate(layers):
-        parts = [
-            part._replace(
-                first=max(survey.first, -part.shift) if part.first == first else part.first,
-                end=survey.end if part.end == end else part.end,
-            )
-            for part in layer
-        ]
-        found.append(replace(reading, parts=parts, is_beside=number > 0))
-    return found
-
-
-def side_by_side(readings: Sequence[Reading]) -> Laid:
-    """Readings by their times; if one has none, as they are if they are equally long."""
-    found = [own for reading in readings for own in placed(reading)]
-    without = [reading for reading in found if not reading.parts]
-    if without:
-        if len({reading.loaded.survey.blocks for reading in readings}) > 1:
-            raise Refusal(without[0].path, "its Q frames have no time, and it is not as long as the others")
-        blocks = readings[0].loaded.survey.blocks
-        whole = [replace(it, parts=[Piece(0, blocks, 0, 0)]) for it in readings]
-        return Laid(whole, 0, blocks, max(reading.loaded.survey.lead_in for reading in readings))
-    start = min(part.time for reading in found for part in reading.parts)
-    end = max(part.end + part.shift for reading in found for part in reading.parts)
-    return Laid(found, start, end - start, 0)

@@ -14,7 +14,8 @@ from ...dumps import mending
 from ...dumps.drive_errors import drive_errors
 from ...dumps.forms import to_planar
 from ...dumps.loading import add_options, asked
-from ...dumps.readings import Laid, Reading, read_reading, side_by_side
+from ...dumps.placing import side_by_side
+from ...dumps.readings import Laid, Reading, read_reading
 from ...dumps.rescue_maps import areas, domain, unread_units
 from ...dumps.columns import Run
 from ...dumps.survey import Clock
@@ -122,10 +123,12 @@ def tracks_that_agree(laid: Laid, a: int, b: int) -> tuple[int, int]:
 
 
 def track_at(laid: Laid, number: int, clock: Clock, time: int) -> int | None:
-    """The track that a reading is in at a time, where it was read there."""
+    """The track that a reading is in at a time, as the nearest frame of the same part says."""
     for part in laid.readings[number].parts:
-        if part.first <= time - part.shift < part.end:
-            return clock.track(time - part.shift)
+        block = time - part.shift
+        if part.first <= block < part.end:
+            nearest = clock.stretch(block)
+            return clock.track(block) if nearest and nearest.shift == part.shift else None
     return None
 
 
@@ -179,8 +182,8 @@ def best_lead_in(laid: Laid) -> tuple[int, bytes]:
     for number in mending.best_first(laid):
         reading = laid.readings[number]
         survey = reading.loaded.survey
-        if laid.time == 0 and survey.first < survey.lead_in:
-            blocks = b"".join(content for _, content in reading.blocks(survey.first, survey.lead_in))
+        if laid.time == 0 and survey.first < reading.lead_in and not reading.is_beside:
+            blocks = b"".join(content for _, content in reading.blocks(survey.first, reading.lead_in))
             found.append((number + 1, blocks))
     with_texts = (it for it in found if text_packs_in(it[1]))
     return next(with_texts, found[0] if found else (0, b""))
@@ -221,13 +224,15 @@ def run(arguments: argparse.Namespace) -> int:
         if len(laid.readings) > library.READINGS:
             laid.readings = laid.readings[: library.READINGS]
             tell(f"no more than {library.READINGS} readings are mended at once: parts of files are left out")
-        for line in twice(laid):
+        for line in (*twice(laid), *laid.notes):
             tell(line)
         odd = list(odd_ones(laid))
         if arguments.compare:
             return compare(laid, odd, outputs.table(DIFFERENCES, arguments.json))
         if odd and not arguments.force:
             raise Refusal(arguments.files[0], *odd, "--force mends them all the same")
+        if laid.doubts and not arguments.force:
+            raise Refusal(arguments.files[0], *laid.doubts, "--force leaves them out")
         for line in odd:
             tell(line)
         if not is_stream(arguments.output) and not mending.has_graphics(laid):
@@ -284,7 +289,11 @@ def write_mended(arguments: argparse.Namespace, laid: Laid, outputs: Outputs) ->
     mended = mending.mend_laid(laid, wants_blocks)
     write_stream(mended.content, arguments.output, out.write)
     units = Units("block", BLOCK, before) if wants_blocks else Units("pack", PACK, 0)
-    tell(f"{units.name} {before} of {shown(arguments.output)} is of the absolute time {at_time(laid, laid.lead_in)}")
+    place = f"{units.name} {before} of {shown(arguments.output)}"
+    if laid.has_times:
+        tell(f"{place} is of the absolute time {at_time(laid, laid.lead_in)}")
+    else:
+        tell(f"{place} is block {laid.lead_in} of each reading: no Q frame says its absolute time")
     lost = units.lost(mended)
     if arguments.map:
         outputs.write(arguments.map, loss_table(laid, units, lost))
@@ -304,8 +313,9 @@ def compare(laid: Laid, odd: list[str], table: Table) -> int:
     if not has_both:
         tell(f"the {'second' if has[0] else 'first'} has no channels R to W: only P and Q are compared")
     first, second = [reading for reading in laid.readings if not reading.is_beside]
-    if first.parts[0].known and second.parts[0].known:
-        offset = second.parts[0].shift - first.parts[0].shift
+    shifts = [next((part.shift for part in it.parts if part.known), None) for it in (first, second)]
+    if shifts[0] is not None and shifts[1] is not None:
+        offset = shifts[1] - shifts[0]
         tell(f"block n of the first is block n {'-' if offset >= 0 else '+'} {abs(offset)} of the second")
     differing = 0
     begins = range(0, laid.blocks, mending.AT_ONCE)

@@ -1,0 +1,57 @@
+"""How far two readings agree: the packs that both have at the same times."""
+from dataclasses import dataclass
+from typing import Iterator, NamedTuple
+
+from ..common import library
+from ..common.library import PACK, PACKS_A_BLOCK, SLOTS
+from .columns import both, busy, different
+from .survey import has_graphics_bits
+
+
+class Packs(NamedTuple):
+    """The packs of a stream, and a byte for each, 1 where it is not idle."""
+
+    content: bytes
+    busy: bytes
+
+
+@dataclass
+class Shared:
+    """In how many words two readings have packs that are not idle, and how many of these are the same."""
+
+    all: int = 0
+    same: int = 0
+
+    @property
+    def differing(self) -> int:
+        return self.all - self.same
+
+    def add(self, one: Packs, other: Packs) -> None:
+        """Counts the words of a part."""
+        common = both(one.busy, other.busy)
+        differing = both(common, busy(different(one.content, other.content), PACK))
+        self.all += sum(common)
+        self.same += sum(common) - sum(differing)
+
+
+def whole_words(blocks: int) -> int:
+    """How many words of so many blocks are whole."""
+    return max(0, PACKS_A_BLOCK * blocks - SLOTS + 1)
+
+
+def packs_of_part(stream: bytes, blocks: int) -> Packs:
+    """The packs of a part of so many blocks, by itself."""
+    if not has_graphics_bits(stream):
+        words = whole_words(blocks)
+        return Packs(bytes(PACK * words), bytes(words))
+    content = library.packs_of_blocks(stream, library.RAW, 0)[0]
+    return Packs(content, busy(content, PACK))
+
+
+def far_apart(parts: int) -> Iterator[int]:
+    """Numbers of parts, those that lie far from each other first."""
+    bits = max(1, (parts - 1).bit_length())
+    for number in range(1 << bits):
+        place = int(f"{number:0{bits}b}"[::-1], 2)
+        if place < parts:
+            yield place

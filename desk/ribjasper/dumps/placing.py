@@ -1,0 +1,442 @@
+"""Where the blocks of readings belong on the disc. A good Q frame places its own block. Other blocks go where their words
+agree with those of another reading; or else where enough frames around them say, or where a reading of the same length
+has them. If nothing decides they are left out."""
+import itertools
+from collections import Counter
+from dataclasses import dataclass, field, replace
+from typing import Iterable, Iterator, NamedTuple, Sequence
+
+from ..common import library
+from ..common.failures import Refusal, shown
+from .agreement import Shared, packs_of_part
+from .columns import both
+from .pieces import Piece, chain_of, framed_pieces, layers_of, lead_in_of
+from .readings import Laid, Reading
+from .survey import Stretch, Survey
+
+# A gap of no more blocks has too few words to compare.
+FEW = 8
+# Frames decide if they are so many times the blocks of a gap; with no look at words if they are far more.
+ENOUGH, PLENTY = 2, 10
+# So many packs say whether words agree, if at least this share of them does.
+LEAST_PACKS, LEAST_SHARE = 12, 0.9
+# Of two places where words agree, the right one has so many times fewer packs that differ.
+CLEARLY = 10
+# Words are compared in so many windows of a gap, of so many blocks, at so many places, with so many readings.
+WINDOW, MOST_WINDOWS, MOST_PLACES, MOST_OTHERS = 250, 8, 12, 8
+# Of so many parts of a reading most have frames, and those of one shift are in no fewer than these.
+PARTS, MOST_PARTS, FEW_PARTS = 16, 12, 5
+# A gap in a stale run is shorter than a second.
+APART = 75
+# The share of the frames of a reading that one shift has, where other readings go by it.
+MAIN_SHARE = 0.9
+_NOT_GOOD = bytes(kind > library.Q_OTHER for kind in range(256))
+_ZERO = bytes(value == 0 for value in range(256))
+
+
+@dataclass(eq=False)
+class FrameGap:
+    """Blocks of a file that no frame places, from the first up to the end: how many of them were read; the pieces next to
+    it; those of the run of the file before and behind it; and the shifts of single frames in it."""
+
+    first: int
+    end: int
+    read: int
+    near: list[Piece]
+    around: list[Piece]
+    strays: list[int]
+    shift: int | None = None  # the place that was found
+    is_busy: bool = False  # it has packs that are not idle
+
+    @property
+    def length(self) -> int:
+        """Its blocks; none if nothing of it was read."""
+        return self.end - self.first if self.read else 0
+
+    @property
+    def is_between(self) -> bool:
+        return len(self.around) == 2
+
+
+@dataclass(eq=False)
+class Framed:
+    """A reading, the pieces that its own frames place, in the order of the file, and the gaps between them."""
+
+    reading: Reading
+    pieces: list[Piece] = field(default_factory=list)
+    gaps: list[FrameGap] = field(default_factory=list)
+    frames: Counter[int] = field(default_factory=Counter)  # of each shift in the run of the file
+    slack: dict[Piece, int] = field(default_factory=dict)  # the longest row of blocks without a frame in a piece
+    homes: set[int] = field(default_factory=set)  # the shifts of readings that are as long
+    guesses: list[int] = field(default_factory=list)  # shifts with which it begins or ends as another reading
+    is_sure: bool = False
+
+    @property
+    def blocks(self) -> int:
+        return self.reading.loaded.survey.blocks
+
+    def main(self) -> int | None:
+        """The shift that nearly all frames have."""
+        found = self.frames.most_common(1)
+        return found[0][0] if found and found[0][1] >= MAIN_SHARE * self.frames.total() else None
+
+    def as_reading(self) -> Reading:
+        """The reading with what is placed so far."""
+        return replace(self.reading, parts=self.parts())
+
+    def parts(self) -> list[Piece]:
+        """The pieces and the gaps that have a place, those that touch and have one shift as one. The lead-in, which has no
+        time, is no part."""
+        runs = [run for gap in self.gaps if (run := self.run(gap))]
+        found: list[Piece] = []
+        for part in sorted([*self.pieces, *runs]):
+            part = part._replace(first=max(part.first, -part.shift))
+            if part.first >= part.end:
+                continue
+            before = found[-1] if found else None
+            if before and before.end == part.first and before.shift == part.shift:
+                known, placed = before.known + part.known, before.placed + part.placed
+                found[-1] = before._replace(end=part.end, known=known, placed=placed)
+            else:
+                found.append(part)
+        return found
+
+    def run(self, gap: FrameGap) -> Piece | None:
+        """The blocks of a gap that have a place. Next to a piece of another shift that has blocks without a frame, as many
+        blocks may belong to it."""
+        if gap.shift is None:
+            return None
+        first, end = gap.first, gap.end
+        for piece in gap.near:
+            if piece.shift == gap.shift:
+                continue
+            if piece.end == gap.first:
+                first += self.slack[piece]
+            else:
+                end -= self.slack[piece]
+        return Piece(first, end, gap.shift, 0, gap.read) if first < end else None
+
+    def left_out(self) -> int:
+        """How many blocks that were read have no place."""
+        return sum(gap.read for gap in self.gaps if gap.shift is None)
+
+    def in_doubt(self) -> int:
+        """How many of these are in gaps with graphics."""
+        return sum(gap.read for gap in self.gaps if gap.shift is None and gap.is_busy)
+
+    def total(self) -> int:
+        return sum(gap.read for gap in self.gaps) + sum(piece.known for piece in self.pieces)
+
+
+def read_without_frame(survey: Survey) -> bytes:
+    """A byte for each block, 1 where it was read and has no good frame."""
+    return both(survey.column("q").translate(_NOT_GOOD), survey.empty.translate(_ZERO))
+
+
+def framed(reading: Reading) -> Framed:
+    """What the frames of a reading say."""
+    survey, found = reading.loaded.survey, Framed(reading)
+    column, stretches = read_without_frame(survey), survey.stretches()
+    merged = framed_pieces(stretches)
+    run = set(chain_of(merged))
+    for piece in run:
+        found.frames[piece.shift] += piece.known
+    in_run: set[Piece] = set()
+    own, strays = stretches_of(merged, stretches)
+    for piece in merged:
+        count = found.frames[piece.shift] if piece in run else piece.known
+        parts = split(own[piece], column, count, found.slack)
+        found.pieces += parts
+        in_run.update(parts if piece in run else ())
+    found.gaps = gaps_of(found.pieces, in_run, strays, survey, column)
+    found.is_sure = is_sure(found, in_run)
+    main = found.main() if found.is_sure else None
+    for gap in found.gaps:
+        if gap.near == gap.around and only_shift(gap.near) == main and PLENTY * gap.length <= found.frames.total():
+            gap.shift = main
+    return found
+
+
+def stretches_of(
+    pieces: Sequence[Piece], stretches: Sequence[Stretch]
+) -> tuple[dict[Piece, list[Stretch]], list[Stretch]]:
+    """The stretches of each piece, in the order of the file, and those of no piece."""
+    own: dict[Piece, list[Stretch]] = {piece: [] for piece in pieces}
+    strays, place = [], 0
+    for stretch in stretches:
+        while place < len(pieces) and pieces[place].end <= stretch.first:
+            place += 1
+        piece = pieces[place] if place < len(pieces) else None
+        if piece and piece.first <= stretch.first and piece.shift == stretch.shift:
+            own[piece].append(stretch)
+        else:
+            strays.append(stretch)
+    return own, strays
+
+
+def split(stretches: Sequence[Stretch], column: bytes, frames: int, slack: dict[Piece, int]) -> list[Piece]:
+    """The parts of a piece between its longer gaps."""
+    found: list[Piece] = []
+    longest = 0
+    for stretch in stretches:
+        length = stretch.last + 1 - stretch.first
+        before = found[-1] if found else None
+        gap = column.count(1, before.end, stretch.first) if before else 0
+        if gap < APART:
+            longest = max(longest, gap)
+        if before and PLENTY * gap <= frames:
+            found[-1] = before._replace(end=stretch.last + 1, known=before.known + length)
+        else:
+            found.append(Piece(stretch.first, stretch.last + 1, stretch.shift, length))
+    slack.update(dict.fromkeys(found, longest))
+    return found
+
+
+def gaps_of(
+    pieces: Sequence[Piece], run: set[Piece], strays: Sequence[Stretch], survey: Survey, column: bytes
+) -> list[FrameGap]:
+    """The gaps in front of pieces, between them and behind."""
+    firsts = [survey.first, *(piece.end for piece in pieces)]
+    ends = [*(piece.first for piece in pieces), survey.end]
+    found, before = [], None
+    behind = next_in_run(pieces, run)
+    for number, (first, end) in enumerate(zip(firsts, ends)):
+        if number and pieces[number - 1] in run:
+            before = pieces[number - 1]
+        if first < end:
+            near = [*pieces[max(0, number - 1) : number], *pieces[number : number + 1]]
+            around = [it for it in (before, behind[number]) if it is not None]
+            shifts = [it.shift for it in strays if first <= it.first < end]
+            found.append(FrameGap(first, end, column.count(1, first, end), near, around, shifts))
+    return found
+
+
+def next_in_run(pieces: Sequence[Piece], run: set[Piece]) -> list[Piece | None]:
+    """For each piece, and the end, the first piece of the run from there on."""
+    found: list[Piece | None] = [None]
+    for piece in reversed(pieces):
+        found.append(piece if piece in run else found[-1])
+    return found[::-1]
+
+
+def only_shift(pieces: Iterable[Piece]) -> int | None:
+    """The shift that all pieces have."""
+    shifts = {piece.shift for piece in pieces}
+    return shifts.pop() if len(shifts) == 1 else None
+
+
+def is_sure(found: Framed, run: set[Piece]) -> bool:
+    """Whether the frames of a reading are enough for its place: they are most of it, or they are scattered over it, which
+    those of a few stale runs are not."""
+    survey = found.reading.loaded.survey
+    if not run:
+        return False
+    if found.frames.total() >= ENOUGH * sum(gap.length for gap in found.gaps):
+        return True
+    parts: dict[int, set[int]] = {shift: set() for shift in found.frames}
+    for piece in run:
+        first, last = (PARTS * (it - survey.first) // survey.read for it in (piece.first, piece.end - 1))
+        parts[piece.shift].update(range(first, last + 1))
+    return sum(len(own) for own in parts.values() if len(own) >= FEW_PARTS) >= MOST_PARTS
+
+
+# ---- Words.
+
+
+class Judgement(NamedTuple):
+    """What words say of a gap: the place where they agree; those where they do not; and whether several seem right."""
+
+    shift: int | None
+    against: set[int]
+    is_open: bool
+
+
+def judgement(gap: FrameGap, own: Reading, shifts: Sequence[int], others: Sequence[Reading]) -> Judgement:
+    """Compares the words of a gap, at each place, with those of other readings."""
+    votes: set[int] = set()
+    fitting: set[int] = set()
+    against: set[int] = set()
+    for shared in agreement(gap, own, shifts, others):
+        fits = {shift for shift, it in shared.items() if it.same >= max(LEAST_PACKS, LEAST_SHARE * it.all)}
+        against |= {shift for shift, it in shared.items() if it.all >= LEAST_PACKS and shift not in fits}
+        fitting |= fits
+        order = sorted(fits, key=lambda shift: shared[shift].differing)
+        if len(order) == 1 or order and CLEARLY * (1 + shared[order[0]].differing) <= shared[order[1]].differing:
+            votes.add(order[0])
+    if len(votes) == 1:
+        return Judgement(votes.pop(), set(), False)
+    return Judgement(None, against - fitting, not votes)
+
+
+def agreement(
+    gap: FrameGap, own: Reading, shifts: Sequence[int], others: Sequence[Reading]
+) -> Iterable[dict[int, Shared]]:
+    """What each reading shares with the words of a gap at each place."""
+    found = [{shift: Shared() for shift in shifts} for _ in others]
+    for first, end in windows_in(gap):
+        packs = packs_of_part(b"".join(content for _, content in own.blocks(first, end)), end - first)
+        if not any(packs.busy):
+            continue
+        gap.is_busy = True
+        for (other, shared), shift in itertools.product(zip(others, found), shifts):
+            if first + shift >= 0:
+                stream = bytes(other.window(first + shift, end + shift))
+                shared[shift].add(packs, packs_of_part(stream, end - first))
+    return found
+
+
+def windows_in(gap: FrameGap) -> list[tuple[int, int]]:
+    """Windows from the beginning of a gap to its end."""
+    count = -(-(gap.end - gap.first) // WINDOW)
+    most = min(count, MOST_WINDOWS)
+    starts = (gap.first + WINDOW * (number * (count - 1) // max(1, most - 1)) for number in range(most))
+    return [(start, min(gap.end, start + WINDOW)) for start in starts]
+
+
+# ---- Decisions.
+
+
+def decide(found: Framed, gap: FrameGap, others: Sequence[Reading], is_last: bool) -> int | None:
+    """The place of a gap, if something decides. Before the last round only words do."""
+    shift = only_shift(gap.around)
+    if gap.read <= FEW:
+        return by_frames(found, gap, shift) if gap.near == gap.around and shift is not None else None
+    shifts = places_of(found, gap)
+    words = judgement(gap, found.reading, shifts, others)
+    if words.shift is not None or not is_last or not words.is_open:
+        return words.shift
+    likely = by_frames(found, gap, shift)
+    return None if likely in words.against else likely
+
+
+def places_of(found: Framed, gap: FrameGap) -> list[int]:
+    """The places that a gap may have."""
+    main = [shift for shift, _ in found.frames.most_common(2)]
+    strays = [shift for shift, _ in Counter(gap.strays).most_common(2)]
+    near = [piece.shift for piece in (*gap.around, *gap.near)]
+    return list(dict.fromkeys([*sorted(found.homes), *near, *main, *strays, *found.guesses]))[:MOST_PLACES]
+
+
+def by_frames(found: Framed, gap: FrameGap, shift: int | None) -> int | None:
+    """The place of a gap of which the words say nothing: that of the frames around it, if they are many; or that of readings
+    which are as long."""
+    frames = found.frames[shift] if shift is not None else 0
+    if not found.homes:
+        enough = ENOUGH if found.is_sure and shift == found.main() else PLENTY
+        return shift if frames >= enough * gap.length or gap.is_between and found.is_sure else None
+    if len(found.homes) > 1 or frames >= ENOUGH * gap.length and shift not in found.homes:
+        return None
+    return min(found.homes)
+
+
+def place_all(found: Sequence[Framed]) -> None:
+    """Finds the places of gaps. The first round goes by the frames of the other readings, the second by what the first has
+    placed too."""
+    for is_last in (False, True):
+        readings = [it.as_reading() for it in found]
+        order = sorted(range(len(found)), key=lambda number: -found[number].frames.total())
+        placed = []
+        for number, own in enumerate(found):
+            others = [readings[k] for k in order if k != number and readings[k].parts][:MOST_OTHERS]
+            placed += [(gap, decide(own, gap, others, is_last)) for gap in own.gaps if gap.shift is None]
+        for gap, shift in placed:
+            gap.shift = shift
+
+
+# ---- Readings side by side.
+
+
+def side_by_side(readings: Sequence[Reading]) -> Laid:
+    """Readings by their times; if none has any, as they are if they are equally long."""
+    found = [framed(reading) for reading in readings]
+    lengths = {it.blocks for it in found}
+    sure = [it for it in found if it.is_sure]
+    if len(lengths) == 1 and not sure:
+        origin = common_origin(found)
+        if origin is None:
+            return as_they_are(found)
+        for it in found:
+            it.homes = {origin}
+    for it in found:
+        if not it.is_sure and sure:
+            it.homes = {main for other in sure if other.blocks == it.blocks and (main := other.main()) is not None}
+        it.guesses = guesses(it, found)
+    place_all(found)
+    for it in found:
+        if not it.parts():
+            raise Refusal(it.reading.path, "its Q frames have no time, and it is not as long as the others")
+    return laid_of(found)
+
+
+def guesses(own: Framed, found: Sequence[Framed]) -> list[int]:
+    """The shifts with which a reading begins or ends as others do."""
+    if own.is_sure:
+        return []
+    frames = sum((it.frames for it in found if it is not own), Counter[int]())
+    ends = [max(piece.end + piece.shift for piece in it.pieces) for it in found if it is not own and it.pieces]
+    starts = [shift for shift, _ in frames.most_common(MOST_PLACES // 3)]
+    return [*starts, *(end - own.reading.loaded.survey.end for end in sorted(set(ends))[-MOST_PLACES // 3 :])]
+
+
+def laid_of(found: Sequence[Framed]) -> Laid:
+    laid = [own for it in found for own in layers(it)]
+    parts = [part for reading in laid for part in reading.parts]
+    start = min(part.time for part in parts)
+    end = max(part.end + part.shift for part in parts)
+    out = Laid(laid, start, end - start, 0)
+    for it in found:
+        left, doubt, total, path = it.left_out(), it.in_doubt(), it.total(), shown(it.reading.path)
+        if left:
+            out.notes.append(f"{path}: {left} blocks are left out: no Q frame or pack says where they belong")
+        if 2 * doubt > total:
+            out.doubts.append(f"no Q frame or pack says where {doubt} of the {total} blocks of {path} belong")
+    return out
+
+
+def layers(found: Framed) -> list[Reading]:
+    """A reading with its parts in their places. Parts that claim a place twice are readings of their own."""
+    own = layers_of(found.parts())
+    lead_in = max(0, -own[0][0].shift) if own[0] else 0
+    return [
+        replace(found.reading, parts=layer, is_beside=number > 0, lead_in=lead_in) for number, layer in enumerate(own)
+    ]
+
+
+def where_they_are(found: Sequence[Framed]) -> Iterator[tuple[Framed, Piece, Judgement]]:
+    """What the words of each piece say of its place in the file, if all readings begin at one block."""
+    whole = [replace(it.reading, parts=[Piece(0, it.blocks, 0, 0)]) for it in found]
+    for number, it in enumerate(found):
+        others = [*whole[:number], *whole[number + 1 :]][:MOST_OTHERS]
+        for piece in it.pieces:
+            yield it, piece, judgement(
+                FrameGap(piece.first, piece.end, piece.known, [], [], []), it.reading, [0], others
+            )
+
+
+def common_origin(found: Sequence[Framed]) -> int | None:
+    """The shift of readings of one length that no reading is sure of: that of the pieces whose words agree with the others
+    where they are in the file."""
+    shifts = {piece.shift for _, piece, words in where_they_are(found) if words.shift == 0}
+    return shifts.pop() if len(shifts) == 1 else None
+
+
+def as_they_are(found: Sequence[Framed]) -> Laid:
+    """Readings of one length, block by block. Nothing says their times. Pieces that are stale, as their words say, are left
+    out."""
+    blocks = found[0].blocks
+    edges: dict[Framed, list[int]] = {it: [0] for it in found}
+    for it, piece, words in where_they_are(found):
+        if 0 in words.against:
+            edges[it] += piece.first, piece.end
+    readings = []
+    for it, own in edges.items():
+        own.append(blocks)
+        parts = [Piece(first, end, 0, 0) for first, end in zip(own[0::2], own[1::2]) if first < end]
+        readings.append(replace(it.reading, parts=parts, lead_in=lead_in_without_times(it)))
+    return Laid(readings, 0, blocks, max(it.lead_in for it in readings), has_times=False)
+
+
+def lead_in_without_times(found: Framed) -> int:
+    """The lead-in of a reading, where it is not its frames that say it: these are not believed."""
+    survey = found.reading.loaded.survey
+    return 0 if found.pieces and survey.lead_in == lead_in_of(survey) else survey.lead_in
