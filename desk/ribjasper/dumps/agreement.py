@@ -15,12 +15,20 @@ class Packs(NamedTuple):
     busy: bytes
 
 
+# So many packs say whether readings agree, if at least this share of them does.
+LEAST_PACKS, LEAST_SHARE = 12, 0.9
+# In a part where each of two readings has so many packs, some are the same if it is one part of one disc.
+SOME = 8
+
+
 @dataclass
 class Shared:
-    """In how many words two readings have packs that are not idle, and how many of these are the same."""
+    """In how many words two readings have packs that are not idle, how many of these are the same, and in how many parts
+    both have packs and none is the same."""
 
     all: int = 0
     same: int = 0
+    apart: int = 0
 
     @property
     def differing(self) -> int:
@@ -30,8 +38,19 @@ class Shared:
         """Counts the words of a part."""
         common = both(one.busy, other.busy)
         differing = both(common, busy(different(one.content, other.content), PACK))
+        same = sum(common) - sum(differing)
         self.all += sum(common)
-        self.same += sum(common) - sum(differing)
+        self.same += same
+        self.apart += not same and min(sum(one.busy), sum(other.busy)) >= SOME
+
+    def plus(self, other: "Shared") -> "Shared":
+        return Shared(self.all + other.all, self.same + other.same, self.apart + other.apart)
+
+    def agrees(self) -> bool:
+        return self.same >= max(LEAST_PACKS, LEAST_SHARE * self.all) and not self.apart
+
+    def contradicts(self) -> bool:
+        return bool(self.apart) or self.all >= LEAST_PACKS and not self.agrees()
 
 
 def whole_words(blocks: int) -> int:

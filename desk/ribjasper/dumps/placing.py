@@ -1,6 +1,7 @@
 """Where the blocks of readings belong on the disc. A good Q frame places its own block. Other blocks go where their words
 agree with those of another reading; or else where enough frames around them say, or where a reading of the same length
 has them. If nothing decides they are left out."""
+import functools
 import itertools
 from collections import Counter
 from dataclasses import dataclass, field, replace
@@ -8,7 +9,7 @@ from typing import Iterable, Iterator, NamedTuple, Sequence
 
 from ..common import library
 from ..common.failures import Refusal, shown
-from .agreement import Shared, packs_of_part
+from .agreement import LEAST_PACKS, SOME, Shared, packs_of_part
 from .columns import both
 from .pieces import Piece, chain_of, framed_pieces, layers_of, lead_in_of
 from .readings import Laid, Reading
@@ -18,12 +19,12 @@ from .survey import Stretch, Survey
 FEW = 8
 # Frames decide if they are so many times the blocks of a gap; with no look at words if they are far more.
 ENOUGH, PLENTY = 2, 10
-# So many packs say whether words agree, if at least this share of them does.
-LEAST_PACKS, LEAST_SHARE = 12, 0.9
 # Of two places where words agree, the right one has so many times fewer packs that differ.
 CLEARLY = 10
 # Words are compared in so many windows of a gap, of so many blocks, at so many places, with so many readings.
-WINDOW, MOST_WINDOWS, MOST_PLACES, MOST_OTHERS = 250, 8, 12, 8
+WINDOW, MOST_WINDOWS, MOST_PLACES, MOST_OTHERS = 75, 24, 12, 8
+# A gap of which parts agree at different places is halved so often, down to so many blocks.
+HALVINGS, SHORTEST = 6, 40
 # Of so many parts of a reading most have frames, and those of one shift are in no fewer than these.
 PARTS, MOST_PARTS, FEW_PARTS = 16, 12, 5
 # A gap in a stale run is shorter than a second.
@@ -47,6 +48,7 @@ class FrameGap:
     strays: list[int]
     shift: int | None = None  # the place that was found
     is_busy: bool = False  # it has packs that are not idle
+    agrees: bool = False  # some of them agree with those of another reading somewhere
 
     @property
     def length(self) -> int:
@@ -112,7 +114,7 @@ class Framed:
                 continue
             if piece.end == gap.first:
                 first += self.slack[piece]
-            else:
+            elif piece.first == gap.end:
                 end -= self.slack[piece]
         return Piece(first, end, gap.shift, 0, gap.read) if first < end else None
 
@@ -256,32 +258,48 @@ def judgement(gap: FrameGap, own: Reading, shifts: Sequence[int], others: Sequen
     votes: set[int] = set()
     fitting: set[int] = set()
     against: set[int] = set()
-    for shared in agreement(gap, own, shifts, others):
-        fits = {shift for shift, it in shared.items() if it.same >= max(LEAST_PACKS, LEAST_SHARE * it.all)}
-        against |= {shift for shift, it in shared.items() if it.all >= LEAST_PACKS and shift not in fits}
+    is_mixed = False
+    for windows in agreement(gap, own, shifts, others):
+        shared = {shift: functools.reduce(Shared.plus, (it[shift] for it in windows), Shared()) for shift in shifts}
+        fits = {shift for shift, it in shared.items() if it.agrees()}
+        against |= {shift for shift, it in shared.items() if it.contradicts()}
+        gap.agrees = gap.agrees or any(it.same >= LEAST_PACKS for it in shared.values())
+        if len({best for it in windows if (best := clear_best(it)) is not None}) > 1:
+            is_mixed = True
+            continue
         fitting |= fits
         order = sorted(fits, key=lambda shift: shared[shift].differing)
         if len(order) == 1 or order and CLEARLY * (1 + shared[order[0]].differing) <= shared[order[1]].differing:
             votes.add(order[0])
-    if len(votes) == 1:
+    if len(votes) == 1 and not is_mixed:
         return Judgement(votes.pop(), set(), False)
-    return Judgement(None, against - fitting, not votes)
+    return Judgement(None, against - fitting, not votes and not is_mixed)
+
+
+def clear_best(window: dict[int, Shared]) -> int | None:
+    """The place at which clearly the most packs of a window are the same."""
+    order = sorted(window, key=lambda shift: window[shift].same, reverse=True)
+    best, second = window[order[0]].same, window[order[1]].same if len(order) > 1 else 0
+    return order[0] if best >= SOME and best > 2 * second else None
 
 
 def agreement(
     gap: FrameGap, own: Reading, shifts: Sequence[int], others: Sequence[Reading]
-) -> Iterable[dict[int, Shared]]:
-    """What each reading shares with the words of a gap at each place."""
-    found = [{shift: Shared() for shift in shifts} for _ in others]
+) -> Iterable[list[dict[int, Shared]]]:
+    """What each reading shares with windows of a gap at each place."""
+    found: list[list[dict[int, Shared]]] = [[] for _ in others]
     for first, end in windows_in(gap):
         packs = packs_of_part(b"".join(content for _, content in own.blocks(first, end)), end - first)
         if not any(packs.busy):
             continue
         gap.is_busy = True
-        for (other, shared), shift in itertools.product(zip(others, found), shifts):
-            if first + shift >= 0:
-                stream = bytes(other.window(first + shift, end + shift))
-                shared[shift].add(packs, packs_of_part(stream, end - first))
+        for other, windows in zip(others, found):
+            window = {shift: Shared() for shift in shifts}
+            windows.append(window)
+            for shift in shifts:
+                if first + shift >= 0:
+                    stream = bytes(other.window(first + shift, end + shift))
+                    window[shift].add(packs, packs_of_part(stream, end - first))
     return found
 
 
@@ -300,7 +318,7 @@ def decide(found: Framed, gap: FrameGap, others: Sequence[Reading], is_last: boo
     """The place of a gap, if something decides. Before the last round only words do."""
     shift = only_shift(gap.around)
     if gap.read <= FEW:
-        return by_frames(found, gap, shift) if gap.near == gap.around and shift is not None else None
+        return by_frames(found, gap, shift) if shift is not None and gap.near == gap.around else None
     shifts = places_of(found, gap)
     words = judgement(gap, found.reading, shifts, others)
     if words.shift is not None or not is_last or not words.is_open:
@@ -323,7 +341,8 @@ def by_frames(found: Framed, gap: FrameGap, shift: int | None) -> int | None:
     frames = found.frames[shift] if shift is not None else 0
     if not found.homes:
         enough = ENOUGH if found.is_sure and shift == found.main() else PLENTY
-        return shift if frames >= enough * gap.length or gap.is_between and found.is_sure else None
+        is_enough = frames >= enough * gap.length or gap.is_between and (found.is_sure or frames >= gap.read)
+        return shift if is_enough else None
     if len(found.homes) > 1 or frames >= ENOUGH * gap.length and shift not in found.homes:
         return None
     return min(found.homes)
@@ -331,16 +350,40 @@ def by_frames(found: Framed, gap: FrameGap, shift: int | None) -> int | None:
 
 def place_all(found: Sequence[Framed]) -> None:
     """Finds the places of gaps. The first round goes by the frames of the other readings, the second by what the first has
-    placed too."""
-    for is_last in (False, True):
-        readings = [it.as_reading() for it in found]
-        order = sorted(range(len(found)), key=lambda number: -found[number].frames.total())
-        placed = []
-        for number, own in enumerate(found):
-            others = [readings[k] for k in order if k != number and readings[k].parts][:MOST_OTHERS]
-            placed += [(gap, decide(own, gap, others, is_last)) for gap in own.gaps if gap.shift is None]
-        for gap, shift in placed:
-            gap.shift = shift
+    placed too. Then gaps are halved whose parts agree at different places, as where sectors are missing."""
+    place_round(found, False)
+    place_round(found, True)
+    for _ in range(HALVINGS):
+        if not sum(halve(it) for it in found):
+            return
+        place_round(found, False)
+
+
+def place_round(found: Sequence[Framed], is_last: bool) -> None:
+    readings = [it.as_reading() for it in found]
+    order = sorted(range(len(found)), key=lambda number: -found[number].frames.total())
+    placed = []
+    for number, own in enumerate(found):
+        others = [readings[k] for k in order if k != number and readings[k].parts][:MOST_OTHERS]
+        placed += [(gap, decide(own, gap, others, is_last)) for gap in own.gaps if gap.shift is None]
+    for gap, shift in placed:
+        gap.shift = shift
+
+
+def halve(found: Framed) -> int:
+    """Halves the gaps that agree with another reading in a part; returns how many."""
+    gaps: list[FrameGap] = []
+    column = read_without_frame(found.reading.loaded.survey)
+    for gap in found.gaps:
+        if gap.shift is not None or not gap.agrees or gap.length < 2 * SHORTEST:
+            gaps.append(gap)
+            continue
+        middle = (gap.first + gap.end) // 2
+        for first, end in ((gap.first, middle), (middle, gap.end)):
+            gaps.append(FrameGap(first, end, column.count(1, first, end), gap.near, [], gap.strays))
+    halved = len(gaps) - len(found.gaps)
+    found.gaps = gaps
+    return halved
 
 
 # ---- Readings side by side.
