@@ -4,6 +4,7 @@ pub mod Pictures
 pub mod Small
 pub mod Slots
 pub mod Saved
+pub mod Saves
 mod PairBytes
 mod Rows
 mod Kept

@@ -1,4 +1,4 @@
--- The pixels of the screen as displays take them.
+-- The pixels of the screen in the formats of displays.
 use Rattle.std.specs.Prelude.{◌≡◌, ◌+◌, ◌-◌, ◌*◌, ◌/◌, ◌%◌, ◌<◌, ◌≤◌, ℕ, List, [], ◌∷◌, ◌++◌, reverse, length, take, slice_index, slice_index_or}
 use Rattle.cdg_screen.specs.Standing.{Standing, screen_pixel}
 use Rattle.cdg_screen.specs.Texts.{colour_bytes}
@@ -16,8 +16,8 @@ pixel_size RgbaLevels = 4
 pixel_size BgraLevels = 4
 pixel_size Rgb565 = 2
 
--- how opaque a colour of a level is, 0 to 255: level 0 is opaque and level 63 clear, and the six bits of the level are
--- made eight by their own first two
+-- the opacity of a level, 0 to 255: level 0 is opaque and level 63 is clear; the first two of the six bits of the
+-- level fill up the eight bits
 abbrev pub opacity : ℕ → ℕ
 opacity level = 255 - (4 * level + level / 16)
 
@@ -26,7 +26,7 @@ abbrev pub packed_colour : ℕ → ℕ
 packed_colour colour =
     2048 * (17 * (colour / 256) / 8) + 32 * (17 * (colour / 16 % 16) / 4) + 17 * (colour % 16) / 8
 
--- the bytes of a pixel whose colour has this number, value and level
+-- the bytes of a pixel with this colour number, colour and level
 abbrev pub pixel_bytes : PixelFormat → ℕ → ℕ → ℕ → List ℕ
 pixel_bytes Indexed number colour level = number ∷ []
 pixel_bytes Rgb number colour level = colour_bytes colour
@@ -59,7 +59,7 @@ abbrev pub HasColours : PixelFormat → Standing → List (List ℕ) → Type 0
 HasColours format now table = (p : ℕ) → p < 16 → take (pixel_size format) (slice_index_or table p [])
     ≡ pixel_bytes format p (slice_index now.colours p) (slice_index now.levels p)
 
--- the first pixels, so many bytes each, one after the other, by a table of the bytes of each colour
+-- the bytes of the first pixels, one after the other, by a table of the bytes of each colour
 abbrev pub AreFirstBytes : ℕ → ℕ → List ℕ → List (List ℕ) → List ℕ → Type 0
 AreFirstBytes size count pixels table line = (i k : ℕ) → i < count → k < size
     → slice_index line (size * i + k) ≡ slice_index (slice_index_or table (slice_index pixels i) []) k
@@ -70,7 +70,7 @@ pub record ArePairs (size : ℕ) (table pairs : List (List ℕ)) : Type 0 where
   pub bytes : (n : ℕ) → n < 256
       → AreFirstBytes size 2 (n % 16 ∷ n / 16 ∷ []) table (slice_index_or pairs n [])
 
--- the first pairs of pixels, so many bytes for each pixel, one after the other, by a table of the bytes of each two
+-- the bytes of the first pairs of pixels, one after the other, by a table of the bytes of each two pixels
 abbrev pub AreFirstPairs : ℕ → ℕ → List ℕ → List (List ℕ) → List ℕ → Type 0
 AreFirstPairs size count pixels pairs line =
     let number = λ (i : ℕ). slice_index pixels (2 * i) + 16 * slice_index pixels (2 * i + 1) in
@@ -81,13 +81,13 @@ AreFirstPairs size count pixels pairs line =
 abbrev pub AreLineBytes : ℕ → List ℕ → List (List ℕ) → List ℕ → Type 0
 AreLineBytes size pixels table line = AreFirstBytes size (length pixels) pixels table line
 
--- so many bytes have room for the rows of a part, each `stride` bytes after the one before
+-- so many bytes suffice for the rows of a part, each `stride` bytes after the row before
 abbrev pub HasPixelRoom : PixelFormat → ScreenPart → ℕ → ℕ → Type 0
 HasPixelRoom format part stride room =
     (j : ℕ) → j < part.height → j * stride + pixel_size format * part.width ≤ room
 
--- The pixels of a part are written in a format, row by row, each row `stride` bytes after the one before, and in a row one
--- after the other. All other bytes are as they were.
+-- The pixels of a part are written in a format, row by row; each row is `stride` bytes after the row before. All other
+-- bytes are unchanged.
 pub record ShowsPixels (format : PixelFormat) (now : Standing) (part : ScreenPart) (stride : ℕ)
     (old new : List ℕ) : Type 0 where
   pub pixels : (i j k : ℕ) → i < part.width → j < part.height → k < pixel_size format

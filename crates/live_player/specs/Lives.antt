@@ -1,4 +1,4 @@
--- A player that is fed block by block, and what it shows.
+-- A player that is fed block by block, and its screen.
 use Rattle.std.specs.Prelude.{◌≡◌, ◌+◌, ◌-◌, ◌^◌, ◌/◌, ◌%◌, ◌++◌, ℕ, List, [], ◌∷◌, length, map, drop, min, slice_index, Option, Some, None}
 use Rattle.bit_lists.specs.Counting.{below}
 use Rattle.std.specs.List.{flat_map, AllByRecursion}
@@ -19,7 +19,7 @@ use Rattle.stream_stages.specs.Steps.{fresh_words, words_next}
 use Rattle.live_player.specs.declared.live.LivePlayer.{LivePlayer}
 use Rattle.raw_subcode.specs.Sizes.{block_bytes}
 
--- what stands on a player's picture
+-- the state of a player's screen
 abbrev pub standing_on : LivePlayer → Standing
 standing_on player = seen player.screen
 
@@ -29,45 +29,45 @@ stream_words form lead_in blocks =
     let symbols = flat_map symbols_of (drop lead_in blocks) in
     map (form_word form symbols) (below (word_count form (length symbols / block_bytes)))
 
--- the words that come with a block after others: those that were not there before it
+-- the words that a block adds after other blocks
 abbrev pub words_with : Form → ℕ → List (List ℕ) → List ℕ → List (List ℕ)
 words_with form lead_in before block =
     drop (length (stream_words form lead_in before)) (stream_words form lead_in (before ++ block ∷ []))
 
--- the instructions of what is found for words, in order: where nothing is found there is none
+-- the instructions of corrected words, in order; a word with no codeword near has none
 abbrev pub meant_by : List (Option (List ℕ)) → List Instr
 meant_by [] = []
 meant_by (None ∷ rest) = meant_by rest
 meant_by (Some codeword ∷ rest) = meaning codeword ∷ meant_by rest
 
--- the instructions of words, each read as the codeword near it
+-- the instructions of words, each corrected to the codeword near it
 abbrev pub instructions_of : List (List ℕ) → List Instr
 instructions_of words = meant_by (map finding words)
 
--- the instruction of 24 bytes, whose low six bits are symbols: the parity has no part in it
+-- the instruction of 24 bytes, whose low six bits are symbols; the parity is ignored
 unfoldable pub instruction_of : List ℕ → Instr
 instruction_of pack = meaning (map (λ byte. byte % 64) pack)
 
--- what a player is given: the next block of its stream, or a pack to draw
+-- an input of a player: the next block of its stream, or a pack to draw
 pub data Given : Type 0 where
   Fed : List ℕ → Given
   Drawn : List ℕ → Given
 
--- In the next three definitions what a player was given stands with the last one first.
+-- In the next three definitions, the last input of a player is the first of the list.
 
--- the blocks among it, in order
+-- the blocks among the inputs, in order
 abbrev pub blocks_in : List Given → List (List ℕ)
 blocks_in [] = []
 blocks_in (Fed block ∷ before) = blocks_in before ++ block ∷ []
 blocks_in (Drawn pack ∷ before) = blocks_in before
 
--- the packs among it, in order
+-- the packs among the inputs, in order
 abbrev pub packs_given : List Given → List (List ℕ)
 packs_given [] = []
 packs_given (Fed block ∷ before) = packs_given before
 packs_given (Drawn pack ∷ before) = packs_given before ++ pack ∷ []
 
--- the instructions of all of it, in order: those of the words that come with each block, and that of each pack
+-- the instructions of all inputs, in order: those of the words that end with each block, and that of each pack
 abbrev pub instructions_in : Form → ℕ → List Given → List Instr
 instructions_in form lead_in [] = []
 instructions_in form lead_in (Fed block ∷ before) =
@@ -79,9 +79,9 @@ instructions_in form lead_in (Drawn pack ∷ before) =
 abbrev pub bad_words_in : Form → ℕ → List (List ℕ) → ℕ
 bad_words_in form lead_in blocks = bad_count (map finding (stream_words form lead_in blocks))
 
--- The player began with a stream of this form and was given this since, the last one first. What stands is what all
--- of it draws, in order, on a blank screen. The blocks and the words with no codeword near are counted; each count
--- stays where it is at its last value.
+-- The player began with a stream of this form and was given these inputs since, the last one first. Its screen is what
+-- they draw, in order, on a blank screen. The blocks and the words with no codeword near are counted; the counts
+-- saturate.
 pub record HasPlayed (form : Form) (lead_in : ℕ) (given : List Given) (player : LivePlayer) : Type 0 where
   pub sized : AllByRecursion (λ block. length block ≡ block_bytes) (blocks_in given)
   pub gathers : player.words ≡ run_state words_next (fresh_words form lead_in) (blocks_in given)
@@ -90,13 +90,13 @@ pub record HasPlayed (form : Form) (lead_in : ℕ) (given : List Given) (player 
   pub counted : player.blocks ≡ min (length (blocks_in given)) (2 ^ 32 - 1)
   pub bad : player.bad ≡ min (bad_words_in form lead_in (blocks_in given)) (2 ^ 32 - 1)
 
--- Whatever a player was given, it was given this too since, the last one first.
+-- Whatever a player was given before, it was given these inputs since, the last one first.
 abbrev pub PlaysOn : List Given → LivePlayer → LivePlayer → Type 0
 PlaysOn more before after = (form : Form) (lead_in : ℕ) (given : List Given)
     → HasPlayed form lead_in given before → HasPlayed form lead_in (more ++ given) after
 
--- what these blocks show: all packs that came with them, each read as the codeword near it, drawn in turn on a blank
--- screen
+-- the screen of these blocks: all packs that end with them, each corrected to the codeword near it, drawn in turn on a
+-- blank screen
 pub record IsLiveView (form : Form) (lead_in : ℕ) (blocks : List (List ℕ)) (now : Standing) : Type 0 where
   pub found : List (Option (List ℕ))
   pub recovered : IsRecovered form (flat_map symbols_of (drop lead_in blocks)) found
@@ -104,7 +104,7 @@ pub record IsLiveView (form : Form) (lead_in : ℕ) (blocks : List (List ℕ)) (
   pub meant : AreMeant found instrs
   pub stands : now ≡ standing_after blank instrs
 
--- what these blocks show at a moment: the packs that are whole then, drawn in the same way
+-- the screen of these blocks at a moment: the packs that are whole then, drawn in the same way
 pub record IsLiveViewAt (form : Form) (lead_in time : ℕ) (blocks : List (List ℕ))
     (now : Standing) : Type 0 where
   pub found : List (Option (List ℕ))
@@ -113,12 +113,12 @@ pub record IsLiveViewAt (form : Form) (lead_in time : ℕ) (blocks : List (List 
   pub shown : AreShown found time instrs
   pub stands : now ≡ standing_after blank instrs
 
--- the instructions of the words that came with a block, if any
+-- the instructions of the words that end with a block, if any
 abbrev pub drawn_for : Option (ArrayVec (List ℕ)) → List Instr
 drawn_for None = []
 drawn_for (Some words) = instructions_of words.items
 
--- the count of bad words after those that came with a block, if any: a u32 that stays at its last value
+-- the count of bad words after the words that end with a block, if any: a u32 that saturates
 abbrev pub bad_counted : ℕ → Option (ArrayVec (List ℕ)) → ℕ
 bad_counted bad None = bad
 bad_counted bad (Some words) = min (bad + bad_count (map finding words.items)) (2 ^ 32 - 1)

@@ -8,12 +8,12 @@ use Rattle.live_player.specs.declared.looking.ScreenPart.{ScreenPart}
 abbrev pub IsOnScreen : ScreenPart → Type 0
 IsOnScreen part = (part.left + part.width ≤ screen_width) × (part.top + part.height ≤ screen_height)
 
--- so many bytes have room for the rows of a part, each `stride` bytes after the one before
+-- so many bytes suffice for the rows of a part, each `stride` bytes after the row before
 abbrev pub HasRoomFor : ScreenPart → ℕ → ℕ → Type 0
 HasRoomFor part stride room = (j : ℕ) → j < part.height → j * stride + part.width ≤ room
 
--- The numbers of the colours of a part are written, row by row, each row `stride` bytes after the one before. All other
--- bytes are as they were.
+-- The colour numbers of a part are written row by row; each row is `stride` bytes after the row before. All other
+-- bytes are unchanged.
 pub record ShowsPart (now : Standing) (part : ScreenPart) (stride : ℕ) (old new : List ℕ) : Type 0 where
   pub pixels : (i j : ℕ) → i < part.width → j < part.height
       → slice_index new (j * stride + i) ≡ screen_pixel now (part.left + i) (part.top + j)

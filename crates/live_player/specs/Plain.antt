@@ -1,4 +1,4 @@
--- The player that is kept as plain numbers.
+-- The player of plain numbers.
 use Rattle.std.specs.Prelude.{◌==◌, ◌-◌, ◌++◌, if◌then◌else◌, ℕ}
 use Rattle.raw_subcode.specs.declared.form.Form.{Form}
 use Rattle.raw_subcode.specs.declared.form.Form.TheVariants.{Raw, Cooked, Sector}
@@ -9,11 +9,11 @@ use Rattle.live_player.specs.declared.live.LivePlayer.{LivePlayer}
 use Rattle.live_player.specs.declared.plain.PlainPlayer.{PlainPlayer}
 use Rattle.live_player.specs.declared.plain.PlainWords.{PlainWords}
 
--- the form that a number means: 0 a raw stream, 1 one of packs, else one of sectors
+-- the form with a number: 0 a raw stream, 1 a stream of packs, else a stream of sectors
 abbrev pub numbered_form : ℕ → Form
 numbered_form n = if n == 0 then Raw else (if n == 1 then Cooked else Sector)
 
--- the gatherer that these numbers are
+-- the gatherer with these numbers
 abbrev pub gatherer_of : PlainWords → BlockWords
 gatherer_of w = record {
   form = numbered_form w.form;
@@ -21,7 +21,7 @@ gatherer_of w = record {
   gather = slots_in (w.early ++ w.late) (packs_kept_back - w.count) w.count;
 }
 
--- the player that these numbers are
+-- the player with these numbers
 abbrev pub player_of : PlainPlayer → LivePlayer
 player_of p = record {
   words = gatherer_of p.words;

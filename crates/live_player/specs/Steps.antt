@@ -1,5 +1,5 @@
--- What a player makes of a block or a pack, whatever it was given before. Of one that came to the checkpoint of a file
--- no more may be known.
+-- The effect of a block or a pack on a player, whatever the player was given before. After loading a file, nothing
+-- else may be known about the player.
 use Rattle.std.specs.Prelude.{◌≡◌, ◌+◌, ◌-◌, ◌^◌, ℕ, List, [], ◌∷◌, min, Option, Some, None}
 use Rattle.arrayvec.specs.ArrayVec.{ArrayVec}
 use Rattle.cdg_screen.specs.Standing.{standing_after}
@@ -7,12 +7,12 @@ use Rattle.stream_stages.specs.Steps.{words_next, words_give}
 use Rattle.live_player.specs.Lives.{bad_counted, drawn_for, instruction_of, standing_on}
 use Rattle.live_player.specs.declared.live.LivePlayer.{LivePlayer}
 
--- the words that came with a block, if any did
+-- the words that end with a block, if any
 abbrev pub words_come : Option (ArrayVec (List ℕ)) → List (List ℕ)
 words_come (Some words) = words.items
 words_come None = []
 
--- The player took a block: it gathers on, draws the words that came with it on what stood, and counts.
+-- The player reads a block: it gathers its slots, draws the words that end with it on the screen, and counts.
 pub record TakesBlock (block : List ℕ) (before after : LivePlayer) : Type 0 where
   pub gathers : after.words ≡ words_next before.words block
   pub draws : standing_on after
@@ -21,7 +21,7 @@ pub record TakesBlock (block : List ℕ) (before after : LivePlayer) : Type 0 wh
   pub counts : after.blocks ≡ min (before.blocks + 1) (2 ^ 32 - 1)
   pub bad : after.bad ≡ bad_counted before.bad (words_give before.words block)
 
--- The player drew a pack on what stood, and all else is as it was.
+-- The player draws a pack on its screen, and its other fields are unchanged.
 pub record DrawsPack (pack : List ℕ) (before after : LivePlayer) : Type 0 where
   pub gathers : after.words ≡ before.words
   pub draws : standing_on after ≡ standing_after (standing_on before) (instruction_of pack ∷ [])

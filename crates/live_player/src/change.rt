@@ -1,4 +1,4 @@
-// What of the screen may change.
+// The part of the screen that may change.
 ghost use Rattle.std.specs.Prelude.{◌≡◌, List};
 ghost use Rattle.live_player.specs.Changes.{touched_change, join, no_change, rectangle, tile_change, changes_on, KeepsUntold};
 ghost use Rattle.cdg_instructions.specs.declared.instr.Instr.{Instr};
@@ -6,8 +6,8 @@ ghost use Rattle.cdg_screen.specs.Standing.{IsWholeStanding, Standing, standing_
 
 use cdg_screen::{Touched, untouched_stays};
 
-/// A rectangle of the screen, in which pixels may change, and whether colours of the table or levels may. It holds no
-/// pixel where `left` is 300.
+/// A rectangle of the screen in which pixels may change, and whether colours of the table or levels may change. If
+/// `left` is 300, the rectangle is empty.
 #[repr(C)]
 #[derive(Clone, Copy)]
 pub struct ScreenChange {
@@ -19,9 +19,9 @@ pub struct ScreenChange {
     pub right: u32,
     /// One more than the last row.
     pub bottom: u32,
-    /// 1 where colours of the table may change, or else 0.
+    /// 1 if colours of the table may change, else 0.
     pub colours: u8,
-    /// 1 where levels may change, or else 0.
+    /// 1 if levels may change, else 0.
     pub levels: u8,
 }
 
@@ -40,7 +40,7 @@ impl ScreenChange {
         }
     }
 
-    /// All that changes here or there: the least rectangle that holds both.
+    /// The union of two changes: the smallest rectangle that contains both.
     pub(crate) fn join(&self, other: &ScreenChange) -> ScreenChange
         ensures { result ≡ join self.now other.now }
     {
@@ -55,8 +55,8 @@ impl ScreenChange {
     }
 }
 
-/// What may change where this is touched, of a screen that begins so many pixels further right and further down in the
-/// memory.
+/// What may change on the screen if this part is touched. The screen begins `across` pixels further right and `down`
+/// pixels further down in the memory.
 pub fn touched_change(touched: Touched, across: u8, down: u8) -> ScreenChange
     ensures { result ≡ touched_change touched across down }
 {
@@ -76,7 +76,7 @@ pub fn touched_change(touched: Touched, across: u8, down: u8) -> ScreenChange
     }
 }
 
-// The part of the window that shows a tile.
+// The part of the window that shows a tile of the memory.
 fn tile_change(row: u8, column: u8, across: u8, down: u8) -> ScreenChange
     ensures { result ≡ tile_change row column across down }
 {
@@ -92,7 +92,7 @@ fn tile_change(row: u8, column: u8, across: u8, down: u8) -> ScreenChange
     )
 }
 
-// A rectangle, where it holds a pixel.
+// A rectangle, or no change if it is empty.
 fn rectangle(left: u32, top: u32, right: u32, bottom: u32) -> ScreenChange
     ensures { result ≡ rectangle left top right bottom }
 {
@@ -110,7 +110,7 @@ fn rectangle(left: u32, top: u32, right: u32, bottom: u32) -> ScreenChange
     }
 }
 
-/// A law: by instructions that are carried out on what stands, nothing of the screen changes but what is told of them.
+/// A law: instructions change only the part of the screen that is reported for them.
 pub fn untold_stays()
     ensures { (now : Standing) (instrs : List Instr) → IsWholeStanding now
         → KeepsUntold (changes_on now instrs) now (standing_after now instrs) }

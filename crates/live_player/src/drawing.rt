@@ -1,4 +1,4 @@
-// What a block of a stream draws on a screen.
+// Drawing the words of a block on a screen.
 ghost use Rattle.std.specs.Prelude.{◌≡◌, map, replicate};
 ghost use Rattle.cdg_screen.specs.Memory.{seen};
 ghost use Rattle.cdg_screen.specs.Standing.{standing_after};
@@ -17,7 +17,7 @@ use raw_subcode::{BLOCK_BYTES, SLOTS_A_BLOCK};
 use rw_code::{Pack, Word};
 use stream_stages::{BlockOfWords, BlockWords, draw_word};
 
-/// Takes the next block of a stream: gathers the words that come with it, draws what is found for them and counts those
+/// Reads the next block of a stream: gathers the words that end with it, draws their codewords and counts the words
 /// with no codeword near.
 #[inline]
 pub fn play(
@@ -33,7 +33,7 @@ pub fn play(
     ensures bad { bad.new ≡ bad_counted bad.old (words_give words.old block.now) }
 {
     let came = words.feed(block);
-    // A law: instructions are carried out on what stands.
+    // A law: the state of a screen is complete, so instructions can be carried out on it.
     screen.what_stands_is_whole();
     match &came {
         Some(came) => {
@@ -45,7 +45,7 @@ pub fn play(
     came
 }
 
-// Draws what is found for the words of a block, and gives how many of them have no codeword near.
+// Draws the codewords of the words of a block, and returns how many words have no codeword near.
 #[inline]
 fn draw_words(screen: &mut PlainScreen, words: &BlockOfWords) -> u32
     ensures drawn { seen screen.new ≡ standing_after (seen screen.old) (instructions_of words.now.items) }
@@ -67,7 +67,7 @@ fn draw_each(screen: &mut PlainScreen, words: &ArrayVec<Word, SLOTS_A_BLOCK>) ->
     ensures drawn { seen screen.new ≡ standing_after (seen screen.old) (instructions_of words.now.items) }
     ensures bad { result ≡ bad_count (map finding words.now.items) }
 {
-    // A law: instructions are carried out on what stands.
+    // A law: the state of a screen is complete, so instructions can be carried out on it.
     screen.what_stands_is_whole();
     let mut bad = 0;
     for word in words.as_slice() {

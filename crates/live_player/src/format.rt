@@ -2,7 +2,7 @@
 ghost use Rattle.std.specs.Prelude.{◌≡◌, ◌≤◌};
 ghost use Rattle.live_player.specs.Formats.{pixel_size};
 
-/// How a pixel is written.
+/// The format of a pixel.
 #[derive(Clone, Copy)]
 pub enum PixelFormat {
     /// A byte: the number of its colour, 0 to 15.

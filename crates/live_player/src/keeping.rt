@@ -1,11 +1,8 @@
-// A player of plain numbers, and one that is put down as such.
+// A player of plain numbers, and its conversion from and to a `LivePlayer`.
 ghost use Rattle.std.specs.Prelude.{◌≡◌, ◌∷◌, [], length};
-ghost use Rattle.cdg_checkpoint.specs.Checkpoint.{checkpoint_in, file_of};
-ghost use Rattle.cdg_checkpoint.specs.Table.{IsCheckpointFile};
 ghost use Rattle.live_player.specs.Lives.{HasPlayed, PlaysOn};
 ghost use Rattle.live_player.specs.Lives.Given.{Drawn, Fed};
 ghost use Rattle.live_player.specs.Plain.{gatherer_of, numbered_form, player_of};
-ghost use Rattle.live_player.specs.Saving.{checkpoint_of, IsAt};
 ghost use Rattle.live_player.specs.Steps.{DrawsPack, TakesBlock};
 ghost use Rattle.raw_subcode.specs.Sizes.{block_bytes};
 ghost use Rattle.stream_stages.specs.Steps.{words_give};
@@ -14,7 +11,6 @@ use crate::LivePlayer;
 use crate::drawing::play;
 use crate::plain::{PlainPlayer, PlainWords};
 use crate::seeing::read_pack;
-use cdg_checkpoint::{PlainFile, StreamCounts, gathered_slots};
 use raw_subcode::{BLOCK_BYTES, Form};
 use rw_code::SYMBOLS;
 use rw_interleave::Gather;
@@ -53,7 +49,7 @@ impl PlainWords {
 }
 
 impl PlainPlayer {
-    /// Begins anew, with a stream of this form.
+    /// Restarts with a stream of this form.
     pub fn begin(&mut self, lead_in: u32, form: Form)
         ensures { HasPlayed form lead_in [] (player_of self.new) }
     {
@@ -66,7 +62,7 @@ impl PlainPlayer {
         self.bad = 0;
     }
 
-    /// Takes the next block, and gives the words that came with it.
+    /// Reads the next block, and returns the words that end with it.
     pub fn step(&mut self, block: &[u8; BLOCK_BYTES]) -> Option<BlockOfWords>
         ensures takes { TakesBlock block.now (player_of self.old) (player_of self.new) }
         ensures gives { result ≡ words_give (player_of self.old).words block.now }
@@ -79,7 +75,7 @@ impl PlainPlayer {
         came
     }
 
-    /// Takes the next block.
+    /// Reads the next block.
     pub fn feed(&mut self, block: &[u8; BLOCK_BYTES])
         ensures takes { TakesBlock block.now (player_of self.old) (player_of self.new) }
         ensures fed { PlaysOn (Fed block.now ∷ []) (player_of self.old) (player_of self.new) }
@@ -87,7 +83,7 @@ impl PlainPlayer {
         self.step(block);
     }
 
-    /// Draws a pack of 24 bytes, whose parity has no part in it. The stream goes on as if the pack were not there.
+    /// Draws a pack of 24 bytes. Its parity is ignored. The stream is unaffected.
     pub fn draw(&mut self, pack: &[u8; SYMBOLS])
         ensures draws { DrawsPack pack.now (player_of self.old) (player_of self.new) }
         ensures drawn { PlaysOn (Drawn pack.now ∷ []) (player_of self.old) (player_of self.new) }
@@ -95,41 +91,7 @@ impl PlainPlayer {
         self.screen.obey(&read_pack(pack));
     }
 
-    /// Writes the file of the checkpoint at which the player is. It is accepted only where the stream is raw and no longer
-    /// than a checkpoint can say.
-    pub fn compose(&self, file: &mut PlainFile)
-        ensures { file.new ≡ file_of (checkpoint_of (player_of self.now)) }
-    {
-        let read = self.blocks.min(self.lead_in);
-        let counts = StreamCounts {
-            to_come: self.lead_in - read,
-            lead_in: read,
-            program: self.blocks - read,
-            bad: self.bad,
-        };
-        let slots = self.words.words().gather.symbols();
-        file.compose(&counts, &slots, &self.screen);
-    }
-
-    /// Goes to the checkpoint of a file, in a raw stream.
-    pub fn go_to(&mut self, file: &PlainFile)
-        requires { IsCheckpointFile file.now }
-        ensures { IsAt (checkpoint_in file.now) (player_of self.new) }
-    {
-        let counts = file.counts();
-        let words = BlockWords {
-            form: Form::Raw,
-            lead_in: counts.to_come,
-            gather: gathered_slots(file),
-        };
-        self.words = PlainWords::of(&words);
-        self.lead_in = counts.to_come + counts.lead_in;
-        self.blocks = counts.lead_in + counts.program;
-        self.bad = counts.bad;
-        file.bring_back(&mut self.screen);
-    }
-
-    /// Becomes what another is.
+    /// Copies another player.
     pub fn copy_from(&mut self, other: &PlainPlayer)
         ensures { player_of self.new ≡ player_of other.now }
     {
@@ -142,7 +104,7 @@ impl PlainPlayer {
 }
 
 impl LivePlayer {
-    /// Writes a player as plain numbers.
+    /// Converts a player to plain numbers.
     pub fn put_down(&self, plain: &mut PlainPlayer)
         ensures { player_of plain.new ≡ self.now }
     {
@@ -153,7 +115,7 @@ impl LivePlayer {
         plain.bad = self.bad;
     }
 
-    /// Goes on as the player that these numbers are.
+    /// Copies a player of plain numbers.
     pub fn take_up(&mut self, plain: &PlainPlayer)
         ensures { self.new ≡ player_of plain.now }
     {
@@ -165,7 +127,7 @@ impl LivePlayer {
     }
 }
 
-/// The form that a number means.
+/// The form with a number.
 pub fn form_of(number: u32) -> Form
     ensures { result ≡ numbered_form number }
 {

@@ -1,5 +1,5 @@
-//! A player of subcode streams that is fed blocks as they come, and what it shows: pixels in the formats that displays take,
-//! and what of the screen changed.
+//! A player of subcode streams that is fed block by block, and its output: pixels in the formats of displays, and the
+//! changed part of the screen.
 #![tactic(auto)]
 
 mod change;
@@ -32,7 +32,7 @@ pub use marks::{Mark, seek_block, seek_pack};
 pub use parity::{ParityCounts, count_parity, seal_packs, valid_parity_is_that_of_a_codeword};
 pub use plain::{PlainPlayer, PlainWords};
 pub use plays::AnyPlayer;
-pub use saving::a_saved_player_goes_on;
+pub use saving::{a_saved_player_goes_on, save};
 pub use seeing::read_pack;
 pub use watch::Watch;
 pub use writing::{write_picture, write_pixels};

@@ -75,8 +75,8 @@ pub(crate) fn write_fours(
     write_first(4, count / 2, count, pixels, table, pairs, line);
 }
 
-// Writes so many bytes for each of the first pixels, some of them two at a time if there is a table of pairs. It is
-// inlined, so that the size is known.
+// Writes `size` bytes for each of the first pixels, two pixels at a time if there is a table of pairs. It is inlined,
+// so that the size is a constant.
 #[inline(always)]
 fn write_first(
     size: usize,
@@ -106,8 +106,8 @@ fn write_first(
     }
 }
 
-/// Writes so many bytes for each of some pixels, behind those of the pixels before them. Four are written at once, of
-/// which the next pixel writes over what is more than its size.
+/// Writes `size` bytes for each of these pixels, after the bytes of the pixels before them. Four bytes are written at
+/// once; the next pixel overwrites the surplus.
 #[inline(always)]
 pub(crate) fn write_more(
     size: usize,
@@ -161,6 +161,6 @@ fn put_four(line: &mut [u8], at: usize, four: &[u8; 4])
     ensures { (n : ℕ) → n < at + 4 → slice_index line.new n
         ≡ (if nat_le at n then slice_index four.now (n - at) else slice_index line.old n) }
 {
-    // A vector is stored as one number, where `copy_from_slice` would look first whether the two lie over each other.
+    // The four bytes are stored as one number: `copy_from_slice` would first test for overlap.
     u8x4::from_array(*four).copy_to_slice(&mut line[at..at + 4]);
 }

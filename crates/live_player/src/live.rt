@@ -1,4 +1,4 @@
-// A player that is fed blocks as they come.
+// A player that is fed block by block.
 ghost use Rattle.std.specs.Prelude.{◌≡◌, ◌<◌, ◌≤◌, ◌+◌, ◌-◌, ◌^◌, ◌/◌, ◌%◌, ◌++◌, ◌∷◌, [], List, ℕ, length, map, min, slice_index, IfOk};
 ghost use Rattle.cdg_instructions.specs.Sizes.{colour_values, screen_height, screen_pixels, screen_width};
 ghost use Rattle.cdg_screen.specs.Standing.{blank, screen_pixel, standing_after};
@@ -20,19 +20,19 @@ use rw_interleave::Gather;
 use std::alloc::{AllocError, Global};
 use stream_stages::{BlockOfWords, BlockWords};
 
-/// Plays a stream as its blocks come, for as long as they come. It is plain numbers of a fixed size, so that nothing that
-/// plays can ask for memory.
+/// Plays a stream block by block, without an end. The struct has a fixed size and holds only numbers, so playing never
+/// allocates.
 #[derive(Drop)]
 pub struct LivePlayer {
     /// Gathers the words of the stream.
     pub words: BlockWords,
-    /// What they have drawn.
+    /// The screen that the words have drawn.
     pub screen: PlainScreen,
-    /// The blocks of the lead-in, those that came and those still to come.
+    /// The blocks of the lead-in, read or not.
     pub lead_in: u32,
-    /// The blocks that came. From 4,294,967,295 on it stays, and so does the count of bad words.
+    /// The blocks that were read. This count and that of bad words saturate at `u32::MAX`.
     pub blocks: u32,
-    /// The words with no codeword near among those that came.
+    /// The words so far with no codeword near.
     pub bad: u32,
 }
 
@@ -44,7 +44,7 @@ impl LivePlayer {
         Ok(Box::new(alloc, LivePlayer::fresh())?)
     }
 
-    // The same, which is inlined, so that it is made where it will stand, and takes no stack.
+    // A new player. It is inlined, so that it is built in place and needs no stack.
     #[inline(always)]
     fn fresh() -> LivePlayer
         ensures { HasPlayed Form.Raw 0 [] result }
@@ -58,7 +58,7 @@ impl LivePlayer {
         }
     }
 
-    /// Begins anew, with a stream of this form.
+    /// Restarts with a stream of this form.
     pub fn begin(&mut self, lead_in: u32, form: Form)
         ensures { HasPlayed form lead_in [] self.new }
     {
@@ -72,17 +72,17 @@ impl LivePlayer {
         self.bad = 0;
     }
 
-    /// Takes the next block.
+    /// Reads the next block.
     pub fn feed(&mut self, block: &[u8; BLOCK_BYTES])
-        // Whatever it was given before,
+        // Whatever the player was given before.
         ensures takes { TakesBlock block.now self.old self.new }
-        // and where that is known.
+        // If it is known what the player was given.
         ensures fed { PlaysOn (Fed block.now ∷ []) self.old self.new }
     {
         self.step(block);
     }
 
-    /// Takes the next block, and gives the words that came with it, at most four.
+    /// Reads the next block, and returns the words that end with it, at most four.
     pub fn take(&mut self, block: &[u8; BLOCK_BYTES]) -> ArrayVec<Word, 4>
         ensures takes { TakesBlock block.now self.old self.new }
         ensures gives { result.items ≡ words_come (words_give self.old.words block.now) }
@@ -98,7 +98,7 @@ impl LivePlayer {
         }
     }
 
-    // Gathers the words that come with a block, and draws them.
+    // Gathers the words that end with a block, and draws them.
     fn step(&mut self, block: &[u8; BLOCK_BYTES]) -> Option<BlockOfWords>
         ensures gathers { self.new.words ≡ words_next self.old.words block.now }
         ensures gives { result ≡ words_give self.old.words block.now }
@@ -112,8 +112,8 @@ impl LivePlayer {
         play(&mut self.words, &mut self.screen, &mut self.bad, block)
     }
 
-    /// Draws a pack of 24 bytes, as a file of packs has them. The low six bits of each byte are its symbols,
-    /// and the parity has no part in it. The stream goes on as if the pack were not there.
+    /// Draws a pack of 24 bytes, as in a .cdg file. The low six bits of each byte are its symbols. Its parity is
+    /// ignored. The stream is unaffected.
     pub fn draw(&mut self, pack: &[u8; SYMBOLS])
         ensures draws { DrawsPack pack.now self.old self.new }
         ensures drawn { PlaysOn (Drawn pack.now ∷ []) self.old self.new }
@@ -121,18 +121,18 @@ impl LivePlayer {
         looking::draw(&mut self.screen, pack);
     }
 
-    /// A law: where no packs were drawn in between, what stands is what the blocks since the start show.
+    /// A law: if no packs were drawn, the screen shows the blocks since the start.
     pub fn shows_its_blocks(&self)
         ensures last { (form : Form) (lead_in : ℕ) (given : List Given)
             → HasPlayed form lead_in given self.now → packs_given given ≡ []
             → IsLiveView form lead_in (blocks_in given) (standing_on self.now) }
-        // Of a raw stream it is what stands at the moment that the program has come to.
+        // For a raw stream, this is the screen at the end of the program so far.
         ensures so_far { (lead_in : ℕ) (given : List Given) → HasPlayed Form.Raw lead_in given self.now
             → packs_given given ≡ [] → IsLiveViewAt Form.Raw lead_in (length (blocks_in given) - lead_in)
             (blocks_in given) (standing_on self.now) }
     {}
 
-    /// A law: where no blocks were fed, what stands is what the packs since the start draw.
+    /// A law: if no blocks were fed, the screen shows the packs since the start.
     pub fn shows_its_packs(&self)
         ensures { (form : Form) (lead_in : ℕ) (given : List Given)
             → HasPlayed form lead_in given self.now → blocks_in given ≡ []
@@ -158,8 +158,7 @@ impl LivePlayer {
         self.screen.colour(k)
     }
 
-    /// Writes the numbers of the colours of the screen's pixels, row by row: that at (x, y) is number
-    /// 300 y + x.
+    /// Writes the colour numbers of the screen's pixels, row by row: (x, y) is number 300 y + x.
     pub fn screen(&self, pixels: &mut [u8; SCREEN_PIXELS])
         ensures { (n : ℕ) → n < screen_pixels
             → slice_index pixels.new n
@@ -168,8 +167,7 @@ impl LivePlayer {
         looking::pixels(&self.screen, pixels);
     }
 
-    /// Writes the numbers of the colours of a part of the screen, row by row: row j of it begins `stride` times
-    /// j bytes from the front.
+    /// Writes the colour numbers of a part of the screen, row by row: row j begins at byte `stride` times j.
     pub fn part(&self, part: &ScreenPart, pixels: &mut [u8], stride: usize)
         requires part { IsOnScreen part.now }
         requires apart { part.now.width ≤ stride }
@@ -193,8 +191,7 @@ impl LivePlayer {
         looking::levels(&self.screen, levels);
     }
 
-    /// Writes red, green and blue of the screen's pixels, row by row: those of (x, y) begin at
-    /// byte 3 (300 y + x).
+    /// Writes red, green and blue of the screen's pixels, row by row: (x, y) begins at byte 3 (300 y + x).
     pub fn bytes(&self, bytes: &mut [u8; PICTURE_BYTES])
         ensures { (n : ℕ) → n < picture_bytes
             → slice_index bytes.new n ≡ picture_byte (standing_on self.now) n }
@@ -219,7 +216,7 @@ impl LivePlayer {
         looking::offsets(&self.screen)
     }
 
-    /// Shows, gathers and counts from here on what another player does.
+    /// Copies another player.
     pub fn copy_from(&mut self, other: &LivePlayer)
         ensures { self.new ≡ other.now }
     {
@@ -234,7 +231,7 @@ impl LivePlayer {
     }
 }
 
-// The same slots, gathered so far.
+// A copy of a gatherer.
 fn copy_of(gather: &Gather) -> Gather
     ensures { result ≡ gather.now }
 {

@@ -1,4 +1,4 @@
-// What a screen shows, number by number.
+// The pixels and colours of a screen, as numbers.
 ghost use Rattle.std.specs.Prelude.{◌≡◌, ◌↔◌, ◌<◌, ◌≤◌, ◌+◌, ◌-◌, ◌/◌, ◌%◌, nat_le, if◌then◌else◌, ◌∷◌, [], ℕ, IsTrue, length, slice_index};
 ghost use Rattle.cdg_instructions.specs.Sizes.{colour_values, screen_height, screen_pixels, screen_width};
 ghost use Rattle.cdg_screen.specs.Memory.{seen};
@@ -33,8 +33,8 @@ pub(crate) fn pixels(screen: &PlainScreen, pixels: &mut [u8; SCREEN_PIXELS])
     write_whole(screen, pixels);
 }
 
-/// The pixels of a part of the screen: row j of it stands `stride` times j bytes from the front. It is inlined, since much of
-/// it goes where the part is known.
+/// Writes the pixels of a part of the screen: row j begins at byte `stride` times j. It is inlined, since a constant
+/// part simplifies it.
 #[inline(always)]
 pub fn part_of_screen(screen: &PlainScreen, part: &ScreenPart, pixels: &mut [u8], stride: usize)
     requires part { IsOnScreen part.now }
@@ -58,8 +58,7 @@ fn is_whole_screen(part: &ScreenPart) -> bool
     part.width == SCREEN_WIDTH && part.height == SCREEN_HEIGHT
 }
 
-// Writes the pixels of the whole screen without gaps. It stands apart, so that there is one such loop, in which the compiler
-// knows where each row begins and ends.
+// Writes the pixels of the whole screen without gaps. It is not inlined, so that there is one loop with constant rows.
 #[inline(never)]
 fn write_whole(screen: &PlainScreen, pixels: &mut [u8])
     requires { screen_pixels ≤ length pixels.old }
@@ -76,7 +75,7 @@ fn write_whole(screen: &PlainScreen, pixels: &mut [u8])
     write_rows(screen, &whole, pixels, SCREEN_WIDTH);
 }
 
-// Writes the pixels of a part row by row. It is inlined, since much of it goes where the part is known.
+// Writes the pixels of a part row by row. It is inlined, since a constant part simplifies it.
 #[inline(always)]
 fn write_rows(screen: &PlainScreen, part: &ScreenPart, pixels: &mut [u8], stride: usize)
     requires part { IsOnScreen part.now }
@@ -99,7 +98,7 @@ fn write_line(screen: &PlainScreen, part: &ScreenPart, j: usize, line: &mut [u8]
     ensures { (i : ℕ) → i < part.now.width
         → slice_index line.new i ≡ screen_pixel (seen screen.now) (part.now.left + i) (part.now.top + j) }
 {
-    // Of a whole row the compiler knows where it begins and ends.
+    // For a whole row, the compiler knows the start and the end.
     if line.len() == SCREEN_WIDTH {
         screen.write_columns(0, part.top + j, line);
         return;
@@ -159,7 +158,7 @@ fn write_three(bytes: &mut [u8; PICTURE_BYTES], at: usize, three: [u8; 3])
     bytes[at + 2] = three[2];
 }
 
-// A part of each colour of the table: 0 red, 1 green, 2 blue.
+// A component of each colour of the table: 0 red, 1 green, 2 blue.
 fn parts(screen: &PlainScreen, which: u32) -> [u8; 16]
     requires { which < 3 }
     ensures { (k : ℕ) → k < 16 → slice_index result k
@@ -172,7 +171,7 @@ fn parts(screen: &PlainScreen, which: u32) -> [u8; 16]
     table
 }
 
-// A part of a colour as a byte: 0 red, 1 green, 2 blue.
+// A component of a colour as a byte: 0 red, 1 green, 2 blue.
 fn part(colour: u16, part: u32) -> u8
     requires part { part < 3 }
     requires colour { colour < colour_values }
@@ -185,7 +184,7 @@ fn part(colour: u16, part: u32) -> u8
     }
 }
 
-/// Carries out the instruction of a pack, whose parity has no part in it.
+/// Carries out the instruction of a pack. Its parity is ignored.
 pub(crate) fn draw(screen: &mut PlainScreen, pack: &[u8; SYMBOLS])
     ensures { seen screen.new ≡ standing_after (seen screen.old) (instruction_of pack.now ∷ []) }
 {

@@ -1,4 +1,4 @@
-// Going to a place of a stream, from marks that were left on the way.
+// Seeking in a stream, by marks that earlier seeks left.
 ghost use Rattle.std.specs.Prelude.{◌≡◌, ◌<◌, ◌≤◌, ◌*◌, All, List, ℕ, length};
 ghost use Rattle.live_player.specs.Lives.{Given, HasPlayed};
 ghost use Rattle.live_player.specs.Lives.Given.{Drawn, Fed};
@@ -11,7 +11,7 @@ use crate::plays::AnyPlayer;
 use raw_subcode::{BLOCK_BYTES, Form};
 use rw_code::SYMBOLS;
 
-/// A player at a place of a stream. All zero it is no mark.
+/// A player at a place of a stream. All zero, it is no mark.
 #[repr(C)]
 #[derive(Drop)]
 pub struct Mark {
@@ -20,8 +20,8 @@ pub struct Mark {
     pub player: PlainPlayer,
 }
 
-/// Goes to where a player stands that was fed the first `to` blocks of a stream, and leaves marks on the way: mark k, from
-/// 0, is for place (k + 1) * every.
+/// Brings a player to the state after the first `to` blocks of a stream, and leaves marks: mark k, from 0, is for
+/// place (k + 1) * every.
 pub fn seek_block<P: AnyPlayer>(
     player: &mut P,
     lead_in: u32,
@@ -71,7 +71,8 @@ pub fn seek_pack<P: AnyPlayer>(
     }
 }
 
-// Goes to the last mark that is not past a place, or begins anew where there is none. How many times `every` the place is.
+// Brings a player to the last mark that is not past a place, or restarts if there is none. Returns the place divided
+// by `every`.
 fn go_back<P: AnyPlayer>(
     player: &mut P,
     lead_in: u32,
@@ -99,7 +100,7 @@ fn go_back<P: AnyPlayer>(
     0
 }
 
-// Leaves a mark at a place, where one is for it and is not there yet.
+// Leaves a mark at a place, if a mark is for this place and is not set yet.
 fn leave_mark<P: AnyPlayer>(player: &P, place: usize, marks: &mut [Mark], every: usize)
     requires { 0 < every }
     ensures size { length marks.new ≡ length marks.old }

@@ -8,10 +8,10 @@ use std::simd::prelude::*;
 
 pub(crate) const PAIRS: usize = COLOURS * COLOURS;
 
-// How many pairs a round of a loop writes, without a test between them.
+// How many pairs one round of a loop writes, without a test in between.
 const ROUND: usize = 4;
 
-/// The bytes of each two pixels, so many bytes each: those of colours p and q at place p + 16 q.
+/// The bytes of each two pixels, with `size` bytes each: colours p and q are at place p + 16 q.
 pub(crate) fn pairs_of(size: usize, table: &[[u8; 4]; COLOURS]) -> [[u8; 8]; PAIRS]
     requires size { size ≤ 4 }
     requires entries { HasFourBytes table.now }
@@ -25,7 +25,7 @@ pub(crate) fn pairs_of(size: usize, table: &[[u8; 4]; COLOURS]) -> [[u8; 8]; PAI
     pairs
 }
 
-/// Writes so many bytes for each pixel of the first pairs. It is inlined, so that the size is known.
+/// Writes `size` bytes for each pixel of the first pairs. It is inlined, so that the size is a constant.
 #[inline(always)]
 pub(crate) fn write_pairs(
     size: usize,
@@ -48,8 +48,8 @@ pub(crate) fn write_pairs(
     write_more_pairs(size, ROUND * rounds, count % ROUND, pixels, pairs, line);
 }
 
-// Writes so many bytes for each pixel of some pairs, behind those of the pairs before them. Eight are written at once, of
-// which the next pair writes over what is more than its size.
+// Writes `size` bytes for each pixel of these pairs, after the bytes of the pairs before them. Eight bytes are written
+// at once; the next pair overwrites the surplus.
 #[inline(always)]
 fn write_more_pairs(
     size: usize,

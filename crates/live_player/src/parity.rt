@@ -1,4 +1,4 @@
-// The parity of packs as a file has them: 24 bytes whose low six bits are symbols.
+// The parity of packs of a .cdg file: 24 bytes whose low six bits are symbols.
 ghost use Rattle.std.specs.Prelude.{◌≡◌, ◌↔◌, ◌≤◌, ◌+◌, ◌<◌, if◌then◌else◌, IsTrue, [], List, ℕ, count_by, length, slice_index_or};
 ghost use Rattle.live_player.specs.Parity.{has_parity, has_no_symbol, is_valid_pack, low_symbols, IsSealed};
 ghost use Rattle.rw_code.specs.Codeword.{IsCodeword};
@@ -14,7 +14,7 @@ pub struct ParityCounts {
     pub idle: u64,
     /// The other packs with valid parity.
     pub valid: u64,
-    /// The packs without it.
+    /// The packs without valid parity.
     pub invalid: u64,
 }
 
@@ -38,13 +38,13 @@ pub fn count_parity(packs: &[[u8; SYMBOLS]]) -> ParityCounts
     }
 }
 
-/// A law: valid parity is that of a codeword.
+/// A law: a pack has valid parity exactly if its symbols are a codeword.
 pub fn valid_parity_is_that_of_a_codeword()
     ensures { (pack : List ℕ) → length pack ≡ 24
         → IsTrue (has_parity pack) ↔ IsCodeword (low_symbols pack) }
 {}
 
-/// Writes the parity of each pack: it becomes the codeword with its symbols at 0 and 1 and at 4 to 19.
+/// Writes the parity of each pack. The pack becomes the codeword with its symbols at 0 and 1 and at 4 to 19.
 pub fn seal_packs(packs: &mut [[u8; SYMBOLS]])
     ensures count { length packs.new ≡ length packs.old }
     ensures sealed { (n : ℕ) → n < length packs.old
@@ -55,7 +55,7 @@ pub fn seal_packs(packs: &mut [[u8; SYMBOLS]])
     }
 }
 
-// What the parity of a pack says.
+// The parity of a pack.
 #[derive(Clone, Copy)]
 struct PackParity {
     is_idle: bool,

@@ -1,4 +1,4 @@
-// What is kept of a player as plain numbers.
+// A player as plain numbers.
 ghost use Rattle.std.specs.Prelude.{◌++◌};
 ghost use Rattle.rw_interleave.specs.Windows.{IsWindow};
 
@@ -8,7 +8,7 @@ use raw_subcode::BLOCK_BYTES;
 /// The bytes of the first three of the last seven slots.
 pub const EARLY_BYTES: usize = 72;
 
-/// The last slots of a stream and what is still to come of its lead-in, as plain numbers.
+/// The last slots of a stream and the rest of its lead-in, as plain numbers.
 #[repr(C)]
 #[derive(Drop)]
 pub struct PlainWords {
@@ -16,28 +16,28 @@ pub struct PlainWords {
     pub early: [u8; EARLY_BYTES],
     /// The symbols of the other four.
     pub late: [u8; BLOCK_BYTES],
-    /// How many of the seven have come.
+    /// How many of the seven slots were read.
     pub count: usize,
-    /// Only where all seven have come, with no symbol but 0.
+    /// True only if all seven slots were read and all their symbols are 0.
     pub quiet: bool,
     /// The form of the stream: 0 raw, 1 packs, else sectors.
     pub form: u32,
-    /// The blocks of the lead-in that are still to come.
+    /// The blocks of the lead-in that are not read yet.
     pub lead_in: u32,
     ghost holds: { IsWindow (early ++ late) count quiet },
 }
 
-/// A player as plain numbers, which stand where there is room for them. All zero it is one of a raw stream with no
+/// A player as plain numbers: a caller can allocate it anywhere. All zero, it is a player of a raw stream with no
 /// lead-in, before its first block.
 #[repr(C)]
 #[derive(Drop)]
 pub struct PlainPlayer {
     pub words: PlainWords,
     pub screen: PlainScreen,
-    /// The blocks of the lead-in, those that came and those still to come.
+    /// The blocks of the lead-in, read or not.
     pub lead_in: u32,
-    /// The blocks that came.
+    /// The blocks that were read.
     pub blocks: u32,
-    /// The words with no codeword near among those that came.
+    /// The words so far with no codeword near.
     pub bad: u32,
 }

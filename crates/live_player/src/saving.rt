@@ -1,56 +1,61 @@
-// A player that is saved, and one that goes back to where another was saved.
-ghost use Rattle.std.specs.Prelude.{◌≡◌, ◌≤◌, List, ℕ, length};
+// Saving a player to the file of a checkpoint, and restoring it.
+ghost use Rattle.std.specs.Prelude.{◌≡◌, ◌≤◌, ◌<◌, ◌^◌, ◌⊎◌, ◌↔◌, if◌then◌else◌, IsTrue, true, List, ℕ, length, pos, negsuc};
+ghost use Rattle.cdg_checkpoint.specs.Checkpoint.{checkpoint_in, file_of};
+ghost use Rattle.cdg_checkpoint.specs.Table.{IsCheckpointFile};
 ghost use Rattle.disc_time.specs.Counts.{most_lead_in};
 ghost use Rattle.raw_subcode.specs.Sizes.{most_units};
 ghost use Rattle.raw_subcode.specs.declared.form.Form.{Form};
 ghost use Rattle.live_player.specs.Lives.{Given, HasPlayed, blocks_in};
+ghost use Rattle.live_player.specs.Saving.{checkpoint_of, IsAt, SavesLive};
 ghost use Rattle.live_player.specs.declared.live.LivePlayer.{LivePlayer};
-ghost use Rattle.cdg_checkpoint.specs.Checkpoint.{checkpoint_in, file_of};
-ghost use Rattle.cdg_checkpoint.specs.Table.{IsCheckpointFile};
-ghost use Rattle.live_player.specs.Saving.{checkpoint_of, IsAt};
 
-use crate::LivePlayer;
-use cdg_checkpoint::{PlainFile, StreamCounts, gathered_slots};
-use raw_subcode::Form;
+use crate::AnyPlayer;
+use cdg_checkpoint::{FILE_BYTES, PlainFile, files_are_read_back};
+use disc_time::MOST_LEAD_IN;
+use raw_subcode::MOST_UNITS;
 
-impl LivePlayer {
-    /// Writes the file of the checkpoint at which the player is. It is accepted only where the stream is raw and no
-    /// longer than a checkpoint can say.
-    pub fn save(&self, file: &mut PlainFile)
-        ensures { file.new ≡ file_of (checkpoint_of self.now) }
-    {
-        let read = self.blocks.min(self.lead_in);
-        let counts = StreamCounts {
-            to_come: self.lead_in - read,
-            lead_in: read,
-            program: self.blocks - read,
-            bad: self.bad,
-        };
-        let slots = self.words.gather.symbols();
-        file.compose(&counts, &slots, &self.screen);
+/// Writes the file of a player's checkpoint, which is made in `checkpoint`. False if the player cannot be saved: then the
+/// file is unchanged.
+pub fn save<P: AnyPlayer>(
+    player: &P,
+    checkpoint: &mut PlainFile,
+    file: &mut [u8; FILE_BYTES],
+) -> bool
+    ensures { SavesLive (P.played player.now) file.old file.new (if result then pos 0 else negsuc 0) }
+{
+    a_saved_player_goes_on();
+    if !player.fits_checkpoint() {
+        return false;
     }
-
-    /// Goes to the checkpoint of a file, in a raw stream.
-    pub fn load(&mut self, file: &PlainFile)
-        requires { IsCheckpointFile file.now }
-        ensures { IsAt (checkpoint_in file.now) self.new }
-    {
-        let counts = file.counts();
-        let lead_in = counts.to_come + counts.lead_in;
-        let blocks = counts.lead_in + counts.program;
-        self.lead_in = lead_in;
-        self.blocks = blocks;
-        self.bad = counts.bad;
-        let words = &mut self.words;
-        words.form = Form::Raw;
-        words.lead_in = counts.to_come;
-        words.gather = gathered_slots(file);
-        file.bring_back(&mut self.screen);
+    player.write_checkpoint(checkpoint);
+    match checkpoint.check() {
+        Ok(()) => {
+            file.copy_from_slice(checkpoint.bytes());
+            true
+        }
+        Err(_) => false,
     }
 }
 
-/// A law: where a raw stream has no more blocks than a checkpoint counts, the file of a player is a checkpoint's, and a
-/// player that goes to it goes on as the one that was saved.
+/// Whether a player with these counts has read more blocks than a checkpoint can count.
+pub(crate) fn is_too_long(lead_in: u32, blocks: u32) -> bool
+    ensures long { IsTrue result ↔ ((most_lead_in < lead_in) ⊎ (most_units < blocks)) }
+    ensures refused { result ≡ true → (player : LivePlayer) → player.lead_in ≡ lead_in
+        → player.blocks ≡ blocks → ¬ IsCheckpointFile (file_of (checkpoint_of player)) }
+{
+    files_are_read_back();
+    is_above(lead_in, MOST_LEAD_IN) || is_above(blocks, MOST_UNITS)
+}
+
+fn is_above(count: u32, most: u32) -> bool
+    ensures above { IsTrue result ↔ (most < count) }
+    ensures fits { count < 2 ^ 32 }
+{
+    count > most
+}
+
+/// A law: a player of a raw stream that a checkpoint can count has a valid file, and a player at the checkpoint of this
+/// file behaves as the one that was saved.
 pub fn a_saved_player_goes_on()
     ensures raw { (lead_in : ℕ) (given : List Given) (saved : LivePlayer)
         → HasPlayed Form.Raw lead_in given saved → saved.words.form ≡ Form.Raw }

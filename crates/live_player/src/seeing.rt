@@ -1,4 +1,4 @@
-// What a block of a stream draws on a screen, and what of the screen changes by it.
+// Drawing the words of a block on a screen, and watching the changes.
 ghost use Rattle.std.specs.Prelude.{◌≡◌, ◌≤◌, ◌<◌, ◌^◌, ◌%◌, ◌⊎◌, ◌∷◌, [], All, IsTrue, ℕ, drop, length, map, slice_index, true};
 ghost use Rattle.cdg_io.specs.Run.{run_state};
 ghost use Rattle.cdg_screen.specs.Memory.{seen};
@@ -30,13 +30,13 @@ use stream_stages::{BlockOfWords, BlockWords};
 /// The first symbol of a pack with graphics.
 pub(crate) const GRAPHICS: u8 = 9;
 
-// The second symbol of a pack that sets a tile, or combines one with what stands there.
+// The second symbol of a pack that sets a tile, or combines a tile with the pixels there.
 
 const SET_TILE: u8 = 6;
 
 const XOR_TILE: u8 = 38;
 
-/// Takes the next block of a stream, and sees what of the screen changes.
+/// Reads the next block of a stream, and adds the changes of the screen to the watch.
 #[inline(always)]
 pub(crate) fn play_seen(
     words: &mut BlockWords,
@@ -61,7 +61,7 @@ pub(crate) fn play_seen(
     }
 }
 
-/// Draws a pack as a file of packs has them, and sees what of the screen changes.
+/// Draws a pack of a .cdg file, and adds the changes of the screen to the watch.
 #[inline(always)]
 pub(crate) fn draw_seen(screen: &mut PlainScreen, watch: &mut Watch, pack: &[u8; SYMBOLS])
     ensures draws { seen screen.new ≡ standing_after (seen screen.old) (instruction_of pack.now ∷ []) }
@@ -76,7 +76,7 @@ pub(crate) fn draw_seen(screen: &mut PlainScreen, watch: &mut Watch, pack: &[u8;
     }
 }
 
-// The same of a pack that draws no tile. It stands apart, so that tiles do not pay for its variables.
+// The same for a pack that draws no tile. It is not inlined, so that tiles do not pay for its variables.
 #[inline(never)]
 fn draw_other_seen(screen: &mut PlainScreen, watch: &mut Watch, pack: &[u8; SYMBOLS])
     ensures draws { seen screen.new ≡ standing_after (seen screen.old) (instruction_of pack.now ∷ []) }
@@ -141,7 +141,7 @@ fn lines_of(symbols: &[u8; SYMBOLS]) -> [u8; TILE_HEIGHT]
     lines
 }
 
-/// The instruction of a pack, whose parity has no part in it.
+/// The instruction of a pack. Its parity is ignored.
 pub fn read_pack(pack: &[u8; SYMBOLS]) -> Instr
     ensures instruction { result ≡ instruction_of pack.now }
     ensures range { InRange result }
@@ -178,8 +178,7 @@ fn idle_is_codeword()
     Pack::idle().word();
 }
 
-/// Takes the next block, which is not seen to be idle. It is a function of its own so that idle blocks do not pay for its
-/// variables.
+/// Reads the next block if it may not be idle. It is not inlined, so that idle blocks do not pay for its variables.
 #[inline(never)]
 pub(crate) fn play_busy(
     words: &mut BlockWords,
@@ -195,7 +194,7 @@ pub(crate) fn play_busy(
     ensures sees { watch.new ≡ run_state sees watch.old (drawn_for (words_give words.old block.now)) }
 {
     let came = words.feed(block);
-    // A law: instructions are carried out on what stands.
+    // A law: the state of a screen is complete, so instructions can be carried out on it.
     screen.what_stands_is_whole();
     match came {
         Some(came) => {
@@ -207,7 +206,7 @@ pub(crate) fn play_busy(
     }
 }
 
-// Draws words one by one, sees what changes, and counts those with no codeword near.
+// Draws words one by one, adds the changes to the watch, and counts the words with no codeword near.
 fn draw_words_seen(
     screen: &mut PlainScreen,
     watch: &mut Watch,
@@ -217,7 +216,7 @@ fn draw_words_seen(
     ensures bad { result ≡ bad_count (map finding words.now.items) }
     ensures sees { watch.new ≡ run_state sees watch.old (instructions_of words.now.items) }
 {
-    // A law: instructions are carried out on what stands.
+    // A law: the state of a screen is complete, so instructions can be carried out on it.
     screen.what_stands_is_whole();
     let mut bad = 0;
     for word in words.as_slice() {
@@ -226,7 +225,7 @@ fn draw_words_seen(
     bad
 }
 
-// Draws what the correction of a word finds and sees what changes, or counts the word.
+// Draws the corrected word and adds the changes to the watch, or counts the word.
 #[inline(always)]
 fn draw_word_seen(screen: &mut PlainScreen, bad: &mut u32, watch: &mut Watch, word: &Word)
     ensures screen { seen screen.new ≡ entry_drawn (seen screen.old) (finding word.now) }

@@ -8,13 +8,13 @@ use crate::format::PixelFormat;
 use cdg_instructions::COLOURS;
 use cdg_screen::PlainScreen;
 
-/// The bytes of a pixel of each colour, those behind them zero.
+/// The bytes of a pixel of each colour, padded with zeros.
 pub(crate) fn table_of(screen: &PlainScreen, format: PixelFormat) -> [[u8; 4]; COLOURS]
     ensures size { length result ≡ 16 }
     ensures sizes { HasFourBytes result }
     ensures bytes { HasColours format (seen screen.now) result }
 {
-    // Each format has a loop of its own, which the compiler can make for it alone.
+    // Each format has its own loop, which the compiler can specialize.
     match format {
         PixelFormat::Indexed => entries(screen, PixelFormat::Indexed),
         PixelFormat::Rgb => entries(screen, PixelFormat::Rgb),
@@ -26,7 +26,7 @@ pub(crate) fn table_of(screen: &PlainScreen, format: PixelFormat) -> [[u8; 4]; C
     }
 }
 
-// The same. It is inlined, so that its format is known where it stands.
+// The same for one format. It is inlined, so that the format is a constant.
 #[inline(always)]
 fn entries(screen: &PlainScreen, format: PixelFormat) -> [[u8; 4]; COLOURS]
     ensures size { length result ≡ 16 }
@@ -41,7 +41,7 @@ fn entries(screen: &PlainScreen, format: PixelFormat) -> [[u8; 4]; COLOURS]
     table
 }
 
-// The bytes of a pixel of a colour of this number and level, those behind them zero.
+// The bytes of a pixel with this colour number, colour and level, padded with zeros.
 #[inline(always)]
 fn entry(format: PixelFormat, number: u8, colour: u16, level: u8) -> [u8; 4]
     requires colour { colour < colour_values }
@@ -66,7 +66,7 @@ fn entry(format: PixelFormat, number: u8, colour: u16, level: u8) -> [u8; 4]
     }
 }
 
-// How opaque a colour of this level is.
+// The opacity of a level.
 fn opacity(level: u8) -> u8
     requires { level < level_values }
     ensures { result ≡ opacity level }

@@ -1,4 +1,4 @@
-// Instructions, and what changes by them one after the other.
+// Watching what instructions change.
 ghost use Rattle.std.specs.Prelude.{◌≡◌, IsTrue};
 ghost use Rattle.cdg_screen.specs.Touched.{tile_touched};
 ghost use Rattle.live_player.specs.Changes.{join, offsets_by, sees, touched_change, watch_from, HoldsTile};
@@ -7,7 +7,7 @@ use crate::change::{ScreenChange, touched_change};
 use cdg_instructions::{Effect, Instr};
 use cdg_screen::{Touched, touches};
 
-/// What changed so far, and where in the memory the screen begins now.
+/// The changes so far, and where in the memory the screen begins now.
 #[derive(Clone, Copy)]
 pub struct Watch {
     pub change: ScreenChange,
@@ -16,7 +16,7 @@ pub struct Watch {
 }
 
 impl Watch {
-    /// Nothing changed so far.
+    /// A watch before any change.
     pub fn from(offsets: (u8, u8)) -> Watch
         ensures { result ≡ watch_from offsets.0 offsets.1 }
     {
@@ -27,7 +27,7 @@ impl Watch {
         }
     }
 
-    /// An instruction is carried out.
+    /// Adds the changes of an instruction.
     pub fn see(&mut self, instr: &Instr)
         ensures { self.new ≡ sees self.old instr.now }
     {
@@ -42,8 +42,8 @@ impl Watch {
 }
 
 impl Watch {
-    /// An instruction is carried out that touches this tile. Most tiles lie where others were drawn before, which is seen
-    /// without their rectangle.
+    /// Adds the changes of an instruction that touches this tile. Most tiles are inside the rectangle already, and
+    /// need no new one.
     #[inline(always)]
     pub fn see_tile(&mut self, row: u8, column: u8)
         ensures { self.new ≡ record {
@@ -58,7 +58,7 @@ impl Watch {
         }
     }
 
-    // Whether a tile of the memory lies in the rectangle of what changed.
+    // Whether the rectangle of changes contains a tile of the memory.
     #[inline(always)]
     fn holds_tile(&self, row: u8, column: u8) -> bool
         ensures { IsTrue result → HoldsTile self.now row column }
@@ -90,7 +90,7 @@ impl Watch {
     }
 }
 
-// A tile that is drawn, or nothing where it is not on the memory.
+// A tile of the memory, or nothing if the tile is outside.
 fn touched_tile(row: u8, column: u8) -> Touched
     ensures { result ≡ tile_touched row column }
 {

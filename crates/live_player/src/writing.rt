@@ -14,11 +14,11 @@ use crate::{PICTURE_BYTES, ScreenPart, part_of_screen};
 use cdg_instructions::{COLOURS, SCREEN_HEIGHT, SCREEN_WIDTH};
 use cdg_screen::PlainScreen;
 
-// How many pixels are worth a table of pairs.
+// From how many pixels on a table of pairs is faster.
 const WORTH_PAIRS: usize = 2048;
 
-/// Writes the pixels of a part of the screen in a format, row by row: row j of it begins `stride` times j bytes from the
-/// front. What is between the rows is left as it was.
+/// Writes the pixels of a part of the screen in a format, row by row: row j begins at byte `stride` times j. The bytes
+/// between the rows are unchanged.
 pub fn write_pixels(
     screen: &PlainScreen,
     part: &ScreenPart,
@@ -38,7 +38,7 @@ pub fn write_pixels(
     write_coloured(screen, part, format, out, stride);
 }
 
-// The same in a format of colours. It stands apart, so that the room of its table is cleared for it alone.
+// The same in a format of colours. It is not inlined, so that only this path clears its table.
 #[inline(never)]
 fn write_coloured(
     screen: &PlainScreen,
@@ -61,7 +61,7 @@ fn write_coloured(
     }
 }
 
-// The same by the table of the colours, two pixels at a time. It stands apart for its room too.
+// The same, two pixels at a time. It is not inlined either, so that only this path clears its tables.
 #[inline(never)]
 fn write_by_pairs(
     screen: &PlainScreen,
@@ -124,7 +124,7 @@ fn write_rows(
     }
 }
 
-// Writes the bytes of the pixels of row j of a part. `pixels` is room for their numbers.
+// Writes the bytes of the pixels of row j of a part. `pixels` is a buffer for their colour numbers.
 fn write_row(
     screen: &PlainScreen,
     part: &ScreenPart,

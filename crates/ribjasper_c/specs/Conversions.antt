@@ -1,4 +1,4 @@
--- A stream in memory and its packs.
+-- Converting a stream in memory to packs.
 use Rattle.std.specs.Prelude.{◌≡◌, ◌≢◌, ◌⊎◌, ◌==◌, ◌<◌, ◌-◌, ◌*◌, ◌/◌, ◌%◌, if◌then◌else◌, ℕ, List, length}
 use Rattle.raw_subcode.specs.Channels.{unit_size}
 use Rattle.raw_subcode.specs.Sizes.{most_units, symbols_a_slot}
@@ -9,20 +9,19 @@ use Rattle.stream_stages.specs.Convert.{IsConverted}
 use Rattle.ribjasper_c.specs.Handles.{form_of}
 use Rattle.ribjasper_c.specs.declared.converting.Converted.{Converted}
 
--- the form that a number means: 0 a raw stream, 1 one of packs, 2 one of sectors
+-- the form with a number: 0 a raw stream, 1 a stream of packs, 2 a stream of sectors
 abbrev pub stream_form : ℕ → Form
 stream_form n = if n == 2 then Sector else form_of n
 
--- these bytes are no whole units, or too many
+-- these bytes are not whole units, or are too many
 abbrev pub IsNoStream : Form → List ℕ → Type 0
 IsNoStream form stream = (length stream % unit_size form ≢ 0) ⊎ (most_units * unit_size form < length stream)
 
--- how many bytes the packs of a stream are: 24 for each
+-- the size of the packs of a stream: 24 bytes each
 abbrev pub text_size : Form → ℕ → List ℕ → ℕ
 text_size form lead_in stream = symbols_a_slot * word_count form (length stream / unit_size form - lead_in)
 
--- the text of the packs of a stream, and what is told of it: its bytes, the blocks of the program, and the packs with
--- no codeword near
+-- the packs of a stream, and the report: their size, the blocks of the program, and the packs with no codeword near
 pub record IsToldOf (form : Form) (lead_in : ℕ) (stream text : List ℕ) (told : Converted) : Type 0 where
   pub converted : IsConverted form lead_in stream text told.bad
   pub bytes : told.bytes ≡ length text

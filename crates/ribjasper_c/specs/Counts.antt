@@ -1,4 +1,4 @@
--- What a player counts, as numbers.
+-- The counts of a player.
 use Rattle.std.specs.Prelude.{ℕ, ◌-◌}
 use Rattle.raw_subcode.specs.declared.form.Form.{Form}
 use Rattle.raw_subcode.specs.declared.form.Form.TheVariants.{Raw, Cooked, Sector}
@@ -12,7 +12,7 @@ form_number Raw = 0
 form_number Cooked = 1
 form_number Sector = 2
 
--- what a player counts; the words are those of the blocks that came behind its lead-in
+-- the counts of a player; the words are those of the blocks after the lead-in
 abbrev pub told_counts : LivePlayer → PlayerCounts
 told_counts player = record {
   words = word_count player.words.form (player.blocks - player.lead_in);

@@ -1,4 +1,4 @@
--- What a handle owns: nothing, or a player in a block of its own.
+-- The ownership of a handle: nothing, or a player on the heap.
 use Rattle.std.specs.Prelude.{◌≡◌, ◌==◌, ◌<◌, ◌-◌, ◌/◌, ◌%◌, if◌then◌else◌, ℕ, List, [], ◌∷◌, length, map, slice_index}
 use base.Fml.{Fml, ftrue}
 use base.Stored.{Coded}
@@ -17,32 +17,32 @@ use Rattle.cdg_instructions.specs.Sizes.{screen_pixels, screen_width}
 use Rattle.cdg_screen.specs.Standing.{Standing, blank, screen_pixel, standing_after}
 use Rattle.live_player.specs.Lives.{Given, blocks_in, instruction_of, instructions_in, packs_given, picture_byte, picture_bytes, standing_on, HasPlayed, IsLiveView, IsLiveViewAt}
 
--- what a handle owns of the heap: the block of its player, where it has one
+-- the memory that a handle owns: that of its player, if it has one
 abbrev pub handle_owns : Global → Ptr → List LivePlayer → Fml
 handle_owns alloc at [] = ftrue
 handle_owns alloc at (player ∷ rest) = box_owns (ghosts.dealloc_token alloc) the_row at player
 
--- how lists of players are told apart from other values
+-- the coding of lists of players
 abbrev pub players_coded : Coded (List LivePlayer)
 players_coded = coded_list (the_row.coded)
 
--- there is one player, and it was given this since it began with a stream of this form, the last one first
+-- there is one player: it began with a stream of this form and was given these inputs since, the last one first
 abbrev pub IsPlaying : Form → ℕ → List Given → List LivePlayer → Type 0
 IsPlaying form lead_in given players = (player : LivePlayer) × (players ≡ player ∷ [])
     × HasPlayed form lead_in given player
 
--- this holds of the one player before a call and after it
+-- this holds for the one player before and after a call
 abbrev pub PlayersGo : List LivePlayer → List LivePlayer → (LivePlayer → LivePlayer → Type 0) → Type 0
 PlayersGo old new goes = (before : LivePlayer) × (after : LivePlayer)
     × (old ≡ before ∷ []) × (new ≡ after ∷ []) × goes before after
 
--- What these blocks show; of a raw stream it is also what stands at the moment that the program has come to.
+-- The screen of these blocks. For a raw stream it is also the screen at the end of the program so far.
 pub record IsSeen (form : Form) (lead_in : ℕ) (blocks : List (List ℕ)) (now : Standing) : Type 0 where
   pub last : IsLiveView form lead_in blocks now
   pub so_far : form ≡ Raw → IsLiveViewAt Raw lead_in (length blocks - lead_in) blocks now
 
--- A player shows what stands on its picture: what all draws that it was given since it began, in order. Where this is
--- blocks alone, it is what the blocks show, and where it is packs alone, what the packs draw.
+-- The screen of a player: what its inputs since it began draw, in order. If all inputs are blocks, it is the screen of
+-- the blocks; if all are packs, it is what the packs draw.
 pub record IsShownByPlayer (player : LivePlayer) (now : Standing) : Type 0 where
   pub stands : now ≡ standing_on player
   pub all : (form : Form) (lead_in : ℕ) (given : List Given) → HasPlayed form lead_in given player
@@ -52,12 +52,12 @@ pub record IsShownByPlayer (player : LivePlayer) (now : Standing) : Type 0 where
   pub packs : (form : Form) (lead_in : ℕ) (given : List Given) → HasPlayed form lead_in given player
       → blocks_in given ≡ [] → now ≡ standing_after blank (map instruction_of (packs_given given))
 
--- this holds of what the one player shows
+-- this holds for the screen of the one player
 abbrev pub PlayersShow : List LivePlayer → (Standing → Type 0) → Type 0
 PlayersShow players tells = (player : LivePlayer) → players ≡ player ∷ []
     → (now : Standing) × IsShownByPlayer player now × tells now
 
--- a call of f at a `&` to the player on whose picture this stands, and a `&mut` to the first value, may leave the other there
+-- a call of f with a `&` to a player with this screen, and a `&mut` to the old value, can leave the new value
 pub record IsWrittenBy {F T : Type 0}
     (g : Once F (Bor LivePlayer × (MutBor T × Unit {0})) (Unit {0} × (MutBor T × Unit {0}))) (f : F)
     (old new : T) (now : Standing) : Type 0 where
@@ -88,6 +88,6 @@ AreLevels levels now = (k : ℕ) → k < 16 → slice_index levels k ≡ slice_i
 abbrev pub ArePictureBytes : List ℕ → Standing → Type 0
 ArePictureBytes bytes now = (n : ℕ) → n < picture_bytes → slice_index bytes n ≡ picture_byte now n
 
--- the form that a number means: 0 a raw stream, 1 one of packs
+-- the form with a number: 0 a raw stream, 1 a stream of packs
 abbrev pub form_of : ℕ → Form
 form_of n = if n == 0 then Raw else Cooked

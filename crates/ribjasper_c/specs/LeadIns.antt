@@ -13,25 +13,24 @@ use Rattle.ribjasper_c.specs.declared.lead_in.Listed.{Listed}
 abbrev pub ArePacksOf : List ℕ → List ℕ → Type 0
 ArePacksOf block packs = (k : ℕ) → k < 4 → take 18 (drop (18 * k) packs) ≡ pack_at block k
 
--- the answer where packs give no texts
+-- the result if packs have no texts
 abbrev pub fault_answer : TextFault → ℤ
 fault_answer (Missing seq) = pos 8
 fault_answer NoSize = pos 9
 fault_answer (Malformed seq byte) = pos 10
 fault_answer NoMemory = pos 7
 
--- what is told there: which pack, and which of its bytes
+-- the report then: the pack and its byte
 abbrev pub fault_told : TextFault → Listed
 fault_told (Missing seq) = record { bytes = 0; seq = seq; byte = 0 }
 fault_told (Malformed seq byte) = record { bytes = 0; seq = seq; byte = byte }
 fault_told _ = record { bytes = 0; seq = 0; byte = 0 }
 
--- this is why the packs of the lead-in give no texts
+-- this is why the packs of the lead-in have no texts
 abbrev pub IsRefusedBy : TextFault → Form → ℕ → List ℕ → Type 0
 IsRefusedBy fault form lead_in stream = texts_of_lead_in form lead_in stream ≡ Err fault
 
--- The lines of the texts of a lead-in stand at the front of a buffer, and what is told of them is true, or it is told why
--- they are not there.
+-- The lines of the texts of a lead-in are at the front of a buffer, with a correct report; or the result says why not.
 pub record WritesTextsOfLeadIn (stream : List ℕ) (form lead_in : ℕ) (old new : List ℕ)
     (old_told new_told : Listed) (result : ℤ) : Type 0 where
   pub done : result ≡ pos 0 → (text : List ℕ) × IsTextListed (stream_form form) lead_in stream text 0
@@ -45,7 +44,7 @@ pub record WritesTextsOfLeadIn (stream : List ℕ) (form lead_in : ℕ) (old new
   pub texts : (result ≡ pos 8) ⊎ (result ≡ pos 9) ⊎ (result ≡ pos 10) → (fault : TextFault)
       × IsRefusedBy fault (stream_form form) lead_in stream
       × (result ≡ fault_answer fault) × (new_told ≡ fault_told fault)
-  -- memory is wanted only where the packs give texts
+  -- the call allocates lines only if the packs have texts
   pub memory : result ≡ pos 7 → IsOk (texts_of_lead_in (stream_form form) lead_in stream)
   pub answer : (result ≡ pos 0) ⊎ (result ≡ pos 2) ⊎ (result ≡ pos 3) ⊎ (result ≡ pos 6)
       ⊎ (result ≡ pos 7) ⊎ (result ≡ pos 8) ⊎ (result ≡ pos 9) ⊎ (result ≡ pos 10)

@@ -1,4 +1,4 @@
--- A player that is lent out of its handle.
+-- Lending the player of a handle.
 use mathlib.Core.List.{[], ◌∷◌}
 use base.Fml.{Fml}
 use denote.Follow.{follows}

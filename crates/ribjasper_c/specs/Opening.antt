@@ -1,11 +1,11 @@
--- A player that is opened.
+-- Opening a player.
 use Rattle.std.specs.Prelude.{◌≡◌, ◌⊎◌, ℤ, pos, negsuc, Bool, true, false, List, []}
 use Rattle.raw_subcode.specs.declared.form.Form.TheVariants.{Raw}
 use Rattle.live_player.specs.declared.live.LivePlayer.{LivePlayer}
 use Rattle.ribjasper_c.specs.Handles.{IsPlaying}
 
--- A player is opened: it holds one of a raw stream with no lead-in that was given nothing yet. Where that is refused it
--- was closed, and holds none.
+-- A player is opened: it has a raw stream with no lead-in and no input yet. If this is refused, the player was closed
+-- and stays closed.
 pub record OpensPlayer (was_open is_open : Bool) (players : List LivePlayer) (result : ℤ) : Type 0 where
   pub begun : result ≡ pos 0 → IsPlaying Raw 0 [] players
   pub opened : result ≡ pos 0 → is_open ≡ true

@@ -3,7 +3,7 @@ use Rattle.std.specs.Prelude.{ℕ, ◌==◌, if◌then◌else◌}
 use Rattle.live_player.specs.declared.format.PixelFormat.{PixelFormat}
 use Rattle.live_player.specs.declared.format.PixelFormat.TheVariants.{Indexed, Rgb, Rgba, Bgra, RgbaLevels, BgraLevels, Rgb565}
 
--- the format that a number means: 0 indexed, then those of red, green and blue
+-- the format with a number: 0 is indexed, then the formats of red, green and blue
 abbrev pub pixel_format : ℕ → PixelFormat
 pixel_format n =
     if n == 1 then Rgb

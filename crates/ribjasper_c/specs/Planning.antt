@@ -1,4 +1,4 @@
--- The plan of a disc, and what is answered where it has none.
+-- The plan of a disc, and the result if there is none.
 use Rattle.std.specs.Prelude.{◌≡◌, ◌≢◌, ◌<◌, ◌⊎◌, ◌↔◌, ℕ, ℤ, pos, List, drop, length}
 use Rattle.disc_time.specs.Counts.{most_lead_in, most_program}
 use Rattle.disc_plan.specs.Discs.{planned_disc, IsPlan, IsPlanStop}
@@ -9,19 +9,19 @@ use Rattle.disc_plan.specs.declared.stops.PlanStop.{PlanStop}
 use Rattle.disc_plan.specs.declared.stops.PlanStop.TheVariants.{NoRoom, NoMemory}
 use Rattle.disc_plan.specs.declared.told.ToldPlan.{ToldPlan}
 
--- the exit number of the program
+-- the exit status of the program
 abbrev pub stop_answer : PlanStop → ℤ
 stop_answer (NoRoom pictures blocks) = pos 6
 stop_answer NoMemory = pos 7
 stop_answer _ = pos 3
 
--- what is told then; where there is no memory, what was told before
+-- the report then; if out of memory, the report is unchanged
 abbrev pub told_at_stop : ToldPlan → PlanStop → ToldPlan
 told_at_stop old NoMemory = old
 told_at_stop old stop = told_stop stop
 
--- The rows of the pictures of a disc stand at the front of some rows, and what is told of the plan is true, or it is told
--- why there is none.
+-- The rows of the pictures of a disc are at the front of some rows, with a correct report of the plan; or the report
+-- says why there is no plan.
 pub record Plans (sheet script : List ℕ) (lead_in audio : ℕ) (old_rows new_rows : List PlannedRow)
     (old_told new_told : ToldPlan) (result : ℤ) : Type 0 where
   pub plan : (result ≡ pos 0) ⊎ (result ≡ pos 4) → (disc : PlannedDisc)

@@ -1,4 +1,4 @@
--- A stream in memory and the rows of its blocks.
+-- The survey of a stream in memory.
 use Rattle.std.specs.Prelude.{ℕ, ℤ, pos, ◌/◌, ◌%◌, ◌||◌, nat_lt, if◌then◌else◌, List, length}
 use Rattle.disc_time.specs.Counts.{most_lead_in}
 use Rattle.raw_subcode.specs.Channels.{unit_size}
@@ -6,11 +6,11 @@ use Rattle.raw_subcode.specs.Sizes.{most_units}
 use Rattle.raw_subcode.specs.declared.form.Form.{Form}
 use Rattle.ribjasper_c.specs.declared.surveying.Surveyed.{Surveyed}
 
--- how many whole blocks some bytes have
+-- the number of whole blocks of some bytes
 abbrev pub whole_blocks : Form → List ℕ → ℕ
 whole_blocks form bytes = length bytes / unit_size form
 
--- what is answered for so many whole blocks where there is room for so many rows
+-- the result for so many whole blocks, with room for so many rows
 abbrev pub survey_answer : ℕ → ℕ → ℕ → ℕ → ℤ
 survey_answer form lead_in blocks room =
     if nat_lt 2 form || nat_lt most_lead_in lead_in then pos 2
@@ -18,7 +18,7 @@ survey_answer form lead_in blocks room =
     else if nat_lt room blocks then pos 6
     else pos 0
 
--- what is told of a stream that was surveyed: its whole blocks and the bytes behind them
+-- the report of a survey: the whole blocks and the bytes after them
 abbrev pub survey_told : Form → List ℕ → Surveyed
 survey_told form bytes = record {
   blocks = whole_blocks form bytes;

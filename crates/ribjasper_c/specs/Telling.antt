@@ -1,7 +1,7 @@
--- Answers in words.
+-- Results in words.
 use Rattle.std.specs.Prelude.{ℕ, ℤ, pos, negsuc, ◌==◌, if◌then◌else◌, List, codes}
 
--- what an answer means, in English
+-- the meaning of a result, in English
 abbrev pub answer_text : ℤ → List ℕ
 answer_text (negsuc k) =
     if k == 0 then codes "refused: a player is closed, or a number is out of its range"

@@ -1,9 +1,9 @@
-// The numbers that calls answer with, and what they mean: the exit numbers of the program, and those of what it refuses of
-// texts.
+// The results of calls and their meanings: the exit statuses of the program, and more numbers for texts that are
+// refused.
 ghost use Rattle.std.specs.Prelude.{◌≡◌, ◌-◌, ◌≤◌, ◌++◌, drop, length, replicate};
 ghost use Rattle.ribjasper_c.specs.Telling.{answer_text};
 
-/// The call cannot be made: a player is closed or has nothing to tell or to save, or a place is not on the screen.
+/// The call is refused: a player is closed or cannot be saved, or a number is out of its range.
 pub(crate) const NOT_DONE: i32 = -1;
 
 pub(crate) const DONE: i32 = 0;
@@ -26,10 +26,10 @@ pub(crate) const TEXT_NO_SIZE: i32 = 9;
 
 pub(crate) const TEXT_MALFORMED: i32 = 10;
 
-// The bytes of a text, with the zeros behind it.
+// The size of a text, with its padding.
 const TEXT: usize = 64;
 
-/// Writes what an answer means, in English, with zeros behind it.
+/// Writes the meaning of a result, in English, padded with zeros.
 #[unsafe(no_mangle)]
 pub extern "C" fn ribjasper_answer_text(answer: i32, text: &mut [u8; TEXT])
     ensures { text.new ≡ answer_text answer ++ replicate (64 - length (answer_text answer)) 0 }
@@ -38,7 +38,7 @@ pub extern "C" fn ribjasper_answer_text(answer: i32, text: &mut [u8; TEXT])
     put(text, meaning(answer));
 }
 
-// Writes some bytes to the front.
+// Writes bytes to the front of a text.
 fn put(text: &mut [u8; TEXT], meaning: &[u8])
     requires { length meaning.now ≤ 63 }
     ensures { text.new ≡ meaning.now ++ drop (length meaning.now) text.old }

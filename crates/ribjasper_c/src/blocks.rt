@@ -1,4 +1,4 @@
-// Forms of blocks, the check of a text pack, and how a lead-in carries it.
+// Forms of blocks, the check of a text pack, and the symbols of a text pack.
 ghost use Rattle.std.specs.Prelude.{◌≡◌, if◌then◌else◌, pos, All, ◌<◌, ℕ, [], drop, length, slice_index_or};
 ghost use Rattle.cdtext_packs.specs.Packs.{check_matches};
 ghost use Rattle.raw_subcode.specs.Channels.{IsPlanarForm, symbol_bits};
@@ -30,7 +30,7 @@ pub extern "C" fn ribjasper_block_from_planar(
     *block = Block::from_planar(planar).bytes();
 }
 
-/// Writes the planar forms of blocks, as many as both lists hold.
+/// Writes the planar forms of blocks, as many as the shorter list has.
 #[unsafe(no_mangle)]
 pub extern "C" fn ribjasper_blocks_to_planar(
     blocks: &[[u8; BLOCK_BYTES]],
@@ -46,7 +46,7 @@ pub extern "C" fn ribjasper_blocks_to_planar(
     }
 }
 
-/// Writes the blocks with planar forms, as many as both lists hold.
+/// Writes the blocks with planar forms, as many as the shorter list has.
 #[unsafe(no_mangle)]
 pub extern "C" fn ribjasper_blocks_from_planar(
     planar: &[[u8; BLOCK_BYTES]],
@@ -62,7 +62,7 @@ pub extern "C" fn ribjasper_blocks_from_planar(
     }
 }
 
-/// Whether the last two bytes of a text pack are the check of the others, as 1 or 0.
+/// 1 if the last two bytes of a text pack are the check of the others, else 0.
 #[unsafe(no_mangle)]
 pub extern "C" fn ribjasper_text_pack_matches(pack: &[u8; 18]) -> i32
     ensures { result ≡ (if check_matches pack.now then pos 1 else pos 0) }

@@ -1,14 +1,13 @@
-// Many blocks or packs in one call, and what of the screen may have changed.
+// Calls that feed many blocks or draw many packs, and report what may have changed on the screen.
 ghost use Rattle.std.specs.Prelude.{◌≡◌, ◌∷◌, [], ◌&&◌, nat_le, map, reverse, pos, negsuc};
 ghost use Rattle.cdg_io.specs.Run.{run_state};
 ghost use Rattle.cdg_screen.specs.Standing.{IsWholeStanding, Standing, standing_after};
 ghost use Rattle.live_player.specs.Lives.{instruction_of};
 ghost use Rattle.live_player.specs.Lives.Given.{Drawn, Fed};
-ghost use Rattle.live_player.specs.Changes.{sees, watch_from, AreDrawnFor, KeepsUntold};
-ghost use Rattle.live_player.specs.Taken.{instructions_from, DrawsPacks, TakesBlocks};
-ghost use Rattle.ribjasper_c.specs.Handles.{PlayersGo};
+ghost use Rattle.live_player.specs.Changes.{sees, watch_from, KeepsUntold};
+ghost use Rattle.live_player.specs.Taken.{DrawsPacksReported, FeedsBlocks};
 ghost use Rattle.ribjasper_c.specs.Answers.{done_if};
-ghost use Rattle.ribjasper_c.specs.Giving.{GivesPlayer, TellsChange};
+ghost use Rattle.ribjasper_c.specs.Giving.{GivesPlayer};
 
 use crate::Playing;
 use crate::answers::{DONE, NOT_DONE};
@@ -16,18 +15,15 @@ use live_player::{ScreenChange, draw_all, feed_all, pack_change};
 use raw_subcode::BLOCK_BYTES;
 use rw_code::SYMBOLS;
 
-/// Feeds an open player blocks in turn, and writes what of the screen may have changed. 0, or -1 where it is closed.
+/// Feeds an open player blocks in turn, and reports what may have changed on the screen. 0, or -1 if the player is closed.
 #[unsafe(no_mangle)]
 pub extern "C" fn ribjasper_player_feed_all(
     player: &mut Playing,
     blocks: &[[u8; BLOCK_BYTES]],
     change: &mut ScreenChange,
 ) -> i32
-    ensures feeds { GivesPlayer (map Fed (reverse blocks.now)) (TakesBlocks blocks.now)
+    ensures feeds { GivesPlayer (map Fed (reverse blocks.now)) (FeedsBlocks blocks.now change.new)
         player.old.handle.players player.new.handle.players result }
-    ensures told { result ≡ pos 0 → PlayersGo player.old.handle.players player.new.handle.players
-        (λ before after. let instrs = instructions_from before.words blocks.now in
-        AreDrawnFor blocks.now before instrs × TellsChange change.new instrs before after) }
     ensures answer { result ≡ done_if player.old.is_open }
     ensures stays { player.new.is_open ≡ player.old.is_open }
     ensures untouched { result ≡ negsuc 0 → change.new ≡ change.old }
@@ -39,17 +35,15 @@ pub extern "C" fn ribjasper_player_feed_all(
     DONE
 }
 
-/// Draws packs of 24 bytes in turn, and writes what of the screen may have changed. 0, or -1 where the player is closed.
+/// Draws packs of 24 bytes in turn, and reports what may have changed on the screen. 0, or -1 if the player is closed.
 #[unsafe(no_mangle)]
 pub extern "C" fn ribjasper_player_draw_all(
     player: &mut Playing,
     packs: &[[u8; SYMBOLS]],
     change: &mut ScreenChange,
 ) -> i32
-    ensures draws { GivesPlayer (map Drawn (reverse packs.now)) (DrawsPacks packs.now)
+    ensures draws { GivesPlayer (map Drawn (reverse packs.now)) (DrawsPacksReported packs.now change.new)
         player.old.handle.players player.new.handle.players result }
-    ensures told { result ≡ pos 0 → PlayersGo player.old.handle.players player.new.handle.players
-        (TellsChange change.new (map instruction_of packs.now)) }
     ensures answer { result ≡ done_if player.old.is_open }
     ensures stays { player.new.is_open ≡ player.old.is_open }
     ensures untouched { result ≡ negsuc 0 → change.new ≡ change.old }
@@ -61,8 +55,8 @@ pub extern "C" fn ribjasper_player_draw_all(
     DONE
 }
 
-/// Writes what may change where a pack is drawn on a screen that begins `across` pixels further right and `down` pixels
-/// further down in the memory. 0, or -1 where `across` is above 5 or `down` above 11.
+/// Reports what a pack may change on a screen that begins `across` pixels further right and `down` pixels further down in
+/// the memory. 0, or -1 if `across` is above 5 or `down` is above 11.
 #[unsafe(no_mangle)]
 pub extern "C" fn ribjasper_pack_change(
     pack: &[u8; SYMBOLS],

@@ -1,4 +1,4 @@
-// The packs of a whole stream in memory.
+// Converting a whole stream in memory to packs.
 ghost use Rattle.std.specs.Prelude.{◌≡◌, ◌≢◌, ◌<◌, ◌≤◌, ◌+◌, ◌*◌, ◌-◌, ◌/◌, ◌++◌, ◌⊎◌, ◌↔◌, List, ℕ, MatchOption, drop, length, pos, take};
 ghost use Rattle.raw_subcode.specs.Sizes.{most_units, symbols_a_slot};
 ghost use Rattle.disc_time.specs.Counts.{most_lead_in};
@@ -18,7 +18,7 @@ use rw_code::SYMBOLS;
 use rw_interleave::{Gather, PACKS_KEPT_BACK};
 use stream_stages::{BlockPacks, BlockWords};
 
-/// What is told of a stream that was converted.
+/// The report of a conversion.
 #[repr(C)]
 #[derive(Clone, Copy)]
 pub struct Converted {
@@ -30,7 +30,7 @@ pub struct Converted {
     pub bad: u32,
 }
 
-/// Writes the packs of a stream to the front of a buffer, and answers by an exit number of the program.
+/// Writes the packs of a stream to the front of a buffer. The result is an exit status of the program.
 #[unsafe(no_mangle)]
 pub extern "C" fn ribjasper_convert(
     stream: &[u8],
@@ -74,7 +74,7 @@ pub extern "C" fn ribjasper_convert(
     if bad == 0 { DONE } else { DAMAGED }
 }
 
-// How many units a stream is, where it is whole units and not too many.
+// How many units a stream has, if it has whole units and not too many.
 fn units_in(form: Form, stream: &[u8]) -> Option<u32>
     ensures { MatchOption result (IsNoStream form stream.now)
         (λ units. (units ≤ most_units) × (length stream.now ≡ units * unit_size form)) }
@@ -97,7 +97,7 @@ fn size_of_unit(form: Form) -> usize
     }
 }
 
-// How many bytes the packs of so many units are.
+// The size of the packs of so many units, in bytes.
 fn size_of_text(form: Form, lead_in: u32, units: u32) -> usize
     requires { units ≤ most_units }
     ensures { result ≡ symbols_a_slot * word_count form (units - lead_in) }
@@ -109,7 +109,7 @@ fn size_of_text(form: Form, lead_in: u32, units: u32) -> usize
     }
 }
 
-// Writes the packs of whole units to the front of a buffer, and answers how many are bad.
+// Writes the packs of whole units to the front of a buffer, and returns how many are bad.
 fn write_packs(form: Form, lead_in: u32, stream: &[u8], units: u32, packs: &mut [u8]) -> u32
     requires few { units ≤ most_units }
     requires whole { length stream.now ≡ units * unit_size form }
@@ -128,7 +128,7 @@ fn write_packs(form: Form, lead_in: u32, stream: &[u8], units: u32, packs: &mut 
     stages.bad
 }
 
-// What gathers and corrects the packs of a stream, before its first block.
+// A converter of a stream, before its first block.
 fn fresh(form: Form, lead_in: u32) -> BlockPacks
     ensures words { result.words ≡ fresh_words form lead_in }
     ensures bad { result.bad ≡ 0 }
@@ -153,7 +153,7 @@ fn block_at(form: Form, stream: &[u8], n: usize) -> [u8; BLOCK_BYTES]
     block
 }
 
-// Writes a piece, if there is one, from a place on, and answers how many bytes it has.
+// Writes a piece, if there is one, from a place on, and returns its size in bytes.
 fn put(piece: &Option<Piece>, packs: &mut [u8], at: usize) -> usize
     requires { at + length (given_bytes piece.now) ≤ length packs.old }
     ensures count { result ≡ length (given_bytes piece.now) }
@@ -166,7 +166,7 @@ fn put(piece: &Option<Piece>, packs: &mut [u8], at: usize) -> usize
     }
 }
 
-// Writes bytes from a place on, and says how many.
+// Writes bytes from a place on, and returns how many.
 fn copy_to(bytes: &[u8], packs: &mut [u8], at: usize) -> usize
     requires { at + length bytes.now ≤ length packs.old }
     ensures count { result ≡ length bytes.now }
@@ -177,7 +177,7 @@ fn copy_to(bytes: &[u8], packs: &mut [u8], at: usize) -> usize
     bytes.len()
 }
 
-/// The form of a whole stream that a number means.
+/// The form of a whole stream with a number.
 pub(crate) fn stream_form(form: u32) -> Form
     ensures { result ≡ stream_form form }
 {
@@ -188,7 +188,7 @@ pub(crate) fn stream_form(form: u32) -> Form
     }
 }
 
-/// Writes bytes to the front of a room.
+/// Writes bytes to the front of a buffer.
 pub(crate) fn copy_front(text: &[u8], packs: &mut [u8])
     requires { length text.now ≤ length packs.old }
     ensures { packs.new ≡ text.now ++ drop (length text.now) packs.old }

@@ -1,4 +1,4 @@
-// What a player counts.
+// The counts of a player.
 ghost use Rattle.std.specs.Prelude.{◌≡◌, ◌^◌, ◌-◌, ◌∷◌, [], List, ℕ, length, min, pos, negsuc};
 ghost use Rattle.live_player.specs.Lives.{Given, bad_words_in, blocks_in};
 ghost use Rattle.live_player.specs.declared.live.LivePlayer.{LivePlayer};
@@ -15,28 +15,28 @@ use live_player::LivePlayer;
 use raw_subcode::{Form, SLOTS_A_BLOCK};
 use rw_interleave::PACKS_KEPT_BACK;
 
-/// What a player counts since it began.
+/// The counts of a player since it began.
 #[repr(C)]
 #[derive(Clone, Copy)]
 pub struct PlayerCounts {
-    /// The words that came, each a pack.
+    /// The words so far, each a pack.
     pub words: u64,
     /// The form of its blocks: 0 raw, 1 packs.
     pub form: u32,
     /// The blocks of its lead-in, those that came and those still to come.
     pub lead_in: u32,
-    /// The blocks that came.
+    /// The blocks that were read.
     pub blocks: u32,
     /// The words with no codeword near.
     pub bad: u32,
 }
 
-/// Writes what a player counts. 0, or -1 where it is closed.
+/// Writes the counts of a player. 0, or -1 if the player is closed.
 #[unsafe(no_mangle)]
 pub extern "C" fn ribjasper_player_counts(player: &mut Playing, counts: &mut PlayerCounts) -> i32
     ensures counts { result ≡ pos 0 → (live : LivePlayer) → player.old.handle.players ≡ live ∷ []
         → counts.new ≡ told_counts live }
-    // Where it is known what it was given.
+    // If it is known what the player was given.
     ensures blocks { result ≡ pos 0 → (form : Form) (lead_in : ℕ) (given : List Given)
         → IsPlaying form lead_in given player.old.handle.players
         → counts.new.blocks ≡ min (length (blocks_in given)) (2 ^ 32 - 1) }
@@ -66,7 +66,7 @@ fn counted(live: &LivePlayer) -> PlayerCounts
     }
 }
 
-// How many words so many blocks of the program bring.
+// How many words so many blocks of the program have.
 fn words_of(form: Form, blocks: u32) -> u64
     ensures { result ≡ word_count form blocks }
 {

@@ -1,4 +1,4 @@
-// A player behind a pointer, as C holds it.
+// A pointer to a player, for C.
 ghost use Rattle.std.specs.Prelude.{◌≡◌, ◌∷◌, [], List, length};
 ghost use Rattle.ribjasper_c.specs.Handles.{handle_owns, players_coded};
 ghost use Rattle.live_player.specs.declared.live.LivePlayer.{LivePlayer};
@@ -11,8 +11,8 @@ use parts::Parts;
 use std::alloc::Global;
 use std::marker::Model;
 
-/// A pointer to a player, or to nothing. It is not dropped: a player has to be taken out of it, and only a handle of no
-/// player can be let go.
+/// A pointer to a player, or to nothing. It has no `Drop`: a player must be taken out, and only a handle of no player
+/// can be released.
 #[repr(C)]
 pub struct Handle {
     at: *mut u8,
@@ -24,7 +24,7 @@ impl Model for Handle {
     ghost also_owns = { λ h. handle_owns h.alloc h.at h.players };
 }
 
-// A player holds plain numbers alone, and the heap takes its blocks back from any thread.
+// A player holds only numbers, and the heap can free its memory from any thread.
 unsafe impl Send for Handle {}
 
 impl Handle {
@@ -52,7 +52,7 @@ impl Handle {
         self.into_parts().into_box()
     }
 
-    /// Lets a handle of no player go, and gives back its allocator, which is all that it holds.
+    /// Releases a handle of no player, and returns its allocator.
     pub fn release(self) -> Global
         requires { length self.players ≡ 0 }
         ensures { result ≡ self.alloc }
@@ -61,7 +61,7 @@ impl Handle {
         alloc
     }
 
-    // A handle of the player that a box with its fields in sight holds.
+    // A handle of the player in a box with visible fields.
     fn of_parts(parts: Parts<LivePlayer, Global>) -> Handle
         ensures { result.players ≡ parts.value ∷ [] }
     {
@@ -72,7 +72,7 @@ impl Handle {
         }
     }
 
-    // The box of its player, with its fields in sight.
+    // The box of its player, with visible fields.
     fn into_parts(self) -> Parts<LivePlayer, Global>
         requires { length self.players ≡ 1 }
         ensures { self.players ≡ result.value ∷ [] }

@@ -23,7 +23,7 @@ use raw_subcode::{BLOCK_BYTES, Block, Form, MOST_UNITS};
 use std::alloc::{AllocError, Global};
 use subcode_author::Heap;
 
-/// What is told of the texts of a lead-in.
+/// The report of the texts of a lead-in.
 #[repr(C)]
 #[derive(Clone, Copy)]
 pub struct Listed {
@@ -31,7 +31,7 @@ pub struct Listed {
     pub bytes: u64,
     /// The number of the pack that is missing or malformed.
     pub seq: u32,
-    /// The number of its byte that cannot be.
+    /// The number of its invalid byte.
     pub byte: u32,
 }
 
@@ -55,8 +55,8 @@ fn put_pack(packs: &mut [u8; 72], k: usize, pack: &[u8; 18])
     packs[18 * k..18 * k + 18].copy_from_slice(pack);
 }
 
-/// Writes the lines of the texts of a lead-in to the front of a buffer, and answers by an exit number of the program,
-/// or by what it refuses of the texts.
+/// Writes the lines of the texts of a lead-in to the front of a buffer. The result is an exit status of the program,
+/// or says why the texts are refused.
 #[unsafe(no_mangle)]
 pub extern "C" fn ribjasper_texts(
     alloc: Global,
@@ -71,7 +71,7 @@ pub extern "C" fn ribjasper_texts(
     texts_in(&mut Heap::new(alloc), stream, form, lead_in, out, told)
 }
 
-// The same with a heap: 7 comes only if a request for memory failed.
+// The same with a heap, which counts failed requests for memory.
 fn texts_in(
     heap: &mut Heap,
     stream: &[u8],
@@ -108,7 +108,7 @@ fn texts_in(
     DONE
 }
 
-// Whether a stream is of whole units, and of no more than a stream may have.
+// Whether a stream has whole units, and not too many.
 fn is_whole(form: Form, stream: &[u8]) -> bool
     ensures { IsTrue result ↔ IsWholeInput form stream.now }
 {
@@ -116,7 +116,7 @@ fn is_whole(form: Form, stream: &[u8]) -> bool
     stream.len() <= MOST_UNITS as usize * size && stream.len() % size == 0
 }
 
-// Tells why texts are refused, but for want of memory.
+// Reports why texts are refused.
 fn refuse(fault: TextFault, told: &mut Listed) -> i32
     ensures answer { result ≡ fault_answer fault }
     ensures told { fault ≢ TextFault.NoMemory → told.new ≡ fault_told fault }
@@ -139,7 +139,7 @@ fn refuse(fault: TextFault, told: &mut Listed) -> i32
     }
 }
 
-// Tells which pack and which of its bytes, and that nothing is written.
+// Reports a pack and one of its bytes, and no written bytes.
 fn tell(told: &mut Listed, seq: u8, byte: u8)
     ensures { told.new ≡ record { bytes = 0; seq = seq; byte = byte } }
 {
@@ -226,7 +226,7 @@ fn write_map(heap: &mut Heap, texts: &LeadInTexts, map: &TextMap) -> Result<Vec<
     }
 }
 
-// A sink whose memory grows with what it takes: it fails where none is found, and nowhere else.
+// A sink that grows with its content. It fails only if it is out of memory.
 #[derive(Drop)]
 struct LineSink {
     bytes: Vec<u8>,

@@ -1,4 +1,4 @@
-// The parity of packs as a .cdg file has them, counted and written.
+// Counting and writing the parity of packs of a .cdg file.
 ghost use Rattle.std.specs.Prelude.{◌≡◌, ◌<◌, ◌+◌, [], ℕ, count_by, length, slice_index_or};
 ghost use Rattle.live_player.specs.Parity.{has_no_symbol, is_valid_pack, IsSealed};
 
@@ -15,7 +15,8 @@ pub extern "C" fn ribjasper_packs_parity(packs: &[[u8; SYMBOLS]], counts: &mut P
     *counts = count_parity(packs);
 }
 
-/// Writes the parity of each pack of 24 bytes: it becomes the codeword with its symbols at 0 and 1 and at 4 to 19.
+/// Writes the parity of each pack of 24 bytes. The pack becomes the codeword with its symbols at 0 and 1 and at 4 to
+/// 19.
 #[unsafe(no_mangle)]
 pub extern "C" fn ribjasper_packs_seal(packs: &mut [[u8; SYMBOLS]])
     ensures count { length packs.new ≡ length packs.old }

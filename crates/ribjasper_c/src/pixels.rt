@@ -1,4 +1,4 @@
-// A part of what a player shows, in the format that a display takes.
+// A part of a player's screen, in the format of a display.
 ghost use Rattle.std.specs.Prelude.{◌≡◌, ◌<◌, ◌≤◌, ◌+◌, ◌*◌, ◌∷◌, [], ◌↔◌, ◌⊎◌, ℕ, IsTrue, length, pos, negsuc, true};
 ghost use Rattle.live_player.specs.Parts.{IsOnScreen};
 ghost use Rattle.live_player.specs.Formats.{pixel_size, HasPixelRoom, ShowsPixels};
@@ -12,9 +12,9 @@ use crate::answers::{DONE, NOT_DONE};
 use crate::rects::part_of;
 use live_player::{LivePlayer, PixelFormat, ScreenPart, write_pixels};
 
-/// Writes the pixels of a part of the screen, row by row, in a format; row j of it begins `stride` times j bytes from the
-/// front, and what is between the rows is left as it was. 0, or -1 where the player is closed, there is no such format,
-/// the part is not all on the screen, its rows lie over each other or the room is too small for them.
+/// Writes the pixels of a part of the screen, row by row, in a format. Row j begins at byte `stride` times j, and the
+/// bytes between the rows are unchanged. 0, or -1 if the player is closed, the format is unknown, the part is not on
+/// the screen, its rows overlap or the buffer is too small.
 #[unsafe(no_mangle)]
 pub extern "C" fn ribjasper_player_pixels(
     player: &mut Playing,
@@ -49,7 +49,7 @@ pub extern "C" fn ribjasper_player_pixels(
     DONE
 }
 
-// The format that a number means.
+// The format with a number.
 fn pixel_format(format: u32) -> PixelFormat
     ensures { result ≡ pixel_format format }
 {
@@ -64,7 +64,7 @@ fn pixel_format(format: u32) -> PixelFormat
     }
 }
 
-// Whether so many rows of so many bytes do not lie over each other and so many bytes have room for them.
+// Whether rows of this size do not overlap and fit into a buffer.
 fn rows_fit(height: u32, row: usize, stride: u32, room: usize) -> bool
     requires { row < 4294967296 }
     ensures { IsTrue result ↔ (row ≤ stride) × ((j : ℕ) → j < height → j * stride + row ≤ room) }
@@ -74,7 +74,7 @@ fn rows_fit(height: u32, row: usize, stride: u32, room: usize) -> bool
     row <= stride && (height == 0 || stride * (height - 1) + row <= room)
 }
 
-// The pixels of a part of the screen, of what the player was given since it began.
+// Writes the pixels of a part of the screen of what the player was given since it began.
 fn shown_pixels(
     live: &LivePlayer,
     part: &ScreenPart,

@@ -1,4 +1,4 @@
-// The plan of a disc: a row for each picture of a script, and whether some are late; and how many packs a tile takes.
+// The plan of a disc, with a row for each picture of a script; and how many packs a tile needs.
 ghost use Rattle.std.specs.Prelude.{◌≡◌, ◌≢◌, ◌<◌, ◌⊎◌, ◌↔◌, pos, ◌≤◌, ℕ, All, negsuc, replicate};
 ghost use Rattle.cdg_io.specs.Causes.{Rose};
 ghost use Rattle.disc_plan.specs.declared.stops.PlanStop.{PlanStop};
@@ -15,8 +15,8 @@ use std::alloc::Global;
 use subcode_author::Heap;
 use tile_author::weight;
 
-/// Plans the pictures of a disc with a lead-in and an audio of so many blocks: writes a row for each picture to the front
-/// of some rows, and answers by an exit number of the program: 0 where none is late, 4 where some are.
+/// Plans the pictures of a disc with a lead-in and an audio of so many blocks, and writes a row for each picture to
+/// the front of some rows. The result is an exit status of the program: 0 if no picture is late, 4 if some are.
 #[unsafe(no_mangle)]
 pub extern "C" fn ribjasper_plan(
     alloc: Global,
@@ -40,7 +40,7 @@ pub extern "C" fn ribjasper_plan(
     )
 }
 
-// The same with a heap: 7 comes only if a request for memory failed.
+// The same with a heap, which counts failed requests for memory.
 fn plan_in(
     heap: &mut Heap,
     sheet: &[u8],
@@ -51,9 +51,9 @@ fn plan_in(
     told: &mut ToldPlan,
 ) -> i32
     ensures plans { Plans sheet.now script.now lead_in audio rows.old rows.new told.old told.new result }
-    // 7 comes only if a request for memory failed.
+    // The answer is 7 only if a request for memory failed.
     ensures wants { result ≡ pos 7 → Rose heap.old heap.new }
-    // Where there is a plan, none failed.
+    // If there is a plan, no request failed.
     ensures found { (result ≡ pos 0) ⊎ (result ≡ pos 4) → heap.new ≡ heap.old }
 {
     if lead_in > MOST_LEAD_IN || audio > MOST_PROGRAM {
@@ -72,7 +72,7 @@ fn plan_in(
     }
 }
 
-// The exit number where there is no plan.
+// The exit status if there is no plan.
 fn stop_answer(stop: &PlanStop) -> i32
     ensures { result ≡ stop_answer stop.now }
 {
@@ -83,8 +83,8 @@ fn stop_answer(stop: &PlanStop) -> i32
     }
 }
 
-/// How many packs a tile of these colours takes where everywhere one colour stands, unless the tile is that colour: 1 to
-/// 4; or -1 where a number is above 15.
+/// How many packs a tile of these colours needs on a screen of one other colour: 1 to 4; or -1 if a number is above
+/// 15.
 #[unsafe(no_mangle)]
 pub extern "C" fn ribjasper_tile_weight(pixels: &[u8; PIXELS]) -> i32
     ensures weight { All (λ pixel. pixel < 16) pixels.now → result ≡ pos (weight pixels.now) }

@@ -1,4 +1,4 @@
-// A player that C feeds block by block.
+// A player for C that is fed block by block.
 ghost use Rattle.std.specs.Prelude.{◌≡◌, ◌&&◌, nat_le, nat_lt, if◌then◌else◌, ◌∷◌, [], pos, negsuc, length, true, false, IfOk};
 ghost use Rattle.cdg_io.specs.Causes.{HasCause, Rose};
 ghost use Rattle.disc_time.specs.Counts.{most_lead_in};
@@ -21,7 +21,7 @@ use std::alloc::{AllocError, Global};
 use std::mem;
 use subcode_author::Heap;
 
-/// What C keeps of a player. All zero it is closed.
+/// A player in the memory of a C program. All zero, it is closed.
 #[repr(C)]
 pub struct Playing {
     pub handle: Handle,
@@ -102,8 +102,8 @@ impl Playing {
     }
 }
 
-/// Opens a player of a raw stream with no lead-in. One that is open keeps its memory and begins anew. 0, or -1 where
-/// no memory is left, and then none is held.
+/// Opens a player of a raw stream with no lead-in. An open player keeps its memory and restarts. 0, or -1 if out of
+/// memory: then the player is closed.
 #[unsafe(no_mangle)]
 pub extern "C" fn ribjasper_player_open(alloc: Global, player: &mut Playing) -> i32
     ensures { OpensPlayer player.old.is_open player.new.is_open player.new.handle.players result }
@@ -111,7 +111,7 @@ pub extern "C" fn ribjasper_player_open(alloc: Global, player: &mut Playing) -> 
     open_in(&mut Heap::new(alloc), player)
 }
 
-// The same with a heap: -1 comes only if a request for memory failed.
+// The same with a heap, which counts failed requests for memory.
 fn open_in(heap: &mut Heap, player: &mut Playing) -> i32
     ensures opens { OpensPlayer player.old.is_open player.new.is_open player.new.handle.players result }
     // The answer is -1 exactly if a request for memory failed.
@@ -134,7 +134,7 @@ fn open_in(heap: &mut Heap, player: &mut Playing) -> i32
     }
 }
 
-// A player of a raw stream, where there is memory.
+// A new player of a raw stream.
 fn opened(heap: &mut Heap) -> Result<Box<LivePlayer>, AllocError>
     ensures begun { IfOk result (λ live. HasPlayed Form.Raw 0 [] live.value) }
     ensures counted { HasCause heap.old heap.new result }
@@ -142,7 +142,7 @@ fn opened(heap: &mut Heap) -> Result<Box<LivePlayer>, AllocError>
     heap.asked(LivePlayer::start)
 }
 
-/// Closes a player, and frees what it holds.
+/// Closes a player, and frees its memory.
 #[unsafe(no_mangle)]
 pub extern "C" fn ribjasper_player_close(alloc: Global, player: &mut Playing)
     ensures none { player.new.handle.players ≡ [] }
@@ -151,7 +151,7 @@ pub extern "C" fn ribjasper_player_close(alloc: Global, player: &mut Playing)
     *player = Playing::closed(alloc);
 }
 
-/// Feeds an open player the next block. 0, or -1 where it is closed.
+/// Feeds an open player the next block. 0, or -1 if the player is closed.
 #[unsafe(no_mangle)]
 pub extern "C" fn ribjasper_player_feed(player: &mut Playing, block: &[u8; BLOCK_BYTES]) -> i32
     ensures feeds { GivesPlayer (Fed block.now ∷ []) (TakesBlock block.now) player.old.handle.players
@@ -166,8 +166,7 @@ pub extern "C" fn ribjasper_player_feed(player: &mut Playing, block: &[u8; BLOCK
     DONE
 }
 
-/// Draws a pack of 24 bytes, whose parity has no part in it. The stream goes on as if the pack were not there. 0, or
-/// -1 where the player is closed.
+/// Draws a pack of 24 bytes. Its parity is ignored. The stream is unaffected. 0, or -1 if the player is closed.
 #[unsafe(no_mangle)]
 pub extern "C" fn ribjasper_player_draw(player: &mut Playing, pack: &[u8; SYMBOLS]) -> i32
     ensures draws { GivesPlayer (Drawn pack.now ∷ []) (DrawsPack pack.now) player.old.handle.players
@@ -182,9 +181,8 @@ pub extern "C" fn ribjasper_player_draw(player: &mut Playing, pack: &[u8; SYMBOL
     DONE
 }
 
-/// Begins anew, with so many lead-in blocks, at most 450,000. The form is 0 for a raw stream, or 1 for one of packs,
-/// four a block.
-/// 0, or -1 where the player is closed or a number is out of its range.
+/// Restarts with so many lead-in blocks, at most 450,000. The form is 0 for a raw stream, or 1 for a stream of packs,
+/// four in each block. 0, or -1 if the player is closed or a number is out of its range.
 #[unsafe(no_mangle)]
 pub extern "C" fn ribjasper_player_begin(player: &mut Playing, form: u32, lead_in: u32) -> i32
     ensures begun { result ≡ pos 0 → IsPlaying (form_of form) lead_in [] player.new.handle.players }
@@ -199,7 +197,7 @@ pub extern "C" fn ribjasper_player_begin(player: &mut Playing, form: u32, lead_i
     DONE
 }
 
-/// The form of the blocks of a player that a number means.
+/// The form of the blocks of a player with a number.
 pub(crate) fn form_of(form: u32) -> Form
     ensures { result ≡ form_of form }
 {

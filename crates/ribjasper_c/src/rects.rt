@@ -1,4 +1,4 @@
-// A part of what a player shows.
+// A part of a player's screen.
 ghost use Rattle.std.specs.Prelude.{◌≡◌, ◌≤◌, ◌∷◌, [], ◌↔◌, ◌⊎◌, IsTrue, MatchOption, length, pos, negsuc, true};
 ghost use Rattle.live_player.specs.Parts.{HasRoomFor, IsOnScreen, ShowsPart};
 ghost use Rattle.ribjasper_c.specs.Handles.{PlayersShow};
@@ -10,9 +10,9 @@ use crate::answers::{DONE, NOT_DONE};
 use cdg_instructions::{SCREEN_HEIGHT, SCREEN_WIDTH};
 use live_player::{LivePlayer, ScreenPart};
 
-/// Writes the numbers of the colours of a part of the screen, row by row; row j of it begins `stride` times j bytes from
-/// the front, and what is between the rows is left as it was. 0, or -1 where the player is closed, the part is not all
-/// on the screen, its rows lie over each other or the room is too small for them.
+/// Writes the colour numbers of a part of the screen, row by row. Row j begins at byte `stride` times j, and the bytes
+/// between the rows are unchanged. 0, or -1 if the player is closed, the part is not on the screen, its rows overlap
+/// or the buffer is too small.
 #[unsafe(no_mangle)]
 pub extern "C" fn ribjasper_player_rect(
     player: &mut Playing,
@@ -42,7 +42,7 @@ pub extern "C" fn ribjasper_player_rect(
     DONE
 }
 
-/// A part, where it is all on the screen.
+/// A part, or `None` if it is not all on the screen.
 pub(crate) fn part_of(x: u32, y: u32, width: u32, height: u32) -> Option<ScreenPart>
     ensures { MatchOption result (¬ IsOnScreen (shown_rect x y width height))
         (λ part. (part ≡ shown_rect x y width height) × IsOnScreen (shown_rect x y width height)) }
@@ -60,7 +60,7 @@ pub(crate) fn part_of(x: u32, y: u32, width: u32, height: u32) -> Option<ScreenP
     }
 }
 
-// Whether the rows of a part do not lie over each other and so many bytes have room for them.
+// Whether the rows of a part do not overlap and fit into a buffer.
 fn has_room(part: &ScreenPart, stride: u32, room: usize) -> bool
     requires { IsOnScreen part.now }
     ensures { IsTrue result ↔ (part.now.width ≤ stride) × HasRoomFor part.now stride room }
@@ -69,7 +69,7 @@ fn has_room(part: &ScreenPart, stride: u32, room: usize) -> bool
     part.width <= stride && (part.height == 0 || stride * (part.height - 1) + part.width <= room)
 }
 
-// The pixels of a part of the screen, of what the player was given since it began.
+// Writes the pixels of a part of the screen of what the player was given since it began.
 fn shown_part(live: &LivePlayer, part: &ScreenPart, pixels: &mut [u8], stride: usize)
     requires part { IsOnScreen part.now }
     requires apart { part.now.width ≤ stride }

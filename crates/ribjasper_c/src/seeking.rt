@@ -1,4 +1,4 @@
-// A player that goes to a place of a stream, from marks that it leaves on the way.
+// Seeking in a stream, by marks that earlier seeks left.
 ghost use Rattle.std.specs.Prelude.{◌≡◌, ◌<◌, ◌≤◌, ◌&&◌, All, nat_le, nat_lt, length, pos, negsuc};
 ghost use Rattle.disc_time.specs.Counts.{most_lead_in};
 ghost use Rattle.live_player.specs.Lives.Given.{Drawn, Fed};
@@ -15,9 +15,9 @@ use live_player::{Mark, seek_block, seek_pack};
 use raw_subcode::BLOCK_BYTES;
 use rw_code::SYMBOLS;
 
-/// Makes an open player stand where one does that was fed the first `to` blocks of a stream, from the last mark before,
-/// and leaves marks on the way: mark k, from 0, is for place (k + 1) * every. 0, or -1 where the player is closed or a
-/// number is out of its range.
+/// Brings an open player to the state after the first `to` blocks of a stream, from the last mark before, and leaves
+/// marks: mark k, from 0, is for place (k + 1) * every. 0, or -1 if the player is closed or a number is out of its
+/// range.
 #[unsafe(no_mangle)]
 pub extern "C" fn ribjasper_player_seek(
     player: &mut Playing,
@@ -58,9 +58,8 @@ pub extern "C" fn ribjasper_player_seek(
     DONE
 }
 
-/// Makes an open player stand where one does that began anew and drew the first `to` packs of a file, from the last mark
-/// before, and leaves marks on the way, as the call above. 0, or -1 where the player is closed or a number is out of its
-/// range.
+/// Brings an open player to the state after the first `to` packs of a file, from the last mark before, and leaves
+/// marks like the call above. 0, or -1 if the player is closed or a number is out of its range.
 #[unsafe(no_mangle)]
 pub extern "C" fn ribjasper_player_seek_packs(
     player: &mut Playing,

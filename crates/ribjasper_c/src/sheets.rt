@@ -1,4 +1,4 @@
-// What a cue sheet says.
+// The index lines and the texts of a cue sheet.
 ghost use Rattle.std.specs.Prelude.{◌≡◌, ◌≢◌, pos};
 ghost use Rattle.cdg_io.specs.Causes.{Rose};
 ghost use Rattle.ribjasper_c.specs.Sheets.{text_kind, WritesRowsOfSheet, WritesTextOfSheet};
@@ -9,7 +9,7 @@ use disc_plan::{SheetRow, SheetStop, TextStop, ToldSheet, sheet_rows, sheet_text
 use std::alloc::Global;
 use subcode_author::Heap;
 
-/// Writes a row for each index line of a cue sheet to the front of some rows, and answers by an exit number of the
+/// Writes a row for each index line of a cue sheet to the front of some rows. The result is an exit status of the
 /// program.
 #[unsafe(no_mangle)]
 pub extern "C" fn ribjasper_sheet(
@@ -23,7 +23,7 @@ pub extern "C" fn ribjasper_sheet(
     sheet_in(&mut Heap::new(alloc), sheet, rows, told)
 }
 
-// The same with a heap: 7 comes only if a request for memory failed.
+// The same with a heap, which counts failed requests for memory.
 fn sheet_in(heap: &mut Heap, sheet: &[u8], rows: &mut [SheetRow], told: &mut ToldSheet) -> i32
     ensures writes { WritesRowsOfSheet sheet.now rows.old rows.new told.old told.new result }
     // The answer is 7 exactly if a request for memory failed.
@@ -48,8 +48,7 @@ fn sheet_in(heap: &mut Heap, sheet: &[u8], rows: &mut [SheetRow], told: &mut Tol
     }
 }
 
-/// Writes a text of a cue sheet to the front of some bytes, and how many it has, and answers by an exit number of the
-/// program.
+/// Writes a text of a cue sheet to the front of some bytes, and its size. The result is an exit status of the program.
 #[unsafe(no_mangle)]
 pub extern "C" fn ribjasper_sheet_text(
     alloc: Global,
@@ -64,7 +63,7 @@ pub extern "C" fn ribjasper_sheet_text(
     text_in(&mut Heap::new(alloc), sheet, kind, place, out, bytes)
 }
 
-// The same with a heap: 7 comes only if a request for memory failed.
+// The same with a heap, which counts failed requests for memory.
 fn text_in(
     heap: &mut Heap,
     sheet: &[u8],
@@ -96,7 +95,7 @@ fn text_in(
     }
 }
 
-// The kind of texts that a number means.
+// The kind of texts with a number.
 fn text_kind(kind: u32) -> CueText
     ensures { result ≡ text_kind kind }
 {

@@ -1,4 +1,4 @@
-// What stands in each block of a stream.
+// The survey of the blocks of a stream.
 ghost use Rattle.std.specs.Prelude.{◌≡◌, ◌≢◌, ◌++◌, drop, length, pos};
 ghost use Rattle.block_survey.specs.Rows.{survey_rows};
 ghost use Rattle.ribjasper_c.specs.Conversions.{stream_form};
@@ -10,17 +10,17 @@ use block_survey::{BlockRow, survey, unit_bytes};
 use disc_time::MOST_LEAD_IN;
 use raw_subcode::MOST_UNITS;
 
-/// What is told of a stream that was surveyed.
+/// The report of a survey.
 #[repr(C)]
 #[derive(Clone, Copy)]
 pub struct Surveyed {
     /// The whole blocks, of the lead-in and of the program.
     pub blocks: u32,
-    /// The bytes behind the last whole block.
+    /// The bytes after the last whole block.
     pub rest: u32,
 }
 
-/// Writes a row for each whole block of a stream to the front of some rows, and answers by an exit number of the
+/// Writes a row for each whole block of a stream to the front of some rows. The result is an exit status of the
 /// program.
 #[unsafe(no_mangle)]
 pub extern "C" fn ribjasper_survey(

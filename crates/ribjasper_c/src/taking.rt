@@ -1,4 +1,4 @@
-// The correction of a word, and a player that is fed a block and answers with the packs that came with it.
+// The correction of a word, and a call that feeds a block and writes the packs that end with it.
 ghost use Rattle.std.specs.Prelude.{◌≡◌, ◌≤◌, ◌++◌, ◌∷◌, [], List, ℕ, pos, negsuc, length, true, false, ◌%◌, map};
 ghost use Rattle.live_player.specs.Lives.{Given, blocks_in, stream_words};
 ghost use Rattle.live_player.specs.Lives.Given.{Fed};
@@ -15,7 +15,8 @@ use crate::answers::NOT_DONE;
 use raw_subcode::BLOCK_BYTES;
 use rw_code::{SYMBOLS, Word, correct};
 
-/// A pack as it was read: the codeword near its 24 symbols and how many of them were wrong, or these and -1.
+/// A corrected pack: the codeword near its 24 symbols and how many of them were wrong; or the symbols and -1 if there
+/// is none.
 #[repr(C)]
 #[derive(Clone, Copy)]
 pub struct ReadPack {
@@ -23,8 +24,8 @@ pub struct ReadPack {
     pub wrong: i32,
 }
 
-/// Feeds an open player the next block, and writes the packs that came with it; those behind them are left as they
-/// were. Their number, 0 to 4, or -1 where it is closed.
+/// Feeds an open player the next block, and writes the packs that end with it; the rest of the four is unchanged.
+/// Their number, 0 to 4, or -1 if the player is closed.
 #[unsafe(no_mangle)]
 pub extern "C" fn ribjasper_player_take(
     player: &mut Playing,
@@ -40,7 +41,7 @@ pub extern "C" fn ribjasper_player_take(
         → IsPlaying form lead_in given player.old.handle.players
         → stream_words form lead_in (blocks_in given ++ block.now ∷ [])
         ≡ stream_words form lead_in (blocks_in given) ++ words) }
-    // Whatever it was given before, also where it came to the checkpoint of a file.
+    // Whatever the player was given before, also if it was loaded from a file.
     ensures takes { player.old.is_open ≡ true
         → PlayersGo player.old.handle.players player.new.handle.players (TakesBlock block.now) }
     ensures came { (live : LivePlayer) → player.old.is_open ≡ true → player.old.handle.players ≡ live ∷ []
@@ -58,7 +59,7 @@ pub extern "C" fn ribjasper_player_take(
     read_all(words.as_slice(), packs)
 }
 
-// Reads words as packs, and says how many they are.
+// Corrects words, and returns how many they are.
 fn read_all(words: &[Word], packs: &mut [ReadPack; 4]) -> i32
     requires { length words.now ≤ 4 }
     ensures count { result ≡ pos (length words.now) }
@@ -70,7 +71,7 @@ fn read_all(words: &[Word], packs: &mut [ReadPack; 4]) -> i32
     words.len() as i32
 }
 
-// A word as the codeword near it, or as it is.
+// A word as the codeword near it, or unchanged.
 fn read(word: &Word) -> ReadPack
     ensures { IsCorrected word.now word.now result.symbols result.wrong }
 {

@@ -1,4 +1,4 @@
-// A player that is fed a block, and what came with it, counted.
+// A call that feeds a block and counts its words and its frame.
 ghost use Rattle.std.specs.Prelude.{◌≡◌, ◌∷◌, [], List, ℕ, pos, negsuc};
 ghost use Rattle.live_player.specs.Lives.{Given};
 ghost use Rattle.live_player.specs.Lives.Given.{Fed};
@@ -16,7 +16,7 @@ use crate::answers::{DONE, NOT_DONE};
 use block_survey::{PlayerTally, feed_and_count};
 use raw_subcode::BLOCK_BYTES;
 
-/// Feeds an open player the next block, and counts what came with it. 0, or -1 where it is closed.
+/// Feeds an open player the next block, and counts its words and its frame. 0, or -1 if the player is closed.
 #[unsafe(no_mangle)]
 pub extern "C" fn ribjasper_player_feed_counted(
     player: &mut Playing,
@@ -26,7 +26,7 @@ pub extern "C" fn ribjasper_player_feed_counted(
     ensures counts { result ≡ pos 0 → (live : LivePlayer) → player.old.handle.players ≡ live ∷ []
         → tally.new ≡ tallied live.words.form (words_come (words_give live.words block.now)) block.now
         tally.old }
-    // Where it is known what the player was given, and the tally is that of all of it.
+    // If it is known what the player was given, and the tally counts all of it.
     ensures tallies { result ≡ pos 0 → (form : Form) (lead_in : ℕ) (given : List Given)
         → IsPlaying form lead_in given player.old.handle.players → IsTallyOf form lead_in given tally.old
         → IsTallyOf form lead_in (Fed block.now ∷ given) tally.new }

@@ -1,4 +1,4 @@
-// Milliseconds, and the blocks and packs that come in them: 75 blocks and 300 packs a second.
+// Conversion of milliseconds to blocks and packs: 75 blocks and 300 packs a second.
 ghost use Rattle.std.specs.Prelude.{◌≡◌, ◌≤◌, ◌*◌, ◌/◌, ◌↔◌, ℕ};
 
 /// How many blocks are whole after so many milliseconds.

@@ -1,4 +1,4 @@
-// What a pack can change.
+// The part of the screen that a pack can change.
 ghost use Rattle.std.specs.Prelude.{◌≡◌, ◌∷◌, [], pos};
 ghost use Rattle.cdg_screen.specs.Standing.{IsWholeStanding, Standing, standing_after};
 ghost use Rattle.cdg_screen.specs.Touched.{KeepsTheRest, touched_by};
@@ -12,7 +12,7 @@ use rw_code::{SYMBOLS, Word};
 // Tiles are numbered row by row.
 const COLUMNS: i32 = SCREEN_COLUMNS as i32;
 
-// The numbers of what is no tile.
+// The numbers that are not tiles.
 const NOTHING: i32 = 900;
 
 const ALL: i32 = 901;
@@ -23,8 +23,9 @@ const COLOURS: i32 = 903;
 
 const LEVELS: i32 = 904;
 
-/// What the instruction of a pack touches, whose parity has no part in it: a tile of the memory, 50 times its row and
-/// its column, below 900; 900 nothing; 901 the whole memory and the offsets; 902 the border; 903 colours; 904 levels.
+/// What the instruction of a pack touches: below 900 a tile of the memory (50 times its row plus its column); 900
+/// nothing; 901 the whole memory and the offsets; 902 the border; 903 colours; 904 levels. The parity of the pack is
+/// ignored.
 #[unsafe(no_mangle)]
 pub extern "C" fn ribjasper_pack_touches(pack: &[u8; SYMBOLS]) -> i32
     ensures touched { result ≡ pos (touched_number (touched_by (instruction_of pack.now))) }
@@ -43,7 +44,7 @@ fn touched(pack: &[u8; SYMBOLS]) -> Touched
     touches(&read_word(&Word::new(pack)))
 }
 
-// What is touched, as a number.
+// The number of a touched part.
 fn number(touched: Touched) -> i32
     ensures { result ≡ pos (touched_number touched) }
 {

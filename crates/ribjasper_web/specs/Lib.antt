@@ -1,3 +1,2 @@
-pub mod Players
 pub mod Shown
 pub mod Packs

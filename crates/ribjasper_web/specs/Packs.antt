@@ -1,19 +1,19 @@
--- Packs as they were read.
+-- Corrected packs.
 use Rattle.std.specs.Prelude.{◌≡◌, ◌<◌, ℕ, ℤ, List, [], drop, length, pos, negsuc, slice_index_or}
 use Rattle.rw_code.specs.Codeword.{differences, Reads}
 use Rattle.ribjasper_web.specs.declared.reading.WebPack.{WebPack}
 
--- a word is told by the codeword near it and how many of its symbols are wrong, or as it is and by -1
+-- a word as the codeword near it and how many of its symbols are wrong, or unchanged and -1
 abbrev pub IsTakenAs : List ℕ → List ℕ → ℤ → Type 0
 IsTakenAs word symbols (pos wrong) = Reads word symbols × (wrong ≡ differences word symbols)
 IsTakenAs word symbols (negsuc k) = ((codeword : List ℕ) → ¬ Reads word codeword) × (k ≡ 0)
     × (symbols ≡ word)
 
--- in place of a pack that is not there
+-- the default of a list of packs
 abbrev pub absent_pack : WebPack
 absent_pack = record { symbols = []; wrong = pos 0 }
 
--- The words are told in this order. The packs behind them are left as they were.
+-- The words in this order. The packs after them are unchanged.
 pub record AreTakenAs (words : List (List ℕ)) (old new : List WebPack) : Type 0 where
   pub told : (i : ℕ) → i < length words
       → IsTakenAs (slice_index_or words i []) (slice_index_or new i absent_pack).symbols

@@ -1,4 +1,4 @@
--- What a page is told of a player: its counts, what it shows and what a pack touches.
+-- The outputs for a page: the counts and the screen of a player, and the numbers of the parts that a pack touches.
 use Rattle.std.specs.Prelude.{◌≡◌, ◌<◌, ◌+◌, ◌*◌, ◌/◌, ◌%◌, ◌==◌, if◌then◌else◌, ℕ, slice_index, ◌-◌}
 use Rattle.cdg_instructions.specs.Sizes.{screen_width}
 use Rattle.cdg_screen.specs.Standing.{Standing, screen_pixel}
@@ -12,7 +12,7 @@ use Rattle.live_player.specs.declared.format.PixelFormat.{PixelFormat}
 use Rattle.live_player.specs.declared.format.PixelFormat.TheVariants.{Rgba, RgbaLevels}
 use Rattle.live_player.specs.declared.looking.ScreenPart.{ScreenPart}
 
--- what a player counts, whose form has this number; the words are those of the blocks that came behind its lead-in
+-- the counts of a player whose form has this number; the words are those of the blocks after the lead-in
 abbrev pub web_counts : ℕ → LivePlayer → WebCounts
 web_counts form player = record {
   words = word_count player.words.form (player.blocks - player.lead_in);
@@ -32,7 +32,7 @@ abbrev pub opaque_pixel : Standing → ℕ → ℕ
 opaque_pixel now n =
     opaque (slice_index now.colours (screen_pixel now (n % screen_width) (n / screen_width)))
 
--- four bytes a pixel, of which the last is 255 or the opacity of its colour
+-- the format of four bytes a pixel; the last is 255 or the opacity of the colour's level
 abbrev pub web_format : ℕ → PixelFormat
 web_format levels = if levels == 0 then Rgba else RgbaLevels
 
@@ -44,7 +44,7 @@ whole_screen = record { left = 0; top = 0; width = 300; height = 216 }
 abbrev pub picture_stride : ℕ
 picture_stride = 1200
 
--- border, offsets, colours and levels of what stands
+-- the border, offsets, colours and levels of a state of the screen
 pub record IsShown (now : Standing) (shown : WebShown) : Type 0 where
   pub colours : (k : ℕ) → k < 16 → slice_index shown.colours k ≡ slice_index now.colours k
   pub levels : (k : ℕ) → k < 16 → slice_index shown.levels k ≡ slice_index now.levels k
@@ -52,7 +52,7 @@ pub record IsShown (now : Standing) (shown : WebShown) : Type 0 where
   pub h : shown.h ≡ now.h
   pub v : shown.v ≡ now.v
 
--- a tile by its place, row by row of fifty; the rest by the numbers that follow the last tile
+-- a tile has the number of its place, in rows of fifty; the other parts have the numbers after the last tile
 abbrev pub number_touched : Touched → ℕ
 number_touched Nothing = 900
 number_touched (Tile row column) = 50 * row + column

@@ -1,4 +1,4 @@
-// What a pack changes.
+// What a pack changes on the screen.
 ghost use Rattle.std.specs.Prelude.{◌≡◌, ◌↔◌, ◌∷◌, [], IsTrue};
 ghost use Rattle.cdg_screen.specs.Standing.{standing_after};
 ghost use Rattle.cdg_screen.specs.Touched.{touched_by};
@@ -14,7 +14,7 @@ use rw_code::SYMBOLS;
 // Tiles are numbered row by row.
 const COLUMNS: u32 = SCREEN_COLUMNS as u32;
 
-/// Whether a pack would change anything that stands.
+/// Whether a pack would change the screen.
 #[unsafe(no_mangle)]
 pub extern "C" fn ribjasper_web_changes(player: &PlainPlayer, pack: &[u8; SYMBOLS]) -> bool
     ensures { ¬ IsTrue result
@@ -24,8 +24,9 @@ pub extern "C" fn ribjasper_web_changes(player: &PlainPlayer, pack: &[u8; SYMBOL
     player.screen.changes(&read_pack(pack))
 }
 
-/// What the instruction of a pack touches, whose parity has no part in it: a tile of the memory, 50 times its row and
-/// its column, below 900; 900 nothing; 901 the whole memory and the offsets; 902 the border; 903 colours; 904 levels.
+/// What the instruction of a pack touches: below 900 a tile of the memory (50 times its row plus its column); 900
+/// nothing; 901 the whole memory and the offsets; 902 the border; 903 colours; 904 levels. The parity of the pack is
+/// ignored.
 #[unsafe(no_mangle)]
 pub extern "C" fn ribjasper_web_touches(pack: &[u8; SYMBOLS]) -> u32
     ensures { result ≡ number_touched (touched_by (instruction_of pack.now)) }

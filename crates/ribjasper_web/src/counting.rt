@@ -1,4 +1,4 @@
-// What a player counts.
+// The counts of a player.
 ghost use Rattle.std.specs.Prelude.{◌≡◌};
 ghost use Rattle.rw_interleave.specs.Stream.{word_count};
 ghost use Rattle.live_player.specs.Plain.{numbered_form, player_of};
@@ -11,7 +11,7 @@ use rw_interleave::PACKS_KEPT_BACK;
 #[repr(C)]
 #[derive(Clone, Copy)]
 pub struct WebCounts {
-    /// The words that came, each a pack.
+    /// The words so far, each a pack.
     pub words: u64,
     /// The form of its blocks: 0 raw, 1 packs, 2 sectors.
     pub form: u32,
@@ -22,7 +22,7 @@ pub struct WebCounts {
     pub bad: u32,
 }
 
-/// Writes what a player counts.
+/// Writes the counts of a player.
 #[unsafe(no_mangle)]
 pub extern "C" fn ribjasper_web_counts(player: &PlainPlayer, counts: &mut WebCounts)
     ensures { counts.new ≡ web_counts player.now.words.form (player_of player.now) }
@@ -39,7 +39,7 @@ pub extern "C" fn ribjasper_web_counts(player: &PlainPlayer, counts: &mut WebCou
     };
 }
 
-// How many words so many blocks of the program bring, in a stream of the form that a number means.
+// How many words so many blocks of the program have, in a stream of the form with this number.
 fn words_of(form: u32, blocks: u32) -> u64
     ensures { result ≡ word_count (numbered_form form) blocks }
 {

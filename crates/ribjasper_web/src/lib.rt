@@ -1,4 +1,4 @@
-//! The calls for web pages: a player that stands in memory which the page gives, and what it shows. No call takes memory.
+//! The calls for web pages: a player in the memory of the page, and its screen. No call allocates.
 #![tactic(auto)]
 
 mod changing;

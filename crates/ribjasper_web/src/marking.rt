@@ -1,4 +1,4 @@
-// A player that goes to a place of a stream, from marks that it leaves on the way.
+// Seeking in a stream, by marks that earlier seeks left.
 ghost use Rattle.std.specs.Prelude.{◌≡◌, ◌<◌, ◌≤◌, ◌&&◌, All, if◌then◌else◌, nat_le, nat_lt, length, pos, negsuc};
 ghost use Rattle.disc_time.specs.Counts.{most_lead_in};
 ghost use Rattle.live_player.specs.Lives.{HasPlayed};
@@ -12,9 +12,8 @@ use live_player::{Mark, PlainPlayer, form_of, seek_block, seek_pack};
 use raw_subcode::BLOCK_BYTES;
 use rw_code::SYMBOLS;
 
-/// Makes a player stand where one does that was fed the first `to` blocks of a stream, from the last mark before, and
-/// leaves marks on the way: mark k, from 0, is for place (k + 1) * every. 0, or -1 where a number is out of its range, and
-/// then nothing is changed.
+/// Brings a player to the state after the first `to` blocks of a stream, from the last mark before, and leaves marks:
+/// mark k, from 0, is for place (k + 1) * every. 0, or -1 if a number is out of its range: then nothing is changed.
 #[unsafe(no_mangle)]
 pub extern "C" fn ribjasper_web_seek(
     player: &mut PlainPlayer,
@@ -48,8 +47,8 @@ pub extern "C" fn ribjasper_web_seek(
     0
 }
 
-/// Makes a player stand where one does that began anew and drew the first `to` packs of a file, in the same way. 0, or -1
-/// where a number is out of its range, and then nothing is changed.
+/// Brings a player to the state after the first `to` packs of a file, in the same way. 0, or -1 if a number is out of
+/// its range: then nothing is changed.
 #[unsafe(no_mangle)]
 pub extern "C" fn ribjasper_web_seek_packs(
     player: &mut PlainPlayer,

@@ -1,4 +1,4 @@
-// The packs of readings of one stream, each mended by the others.
+// Mending the packs of several readings of one stream.
 ghost use Rattle.std.specs.Prelude.{◌≡◌, IfSome, None, length, pos};
 ghost use Rattle.rw_mend.specs.Many.{AreAllMendedInto};
 ghost use Rattle.rw_mend.specs.Refusals.{readings_refusal};
@@ -9,10 +9,10 @@ use rw_code::SYMBOLS;
 use rw_interleave::PACKS_KEPT_BACK;
 use rw_mend::{MOST_READINGS, Tallies, mend_readings};
 
-/// Mends readings of a stream of raw blocks, which lie one behind another, into the front of a buffer, and names the
-/// source of each word where there is room for any. 0; or 2 where the lead-in is above 450,000 blocks or there are no
-/// readings or more than 254, 3 where they are not whole blocks of equal length or more than 1,000,000 each, or 6 where a
-/// room is too small, and then nothing is written.
+/// Mends readings of a stream of raw blocks, which are stored one after another, to the front of a buffer, and writes
+/// the source of each word unless `sources` is empty. 0; or 2 if the lead-in is above 450,000 blocks or there are no
+/// readings or more than 254, 3 if the readings are not whole blocks of equal length or are longer than 1,000,000
+/// blocks, or 6 if a buffer is too small. Then nothing is written.
 #[unsafe(no_mangle)]
 pub extern "C" fn ribjasper_web_mend(
     readings: &[u8],

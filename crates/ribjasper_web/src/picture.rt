@@ -17,7 +17,7 @@ use live_player::{PixelFormat, PlainPlayer, ScreenPart, write_pixels};
 pub struct WebShown {
     /// The colours, each as 0xRGB.
     pub colours: [u16; 16],
-    /// How much the colours let through, 0 to 63.
+    /// The transparency of the colours, 0 to 63.
     pub levels: [u8; 16],
     pub border: u8,
     /// How many pixels further right in the memory the screen begins, 0 to 5.
@@ -43,8 +43,8 @@ pub extern "C" fn ribjasper_web_picture(player: &PlainPlayer, pixels: &mut [u32;
     }
 }
 
-/// Writes the screen's pixels row by row, each as four bytes: red, green, blue, and the opacity that the level of its colour
-/// gives, or 255 where `levels` is 0.
+/// Writes the screen's pixels row by row, each as four bytes: red, green, blue, and the opacity of its colour's level,
+/// or 255 if `levels` is 0.
 #[unsafe(no_mangle)]
 pub extern "C" fn ribjasper_web_pixels(
     player: &PlainPlayer,
@@ -68,7 +68,7 @@ pub extern "C" fn ribjasper_web_pixels(
     write_pixels(&player.screen, &whole, format, pixels, 4 * SCREEN_WIDTH);
 }
 
-/// Writes the numbers of the colours of the screen's pixels, row by row.
+/// Writes the colour numbers of the screen's pixels, row by row.
 #[unsafe(no_mangle)]
 pub extern "C" fn ribjasper_web_screen(player: &PlainPlayer, pixels: &mut [u8; SCREEN_PIXELS])
     ensures { (n : ℕ) → n < screen_pixels → slice_index pixels.new n
@@ -83,7 +83,7 @@ pub extern "C" fn ribjasper_web_screen(player: &PlainPlayer, pixels: &mut [u8; S
     }
 }
 
-/// Writes what stands beside the memory.
+/// Writes the colours, levels, border and offsets of the screen.
 #[unsafe(no_mangle)]
 pub extern "C" fn ribjasper_web_shown(player: &PlainPlayer, shown: &mut WebShown)
     ensures { IsShown (standing_on (player_of player.now)) shown.new }
@@ -100,7 +100,7 @@ pub extern "C" fn ribjasper_web_shown(player: &PlainPlayer, shown: &mut WebShown
     shown.v = screen.offset_v();
 }
 
-// The colours of the table as the picture has them.
+// The colours of the table as pixels of the picture.
 fn opaque_colours(screen: &PlainScreen) -> [u32; 16]
     ensures { (k : ℕ) → k < 16 → slice_index result k ≡ opaque (slice_index (seen screen.now).colours k) }
 {

@@ -4,7 +4,7 @@ ghost use Rattle.raw_subcode.specs.Channels.{IsPlanarForm};
 
 use raw_subcode::{BLOCK_BYTES, Block};
 
-/// Writes the raw blocks with planar forms, as many as both lists hold.
+/// Writes the raw blocks with planar forms, as many as the shorter list has.
 #[unsafe(no_mangle)]
 pub extern "C" fn ribjasper_web_blocks_from_planar(
     planar: &[[u8; BLOCK_BYTES]],

@@ -1,15 +1,12 @@
-// A player that a page feeds.
-ghost use Rattle.std.specs.Prelude.{◌≡◌, ◌/◌, ◌&&◌, ◌∷◌, [], if◌then◌else◌, map, reverse, nat_le, nat_lt, List, ℕ, length, pos, negsuc};
+// A player of a page, fed with blocks or packs.
+ghost use Rattle.std.specs.Prelude.{◌≡◌, ◌/◌, ◌&&◌, ◌∷◌, [], if◌then◌else◌, map, reverse, nat_le, nat_lt, length, pos, negsuc};
 ghost use Rattle.disc_time.specs.Counts.{most_lead_in};
-ghost use Rattle.live_player.specs.Changes.{changes_on, KeepsUntold};
-ghost use Rattle.live_player.specs.Lives.{instruction_of, standing_on, Given, HasPlayed, PlaysOn};
+ghost use Rattle.live_player.specs.Lives.{HasPlayed, PlaysOn};
 ghost use Rattle.live_player.specs.Lives.Given.{Drawn, Fed};
 ghost use Rattle.live_player.specs.Plain.{numbered_form, player_of};
 ghost use Rattle.live_player.specs.Steps.{DrawsPack, TakesBlock};
-ghost use Rattle.live_player.specs.Taken.{instructions_from, DrawsPacks, TakesBlocks};
+ghost use Rattle.live_player.specs.Taken.{DrawsPacksReported, FeedsBlocks, TakesBlocks};
 ghost use Rattle.raw_subcode.specs.Channels.{blocks_of, unit_size};
-ghost use Rattle.raw_subcode.specs.declared.form.Form.{Form};
-ghost use Rattle.ribjasper_web.specs.Players.{and_fed};
 
 use block_survey::{block_at, unit_bytes};
 use disc_time::MOST_LEAD_IN;
@@ -17,8 +14,8 @@ use live_player::{PlainPlayer, ScreenChange, draw_all, feed_all, form_of};
 use raw_subcode::BLOCK_BYTES;
 use rw_code::SYMBOLS;
 
-/// Begins anew, with so many lead-in blocks, at most 450,000. The form is 0 for a raw stream, or 1 for one of packs, four
-/// a block. 0, or -1 where a number is out of its range, and then nothing is changed.
+/// Restarts with so many lead-in blocks, at most 450,000. The form is 0 for a raw stream, or 1 for a stream of packs,
+/// four in each block. 0, or -1 if a number is out of its range: then nothing is changed.
 #[unsafe(no_mangle)]
 pub extern "C" fn ribjasper_web_begin(player: &mut PlainPlayer, form: u32, lead_in: u32) -> i32
     ensures begun { result ≡ pos 0 → HasPlayed (numbered_form form) lead_in [] (player_of player.new) }
@@ -41,16 +38,14 @@ pub extern "C" fn ribjasper_web_feed(player: &mut PlainPlayer, block: &[u8; BLOC
     player.feed(block);
 }
 
-/// Feeds a player the whole blocks of a stream, which are raw blocks (form 0), blocks of packs (1) or those of sectors
-/// (2). Their number.
+/// Feeds a player the whole blocks of a stream, which are raw blocks (form 0), blocks of packs (1) or blocks of
+/// sectors (2). Their number.
 #[unsafe(no_mangle)]
 pub extern "C" fn ribjasper_web_feed_all(player: &mut PlainPlayer, form: u32, stream: &[u8]) -> u64
     ensures takes { TakesBlocks (blocks_of (numbered_form form) stream.now) (player_of player.old)
         (player_of player.new) }
-    ensures fed { (begun : Form) (lead_in : ℕ) (given : List Given)
-        → HasPlayed begun lead_in given (player_of player.old)
-        → HasPlayed begun lead_in (and_fed (blocks_of (numbered_form form) stream.now) given)
-        (player_of player.new) }
+    ensures fed { PlaysOn (map Fed (reverse (blocks_of (numbered_form form) stream.now)))
+        (player_of player.old) (player_of player.new) }
     ensures count { result ≡ length stream.now / unit_size (numbered_form form) }
 {
     let form = form_of(form);
@@ -62,24 +57,19 @@ pub extern "C" fn ribjasper_web_feed_all(player: &mut PlainPlayer, form: u32, st
     count as u64
 }
 
-/// Feeds a player blocks of 96 bytes in turn, and writes what of the screen may have changed.
+/// Feeds a player blocks of 96 bytes in turn, and reports what may have changed on the screen.
 #[unsafe(no_mangle)]
 pub extern "C" fn ribjasper_web_feed_changes(
     player: &mut PlainPlayer,
     blocks: &[[u8; BLOCK_BYTES]],
     change: &mut ScreenChange,
 )
-    ensures takes { TakesBlocks blocks.now (player_of player.old) (player_of player.new) }
-    ensures fed { PlaysOn (map Fed (reverse blocks.now)) (player_of player.old) (player_of player.new) }
-    ensures told { change.new ≡ changes_on (standing_on (player_of player.old))
-        (instructions_from (player_of player.old).words blocks.now) }
-    ensures keeps { KeepsUntold change.new (standing_on (player_of player.old))
-        (standing_on (player_of player.new)) }
+    ensures { FeedsBlocks blocks.now change.new (player_of player.old) (player_of player.new) }
 {
     *change = feed_all(player, blocks);
 }
 
-/// Draws a pack of 24 bytes, whose parity has no part in it. The stream goes on as if the pack were not there.
+/// Draws a pack of 24 bytes. Its parity is ignored. The stream is unaffected.
 #[unsafe(no_mangle)]
 pub extern "C" fn ribjasper_web_draw(player: &mut PlainPlayer, pack: &[u8; SYMBOLS])
     ensures draws { DrawsPack pack.now (player_of player.old) (player_of player.new) }
@@ -88,19 +78,14 @@ pub extern "C" fn ribjasper_web_draw(player: &mut PlainPlayer, pack: &[u8; SYMBO
     player.draw(pack);
 }
 
-/// Draws packs in turn, and writes what of the screen may have changed.
+/// Draws packs in turn, and reports what may have changed on the screen.
 #[unsafe(no_mangle)]
 pub extern "C" fn ribjasper_web_draw_all(
     player: &mut PlainPlayer,
     packs: &[[u8; SYMBOLS]],
     change: &mut ScreenChange,
 )
-    ensures draws { DrawsPacks packs.now (player_of player.old) (player_of player.new) }
-    ensures drawn { PlaysOn (map Drawn (reverse packs.now)) (player_of player.old) (player_of player.new) }
-    ensures told { change.new
-        ≡ changes_on (standing_on (player_of player.old)) (map instruction_of packs.now) }
-    ensures keeps { KeepsUntold change.new (standing_on (player_of player.old))
-        (standing_on (player_of player.new)) }
+    ensures { DrawsPacksReported packs.now change.new (player_of player.old) (player_of player.new) }
 {
     *change = draw_all(player, packs);
 }

@@ -1,4 +1,4 @@
-// A player that is fed a block and answers with the packs that came with it.
+// A call that feeds a block and writes the packs that end with it.
 ghost use Rattle.std.specs.Prelude.{◌≡◌, ◌≤◌, ◌∷◌, [], pos, length};
 ghost use Rattle.live_player.specs.Lives.{PlaysOn};
 ghost use Rattle.live_player.specs.Lives.Given.{Fed};
@@ -12,7 +12,7 @@ use live_player::PlainPlayer;
 use raw_subcode::{BLOCK_BYTES, Block};
 use rw_code::{SYMBOLS, Word, correct};
 
-/// The codeword near 24 symbols and how many of them were wrong, or these and -1.
+/// The codeword near 24 symbols and how many of them were wrong; or the symbols and -1 if there is none.
 #[repr(C)]
 #[derive(Clone, Copy)]
 pub struct WebPack {
@@ -20,7 +20,7 @@ pub struct WebPack {
     pub wrong: i32,
 }
 
-/// Feeds a player the next block, and writes the packs that came with it; those behind them are left as they were. Their
+/// Feeds a player the next block, and writes the packs that end with it; the rest of the four is unchanged. Their
 /// number, 0 to 4.
 #[unsafe(no_mangle)]
 pub extern "C" fn ribjasper_web_take(
@@ -40,7 +40,7 @@ pub extern "C" fn ribjasper_web_take(
     }
 }
 
-// Reads words as packs, and says how many they are.
+// Corrects words, and returns how many they are.
 fn read_all(words: &[Word], packs: &mut [WebPack; 4]) -> i32
     requires { length words.now ≤ 4 }
     ensures count { result ≡ pos (length words.now) }
@@ -52,7 +52,7 @@ fn read_all(words: &[Word], packs: &mut [WebPack; 4]) -> i32
     words.len() as i32
 }
 
-// A word as the codeword near it, or as it is.
+// A word as the codeword near it, or unchanged.
 fn read(word: &Word) -> WebPack
     ensures { IsTakenAs word.now result.symbols result.wrong }
 {
@@ -68,7 +68,7 @@ fn read(word: &Word) -> WebPack
     }
 }
 
-/// Writes the block with a planar form, as some drives give it.
+/// Writes the block with a planar form, as some drives return it.
 #[unsafe(no_mangle)]
 pub extern "C" fn ribjasper_web_from_planar(
     planar: &[u8; BLOCK_BYTES],

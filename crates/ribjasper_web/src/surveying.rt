@@ -1,4 +1,4 @@
-// What stands in each block of a stream.
+// The survey of the blocks of a stream.
 ghost use Rattle.std.specs.Prelude.{◌≡◌, ◌≢◌, ◌/◌, ◌++◌, ◌||◌, nat_lt, if◌then◌else◌, drop, length, pos};
 ghost use Rattle.block_survey.specs.Rows.{survey_rows};
 ghost use Rattle.disc_time.specs.Counts.{most_lead_in};
@@ -9,8 +9,8 @@ use block_survey::{BlockRow, survey, unit_bytes};
 use disc_time::MOST_LEAD_IN;
 use live_player::form_of;
 
-/// Writes a row for each whole block of a stream to the front of some rows. 0; or 2 where the form is above 2 or the
-/// lead-in above 450,000 blocks, or 6 where there are fewer rows than blocks, and then nothing is written.
+/// Writes a row for each whole block of a stream to the front of some rows. 0; or 2 if the form is above 2 or the
+/// lead-in above 450,000 blocks, or 6 if there are fewer rows than blocks. Then nothing is written.
 #[unsafe(no_mangle)]
 pub extern "C" fn ribjasper_web_survey(
     stream: &[u8],

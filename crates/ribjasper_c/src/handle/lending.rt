@@ -1,4 +1,4 @@
-// A player that is lent out of its handle.
+// Lending the player of a handle.
 ghost use Rattle.std.specs.Prelude.{◌≡◌, ◌∷◌, [], length};
 ghost use Rattle.ribjasper_c.specs.Lent.{handle_follows};
 ghost use types.Logic.{sem};
@@ -7,7 +7,7 @@ use super::Handle;
 use live_player::LivePlayer;
 
 impl Handle {
-    /// Lends the player of a handle, which stays where it is, so that nothing is written to the handle.
+    /// Lends the player of a handle. The player is not moved, so nothing is written to the handle.
     pub fn lend(&mut self) -> &mut LivePlayer
         requires { length self.old.players ≡ 1 }
         ensures* writes_back { sem 𝓛 (handle_follows self.entry result) }

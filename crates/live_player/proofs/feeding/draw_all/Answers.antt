@@ -1,11 +1,12 @@
 use Rattle.std.proofs.Common.{◌≡◌, ◌∙◌, ◌+◌, ◌++◌, ◌<◌, [], ◌∷◌, List, ℕ, length, get_or, map, refl, reverse, take, ap, sym, subst, arith}
-use Rattle.std.proofs.lemmas.List.{map-append}
+use Rattle.std.proofs.lemmas.List.{map-append, take_all}
 use Rattle.cdg_io.specs.Run.{run_state}
 use Rattle.cdg_io.proofs.Runs.{run_state-append}
 use Rattle.cdg_screen.specs.Standing.{Standing, standing_after}
 use Rattle.cdg_screen.proofs.Turns.{in_turn}
 use Rattle.live_player.specs.Lives.{Given, Drawn, HasPlayed, instruction_of, standing_on}
 use Rattle.live_player.specs.Changes.{changes_on, sees, watch_from, KeepsUntold}
+use Rattle.live_player.specs.Taken.{DrawsPacks}
 use Rattle.live_player.specs.declared.change.ScreenChange.{ScreenChange}
 use Rattle.live_player.specs.declared.watch.Watch.{Watch}
 use Rattle.live_player.proofs.LiveViews.{drawn_on}
@@ -69,13 +70,33 @@ loop-pack-init g c = record {
   within = c.watch_of-watch.ensures.within;
 }
 
-pub returns-clause-keeps : goal.returns-clause-keeps
-returns-clause-keeps g c =
-    let start : Standing = standing_on (g.P.AnyPlayer.played c.args.player.now) in
-    let instrs = map instruction_of (take c.loop-pack.pack-index c.args.packs.now) in
-    subst
-    (λ (it : ScreenChange). KeepsUntold it start (standing_on (g.P.AnyPlayer.played c.loop-pack.player)))
-    (sym (ap (λ (w : Watch). w.change) c.loop-pack.invariant.told))
-    (subst (λ (s : Standing). KeepsUntold (changes_on start instrs) start s)
-    (sym c.loop-pack.invariant.draws.draws)
-    (c.untold_stays.ensures start instrs c.watch_of-watch.ensures.whole))
+pub returns : goal.returns
+returns g c =
+    let first = g.P.AnyPlayer.played c.args.player.now in
+    let after = g.P.AnyPlayer.played c.loop-pack.player in
+    let packs : List (List ℕ) = c.args.packs.now in
+    let i : ℕ = c.loop-pack.pack-index in
+    let start : Standing = standing_on first in
+    let instrs = map instruction_of (take i packs) in
+    let whole : take i packs ≡ packs = take_all i packs (omega arith) in
+    record {
+      draws = subst (λ (l : List (List ℕ)). DrawsPacks l first after) whole c.loop-pack.invariant.draws;
+      drawn =
+          λ form lead_in given played.
+          subst (λ (l : List (List ℕ)). HasPlayed form lead_in (map Drawn (reverse l) ++ given) after) whole
+          (c.loop-pack.invariant.drawn form lead_in given played);
+      reports = record {
+        told =
+            ap (λ (w : Watch). w.change) c.loop-pack.invariant.told
+            ∙ ap (λ (l : List (List ℕ)). changes_on start (map instruction_of l)) whole;
+        stands =
+            c.loop-pack.invariant.draws.draws
+            ∙ ap (λ (l : List (List ℕ)). standing_after start (map instruction_of l)) whole;
+        keeps =
+            subst (λ (it : ScreenChange). KeepsUntold it start (standing_on after))
+            (sym (ap (λ (w : Watch). w.change) c.loop-pack.invariant.told))
+            (subst (λ (s : Standing). KeepsUntold (changes_on start instrs) start s)
+            (sym c.loop-pack.invariant.draws.draws)
+            (c.untold_stays.ensures start instrs c.watch_of-watch.ensures.whole));
+      };
+    }

@@ -1,4 +1,5 @@
 use Rattle.std.proofs.Common.{◌≡◌, ◌∙◌, ◌+◌, ◌++◌, ◌<◌, [], List, ℕ, append-nil, append_assoc, length, get_or, map, refl, reverse, take, ap, sym, subst, arith}
+use Rattle.std.proofs.lemmas.List.{take_all}
 use Rattle.cdg_io.specs.Run.{run_state}
 use Rattle.cdg_io.proofs.Runs.{run_state-append}
 use Rattle.cdg_instructions.specs.declared.instr.Instr.{Instr}
@@ -6,7 +7,7 @@ use Rattle.cdg_screen.specs.Standing.{Standing, standing_after}
 use Rattle.cdg_screen.proofs.Turns.{in_turn}
 use Rattle.stream_stages.specs.Steps.{words_give}
 use Rattle.live_player.specs.Lives.{Given, Fed, HasPlayed, drawn_for, instructions_in, standing_on}
-use Rattle.live_player.specs.Changes.{changes_on, sees, watch_from, KeepsUntold}
+use Rattle.live_player.specs.Changes.{changes_on, sees, watch_from, AreDrawnFor, KeepsUntold}
 use Rattle.live_player.specs.declared.change.ScreenChange.{ScreenChange}
 use Rattle.live_player.specs.declared.watch.Watch.{Watch}
 use Rattle.live_player.specs.Taken.{instructions_from, TakesBlocks}
@@ -82,15 +83,36 @@ loop-block-preserved g c =
       within = c.play_block.ensures.within;
     }
 
-pub returns-clause-keeps : goal.returns-clause-keeps
-returns-clause-keeps g c =
+pub returns : goal.returns
+returns g c =
     let first = g.P.AnyPlayer.played c.args.player.now in
+    let after = g.P.AnyPlayer.played c.loop-block.player in
+    let blocks : List (List ℕ) = c.args.blocks.now in
+    let i : ℕ = c.loop-block.block-index in
     let start : Standing = standing_on first in
-    let instrs : List Instr =
-    instructions_from first.words (take c.loop-block.block-index c.args.blocks.now) in
-    subst
-    (λ (it : ScreenChange). KeepsUntold it start (standing_on (g.P.AnyPlayer.played c.loop-block.player)))
-    (sym (ap (λ (w : Watch). w.change) c.loop-block.invariant.told.0))
-    (subst (λ (s : Standing). KeepsUntold (changes_on start instrs) start s)
-    (sym c.loop-block.invariant.told.1)
-    (c.untold_stays.ensures start instrs c.watch_of-watch.ensures.whole))
+    let instrs : List Instr = instructions_from first.words (take i blocks) in
+    let whole : take i blocks ≡ blocks = take_all i blocks (omega arith) in
+    record {
+      takes = subst (λ (l : List (List ℕ)). TakesBlocks l first after) whole c.loop-block.invariant.takes;
+      fed =
+          λ form lead_in given played.
+          subst (λ (l : List (List ℕ)). HasPlayed form lead_in (map Fed (reverse l) ++ given) after) whole
+          (c.loop-block.invariant.fed form lead_in given played);
+      drawn =
+          subst (λ (l : List (List ℕ)). AreDrawnFor l first (instructions_from first.words l)) whole
+          c.loop-block.invariant.told.2;
+      reports = record {
+        told =
+            ap (λ (w : Watch). w.change) c.loop-block.invariant.told.0
+            ∙ ap (λ (l : List (List ℕ)). changes_on start (instructions_from first.words l)) whole;
+        stands =
+            c.loop-block.invariant.told.1
+            ∙ ap (λ (l : List (List ℕ)). standing_after start (instructions_from first.words l)) whole;
+        keeps =
+            subst (λ (it : ScreenChange). KeepsUntold it start (standing_on after))
+            (sym (ap (λ (w : Watch). w.change) c.loop-block.invariant.told.0))
+            (subst (λ (s : Standing). KeepsUntold (changes_on start instrs) start s)
+            (sym c.loop-block.invariant.told.1)
+            (c.untold_stays.ensures start instrs c.watch_of-watch.ensures.whole));
+      };
+    }

@@ -1,5 +1,7 @@
-use Rattle.ribjasper_c.proofs.Saves.{cannot}
+use Rattle.std.proofs.Common.{rules}
+use Rattle.live_player.proofs.Saves.{refuses}
 use Rattle.ribjasper_c.proofs.saving.save.Goals as goal
 
-pub returns-clause-refused : goal.returns-clause-refused
-returns-clause-refused c done = cannot _ _ c.args.live.now c.save.ensures c.in-Err.ensures
+pub returns-then-not-fits_checkpoint-clause-saves : goal.returns-then-not-fits_checkpoint-clause-saves
+returns-then-not-fits_checkpoint-clause-saves c =
+    refuses c.args.live.now c.args.file.now (c.fits_checkpoint.ensures.refused (search rules))

@@ -1,13 +1,11 @@
-use Rattle.std.proofs.Common.{◌≡◌, ◌<◌, ◌≤◌, ◌/◌, ◌+◌, ◌∷◌, [], ◌++◌, ℕ, List, length, take, ap, refl, subst, sym, ◌∙◌, arith}
+use Rattle.std.proofs.Common.{◌≡◌, ◌<◌, ◌≤◌, ◌/◌, ◌+◌, ◌∷◌, [], ◌++◌, ℕ, List, length, map, reverse, take, ap, refl, subst, sym, ◌∙◌, arith}
 use Rattle.std.proofs.lemmas.List.{take_all, take_more}
 use Rattle.raw_subcode.specs.Channels.{blocks_of}
 use Rattle.block_survey.proofs.EndedWords.{length-blocks}
-use Rattle.live_player.specs.Lives.{HasPlayed}
+use Rattle.live_player.specs.Lives.{Fed, HasPlayed}
 use Rattle.live_player.specs.Plain.{player_of}
 use Rattle.live_player.specs.Taken.{TakesBlocks}
-use Rattle.live_player.proofs.Seen.{takes_more}
-use Rattle.ribjasper_web.specs.Players.{and_fed}
-use Rattle.ribjasper_web.proofs.Fed.{one_more_fed}
+use Rattle.live_player.proofs.Seen.{given_more, takes_more}
 use Rattle.ribjasper_web.proofs.playing.ribjasper_web_feed_all.Goals as goal
 
 pub loop-b-init : goal.loop-b-init
@@ -33,9 +31,9 @@ loop-b-preserved c =
           c.loop-b.invariant.takes c.feed.ensures.takes);
       fed = λ begun lead_in given played.
           subst (λ g. HasPlayed begun lead_in g after)
-          (sym (one_more_fed (take b blocks) c.block_at-block.result given)
-          ∙ ap (λ l. and_fed l given) (sym more))
-          (c.feed.ensures.fed begun lead_in (and_fed (take b blocks) given)
+          (sym (given_more Fed (take b blocks) c.block_at-block.result given)
+          ∙ ap (λ l. map Fed (reverse l) ++ given) (sym more))
+          (c.feed.ensures.fed begun lead_in (map Fed (reverse (take b blocks)) ++ given)
           (c.loop-b.invariant.fed begun lead_in given played));
     }
 
@@ -66,7 +64,9 @@ returns-clause-fed c begun lead_in given played =
       length-blocks form bytes,
       subst (λ size. length bytes / size ≤ b) c.unit_bytes.ensures c.loop-b-test.false,
     ) in
-    subst (λ f. HasPlayed begun lead_in (and_fed (blocks_of f bytes) given) (player_of c.loop-b.player))
+    subst
+    (λ f.
+    HasPlayed begun lead_in (map Fed (reverse (blocks_of f bytes)) ++ given) (player_of c.loop-b.player))
     c.form_of-form.ensures
-    (subst (λ l. HasPlayed begun lead_in (and_fed l given) (player_of c.loop-b.player))
+    (subst (λ l. HasPlayed begun lead_in (map Fed (reverse l) ++ given) (player_of c.loop-b.player))
     (take_all b (blocks_of form bytes) past) (c.loop-b.invariant.fed begun lead_in given played))

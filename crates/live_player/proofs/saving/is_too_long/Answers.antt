@@ -1,5 +1,5 @@
-use Rattle.ribjasper_web.proofs.Refused.{long_lead_in, many_blocks}
-use Rattle.ribjasper_web.proofs.saving.is_too_long.Goals as goal
+use Rattle.live_player.proofs.Saves.{long_lead_in, many_blocks}
+use Rattle.live_player.proofs.saving.is_too_long.Goals as goal
 
 pub returns-then-is_above-clause-refused : goal.returns-then-is_above-clause-refused
 returns-then-is_above-clause-refused c long player same_lead_in same_blocks =
