@@ -1,6 +1,6 @@
 mod AuthorStatus
 mod AuthorTold
-mod Commands
+pub mod Commands
 mod Decimals
 mod Ended
 pub mod FirstHalf
@@ -14,7 +14,7 @@ mod Played
 mod PressTold
 mod PressedBack
 mod PressedShown
-mod Performed
+pub mod Performed
 mod Pumped
 mod Quiet
 mod ResumeTold
@@ -27,7 +27,7 @@ pub mod TextReads
 pub mod TextStops
 mod ThinTold
 mod Thinning
-mod Told
+pub mod Told
 mod TurnRuns
 mod Wants
 pub mod WholeInputs

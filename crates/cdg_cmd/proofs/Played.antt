@@ -18,7 +18,7 @@ use Rattle.cdg_cmd.proofs.Quiet as quiet
 use Rattle.cdg_cmd.specs.Faults.{TellsOne}
 use Rattle.cdg_cmd.specs.Stops.{play_status, text_fault_status}
 use Rattle.cdg_cmd.specs.declared.status.Status.{Status}
-use Rattle.cdg_cmd.specs.declared.status.Status.TheVariants.{Done, Damaged, NoMemory}
+use Rattle.cdg_cmd.specs.declared.status.Status.TheVariants.{Done, Damaged, NoMemory, Usage}
 
 -- Faults
 
@@ -130,6 +130,31 @@ pub never_memory : (answer : Result Played PlayStop) (status : Status) → statu
     → IfErr answer IsStreamStop
     → status ≢ NoMemory
 never_memory answer status is stops = shown_never_memory answer status is (moment_stop answer stops)
+
+-- A player does not read words
+
+whole_spelled : (good : Bool) (n : ℕ) → (if good then Done else Damaged n) ≢ Usage
+whole_spelled true n e = absurd (cc)
+whole_spelled false n e = absurd (cc)
+
+no_texts_spelled : (why : TextFault) → text_fault_status why ≢ Usage
+no_texts_spelled (fault.Missing seq) e = absurd (cc)
+no_texts_spelled fault.NoSize e = absurd (cc)
+no_texts_spelled (fault.Malformed seq byte) e = absurd (cc)
+no_texts_spelled fault.NoMemory e = absurd (cc)
+
+never_usage_at : (answer : Result Played PlayStop) → play_status answer ≢ Usage
+never_usage_at (Ok played) e = whole_spelled (played.bad == 0) played.bad e
+never_usage_at (Err play.ReadFault) e = absurd (cc)
+never_usage_at (Err play.WriteFault) e = absurd (cc)
+never_usage_at (Err (play.Torn block)) e = absurd (cc)
+never_usage_at (Err play.TooLong) e = absurd (cc)
+never_usage_at (Err (play.PastEnd blocks)) e = absurd (cc)
+never_usage_at (Err (play.Text why)) e = no_texts_spelled why e
+
+pub never_usage : (answer : Result Played PlayStop) (status : Status) → status ≡ play_status answer
+    → status ≢ Usage
+never_usage answer status is e = never_usage_at answer (sym is ∙ e)
 
 -- Where memory is lacking for texts, all of a whole input was read, and its lead-in gives some
 

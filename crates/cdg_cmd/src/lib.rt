@@ -13,4 +13,4 @@ mod top;
 
 pub use command::{Command, Split, read_words};
 pub use status::{Refusal, Status, Which, tell};
-pub use top::{run, split};
+pub use top::{perform, run, split};

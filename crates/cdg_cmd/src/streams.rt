@@ -16,26 +16,8 @@ use crate::status::play_status;
 use crate::{Command, Status};
 use cdg_io::{Sink, Source};
 use raw_subcode::Form;
-use stream_stages::{Checker, Converter, TextLister, Viewer, list_frames};
+use stream_stages::{Checker, TextLister, Viewer, list_frames};
 use subcode_author::Heap;
-
-/// Writes the packs of a stream as its blocks are read.
-pub(crate) fn run_convert<S: Source, K: Sink>(
-    lead_in: u32,
-    form: Form,
-    source: &mut S,
-    out: &mut K,
-) -> Status
-    requires { lead_in ≤ most_lead_in }
-    ensures does { Does (Command.Convert lead_in form) (one_input S.left K.held (source.old, out.old)
-        (source.new, out.new)) result }
-    ensures memory { result ≢ Status.NoMemory }
-    ensures faults { TellsOne (change S.faults source.old source.new)
-        (change K.faults out.old out.new) result }
-    ensures ended { EndsAs play_status EndInTurn (input S.Source source.old source.new) result }
-{
-    play_status(Converter::new().convert(lead_in, form, source, out))
-}
 
 /// Writes the counts of a stream.
 pub(crate) fn run_check<S: Source, K: Sink>(

@@ -31,11 +31,12 @@ ghost use Rattle.cdg_cmd.specs.Unpresses.{Unpresses};
 use crate::laws::commands_are_answered;
 use crate::making::{run_author, run_gen, run_press, run_trial};
 use crate::packs::{run_merge, run_planar, run_raw, run_resume, run_save, run_scratch, run_thin};
-use crate::status::tell;
-use crate::streams::{run_check, run_convert, run_q, run_screen, run_state, run_text};
+use crate::status::{play_status, tell};
+use crate::streams::{run_check, run_q, run_screen, run_state, run_text};
 use crate::{Command, Split, Status, read_words};
 use cdg_io::{Sink, Source};
 use std::alloc::Global;
+use stream_stages::Converter;
 use subcode_author::Heap;
 
 // The number of words before the first `--`.
@@ -174,7 +175,7 @@ pub fn run<S: Source, T: Source, K: Sink, E: Sink>(
     status
 }
 
-// The same without the error output, with a heap.
+// Reads the words and performs their command. It prints no status.
 fn answer<S: Source, T: Source, K: Sink>(
     heap: &mut Heap,
     words: &[String],
@@ -199,7 +200,8 @@ fn answer<S: Source, T: Source, K: Sink>(
     }
 }
 
-fn perform<S: Source, T: Source, K: Sink>(
+/// Performs a command over its inputs and its output, as `run` does after it has read the words.
+pub fn perform<S: Source, T: Source, K: Sink>(
     heap: &mut Heap,
     command: Command,
     first: &mut S,
@@ -217,7 +219,9 @@ fn perform<S: Source, T: Source, K: Sink>(
     ensures wants { TellsWant heap.old heap.new result }
 {
     match command {
-        Command::Convert { lead_in, form } => run_convert(lead_in, form, first, out),
+        Command::Convert { lead_in, form } => {
+            play_status(Converter::new().convert(lead_in, form, first, out))
+        }
         Command::Screen { lead_in, form, at } => run_screen(heap, lead_in, form, at, first, out),
         Command::State { lead_in, form, at } => run_state(heap, lead_in, form, at, first, out),
         Command::Check { lead_in, form } => run_check(lead_in, form, first, out),

@@ -2,20 +2,33 @@ use Rattle.std.proofs.Common.{refl, subst, inl, inr}
 use Rattle.cdg_cmd.specs.Authors.{AuthorsWith}
 use Rattle.cdg_cmd.specs.Presses.{PressesWith}
 use Rattle.cdg_cmd.proofs.Performed.{not_cut, not_done, only_lacking, performed_as, wants_first, wants_later, wants_none, wrote_nothing}
+use Rattle.cdg_cmd.proofs.Played.{never_memory, never_usage, told_one}
 use Rattle.cdg_cmd.proofs.Told.{of_gen, of_one, of_trial}
 use Rattle.cdg_cmd.proofs.Wants as wants
 use Rattle.cdg_cmd.proofs.Wants.{not_lacking}
 use Rattle.cdg_cmd.proofs.top.perform.Goals as goal
 
+pub returns-in-Convert-clause-never : goal.returns-in-Convert-clause-never
+returns-in-Convert-clause-never g c = never_usage c.convert.result _ c.play_status.ensures
+
 pub returns-in-Convert-clause-performs : goal.returns-in-Convert-clause-performs
 returns-in-Convert-clause-performs g c =
-    let done = c.run_convert.ensures in
+    let answer = c.convert.result in
+    let is = c.play_status.ensures in
+    let played = c.convert.ensures.plays in
+    let found = never_memory answer _ is played.stops in
     performed_as c.in-Convert.is (record {
       keeps = record { first = λ unread. absurd unread; second = inl refl; out = λ last. absurd last };
-      memory = wants_none done.memory;
-      does = λ found. done.does;
-      lacks = λ none. absurd (done.memory none);
-      ends = λ found. (done.ended, refl);
+      memory = wants_none found;
+      does = λ _. record {
+        answer = answer;
+        status_is = is;
+        taken = played.taken;
+        did = played.puts;
+        exactly = (played.stops, played.answer);
+      };
+      lacks = λ none. absurd (found none);
+      ends = λ _. (record { answer = answer; status_is = is; ended = played.ended }, refl);
     })
 
 pub returns-in-Q-clause-performs : goal.returns-in-Q-clause-performs
@@ -214,7 +227,8 @@ returns-in-Trial-clause-performs g c =
 
 pub returns-in-Convert-clause-faults : goal.returns-in-Convert-clause-faults
 returns-in-Convert-clause-faults g c =
-    of_one c.run_convert.result (g.T.Source.faults c.args.second.now) _ _ c.run_convert.ensures.faults
+    of_one c.play_status.result (g.T.Source.faults c.args.second.now) _ _
+    (told_one c.convert.result _ _ _ _ _ c.play_status.ensures c.convert.ensures.plays.faults)
 
 pub returns-in-Screen-clause-faults : goal.returns-in-Screen-clause-faults
 returns-in-Screen-clause-faults g c =
@@ -267,7 +281,8 @@ returns-in-Trial-clause-faults g c =
     c.run_trial.ensures.never c.run_trial.ensures.faults
 
 pub returns-in-Convert-clause-wants : goal.returns-in-Convert-clause-wants
-returns-in-Convert-clause-wants g c = wants.takes_none _ _ c.run_convert.ensures.memory
+returns-in-Convert-clause-wants g c =
+    wants.takes_none _ _ (never_memory c.convert.result _ c.play_status.ensures c.convert.ensures.plays.stops)
 
 pub returns-in-Check-clause-wants : goal.returns-in-Check-clause-wants
 returns-in-Check-clause-wants g c = wants.takes_none _ _ c.run_check.ensures.memory
