@@ -144,7 +144,7 @@ uint64_t ribjasper_time_of_packs(uint32_t packs);
    sectors of 2,448 bytes, each with 2,352 bytes of audio and a raw block. Only calls on whole streams accept sectors.
 
    The packs of a .cdg file may have no valid parity. Do not feed such packs as RIBJASPER_PACKS: usually no codeword is
-   near them, so they draw nothing and count as bad words. (Its idle packs are codewords nevertheless.)
+   near them, so they draw nothing and count as bad words. (The idle packs of such a file are codewords nevertheless.)
    ribjasper_packs_parity detects such a file. Either draw its packs with ribjasper_player_draw_all, which ignores parity,
    or first compute their parity with ribjasper_packs_seal. */
 #define RIBJASPER_RAW 0
@@ -615,7 +615,7 @@ typedef struct ribjasper_converted {
 /* These are the return values of calls on whole streams. They equal the exit statuses of the program. */
 #define RIBJASPER_CONVERTED 0 /* done */
 #define RIBJASPER_DAMAGED 1   /* done, but some words have no codeword */
-#define RIBJASPER_USAGE 2     /* the form is above 2 or `lead_in` above 450,000 */
+#define RIBJASPER_USAGE 2     /* a number is out of range, for example `lead_in` above 450,000 */
 #define RIBJASPER_TORN 3      /* the input is refused: a stream does not consist of whole blocks or sectors, or has
                                  more than 1,000,000 of them; or a line of a sheet has an error */
 #define RIBJASPER_NO_ROOM 6   /* the output is too small */
@@ -636,8 +636,8 @@ int32_t ribjasper_convert(const uint8_t *stream, size_t length, uint32_t form, u
                           size_t room, ribjasper_converted *result);
 
 /* Mending. A disc may be read several times. From all readings, the calls below choose the best codeword for each word.
-   The symbols of word n are in the program blocks n / 4 to (n + 7) / 4. A block is unread if its 96 bytes are 0. If you
-   know that a block was not read, write zeros over it.
+   The symbols of word n are in the program blocks n / 4 to (n + 7) / 4, both rounded down. A block is unread if its 96
+   bytes are 0. If you know that a block was not read, write zeros over it.
 
    A reading has a codeword at a word if the codeword is near the word of this reading. The number of symbols in which
    they differ is the distance of the codeword, 0 to 2. There are two exceptions. If a block of the word is unread and the
@@ -646,10 +646,11 @@ int32_t ribjasper_convert(const uint8_t *stream, size_t length, uint32_t form, u
 
    Sometimes a drive returns no graphics for a part of a disc, so its reading has idle packs there. A reading misses
    graphics at a word if it has the idle pack there and another reading shows that the word is not idle. For this, the
-   other reading needs a codeword other than the idle pack: at distance 0, or a graphics pack at any distance. A graphics
-   pack has mode and item 9 and a known instruction. A reading lacks graphics at every word of a quiet stretch in which it
-   misses graphics. (A quiet stretch is a row of words at which the reading is quiet.) A codeword is doubtful if its
-   distance is 1 or 2 and discs do not use its mode and item. Discs use 8, 9, 10 and 24. The idle pack is never doubtful.
+   other reading needs a graphics pack at any distance, or another codeword at distance 0 that is not the idle pack. A
+   graphics pack has mode and item 9 and a known instruction. A reading lacks graphics at every word of a quiet stretch in
+   which it misses graphics. (A quiet stretch is a row of words at which the reading is quiet.) A codeword is doubtful if
+   its distance is 1 or 2 and discs do not use its mode and item. Discs use 8, 9, 10 and 24. The idle pack is never
+   doubtful.
 
    Two kinds of codewords do not count. The first kind is the idle pack of a reading that lacks graphics at the word. The
    second kind is a doubtful codeword at a word at which some reading is quiet.
@@ -662,10 +663,10 @@ int32_t ribjasper_convert(const uint8_t *stream, size_t length, uint32_t form, u
    plus the number of symbols in which they differ.
 
    Suppose that a reading has a codeword at distance 0 at every word. Then these codewords are the result, under two
-   conditions. First, if another reading has a codeword at distance 0, it is the same codeword or the idle pack. Second,
-   if this reading has the idle pack, no other reading has a graphics pack at any distance. Random symbols look like a
-   graphics pack once in 28 million words. The Q frames of this reading do not matter. (But if P and Q of an idle block
-   are 0, the block is unread, and the distance of its idle packs is not 0.)
+   conditions. First, if another reading has a codeword at distance 0 at a word, it is the same codeword or the idle pack.
+   Second, if this reading has the idle pack at a word, no other reading has a graphics pack there, at any distance.
+   Random symbols look like a graphics pack once in 28 million words. The Q frames of this reading do not matter. (But if
+   P and Q of an idle block are 0, the block is unread, and the distance of its idle packs is not 0.)
 
    If each reading has at most two wrong symbols in each word, the result contains every pack. Suppose that only one
    reading has codewords that count. Then the result is what ribjasper_convert writes for this reading, with two
@@ -712,7 +713,7 @@ typedef struct ribjasper_mended_readings {
     uint64_t bytes;    /* bytes written to `packs` or `blocks`; the sources are not included */
     uint32_t blocks;   /* program blocks */
     uint32_t agreed;   /* words whose codeword is an agreement of two readings */
-    uint32_t none;     /* words without a codeword; 24 zeros are written for each */
+    uint32_t none;     /* words without a codeword; `packs` has 24 zeros for each */
     uint32_t reserved; /* 0 */
     uint32_t of_reading[RIBJASPER_READINGS]; /* words whose codeword comes from this reading; if several readings have
                                                 it at the same distance, only the first is named as the source */
@@ -745,12 +746,12 @@ int32_t ribjasper_mend_readings(const uint8_t *readings, size_t length, uint32_t
    reading is the one that has the most symbols of mended words right in this block. If several have as many, the symbols
    are those that most readings have. If several are as frequent, they are the greatest in lexicographic order.
 
-   P and Q of a block come from a reading with a good Q frame there. If there is none, they come from a reading whose block
-   is not unread. They are the bits that most of these readings have. If several are as frequent, they are the greatest in
-   lexicographic order.
+   P and Q of a block come from a reading with a good Q frame there. If there is none, they come from a reading whose
+   block is not unread. They are the bits that most of these readings have. If several are as frequent, they are the
+   greatest in lexicographic order.
 
-   The order of the readings changes no byte of the stream. If you convert this stream with ribjasper_convert, the packs of
-   all mended words are their codewords. If there is only one reading, the stream is that reading with its words
+   The order of the readings changes no byte of the stream. If you convert this stream with ribjasper_convert, the packs
+   of all mended words are their codewords. If there is only one reading, the stream is that reading with its words
    corrected.
      blocks, room: the output and its bytes, as many as a reading has; it must not overlap the readings
      sources, words: as in ribjasper_mend_readings, but this output is always written
@@ -790,7 +791,7 @@ typedef struct ribjasper_plan_row {
     uint32_t need;  /* how many packs the change of the picture needs, at most 3,076 */
     uint32_t free;  /* how many packs are free for the change */
     uint32_t first; /* the first of these free packs */
-    uint8_t late;   /* 1 if the change does not fit: first + need + 7 is above 4 ready; otherwise 0 */
+    uint8_t late;   /* 1 if the change does not fit: first + need + 7 is above 4 * ready; otherwise 0 */
 } ribjasper_plan_row;
 
 /* This struct is the result of a plan. */
@@ -943,7 +944,7 @@ int32_t ribjasper_survey(const uint8_t *stream, size_t length, uint32_t form, ui
      packs: the output, 72 bytes */
 void ribjasper_block_text_packs(const uint8_t block[RIBJASPER_BLOCK], uint8_t packs[72]);
 
-/* This struct is the result of listing texts. If the answer of the call does not need a number, it is 0. */
+/* This struct is the result of listing texts. A number that the answer of the call does not need is 0. */
 typedef struct ribjasper_listed {
     uint64_t bytes; /* bytes written, if the texts are not refused */
     uint32_t seq;   /* the number of the missing or invalid pack, 0 to 255 */
