@@ -84,7 +84,7 @@ class OrderTest(FolderTest):
                     seen = self.watched(paged(gap, lines), by_page=True)
                     self.assertFalse(seen.made.lateness.rows())
                     notes = "\n".join(seen.made.warnings())
-                    self.assertEqual("the page of line 5 follows too soon to come as a whole" in notes, not is_whole)
+                    self.assertEqual("the page of line 5 follows too soon to appear as a whole" in notes, not is_whole)
                     last, first = seen.rows[3], seen.rows[4]
                     self.assertEqual(first.seen >= PAUSE + BLOCKS * last.words[-1][0], is_whole)
                     # The first page is gone before the second is sung to its end.

@@ -118,14 +118,14 @@ class Made:
             return f"{path}: line {number} {what}: {placed.text()}"
 
         for placed in self.lateness.cut:
-            yield of(placed, "is not wholly lit before the sound ends")
+            yield of(placed, "does not change its whole colour before the sound ends")
         for placed in self.lateness.lost:
-            yield of(placed, "is not sung out when another has to come in its place")
+            yield of(placed, "is still sung when another line needs its place")
         for placed, blocks in self.lateness.drawn_late.items():
             yield of(placed, f"is drawn {blocks / BLOCKS:.2f} seconds after it begins")
         for placed, blocks in self.lateness.lit_late.items():
             if placed not in self.lateness.drawn_late:
-                yield of(placed, f"has words that are lit up to {blocks / BLOCKS:.2f} seconds late")
+                yield of(placed, f"has words whose colour changes up to {blocks / BLOCKS:.2f} seconds late")
 
     def summary(self) -> str:
         maker = self.maker
@@ -668,7 +668,7 @@ class Maker:
         of, follow = ("page of line", "follows") if len(firsts) == 1 else ("pages of lines", "follow")
         numbers = ", ".join(map(str, firsts))
         self.notes.append(
-            f"{self.song.path}: the {of} {numbers} {follow} too soon to come as a whole: the rows come one by one"
+            f"{self.song.path}: the {of} {numbers} {follow} too soon to appear as a whole: the rows appear one by one"
         )
 
     def by_lead(self) -> Made:

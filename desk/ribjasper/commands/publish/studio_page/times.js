@@ -105,10 +105,10 @@ export function tappedAt(clock, stamp, lateness) {
 export function lateText({ what, seconds }) {
   const number = seconds.toFixed(2);
   return {
-    cut: "is not wholly lit before the sound ends",
-    lost: "is not sung out when another line comes in its place",
+    cut: "does not change its whole colour before the sound ends",
+    lost: "is still sung when another line needs its place",
     drawn: `is drawn ${number} seconds after it begins`,
-    lit: `has words that are lit up to ${number} seconds late`,
+    lit: `has words whose colour changes up to ${number} seconds late`,
   }[what];
 }
 
