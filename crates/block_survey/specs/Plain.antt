@@ -8,8 +8,7 @@ use Rattle.q_channel.specs.declared.frame.QFrame.TheVariants.{Program, Toc, Cata
 use Rattle.q_channel.specs.declared.frame.TocPoint.TheVariants.{Track, First, Last, LeadOut}
 use Rattle.block_survey.specs.declared.plain.PlainFrame.{PlainFrame}
 
--- the frame that a plain one stands for, by the number of its kind; the fields that its kind does not name are passed
--- over
+-- the frame of a plain frame, by the number of its kind; fields that its kind does not use are ignored
 abbrev pub frame_of_plain : PlainFrame → Option QFrame
 frame_of_plain p =
     if p.kind == 0 then Some (Program p.control p.track p.index p.time p.absolute)
@@ -22,7 +21,7 @@ frame_of_plain p =
     else if p.kind == 7 then Some (Other p.control p.mode (take rest_bytes p.text))
     else None
 
--- a plain frame of a kind, all else zero
+-- a plain frame of a kind, with zeros in all other fields
 abbrev pub plain_kind : ℕ → ℕ → PlainFrame
 plain_kind kind control = record {
   kind = kind;
@@ -37,7 +36,7 @@ plain_kind kind control = record {
   text = replicate catalogue_digits 0;
 }
 
--- the plain frame that stands for a frame: the fields that its kind does not name are zero
+-- the plain frame of a frame; the fields that its kind does not use are zero
 abbrev pub plain_of : QFrame → PlainFrame
 plain_of (Program control track index time absolute) = record (plain_kind 0 control) {
   track = track;
@@ -64,11 +63,11 @@ plain_of (Other control adr rest) = record (plain_kind 7 control) {
   text = rest ++ replicate (catalogue_digits - rest_bytes) 0;
 }
 
--- this frame where it is valid, or nothing where it is not
+-- this frame if it is valid, or nothing
 abbrev pub IsWhereValid : Option QFrame → QFrame → Type 0
 IsWhereValid result frame = MatchOption result (¬ IsValid frame) (λ found. (found ≡ frame) × IsValid frame)
 
--- the frame that a plain one stands for where it is valid, or nothing where there is no such frame
+-- the frame of a plain frame if it is valid, or nothing
 abbrev pub IsValidOf : Option QFrame → PlainFrame → Type 0
 IsValidOf result plain = MatchOption result (IfSome (frame_of_plain plain) (λ frame. ¬ IsValid frame))
     (λ found. (frame_of_plain plain ≡ Some found) × IsValid found)

@@ -1,4 +1,4 @@
--- One row for each block of a stream: what is found where, how the words of a block are counted, and what rows add up to.
+-- One row for each block of a stream: its fields, the counts of the words of a block, and the sums of rows.
 use Rattle.std.specs.Prelude.{ℕ, suc, ◌-◌, ◌/◌, ◌==◌, if◌then◌else◌, List, [], length, map, count_by, slice_index_or, Option, Some, None, is_none, Result, Ok, Err, ◌+◌, ◌≡◌, Bool, nat_le, ◌++◌, sum_by}
 use Rattle.std.specs.List.{list_all, range_with_len}
 use Rattle.bit_lists.specs.Counting.{below}
@@ -19,17 +19,17 @@ use Rattle.block_survey.specs.declared.surveying.BlockRow.{BlockRow}
 use Rattle.arrayvec.specs.ArrayVec.{ArrayVec}
 use Rattle.block_survey.specs.declared.counting.WordMarks.{WordMarks}
 
--- what stands in place of an absolute time
+-- the number of no absolute time: the largest u32
 abbrev pub no_time : ℕ
 no_time = 4294967295
 
--- what the Q bits of a block are read as, unless the stream is one of packs
+-- the reading of the Q bits of a block, unless the stream is one of packs
 abbrev pub reading_in : Form → List ℕ → Option (Result QFrame QFault)
 reading_in Raw block = Some (reading_of (q_bits block))
 reading_in Sector block = Some (reading_of (q_bits block))
 reading_in Cooked block = None
 
--- the number of a frame's kind, or why there is none: nothing is read, a field is out of its range, the check is wrong
+-- the number of a frame's kind, or why there is none: no frame is read, a field is out of range, or the check is wrong
 abbrev pub kind_told : Option (Result QFrame QFault) → ℕ
 kind_told (Some (Ok frame)) = (plain_of frame).kind
 kind_told None = 253
@@ -41,20 +41,20 @@ abbrev pub time_told : Option (Result QFrame QFault) → ℕ
 time_told (Some (Ok (Program control track index time absolute))) = absolute
 time_told _ = no_time
 
--- the fields of a frame, all zero where there is none
+-- the fields of a frame, or zeros if there is no frame
 abbrev pub fields_told : Option (Result QFrame QFault) → PlainFrame
 fields_told (Some (Ok frame)) = plain_of frame
 fields_told _ = plain_kind 0 0
 
--- how many of some words have so many wrong symbols
+-- how many of these words have so many wrong symbols
 abbrev pub wrong_count : ℕ → List (List ℕ) → ℕ
 wrong_count n words = count_by (λ word. has_wrong n (word, finding word)) words
 
--- how many of them have no codeword near
+-- how many of these words have no codeword near
 abbrev pub bad_words : List (List ℕ) → ℕ
 bad_words words = count_by (λ word. is_none (finding word)) words
 
--- the row of a block with which these words end
+-- the row of a block, with the words that end with it
 abbrev pub row_with : Form → List (List ℕ) → List ℕ → BlockRow
 row_with form words block = record {
   absolute = time_told (reading_in form block);
@@ -68,8 +68,8 @@ row_with form words block = record {
   empty = if list_all (λ byte. byte == 0) block then 1 else 0;
 }
 
--- the words of a stream that end with its block b: as many words are whole with it as with the blocks up to it, of those
--- that follow the lead-in
+-- the words of a stream that end with its block b: the words of the blocks up to b, after the lead-in, without the
+-- words of the blocks before b
 abbrev pub ended_words : Form → ℕ → List ℕ → ℕ → List (List ℕ)
 ended_words form lead_in bytes b =
     let before = word_count form (b - lead_in) in
@@ -85,7 +85,7 @@ row_of_block form lead_in bytes b =
 abbrev pub survey_rows : Form → ℕ → List ℕ → List BlockRow
 survey_rows form lead_in bytes = map (row_of_block form lead_in bytes) (below (length bytes / unit_size form))
 
--- the words that were given, if any were
+-- the words of an output, if there is one
 abbrev pub words_with_block : Option (ArrayVec (List ℕ)) → List (List ℕ)
 words_with_block (Some words) = words.items
 words_with_block None = []
@@ -99,7 +99,7 @@ marks_of words = record {
   bad = bad_words words;
 }
 
--- the counts after a word for which this is found
+-- the counts after a word with this correction
 abbrev pub marked_found : WordMarks → List ℕ → Option (List ℕ) → WordMarks
 marked_found s word found = record {
   clean = s.clean + (if has_wrong 0 (word, found) then 1 else 0);
@@ -108,16 +108,16 @@ marked_found s word found = record {
   bad = s.bad + (if is_none found then 1 else 0);
 }
 
--- whether a row tells a frame
+-- whether a row has a frame
 abbrev pub tells_frame : BlockRow → Bool
 tells_frame row = nat_le row.q 7
 
--- whether a row tells that a frame is refused
+-- whether a row has a refused frame
 abbrev pub tells_refusal : BlockRow → Bool
 tells_refusal row = nat_le 254 row.q
 
--- Lines of `check` whose counts of wrong symbols and of frames are the sums of rows. The lines before them tell how many
--- blocks and words there are, and those between what the packs hold.
+-- Lines of `check` whose counts of wrong symbols and of frames are the sums of rows. The lines before them count the
+-- blocks and words, and the lines between them describe the packs.
 pub record AddUpTo (rows : List BlockRow) (text : List ℕ) (bad : ℕ) : Type 0 where
   pub before : List ℕ
   pub between : List ℕ

@@ -1,4 +1,4 @@
--- What came to a player with its blocks, counted.
+-- The counts of the blocks of a player.
 use Rattle.std.specs.Prelude.{◌≡◌, ◌+◌, ◌-◌, ◌^◌, ℕ, List, [], ◌∷◌, length, min, sum_by, Option, Some, None, Result, Ok, Err}
 use Rattle.raw_subcode.specs.declared.form.Form.{Form}
 use Rattle.q_channel.specs.declared.frame.QFault.{QFault}
@@ -10,17 +10,17 @@ use Rattle.live_player.specs.Lives.{Given, blocks_in, stream_words}
 use Rattle.live_player.specs.Lives.Given.{Drawn, Fed}
 use Rattle.block_survey.specs.declared.tally.PlayerTally.{PlayerTally}
 
--- a count after so many more: it stays at its last value
+-- a count, increased; it saturates
 abbrev pub tallied_count : ℕ → ℕ → ℕ
 tallied_count count more = min (count + more) (2 ^ 64 - 1)
 
--- the count of frames that are read, after a block whose Q channel is read as this
+-- the count of read frames after a block with this reading of its Q channel
 abbrev pub more_read : ℕ → Option (Result QFrame QFault) → ℕ
 more_read count (Some (Ok frame)) = tallied_count count 1
 more_read count (Some (Err fault)) = count
 more_read count None = count
 
--- and that of frames that are refused
+-- the count of refused frames after such a block
 abbrev pub more_refused : ℕ → Option (Result QFrame QFault) → ℕ
 more_refused count (Some (Ok frame)) = count
 more_refused count (Some (Err fault)) = tallied_count count 1
@@ -32,13 +32,13 @@ frame_after last (Some (Ok frame)) = plain_of frame
 frame_after last (Some (Err fault)) = last
 frame_after last None = last
 
--- the number of its block, where the block that was read as this has number `here`
+-- the number of its block; the block with this reading has number `here`
 abbrev pub place_after : ℕ → ℕ → Option (Result QFrame QFault) → ℕ
 place_after last here (Some (Ok frame)) = here
 place_after last here (Some (Err fault)) = last
 place_after last here None = last
 
--- a tally after a block more of a stream of this form, with which these words came
+-- a tally after one more block of a stream of this form, with the words that end with it
 abbrev pub tallied : Form → List (List ℕ) → List ℕ → PlayerTally → PlayerTally
 tallied form words block t = record {
   blocks = tallied_count t.blocks 1;
@@ -52,27 +52,27 @@ tallied form words block t = record {
   frame = frame_after t.frame (reading_in form block);
 }
 
--- 1 where a frame is read, 0 where not
+-- 1 if a frame is read, else 0
 abbrev pub read_count : Option (Result QFrame QFault) → ℕ
 read_count (Some (Ok frame)) = 1
 read_count (Some (Err fault)) = 0
 read_count None = 0
 
--- 1 where a frame is refused, 0 where not
+-- 1 if a frame is refused, else 0
 abbrev pub refused_count : Option (Result QFrame QFault) → ℕ
 refused_count (Some (Ok frame)) = 0
 refused_count (Some (Err fault)) = 1
 refused_count None = 0
 
--- In the next two definitions what a player was given stands with the last one first.
+-- In the next two definitions, the last block or pack is the first of the list.
 
--- the last frame that was read of its blocks
+-- the last frame that was read from the blocks
 abbrev pub last_frame : Form → List Given → PlainFrame
 last_frame form [] = plain_kind 0 0
 last_frame form (Fed block ∷ before) = frame_after (last_frame form before) (reading_in form block)
 last_frame form (Drawn pack ∷ before) = last_frame form before
 
--- the number of the block in which it stands, from 1
+-- the number of the block of this frame, from 1
 abbrev pub last_place : Form → List Given → ℕ
 last_place form [] = 0
 last_place form (Fed block ∷ before) =
@@ -80,8 +80,8 @@ last_place form (Fed block ∷ before) =
     (reading_in form block)
 last_place form (Drawn pack ∷ before) = last_place form before
 
--- The tally is that of all blocks that a player was given: how many they are, their words by their wrong symbols, the
--- frames that are read and those that are refused, and the last one that is read. A count stays at its last value.
+-- The tally is that of all blocks that a player was fed: their number, their words by the number of wrong symbols, the
+-- frames that are read or refused, and the last frame that is read. A count saturates.
 pub record IsTallyOf (form : Form) (lead_in : ℕ) (given : List Given) (tally : PlayerTally) : Type 0 where
   pub blocks : tally.blocks ≡ min (length (blocks_in given)) (2 ^ 64 - 1)
   pub clean : tally.clean ≡ min (wrong_count 0 (stream_words form lead_in (blocks_in given))) (2 ^ 64 - 1)

@@ -1,4 +1,4 @@
-// What may stand in a field.
+// The valid values of fields.
 ghost use Rattle.std.specs.Prelude.{◌≡◌, ◌≤◌, ◌<◌, ◌↔◌, ◌||◌, All, IsTrue, MatchOption, true, take, drop};
 ghost use Rattle.std.specs.Char.{is_ascii_digit, is_ascii_uppercase};
 ghost use Rattle.disc_time.specs.Counts.{most_tracks, time_count};
@@ -7,7 +7,7 @@ ghost use Rattle.q_channel.specs.QFrame.{is_bcd_within, is_other, is_point};
 use disc_time::{ISRC_CHARACTERS, MOST_TRACKS, Msf, TIME_COUNT, from_bcd};
 use text_lines::{are_capitals, are_capitals_or_digits, are_digits};
 
-/// The time at which a block begins, where it is one of a disc.
+/// The time at which a block of a disc begins. `None` for a block past the end of any disc.
 pub(crate) fn time(block: u32) -> Option<Msf>
     ensures { MatchOption result (time_count ≤ block) (λ time. (time ≡ block) × (block < time_count)) }
 {
@@ -23,7 +23,7 @@ pub(crate) fn is_track(number: u8) -> bool
     (1..=MOST_TRACKS).contains(&number)
 }
 
-/// Whether it is two capital letters, three capital letters or digits, and seven digits.
+/// Whether a code is two capital letters, three capital letters or digits, and seven digits.
 pub(crate) fn is_code(code: &[u8; ISRC_CHARACTERS]) -> bool
     ensures { IsTrue result ↔ All (λ c. is_ascii_uppercase c ≡ true) (take 2 code.now)
         × All (λ c. is_ascii_digit c || is_ascii_uppercase c ≡ true) (take 3 (drop 2 code.now))
@@ -47,7 +47,7 @@ pub(crate) fn is_other(mode: u8, track: u8, point: u8) -> bool
     }
 }
 
-// Whether a byte stands for an entry of the table of contents.
+// Whether a byte is the point of an entry of the table of contents.
 #[tactic(auto, unfolding(q_channel::specs::QFrame::is_point))]
 fn is_point(byte: u8) -> bool
     ensures { result ≡ is_point byte }

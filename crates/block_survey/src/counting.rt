@@ -39,7 +39,7 @@ impl WordMarks {
         }
     }
 
-    /// The words that end with a block.
+    /// The marks of the words that end with a block.
     #[inline]
     pub(crate) fn of_block(words: &BlockOfWords) -> WordMarks
         ensures { result ≡ marks_of words.now.items }
@@ -51,7 +51,7 @@ impl WordMarks {
         }
     }
 
-    /// Some words, at most as many as end with a block.
+    /// The marks of at most four words.
     pub fn of(words: &[Word]) -> WordMarks
         requires { length words.now ≤ 4 }
         ensures { result ≡ marks_of words.now }

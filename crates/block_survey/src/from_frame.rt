@@ -8,7 +8,7 @@ use crate::plain::{PlainFrame, kinds};
 use disc_time::CATALOGUE_DIGITS;
 use q_channel::{QFrame, TocPoint};
 
-/// A frame as a plain one. The fields that its kind does not name are zero.
+/// Converts a frame to a plain frame. The fields that its kind does not use are zero.
 pub fn plain_of(frame: &QFrame) -> PlainFrame
     ensures exact { result ≡ plain_of frame.now }
     ensures back { frame_of_plain result ≡ Some frame.now }
@@ -86,7 +86,7 @@ fn entry(control: u8, point: &TocPoint) -> PlainFrame
     }
 }
 
-/// A frame of a kind, all else zero.
+/// A plain frame of a kind, with zeros in all other fields.
 pub(crate) fn of_kind(kind: u32, control: u8) -> PlainFrame
     ensures { result ≡ plain_kind kind control }
 {
@@ -104,7 +104,7 @@ pub(crate) fn of_kind(kind: u32, control: u8) -> PlainFrame
     }
 }
 
-// Bytes with zeros behind them.
+// Pads bytes with zeros.
 fn text(bytes: &[u8]) -> [u8; CATALOGUE_DIGITS]
     requires { length bytes.now ≤ catalogue_digits }
     ensures bytes { result ≡ bytes.now ++ replicate (catalogue_digits - length bytes.now) 0 }

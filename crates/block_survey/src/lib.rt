@@ -1,5 +1,5 @@
-//! What is found in the blocks of a stream, in plain numbers as programs in C hold them: the frame of each, a row for each,
-//! and the counts of all that came to a player.
+//! A survey of the blocks of a stream, as numbers for programs in C: the frame of each block, a row for each block,
+//! and the counts of the blocks of a player.
 #![tactic(auto)]
 
 mod checks;

@@ -1,7 +1,7 @@
-// What a row tells of the Q channel of a block.
+// The fields of a row for the Q channel of a block.
 ghost use Rattle.std.specs.Prelude.{◌≡◌, Some, Ok};
 ghost use Rattle.q_channel.specs.declared.frame.QFrame.TheVariants.{Toc};
-ghost use Rattle.block_survey.specs.Rows.{fields_told, kind_told, reading_in, time_told};
+ghost use Rattle.block_survey.specs.Rows.{fields_told, kind_told, no_time, reading_in, time_told};
 ghost use Rattle.block_survey.specs.Plain.{plain_of};
 
 use crate::plain::kinds;
@@ -9,14 +9,14 @@ use crate::surveying::NO_TIME;
 use q_channel::{QFault, QFrame, TocPoint, decode};
 use raw_subcode::{BLOCK_BYTES, Block, Form};
 
-// Nothing is read: the packs of a stream have no frames.
+// No frame is read: a stream of packs has no frames.
 const NOT_READ: u8 = 253;
 
 const BAD_FIELD: u8 = 254;
 
 const BAD_CHECK: u8 = 255;
 
-/// What is told of the Q channel of a block.
+/// The fields of a row for the Q channel of a block.
 #[derive(Clone, Copy)]
 pub(crate) struct FrameMark {
     pub kind: u8,
@@ -26,13 +26,13 @@ pub(crate) struct FrameMark {
 }
 
 impl FrameMark {
-    // What is told where no frame is read, and why.
+    // The fields if no frame is read, and why.
     #[inline]
     fn none(kind: u8) -> FrameMark
         ensures kind { result.kind ≡ kind }
         ensures track { result.track ≡ 0 }
         ensures index { result.index ≡ 0 }
-        ensures absolute { result.absolute ≡ 4294967295 }
+        ensures absolute { result.absolute ≡ no_time }
     {
         FrameMark {
             kind,
@@ -46,7 +46,7 @@ impl FrameMark {
         ensures kind { result.kind ≡ kind }
         ensures track { result.track ≡ track }
         ensures index { result.index ≡ 0 }
-        ensures absolute { result.absolute ≡ 4294967295 }
+        ensures absolute { result.absolute ≡ no_time }
     {
         FrameMark {
             kind,
@@ -86,7 +86,7 @@ impl FrameMark {
         ensures kind { result.kind ≡ (plain_of (Toc 0 point.now 0)).kind }
         ensures track { result.track ≡ (plain_of (Toc 0 point.now 0)).track }
         ensures index { result.index ≡ 0 }
-        ensures absolute { result.absolute ≡ 4294967295 }
+        ensures absolute { result.absolute ≡ no_time }
     {
         match point {
             TocPoint::Track { number, .. } => FrameMark::of_entry(kinds::TRACK as u8, *number),
@@ -96,7 +96,7 @@ impl FrameMark {
         }
     }
 
-    /// What is told of the Q channel of a block of a stream of this form.
+    /// The fields for a block of a stream of this form.
     pub(crate) fn of_block(form: Form, block: &[u8; BLOCK_BYTES]) -> FrameMark
         ensures kind { result.kind ≡ kind_told (reading_in form block.now) }
         ensures track { result.track ≡ (fields_told (reading_in form block.now)).track }

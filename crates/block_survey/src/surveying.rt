@@ -14,36 +14,36 @@ use cdg_io::Stage;
 use raw_subcode::{BLOCK_BYTES, Form, SECTOR_BYTES};
 use stream_stages::BlockWords;
 
-/// In place of an absolute time.
+/// No absolute time.
 pub const NO_TIME: u32 = u32::MAX;
 
-/// What is found of a block of a stream.
+/// The survey of one block of a stream.
 #[repr(C)]
 #[derive(Clone, Copy)]
 pub struct BlockRow {
     /// The absolute time of a frame of the program area, in blocks, or `NO_TIME`.
     pub absolute: u32,
-    /// Of the words that end with the block, those that are codewords.
+    /// The words that end with the block and are codewords.
     pub clean: u8,
-    /// Those with one wrong symbol.
+    /// The words with one wrong symbol.
     pub one: u8,
-    /// Those with two.
+    /// The words with two wrong symbols.
     pub two: u8,
-    /// Those with no codeword within two symbols.
+    /// The words with no codeword within two symbols.
     pub bad: u8,
-    /// The kind of the Q frame, 0 to 7, as `PlainFrame` numbers them; 253 where the stream is one of packs, 254 where a
-    /// field is out of its range, 255 where the check is wrong.
+    /// The kind of the Q frame, 0 to 7, as in `PlainFrame`; 253 for a stream of packs, 254 if a field is out of range,
+    /// 255 if the check is wrong.
     pub q: u8,
     /// The track of the frame (kinds 0 to 3), or 0.
     pub track: u8,
     /// The index of the frame (kind 0), or 0.
     pub index: u8,
-    /// 1 where all 96 bytes are zero, else 0.
+    /// 1 if all 96 bytes are zero, else 0.
     pub empty: u8,
 }
 
-/// Writes a row for each whole block of a stream, of which the first `lead_in` are those of the lead-in, to the front of
-/// `rows`. Bytes behind the last whole block are passed over. It takes no memory.
+/// Writes a row for each whole block of a stream to the front of `rows`. The first `lead_in` blocks are the lead-in.
+/// Bytes after the last whole block are ignored. It allocates nothing.
 pub fn survey(form: Form, lead_in: u32, stream: &[u8], rows: &mut [BlockRow])
     requires { length stream.now / unit_size form ≤ length rows.old }
     ensures { rows.new ≡ survey_rows form lead_in stream.now
@@ -94,7 +94,7 @@ fn is_empty(block: &[u8; BLOCK_BYTES]) -> bool
     *block == [0; BLOCK_BYTES]
 }
 
-/// How many bytes a block takes in a stream of this form.
+/// The size of a block in a stream of this form, in bytes.
 #[inline]
 pub fn unit_bytes(form: Form) -> usize
     ensures { result ≡ unit_size form }
@@ -125,7 +125,7 @@ fn bytes_at(stream: &[u8], at: usize) -> [u8; BLOCK_BYTES]
     block
 }
 
-/// A law: for any stream the sums of its rows are the numbers that `check` tells.
+/// A law: for any stream, the sums of its rows are the numbers that `check` reports.
 pub fn rows_add_up_to_check()
     ensures { (form : Form) (lead_in : ℕ) (bytes text : List ℕ) (bad : ℕ)
         → IsCheckListed form lead_in bytes text bad → AddUpTo (survey_rows form lead_in bytes) text bad }

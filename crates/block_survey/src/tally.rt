@@ -1,4 +1,4 @@
-// Counts of what came to a player that is fed.
+// The counts of the blocks that a player is fed.
 ghost use Rattle.std.specs.Prelude.{◌≡◌, ◌≤◌, ◌∷◌, [], List, ℕ, length};
 ghost use Rattle.raw_subcode.specs.declared.form.Form.{Form};
 ghost use Rattle.block_survey.specs.Rows.{bad_words, reading_in, wrong_count};
@@ -16,7 +16,7 @@ use q_channel::decode;
 use raw_subcode::{BLOCK_BYTES, Block, Form};
 use rw_code::Word;
 
-/// What came with blocks. A count stays at its last value, 18,446,744,073,709,551,615.
+/// The counts of blocks and of their words and frames. A count saturates at 18,446,744,073,709,551,615.
 #[repr(C)]
 #[derive(Clone, Copy)]
 pub struct PlayerTally {
@@ -33,7 +33,7 @@ pub struct PlayerTally {
     pub bad_frames: u64,
     /// The number of the block with the last frame that was read, from 1; or 0.
     pub frame_block: u64,
-    /// The last frame that was read, or zeros.
+    /// The last frame that was read, or zeros if none was read.
     pub frame: PlainFrame,
 }
 
@@ -54,7 +54,7 @@ impl PlayerTally {
         }
     }
 
-    /// Counts a block of a stream of this form, with which these words came.
+    /// Counts a block of a stream of this form, and the words that end with it.
     pub(crate) fn count(&mut self, form: Form, words: &[Word], block: &[u8; BLOCK_BYTES])
         requires { length words.now ≤ 4 }
         ensures { self.new ≡ tallied form words.now block.now self.old }
@@ -80,7 +80,7 @@ impl PlayerTally {
         self.bad = self.bad.saturating_add(u64::from(marks.bad));
     }
 
-    // Counts the frame of a block, and keeps one that is read.
+    // Counts the frame of a block, and keeps a frame that is read.
     fn count_frame(&mut self, form: Form, block: &[u8; BLOCK_BYTES])
         ensures { self.new ≡ record self.old {
           frames = more_read self.old.frames (reading_in form block.now);
@@ -114,13 +114,13 @@ impl PlayerTally {
     }
 }
 
-/// Feeds a player the next block, and counts what comes with it.
+/// Feeds a player the next block, and counts its words and its frame.
 pub fn feed_and_count(live: &mut LivePlayer, block: &[u8; BLOCK_BYTES], tally: &mut PlayerTally)
     ensures takes { TakesBlock block.now live.old live.new }
     ensures counts { tally.new ≡ tallied live.old.words.form
         (words_come (words_give live.old.words block.now)) block.now tally.old }
     ensures fed { PlaysOn (Fed block.now ∷ []) live.old live.new }
-    // Where the tally is that of the player's stream so far, it is that of the stream with this block.
+    // If the tally was that of the player's stream so far, it becomes that of the stream with this block.
     ensures tallies { (form : Form) (lead_in : ℕ) (given : List Given)
         → HasPlayed form lead_in given live.old → IsTallyOf form lead_in given tally.old
         → IsTallyOf form lead_in (Fed block.now ∷ given) tally.new }

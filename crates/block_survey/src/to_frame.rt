@@ -13,8 +13,7 @@ use disc_time::{CATALOGUE_DIGITS, CONTROL_VALUES, ISRC_CHARACTERS};
 use q_channel::{MODE_VALUES, QFrame, REST_BYTES, TocPoint};
 use text_lines::are_digits;
 
-/// The frame that a plain one stands for, where its kind is one and its fields have values that they may
-/// have.
+/// Converts a plain frame to a frame, if its kind and fields are valid.
 pub fn frame_of(plain: &PlainFrame) -> Option<QFrame>
     ensures { IsValidOf result plain.now }
 {
@@ -74,7 +73,7 @@ fn first(plain: &PlainFrame) -> Option<QFrame>
     first_entry(plain, plain.track, plain.disc)
 }
 
-// The same, of a track and a kind.
+// The same for a track and a kind.
 fn first_entry(plain: &PlainFrame, track: u8, kind: u8) -> Option<QFrame>
     ensures { IsWhereValid result (Toc plain.now.control (First track kind) plain.now.time) }
 {
@@ -137,7 +136,7 @@ fn code(plain: &PlainFrame) -> Option<QFrame>
     recorded(plain, first_twelve(&plain.text))
 }
 
-// The same, of a code: two letters, three letters or digits, and seven digits.
+// The same for a code: two letters, three letters or digits, and seven digits.
 fn recorded(plain: &PlainFrame, code: [u8; ISRC_CHARACTERS]) -> Option<QFrame>
     ensures { IsWhereValid result (Isrc plain.now.control code plain.now.frame) }
 {
@@ -166,7 +165,7 @@ fn other(plain: &PlainFrame) -> Option<QFrame>
     bare(plain, &first_nine(&plain.text))
 }
 
-// The same, of these bytes.
+// The same for these bytes.
 fn bare(plain: &PlainFrame, rest: &[u8; REST_BYTES]) -> Option<QFrame>
     ensures { IsWhereValid result (Other plain.now.control plain.now.mode rest.now) }
 {
