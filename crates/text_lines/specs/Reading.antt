@@ -1,14 +1,13 @@
--- Reading a text forwards, line by line.
+-- How a text is read line by line.
 use Rattle.std.specs.Prelude.{ℕ, ◌+◌, List, [], ◌∷◌, Result, Ok, Err}
 
--- an answer whose refusal tells its line
+-- a result whose refusal contains the number of the refused line
 abbrev pub at_line : {X Why : Type 0} → ℕ → Result X Why → Result X (ℕ × Why)
 at_line number (Ok x) = Ok x
 at_line number (Err why) = Err (number, why)
 
--- what lines say after what was said before them, the first of them having this number: a step says what each line
--- makes of what was said, or why it is refused; the first refusal is told with its line, and the end counts as the
--- line after the last
+-- the state after some lines, the first of which has this number: a step computes the state after each line, or the
+-- reason to refuse it; the first refusal has the number of its line, and the end of the text counts as one more line
 unfoldable pub read_on : {Said Whole Why : Type 0} → (Said → List ℕ → Result Said Why)
     → (Said → Result Whole Why)
     → ℕ → Said → List (List ℕ) → Result Whole (ℕ × Why)

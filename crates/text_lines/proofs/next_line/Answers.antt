@@ -1,6 +1,6 @@
 use Rattle.std.proofs.Common.{arith}
 use Rattle.text_lines.proofs.LineSteps.{no_line, last_line, first_line, rest_is, no_rest}
-use Rattle.text_lines.proofs.lines.next_line.Goals as goal
+use Rattle.text_lines.proofs.next_line.Goals as goal
 
 pub returns-then-is_empty-clause-lines : goal.returns-then-is_empty-clause-lines
 returns-then-is_empty-clause-lines c = no_line c.args.text.now (grind arith)

@@ -1,7 +1,7 @@
 use Rattle.std.proofs.Common.{arith, ap, ◌∙◌, sym, ◌∷◌}
 use Rattle.text_lines.specs.Text.{words_in}
 use Rattle.text_lines.proofs.WordSteps.{no_words, more_words, word_is_some}
-use Rattle.text_lines.proofs.words.next_word.Goals as goal
+use Rattle.text_lines.proofs.next_word.Goals as goal
 
 pub returns-then-is_empty-clause-words : goal.returns-then-is_empty-clause-words
 returns-then-is_empty-clause-words c = no_words c.args.line.now _ c.trim_start-line.ensures.rest (grind arith)

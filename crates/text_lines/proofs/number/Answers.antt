@@ -1,6 +1,6 @@
 use Rattle.std.proofs.Common.{arith}
 use Rattle.text_lines.proofs.NumberSteps.{value_more, bound_more, digits_more, power_bound, short_bound}
-use Rattle.text_lines.proofs.numbers.number.Goals as goal
+use Rattle.text_lines.proofs.number.Goals as goal
 
 pub overflow_mul-value : goal.overflow_mul-value
 overflow_mul-value c = omega

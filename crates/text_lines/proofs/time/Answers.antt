@@ -1,5 +1,5 @@
 use Rattle.text_lines.proofs.Times.{as_parsed}
-use Rattle.text_lines.proofs.numbers.time.Goals as goal
+use Rattle.text_lines.proofs.time.Goals as goal
 
 pub returns-clause-value : goal.returns-clause-value
 returns-clause-value c =

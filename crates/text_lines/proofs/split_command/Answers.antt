@@ -1,6 +1,6 @@
 use Rattle.std.proofs.Common.{ap, ◌∙◌, drop, length}
 use Rattle.text_lines.specs.Text.{argument_of, without_blanks}
-use Rattle.text_lines.proofs.words.split_command.Goals as goal
+use Rattle.text_lines.proofs.split_command.Goals as goal
 
 pub returns-clause-argument : goal.returns-clause-argument
 unfolding argument_of

@@ -2,8 +2,8 @@ use Rattle.std.proofs.Common.{◌≡◌, ◌<◌, true, length, take, get_or, ar
 use Rattle.std.proofs.lemmas.Grind.{common_steps}
 use Rattle.text_lines.specs.Text.{is_blank}
 use Rattle.text_lines.proofs.WordSteps.{front_word, first_stands, first_over, rest_begins}
-use Rattle.text_lines.proofs.words.after_word.Goals as goal
-use Rattle.text_lines.proofs.words.after_word.Goals.{else-not-is_empty-via-then-not-is_empty+else-not-is_blank, else-not-is_empty-via-else-not-is_empty}
+use Rattle.text_lines.proofs.after_word.Goals as goal
+use Rattle.text_lines.proofs.after_word.Goals.{else-not-is_empty-via-then-not-is_empty+else-not-is_blank, else-not-is_empty-via-else-not-is_empty}
 
 pub returns-then-not-begins_with-clause-none : goal.returns-then-not-begins_with-clause-none
 returns-then-not-begins_with-clause-none c none at =
