@@ -6,8 +6,8 @@ use Rattle.std.proofs.Math.Bool.{false}
 use Rattle.std.proofs.lemmas.Bool.{cond-false}
 use Rattle.cue_sheet.specs.CueSheet.{CueSheet, IsSheet, IsText, IsTrack, no_track, track_of, track_text, text_at}
 use Rattle.cue_sheet.specs.Views.{section_of, section_text, track_value, sheet_value}
-use Rattle.cue_sheet.specs.declared.section.Section.{Section}
-use Rattle.cue_sheet.specs.declared.section.Track.{Track}
+use Rattle.cue_sheet.specs.declared.reader.Section.{Section}
+use Rattle.cue_sheet.specs.declared.reader.Track.{Track}
 use Rattle.cue_sheet.specs.declared.fault.CueText.{CueText}
 use Rattle.cue_sheet.specs.declared.fault.CueText.TheVariants.{Title, Performer, Songwriter}
 

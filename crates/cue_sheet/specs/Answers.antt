@@ -1,11 +1,11 @@
--- What the parse of a text answers.
+-- The result of parsing a text.
 use Rattle.std.specs.Prelude.{◌≡◌, ℕ, Result, Ok, Err}
 use Rattle.cue_sheet.specs.CueSheet.{CueSheet}
 use Rattle.cue_sheet.specs.declared.fault.CueWhy.{CueWhy}
 use Rattle.cue_sheet.specs.declared.fault.CueStop.{CueStop}
 use Rattle.cue_sheet.specs.declared.fault.CueStop.TheVariants.{Fault, NoMemory}
 
--- the answer for a text that is read as this; memory may be wanting for a sheet alone
+-- the result for a text with this sheet or refusal; memory can run out only if the text has a sheet
 abbrev pub IsCueAnswer : Result CueSheet (ℕ × CueWhy) → Result CueSheet CueStop → Type 0
 IsCueAnswer read (Ok sheet) = read ≡ Ok sheet
 IsCueAnswer read (Err (Fault line why)) = read ≡ Err (line, why)

@@ -9,7 +9,7 @@ use Rattle.cue_sheet.specs.CueSheet.{IsText, is_catalogue_number, is_capital_cod
 use Rattle.cue_sheet.specs.declared.command.SheetCommand.{SheetCommand}
 use Rattle.cue_sheet.specs.declared.command.SheetCommand.TheVariants.{Remark, Catalogue, File, Title, Performer, Songwriter, Track, Flags, Isrc, Pregap, Index, Postgap}
 
--- a line that is spelled as it must be
+-- a line with a valid argument
 pub data CueLine : Type 0 where
   SaysNothing : CueLine
   SaysCatalogue : List ℕ → CueLine
@@ -24,7 +24,7 @@ pub data CueLine : Type 0 where
   SaysIndex : ℕ → ℕ → CueLine
   SaysPostgap : ℕ → CueLine
 
--- the words of commands, their letters in either case
+-- the names of commands, in upper or lower case
 abbrev pub command_words : List (List ℕ × SheetCommand)
 command_words =
     (codes "REM", Remark) ∷ (codes "CDTEXTFILE", Remark) ∷ (codes "CATALOG", Catalogue)
@@ -33,17 +33,17 @@ command_words =
     ∷ (codes "TRACK", Track) ∷ (codes "FLAGS", Flags) ∷ (codes "ISRC", Isrc)
     ∷ (codes "PREGAP", Pregap) ∷ (codes "INDEX", Index) ∷ (codes "POSTGAP", Postgap) ∷ []
 
--- the command of a word
+-- the command of this name
 unfoldable pub command_named : List ℕ → Option SheetCommand
 command_named word =
     option_map (λ (entry : List ℕ × SheetCommand). entry.1)
     (find (λ (entry : List ℕ × SheetCommand). str_eq_ignore_ascii_case word entry.0) command_words)
 
--- a byte that is no control byte
+-- a byte that is not a control byte
 abbrev pub is_plain : ℕ → Bool
 is_plain b = nat_le 32 b && not (b == 127)
 
--- a text, if it holds no control bytes
+-- a text, if it has no control bytes
 unfoldable pub plain : List ℕ → Option (List ℕ)
 plain s = if list_all is_plain s then Some s else None
 
@@ -55,22 +55,22 @@ is_quote b = b == 34
 abbrev pub begins_quoted : List ℕ → Bool
 begins_quoted s = is_some_bytes s && is_quote (slice_index s 0)
 
--- of an argument that begins with a quote: what stands up to the next one, and what follows that
+-- the bytes between the first two quotes of an argument that begins with one, and the rest after them
 unfoldable pub quoted : List ℕ → Option (List ℕ × List ℕ)
 quoted s =
     option_map (λ (end : ℕ). (take end (drop 1 s), drop (end + 1) (drop 1 s))) (position is_quote (drop 1 s))
 
--- the text of what stands in quotes, if nothing follows it
+-- the text in quotes, if nothing follows it
 abbrev pub quoted_text : Option (List ℕ × List ℕ) → Option (List ℕ)
 quoted_text (Some (inside, after)) = if length after == 0 then plain inside else None
 quoted_text None = None
 
--- a text: in quotes, with nothing after them, or as it stands and not empty
+-- a text: in quotes with nothing after them, or not empty and without quotes
 unfoldable pub text_argument : List ℕ → Option (List ℕ)
 text_argument s =
     if begins_quoted s then quoted_text (quoted s) else (if is_some_bytes s then plain s else None)
 
--- whether one word follows what stands in quotes
+-- whether one word follows the quotes
 abbrev pub is_quoted_file : Option (List ℕ × List ℕ) → Bool
 is_quoted_file (Some (name, after)) = length (words_in after) == 1
 is_quoted_file None = false
@@ -83,7 +83,7 @@ is_file s = if begins_quoted s then is_quoted_file (quoted s) else nat_le 2 (len
 unfoldable pub catalogue_argument : List ℕ → Option (List ℕ)
 catalogue_argument s = if is_catalogue_number s then Some s else None
 
--- a track's code: two letters, three letters or digits, seven digits; its letters are taken as capital ones
+-- a track's code: two letters, three letters or digits, seven digits; small letters become capital letters
 unfoldable pub code_argument : List ℕ → Option (List ℕ)
 code_argument s = if is_capital_code (str_to_ascii_uppercase s) then Some (str_to_ascii_uppercase s) else None
 
@@ -91,7 +91,7 @@ code_argument s = if is_capital_code (str_to_ascii_uppercase s) then Some (str_t
 abbrev pub names_flag : List ℕ → List (List ℕ) → Bool
 names_flag flag words = list_any (λ word. bytes_eq word flag) words
 
--- the control bits of flags, each once however often it is named
+-- the control bits of flags; repeated flags count once
 abbrev pub control_of : List (List ℕ) → ℕ
 control_of words =
     (if names_flag (codes "4CH") words then 8 else 0) + (if names_flag (codes "DCP") words then 2 else 0)
@@ -108,7 +108,7 @@ unfoldable pub flags_argument : List (List ℕ) → Option ℕ
 flags_argument words =
     if nat_le 1 (length words) && list_all is_flag words then Some (control_of words) else None
 
--- the two words, if there are just two
+-- the words, if there are exactly two
 abbrev pub two_words : List (List ℕ) → Option (List ℕ × List ℕ)
 two_words (first ∷ second ∷ []) = Some (first, second)
 two_words _ = None
@@ -134,7 +134,7 @@ abbrev pub index_argument : List (List ℕ) → Option (ℕ × ℕ)
 index_argument (number ∷ time ∷ []) = index_of_words (two_digit_number number) (parsed_time time)
 index_argument _ = None
 
--- what a command says with its argument, if that is spelled as it must be
+-- the line of a command and its argument, if the argument is valid
 abbrev pub said_by : SheetCommand → List ℕ → Option CueLine
 said_by Remark s = Some SaysNothing
 said_by Catalogue s = option_map SaysCatalogue (catalogue_argument s)
@@ -149,7 +149,7 @@ said_by Pregap s = option_map SaysPregap (parsed_time s)
 said_by Index s = option_map (λ (i : ℕ × ℕ). SaysIndex i.0 i.1) (index_argument (words_in s))
 said_by Postgap s = option_map SaysPostgap (parsed_time s)
 
--- the ranges of what lines say
+-- the ranges of the values of a line
 abbrev pub IsLineInRange : CueLine → Type 0
 IsLineInRange (SaysCatalogue s) = IsTrue (is_catalogue_number s)
 IsLineInRange (SaysTitle s) = IsText s

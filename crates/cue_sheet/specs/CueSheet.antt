@@ -1,4 +1,4 @@
--- What a cue sheet says.
+-- The contents of a cue sheet.
 use Rattle.std.specs.Prelude.{◌≡◌, ◌≢◌, ◌≤◌, ◌<◌, ◌+◌, ◌&&◌, ◌||◌, ℕ, Bool, IsTrue, List, [], length, take, drop, All, Option, None, unwrap_or, slice_index_or, ◌==◌, if◌then◌else◌, ◌-◌}
 use Rattle.std.specs.Option.{ForSome}
 use Rattle.std.specs.List.{list_all}
@@ -22,7 +22,7 @@ pub record CueTrack : Type 0 where
   pub performer : List ℕ
   pub songwriter : List ℕ
 
--- a sheet: its catalogue number, the texts of the album, and its tracks; a text that is not given is empty
+-- a sheet: its catalogue number, the texts of the album, and its tracks; a missing text is empty
 pub record CueSheet : Type 0 where
   pub catalogue : Option (List ℕ)
   pub title : List ℕ
@@ -30,7 +30,7 @@ pub record CueSheet : Type 0 where
   pub songwriter : List ℕ
   pub tracks : List CueTrack
 
--- what the lines of one track say, or those before the first track
+-- the lines of one track, or those before the first track
 pub record CueSection : Type 0 where
   pub catalogue : Option (List ℕ)
   pub title : Option (List ℕ)
@@ -42,7 +42,7 @@ pub record CueSection : Type 0 where
   pub postgap : Option ℕ
   pub indices : List (ℕ × ℕ)
 
--- the track of that number with such a section: what is not said is control 0, gaps of 0 and empty texts
+-- the track with this number and section; the defaults are control 0, gaps of 0 and empty texts
 abbrev pub track_from : ℕ → CueSection → CueTrack
 track_from number s = record {
   number = number;
@@ -56,7 +56,7 @@ track_from number s = record {
   songwriter = unwrap_or s.songwriter [];
 }
 
--- the sheet with such a section before its first track, and these tracks: a text that is not said is empty
+-- the sheet with this section before its first track and these tracks; a missing text is empty
 abbrev pub sheet_from : CueSection → List CueTrack → CueSheet
 sheet_from s tracks = record {
   catalogue = s.catalogue;
@@ -66,7 +66,7 @@ sheet_from s tracks = record {
   tracks = tracks;
 }
 
--- no track, for a place where there is none
+-- the default for a place without a track
 abbrev pub no_track : CueTrack
 no_track = record {
   number = 0;
@@ -88,13 +88,13 @@ track_of sheet k = slice_index_or sheet.tracks k no_track
 abbrev pub index_line_of : CueTrack → ℕ → ℕ × ℕ
 index_line_of track j = slice_index_or track.indices j (0, 0)
 
--- the text of a kind that the album has
+-- the album's text of a kind
 abbrev pub album_text : CueText → CueSheet → List ℕ
 album_text Title sheet = sheet.title
 album_text Performer sheet = sheet.performer
 album_text Songwriter sheet = sheet.songwriter
 
--- the text of a kind that a track has
+-- a track's text of a kind
 abbrev pub track_text : CueText → CueTrack → List ℕ
 track_text Title track = track.title
 track_text Performer track = track.performer

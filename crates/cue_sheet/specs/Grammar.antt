@@ -1,4 +1,4 @@
--- The lines of a cue sheet in their order: what each does to what was said before it, or why it is refused.
+-- The lines of a cue sheet in order: the state after each line, or the reason to refuse it.
 use Rattle.std.specs.Prelude.{ℕ, ◌+◌, ◌-◌, Bool, true, false, not, ◌&&◌, List, [], ◌∷◌, ◌++◌, length, Option, Some, None, Result, Ok, Err, ◌==◌, nat_le, nat_lt, is_some, if◌then◌else◌, slice_index_or}
 use Rattle.std.specs.List.{list_any}
 use Rattle.text_lines.specs.Text.{lines_of, trimmed, first_word, argument_of, is_some_bytes}
@@ -10,8 +10,8 @@ use Rattle.cue_sheet.specs.declared.command.SheetCommand.TheVariants.{Catalogue,
 use Rattle.cue_sheet.specs.declared.fault.CueWhy.{CueWhy}
 use Rattle.cue_sheet.specs.declared.fault.CueWhy.TheVariants.{UnknownCommand, SecondFile, Misplaced, BadArgument, Repeated, NoIndex, NotAudio, NumberOrder, IndexOrder, TimeOrder, NoFile, NoTrack}
 
--- what the lines so far say: whether there is a file, the latest index time, the album, the tracks before the last one,
--- and the number and the section of the last one; before the first track the section is that of the album
+-- the state after some lines: whether there is a file, the latest index time, the album, the tracks before the last
+-- one, and the number and section of the last one; before the first track the section belongs to the album
 pub record CueState : Type 0 where
   pub has_file : Bool
   pub latest : ℕ
@@ -20,7 +20,7 @@ pub record CueState : Type 0 where
   pub number : Option ℕ
   pub section : CueSection
 
--- a section of which nothing is said
+-- a section without lines
 abbrev pub no_section : CueSection
 no_section = record {
   catalogue = None;
@@ -34,7 +34,7 @@ no_section = record {
   indices = [];
 }
 
--- what is said before the first line
+-- the state before the first line
 abbrev pub nothing_said : CueState
 nothing_said = record {
   has_file = false;
@@ -49,12 +49,12 @@ nothing_said = record {
 abbrev pub has_index_one : CueSection → Bool
 has_index_one s = list_any (λ (line : ℕ × ℕ). line.0 == 1) s.indices
 
--- whether a command is a FILE after a FILE
+-- whether a command is a second FILE
 abbrev pub is_second_file : CueState → SheetCommand → Bool
 is_second_file s File = s.has_file
 is_second_file s _ = false
 
--- whether a command may stand here
+-- whether a command is allowed at this place
 abbrev pub is_placed : CueState → SheetCommand → Bool
 is_placed s Catalogue = not (is_some s.number)
 is_placed s Track = s.has_file
@@ -69,12 +69,12 @@ is_placed s _ = true
 abbrev pub lacks_index : CueState → Bool
 lacks_index s = is_some s.number && not (has_index_one s.section)
 
--- whether a track's number is one more than that of the track before
+-- whether a track's number is one more than the number of the previous track
 abbrev pub follows_number : Option ℕ → ℕ → Bool
 follows_number None number = true
 follows_number (Some last) number = number == last + 1
 
--- whether an index line's number is one more than that of the line before; that of a first line is 0 or 1
+-- whether an index line's number is one more than the previous number; the first number is 0 or 1
 abbrev pub follows_index : List (ℕ × ℕ) → ℕ → Bool
 follows_index lines number =
     if length lines == 0 then nat_le number 1
@@ -94,21 +94,21 @@ begun s number = record s {
   section = no_section;
 }
 
--- what is said where the section that goes on says this
+-- the state with this as its current section
 abbrev pub in_section : CueState → CueSection → CueState
 in_section s section = record s { section = section }
 
--- what a line makes that may stand once: it is refused where the section says such a thing already
+-- the state after a line that is allowed once: it is refused if the section already has one
 abbrev pub once : {X : Type 0} → Option X → CueState → Result CueState CueWhy
 once None next = Ok next
 once (Some _) next = Err Repeated
 
--- what is said with one more index line
+-- the state with one more index line
 abbrev pub with_index : CueState → ℕ → ℕ → CueState
 with_index s number time =
     in_section s (record s.section { indices = s.section.indices ++ (number, time) ∷ [] })
 
--- what a line that is spelled and placed well makes of what was said, or the first reason for which it is refused
+-- the state after a line with a valid argument at an allowed place, or the first reason to refuse it
 unfoldable pub taken : CueState → CueLine → Result CueState CueWhy
 taken s SaysNothing = Ok s
 taken s SaysFile = Ok (record s { has_file = true })
@@ -130,12 +130,12 @@ taken s (SaysIndex number time) =
     else (if nat_lt time s.latest then Err TimeOrder
     else Ok (record (with_index s number time) { latest = time }))
 
--- what a line that is placed well makes of what was said, if it is spelled as it must be
+-- the state after a line at an allowed place, if its argument is valid
 abbrev pub spelled_line : CueState → Option CueLine → Result CueState CueWhy
 spelled_line s None = Err BadArgument
 spelled_line s (Some line) = taken s line
 
--- what a command, if it is one, and its argument make of what was said, or the first reason for which they are refused
+-- the state after a command, if it is one, and its argument, or the first reason to refuse them
 abbrev pub obeyed : CueState → Option SheetCommand → List ℕ → Result CueState CueWhy
 obeyed s None argument = Err UnknownCommand
 obeyed s (Some command) argument =
@@ -143,14 +143,13 @@ obeyed s (Some command) argument =
     else (if not (is_placed s command) then Err Misplaced
     else spelled_line s (said_by command argument))
 
--- what a line of the text makes of what was said, or the first reason for which it is refused; an empty one changes
--- nothing
+-- the state after a line of the text, or the first reason to refuse it; an empty line changes nothing
 abbrev pub sheet_step : CueState → List ℕ → Result CueState CueWhy
 sheet_step s line =
     if is_some_bytes (trimmed line)
     then obeyed s (command_named (first_word (trimmed line))) (argument_of (trimmed line)) else Ok s
 
--- the sheet that was said at the end, or the reason for which the end is refused
+-- the sheet at the end, or the reason to refuse the end
 abbrev pub ended : CueState → Result CueSheet CueWhy
 ended s =
     if not s.has_file then Err NoFile
@@ -158,6 +157,6 @@ ended s =
     else (if not (has_index_one s.section) then Err NoIndex
     else Ok (sheet_from s.album (s.tracks ++ track_with s.number s.section))))
 
--- what a text is read as: its sheet, or its first line that is refused with the first reason
+-- the sheet of a text, or its first refused line with the first reason
 abbrev pub read_cue : List ℕ → Result CueSheet (ℕ × CueWhy)
 read_cue text = read_on sheet_step ended 1 nothing_said (lines_of text)

@@ -1,4 +1,4 @@
--- What the code holds to judge a line by: of what was said before it, all but texts, gaps and times.
+-- What the code needs to accept or refuse a line: the previous lines without their texts, gaps and times.
 use Rattle.std.specs.Prelude.{◌≡◌, ◌-◌, ◌==◌, ℕ, List, length, Option, Some, None, is_some, slice_index_or, if◌then◌else◌, Result, Err, MatchResult, IfSome}
 use Rattle.cue_sheet.specs.CueSheet.{CueSection}
 use Rattle.cue_sheet.specs.Grammar.{CueState, has_index_one, sheet_step}
@@ -26,19 +26,19 @@ pub record Marks (said : CueSection) (marks : SectionMarks) : Type 0 where
   pub one : marks.has_index_one ≡ has_index_one said
   pub last : marks.last_index ≡ last_index_number said.indices
 
--- the judge of the line after this was said
+-- the judge after these lines
 pub record Judges (said : CueState) (judge : SheetJudge) : Type 0 where
   pub file : judge.has_file ≡ said.has_file
   pub latest : judge.latest ≡ said.latest
   pub number : judge.number ≡ said.number
   pub section : Marks said.section judge.section
 
--- this was said, and is kept if there was memory for it
+-- the reader after these lines; its draft is kept if there was memory for it
 pub record Heard (said : CueState) (reader : SheetReader) : Type 0 where
   pub judged : Judges said reader.judge
   pub kept : IfSome reader.draft (λ draft. draft ≡ stripped said)
 
--- the answer to a line after this was said
+-- the result of reading a line after these lines
 abbrev pub Hears : CueState → List ℕ → SheetReader → Result (Unit {0}) CueWhy → Type 0
 Hears said line reader result =
     MatchResult result (λ _. (next : CueState) × TakesLine said line next × Heard next reader)

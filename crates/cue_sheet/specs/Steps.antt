@@ -1,4 +1,4 @@
--- How the code goes about a step: the reason is looked for first, and then the line is added.
+-- The two steps of the code for each line: it looks for a reason to refuse the line, and then adds it.
 use Rattle.std.specs.Prelude.{◌≡◌, Result, Ok, Err, ℕ, List, ◌++◌, max, Bool, false, not, Option, Some, None, is_some, true, nat_lt, if◌then◌else◌}
 use Rattle.cue_sheet.specs.CueSheet.{CueSheet, CueSection, sheet_from}
 use Rattle.cue_sheet.specs.CueLines.{CueLine, SaysNothing, SaysCatalogue, SaysFile, SaysTitle, SaysPerformer, SaysSongwriter, SaysTrack, SaysFlags, SaysIsrc, SaysPregap, SaysIndex, SaysPostgap, IsLineInRange}
@@ -9,7 +9,7 @@ use Rattle.cue_sheet.specs.declared.fault.CueWhy.TheVariants.{Repeated, NoIndex,
 use Rattle.cue_sheet.specs.declared.command.SheetLine.{SheetLine}
 use Rattle.cue_sheet.specs.declared.command.SheetLine.TheVariants.{Remark, Catalogue, File, Title, Performer, Songwriter, Track, Flags, Isrc, Pregap, Index, Postgap}
 
--- what a line says, without where its texts lie in memory
+-- the contents of a line, without the addresses of its texts
 abbrev pub line_said : SheetLine → CueLine
 line_said Remark = SaysNothing
 line_said (Catalogue digits) = SaysCatalogue digits
@@ -24,7 +24,7 @@ line_said (Pregap time) = SaysPregap time
 line_said (Index number time) = SaysIndex number time
 line_said (Postgap time) = SaysPostgap time
 
--- whether a line that may stand once in a section stands there already
+-- whether a line that is allowed once in a section is there already
 abbrev pub is_repeated : CueSection → CueLine → Bool
 is_repeated s (SaysCatalogue _) = is_some s.catalogue
 is_repeated s (SaysTitle _) = is_some s.title
@@ -36,7 +36,7 @@ is_repeated s (SaysPregap _) = is_some s.pregap
 is_repeated s (SaysPostgap _) = is_some s.postgap
 is_repeated s _ = false
 
--- the reason for which a line that is spelled and placed well is refused
+-- the reason to refuse a line with a valid argument at an allowed place
 unfoldable pub later_sheet_reason : CueState → CueLine → Option CueWhy
 later_sheet_reason s (SaysTrack number audio) =
     if lacks_index s then Some NoIndex
@@ -47,7 +47,7 @@ later_sheet_reason s (SaysIndex number time) =
     else Some IndexOrder
 later_sheet_reason s line = if is_repeated s.section line then Some Repeated else None
 
--- what is line_said after one more line, if it is not refused
+-- the state after one more line, if it is not refused
 abbrev pub after : CueState → CueLine → CueState
 after s SaysNothing = s
 after s SaysFile = record s { has_file = true }
@@ -62,33 +62,33 @@ after s (SaysPostgap n) = in_section s (record s.section { postgap = Some n })
 after s (SaysIndex number time) = record (with_index s number time) { latest = max time s.latest }
 after s (SaysTrack number audio) = begun s number
 
--- what is kept of it, which has no need of the file and of the latest time
+-- the part of the state that a draft keeps: all but the file and the latest time
 abbrev pub stripped : CueState → CueState
 stripped s = record s { has_file = false; latest = 0 }
 
--- an answer, or the reason for which there is none
+-- a value, or the reason why there is none
 abbrev pub unless : {X : Type 0} → X → Option CueWhy → Result X CueWhy
 unless x None = Ok x
 unless x (Some why) = Err why
 
--- the reason for which the end of the sheet is refused
+-- the reason to refuse the end of the sheet
 abbrev pub end_reason : CueState → Option CueWhy
 end_reason s =
     if not s.has_file then Some NoFile
     else (if not (is_some s.number) then Some NoTrack
     else (if has_index_one s.section then None else Some NoIndex))
 
--- the sheet that all lines say
+-- the sheet of all lines
 abbrev pub sheet_said : CueState → CueSheet
 sheet_said s = sheet_from s.album (s.tracks ++ track_with s.number s.section)
 
--- what a check of a line answers
+-- the result of checking a line
 abbrev pub IsCheckedLine : CueState → Option SheetCommand → List ℕ → Result SheetLine CueWhy → Type 0
 IsCheckedLine s command argument (Ok line) = (obeyed s command argument ≡ Ok (after s (line_said line)))
     × IsLineInRange (line_said line) × (later_sheet_reason s (line_said line) ≡ None)
 IsCheckedLine s command argument (Err why) = obeyed s command argument ≡ Err why
 
--- what a whole line does to what is line_said
+-- the state before and after a whole line
 pub data TakesLine (old : CueState) (line : List ℕ) (new : CueState) : Type 0 where
   IsEmpty : sheet_step old line ≡ Ok new → new ≡ old → TakesLine old line new
   Says : (line_said : CueLine) → sheet_step old line ≡ Ok new → IsLineInRange line_said

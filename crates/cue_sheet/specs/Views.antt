@@ -1,13 +1,13 @@
--- What the structs of a sheet hold, without where it lies in memory.
+-- The contents of the structs of a sheet, without addresses.
 use Rattle.std.specs.Prelude.{ℕ, List, [], map, unwrap_or}
 use Rattle.std.specs.Option.{option_map}
 use Rattle.cue_sheet.specs.CueSheet.{CueTrack, CueSheet, CueSection, track_from, sheet_from}
 use Rattle.cue_sheet.specs.declared.fault.CueText.{CueText}
 use Rattle.cue_sheet.specs.declared.fault.CueText.TheVariants.{Title, Performer, Songwriter}
-use Rattle.cue_sheet.specs.declared.section.Section.{Section}
-use Rattle.cue_sheet.specs.declared.section.Track.{Track}
+use Rattle.cue_sheet.specs.declared.reader.Section.{Section}
+use Rattle.cue_sheet.specs.declared.reader.Track.{Track}
 
--- what a section of memory holds
+-- the contents of a section
 abbrev pub section_of : Section → CueSection
 section_of s = record {
   catalogue = s.catalogue;
@@ -21,15 +21,15 @@ section_of s = record {
   indices = s.indices.items;
 }
 
--- the track that a track of memory holds
+-- the contents of a track
 abbrev pub track_value : Track → CueTrack
 track_value t = track_from t.number (section_of t.section)
 
--- the sheet that an album and tracks of memory hold
+-- the sheet of an album and its tracks
 abbrev pub sheet_value : Section → List Track → CueSheet
 sheet_value album tracks = sheet_from (section_of album) (map track_value tracks)
 
--- the text of a kind in a section, empty where it is not given
+-- the text of a kind in a section, empty if there is none
 abbrev pub section_text : CueText → CueSection → List ℕ
 section_text Title s = unwrap_or s.title []
 section_text Performer s = unwrap_or s.performer []

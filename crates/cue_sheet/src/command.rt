@@ -1,8 +1,14 @@
-// The commands of a cue sheet, and the lines that they stand in.
-ghost use Rattle.std.specs.Prelude.{◌≡◌};
+// The commands of a cue sheet and their arguments.
+ghost use Rattle.std.specs.Prelude.{◌≡◌, ◌≤◌, ◌<◌, IfSome, length, option_map, option_copied};
 ghost use Rattle.std.specs.Str.{str_eq_ignore_ascii_case};
+ghost use Rattle.std.specs.List.{list_all, position};
+ghost use Rattle.text_lines.specs.Text.{most_text_bytes, words_in};
+ghost use Rattle.cue_sheet.specs.CueSheet.{IsText, is_capital_code};
+ghost use Rattle.cue_sheet.specs.CueLines.{IsLineInRange, SaysCatalogue, SaysFlags, SaysIndex, SaysIsrc, SaysTrack, begins_quoted, catalogue_argument, code_argument, flags_argument, index_argument, is_file, is_flag, is_plain, is_quote, names_flag, plain, quoted, said_by, text_argument, track_argument, two_words};
+ghost use Rattle.cue_sheet.specs.Steps.{line_said};
 
 use disc_time::{CATALOGUE_DIGITS, ISRC_CHARACTERS};
+use text_lines::{are_capitals, are_capitals_or_digits, are_digits, next_word, time, two_digits};
 
 #[derive(Clone, Copy)]
 pub(crate) enum SheetCommand {
@@ -23,7 +29,7 @@ pub(crate) enum SheetCommand {
 impl SheetCommand {
     ghost use Rattle.cue_sheet.specs.CueLines.{command_named};
 
-    /// The command of a word, its letters in either case.
+    /// The command of this name, in upper or lower case.
     #[tactic(auto, unfolding(crate::specs::CueLines::command_named))]
     pub(crate) fn named(word: &[u8]) -> Option<SheetCommand>
         ensures { result ≡ command_named word.now }
@@ -58,7 +64,7 @@ impl SheetCommand {
     }
 }
 
-/// A line that is spelled as it must be. Its texts are parts of the sheet's text.
+/// A line with a valid argument. It borrows its texts from the text of the sheet.
 #[derive(Drop)]
 pub(crate) enum SheetLine<'a> {
     Remark,
@@ -75,9 +81,247 @@ pub(crate) enum SheetLine<'a> {
     Postgap(u32),
 }
 
-/// Whether a word is this one, its letters in either case.
+/// Whether a word is this name, in upper or lower case.
 pub(crate) fn is_word(word: &[u8], name: &[u8]) -> bool
     ensures { result ≡ str_eq_ignore_ascii_case word.now name.now }
 {
     word.eq_ignore_ascii_case(name)
+}
+
+/// The line of a command and its argument, if the argument is valid.
+pub(crate) fn spelled(command: SheetCommand, argument: &[u8]) -> Option<SheetLine<'_>>
+    requires { length argument.now ≤ most_text_bytes }
+    ensures line { option_map line_said result ≡ said_by command argument.now }
+    ensures range { IfSome result (λ line. IsLineInRange (line_said line)) }
+{
+    match command {
+        SheetCommand::Remark => Some(SheetLine::Remark),
+        SheetCommand::Catalogue => catalogue(argument),
+        SheetCommand::File => {
+            if !is_file(argument) {
+                return None;
+            }
+            Some(SheetLine::File)
+        },
+        SheetCommand::Title => Some(SheetLine::Title(text(argument)?)),
+        SheetCommand::Performer => Some(SheetLine::Performer(text(argument)?)),
+        SheetCommand::Songwriter => Some(SheetLine::Songwriter(text(argument)?)),
+        SheetCommand::Track => track(argument),
+        SheetCommand::Flags => flags(argument),
+        SheetCommand::Isrc => code(argument),
+        SheetCommand::Pregap => Some(SheetLine::Pregap(time(argument)?)),
+        SheetCommand::Index => index(argument),
+        SheetCommand::Postgap => Some(SheetLine::Postgap(time(argument)?)),
+    }
+}
+
+// The bytes, if none of them is a control byte.
+#[tactic(auto, unfolding(crate::specs::CueLines::plain))]
+fn plain(text: &[u8]) -> Option<&[u8]>
+    requires { length text.now ≤ most_text_bytes }
+    ensures text { option_copied result ≡ plain text.now }
+    ensures range { IfSome result (λ s. IsText s.now) }
+{
+    if !text.iter().all(|byte| *byte >= 32 && *byte != 127) {
+        return None;
+    }
+    Some(text)
+}
+
+fn begins_quoted(argument: &[u8]) -> bool
+    ensures { result ≡ begins_quoted argument.now }
+{
+    matches!(argument, [b'"', ..])
+}
+
+// The bytes between the first two quotes of an argument that begins with one, and the rest after them.
+#[tactic(auto, unfolding(crate::specs::CueLines::quoted))]
+fn quoted(argument: &[u8]) -> Option<(&[u8], &[u8])>
+    requires { 0 < length argument.now }
+    ensures parts { option_map (λ parts. (parts.0.now, parts.1.now)) result ≡ quoted argument.now }
+    ensures length { IfSome result (λ parts. length parts.0.now ≤ length argument.now) }
+{
+    let rest = &argument[1..];
+    let end = closing_quote(rest)?;
+    Some((&rest[..end], &rest[end + 1..]))
+}
+
+fn closing_quote(text: &[u8]) -> Option<usize>
+    ensures place { result ≡ position is_quote text.now }
+    ensures bound { IfSome result (λ end. end < length text.now) }
+{
+    text.iter().position(|byte| *byte == b'"')
+}
+
+// A text: in quotes with nothing after them, or not empty and without quotes.
+#[tactic(auto, unfolding(crate::specs::CueLines::text_argument))]
+fn text(argument: &[u8]) -> Option<&[u8]>
+    requires { length argument.now ≤ most_text_bytes }
+    ensures text { option_copied result ≡ text_argument argument.now }
+    ensures range { IfSome result (λ s. IsText s.now) }
+{
+    if begins_quoted(argument) {
+        let (inside, after) = quoted(argument)?;
+        if !after.is_empty() {
+            return None;
+        }
+        return plain(inside);
+    }
+    if argument.is_empty() {
+        return None;
+    }
+    plain(argument)
+}
+
+// A file: a name in quotes and then one word, or two or more words.
+#[tactic(auto, unfolding(crate::specs::CueLines::is_file))]
+fn is_file(argument: &[u8]) -> bool
+    ensures { result ≡ is_file argument.now }
+{
+    if begins_quoted(argument) {
+        return match quoted(argument) {
+            Some((_, after)) => word_count(after) == 1,
+            None => false,
+        };
+    }
+    word_count(argument) >= 2
+}
+
+fn word_count(line: &[u8]) -> usize
+    ensures { result ≡ length (words_in line.now) }
+{
+    let mut rest = line;
+    let mut count = 0;
+    while let Some((_, after)) = next_word(rest) {
+        count += 1;
+        rest = after;
+    }
+    count
+}
+
+// The line of a catalogue number, 13 digits.
+#[tactic(auto, unfolding(crate::specs::CueLines::catalogue_argument))]
+fn catalogue(argument: &[u8]) -> Option<SheetLine<'_>>
+    ensures line { option_map line_said result ≡ option_map SaysCatalogue (catalogue_argument argument.now) }
+    ensures range { IfSome result (λ line. IsLineInRange (line_said line)) }
+{
+    if argument.len() != CATALOGUE_DIGITS || !are_digits(argument) {
+        return None;
+    }
+    let mut digits = [0; CATALOGUE_DIGITS];
+    digits.copy_from_slice(argument);
+    Some(SheetLine::Catalogue(digits))
+}
+
+// The line of a track's ISRC. Its letters become capital letters.
+#[tactic(auto, unfolding(crate::specs::CueLines::code_argument))]
+fn code(argument: &[u8]) -> Option<SheetLine<'_>>
+    ensures line { option_map line_said result ≡ option_map SaysIsrc (code_argument argument.now) }
+    ensures range { IfSome result (λ line. IsLineInRange (line_said line)) }
+{
+    if argument.len() != ISRC_CHARACTERS {
+        return None;
+    }
+    let mut code = [0; ISRC_CHARACTERS];
+    code.copy_from_slice(argument);
+    code.make_ascii_uppercase();
+    let (head, digits) = code.split_at(5);
+    let (country, owner) = head.split_at(2);
+    if !(are_capitals(country) && are_capitals_or_digits(owner) && are_digits(digits)) {
+        return None;
+    }
+    Some(SheetLine::Isrc(code))
+}
+
+// The words of an argument, if it has exactly two.
+fn two_words(argument: &[u8]) -> Option<(&[u8], &[u8])>
+    ensures { option_map (λ words. (words.0.now, words.1.now)) result
+        ≡ two_words (words_in argument.now) }
+{
+    let (first, rest) = next_word(argument)?;
+    let (second, rest) = next_word(rest)?;
+    if next_word(rest).is_some() {
+        return None;
+    }
+    Some((first, second))
+}
+
+// The line of a track: its number, and whether its type is AUDIO.
+fn track(argument: &[u8]) -> Option<SheetLine<'_>>
+    ensures line { option_map line_said result
+        ≡ option_map (λ t. SaysTrack t.0 t.1) (track_argument (words_in argument.now)) }
+    ensures range { IfSome result (λ line. IsLineInRange (line_said line)) }
+{
+    let (number, kind) = two_words(argument)?;
+    let number = two_digits(number)?;
+    if number == 0 {
+        return None;
+    }
+    let audio = is_word(kind, b"AUDIO");
+    Some(SheetLine::Track { number, audio })
+}
+
+// An index line: its number and time.
+fn index(argument: &[u8]) -> Option<SheetLine<'_>>
+    ensures line { option_map line_said result
+        ≡ option_map (λ line. SaysIndex line.0 line.1) (index_argument (words_in argument.now)) }
+    ensures range { IfSome result (λ line. IsLineInRange (line_said line)) }
+{
+    let (number, at) = two_words(argument)?;
+    let number = two_digits(number)?;
+    let time = time(at)?;
+    Some(SheetLine::Index { number, time })
+}
+
+// The line of flags with their control bits.
+#[tactic(auto, unfolding(crate::specs::CueLines::flags_argument))]
+fn flags(argument: &[u8]) -> Option<SheetLine<'_>>
+    ensures line { option_map line_said result
+        ≡ option_map SaysFlags (flags_argument (words_in argument.now)) }
+    ensures range { IfSome result (λ line. IsLineInRange (line_said line)) }
+{
+    if next_word(argument).is_none() {
+        return None;
+    }
+    if !are_flags(argument) {
+        return None;
+    }
+    let four_channels = 8 * u8::from(names_flag(argument, b"4CH"));
+    let copy = 2 * u8::from(names_flag(argument, b"DCP"));
+    Some(SheetLine::Flags(four_channels + copy + u8::from(names_flag(argument, b"PRE"))))
+}
+
+fn are_flags(argument: &[u8]) -> bool
+    ensures { result ≡ list_all is_flag (words_in argument.now) }
+{
+    let mut rest = argument;
+    while let Some((word, after)) = next_word(rest) {
+        if !is_flag(word) {
+            return false;
+        }
+        rest = after;
+    }
+    true
+}
+
+fn is_flag(word: &[u8]) -> bool
+    ensures { result ≡ is_flag word.now }
+{
+    word == b"4CH".as_slice()
+        || word == b"DCP".as_slice()
+        || word == b"PRE".as_slice()
+        || word == b"SCMS".as_slice()
+}
+
+fn names_flag(argument: &[u8], flag: &[u8]) -> bool
+    ensures { result ≡ names_flag flag.now (words_in argument.now) }
+{
+    let mut rest = argument;
+    while let Some((word, after)) = next_word(rest) {
+        if word == flag {
+            return true;
+        }
+        rest = after;
+    }
+    false
 }

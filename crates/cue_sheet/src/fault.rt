@@ -1,26 +1,26 @@
-// Why a sheet is refused, and the kinds of its texts.
+// The reasons to refuse a sheet, and the kinds of its texts.
 use std::alloc::AllocError;
 
-/// Why a line of a cue sheet is refused, or its end.
+/// The reason to refuse a line of a cue sheet, or its end.
 #[derive(Clone, Copy, PartialEq, Eq, Debug)]
 pub enum CueWhy {
-    /// The first word is no command.
+    /// The first word is not a command.
     UnknownCommand,
-    /// A FILE after a FILE.
+    /// A second FILE.
     SecondFile,
-    /// The command may not stand here.
+    /// The command is not allowed at this place.
     Misplaced,
-    /// The argument is not spelled as the command wants it.
+    /// The argument is invalid for the command.
     BadArgument,
-    /// The track, or the part before the first track, has such a line already.
+    /// The track, or the part before the first track, already has a line with this command.
     Repeated,
     /// A track ends without an INDEX 01.
     NoIndex,
     /// A track of a type other than AUDIO.
     NotAudio,
-    /// A track's number is not one more than that of the track before.
+    /// A track's number is not one more than the number of the previous track.
     NumberOrder,
-    /// A track's first index is neither 00 nor 01, or an index is not one more than the one before.
+    /// A track's first index is neither 00 nor 01, or an index is not one more than the previous index.
     IndexOrder,
     /// An index time is below an earlier one of the sheet.
     TimeOrder,
@@ -30,13 +30,13 @@ pub enum CueWhy {
     NoTrack,
 }
 
-/// Why a cue sheet is not read.
+/// The reason why a cue sheet was not read.
 #[derive(PartialEq, Eq, Debug, Drop)]
 pub enum CueStop {
-    /// The first line that is refused, counted from 1, with the first reason. The end of a sheet counts as the line
-    /// after its last one.
+    /// The number of the first refused line, from 1, and the first reason to refuse it. The end of a sheet counts as one
+    /// more line.
     Fault { line: u32, why: CueWhy },
-    /// No line is refused, and memory ran out.
+    /// No line is refused, but memory ran out.
     NoMemory,
 }
 
@@ -51,7 +51,7 @@ impl From<AllocError> for CueStop {
     }
 }
 
-/// The kinds of texts of a sheet, each of the album or of a track, by the command that gives them.
+/// The kinds of texts of a sheet, for the album or a track. They are named after their commands.
 #[derive(Clone, Copy, PartialEq, Eq, Debug)]
 pub enum CueText {
     Title,

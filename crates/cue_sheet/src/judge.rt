@@ -1,14 +1,13 @@
-// What the lines of a cue sheet so far say of the lines that may follow.
+// Which lines of a cue sheet are allowed next.
 ghost use Rattle.std.specs.Prelude.{◌≡◌, ◌≤◌, None, length};
 ghost use Rattle.text_lines.specs.Text.{most_text_bytes};
 
-use crate::argument::spelled;
-use crate::command::{SheetCommand, SheetLine};
+use crate::command::{SheetCommand, SheetLine, spelled};
 use crate::fault::CueWhy;
 use text_lines::split_command;
 
-/// What the lines of a track so far say of the lines that may follow, or those before the first track: which lines that
-/// may stand once stand there, and the index lines.
+/// What is known about the lines of one track, or about those before the first track: which single lines there are, and
+/// the index lines.
 #[derive(Clone, Copy)]
 pub(crate) struct SectionMarks {
     pub(crate) catalogue: bool,
@@ -29,7 +28,7 @@ impl SectionMarks {
     ghost use Rattle.cue_sheet.specs.Judging.{Marks};
     ghost use Rattle.cue_sheet.specs.Steps.{is_repeated, line_said};
 
-    /// Of no line.
+    /// The marks before the first line.
     pub(crate) fn none() -> SectionMarks
         ensures { Marks no_section result }
     {
@@ -47,17 +46,7 @@ impl SectionMarks {
         }
     }
 
-    /// Whether an index line of that number may come next: one more than the last, or 0 or 1 where there is none.
-    pub(crate) fn follows(&self, number: u8) -> bool
-        ensures { (said : CueSection) → Marks said self.now → result ≡ follows_index said.indices number }
-    {
-        match self.last_index {
-            Some(last) => usize::from(number) == usize::from(last) + 1,
-            None => number <= 1,
-        }
-    }
-
-    /// Whether a line that may stand once stands here already.
+    /// Whether a line that is allowed once is there already.
     pub(crate) fn is_repeated(&self, line: &SheetLine<'_>) -> bool
         ensures { (said : CueSection) → Marks said self.now → result ≡ is_repeated said (line_said line.now) }
     {
@@ -75,8 +64,8 @@ impl SectionMarks {
     }
 }
 
-/// What the lines so far say of the lines that may follow. `section` is of the lines of the last track, or of those before
-/// the first one. It takes no memory.
+/// What decides whether the next line is allowed. `section` describes the last track, or the lines before the first one.
+/// It allocates nothing.
 #[derive(Clone, Copy)]
 pub(crate) struct SheetJudge {
     pub(crate) has_file: bool,
@@ -92,18 +81,6 @@ impl SheetJudge {
     ghost use Rattle.cue_sheet.specs.CueLines.{SaysTrack, SaysIndex, command_named};
     ghost use Rattle.text_lines.specs.Text.{first_word, argument_of};
 
-    /// Nothing said yet.
-    pub(crate) fn new() -> SheetJudge
-        ensures { Judges nothing_said result }
-    {
-        SheetJudge {
-            has_file: false,
-            latest: 0,
-            number: None,
-            section: SectionMarks::none(),
-        }
-    }
-
     fn is_second_file(&self, command: SheetCommand) -> bool
         ensures { (said : CueState) → Judges said self.now → result ≡ is_second_file said command }
     {
@@ -113,7 +90,7 @@ impl SheetJudge {
         }
     }
 
-    // Whether a command may stand here.
+    // Whether a command is allowed at this place.
     fn is_placed(&self, command: SheetCommand) -> bool
         ensures { (said : CueState) → Judges said self.now → result ≡ is_placed said command }
     {
@@ -128,7 +105,7 @@ impl SheetJudge {
         }
     }
 
-    // Why a line that is spelled and placed well is refused.
+    // The reason to refuse a line whose argument is valid and whose command is allowed at this place.
     #[tactic(auto, unfolding(crate::specs::Steps::later_sheet_reason))]
     fn later_reason(&self, line: &SheetLine<'_>) -> Option<CueWhy>
         ensures { (said : CueState) → Judges said self.now
@@ -142,7 +119,7 @@ impl SheetJudge {
         }
     }
 
-    // Why a track may not begin here.
+    // The reason to refuse a TRACK line.
     #[tactic(auto, unfolding(crate::specs::Steps::later_sheet_reason))]
     fn track_reason(&self, number: u8, audio: bool) -> Option<CueWhy>
         ensures { (said : CueState) → Judges said self.now
@@ -160,22 +137,21 @@ impl SheetJudge {
         }
     }
 
-    // Why an index may not stand here.
+    // The reason to refuse an INDEX line.
     #[tactic(auto, unfolding(crate::specs::Steps::later_sheet_reason))]
     fn index_reason(&self, number: u8, time: u32) -> Option<CueWhy>
         ensures { (said : CueState) → Judges said self.now
             → result ≡ later_sheet_reason said (SaysIndex number time) }
     {
-        if !self.section.follows(number) {
-            return Some(CueWhy::IndexOrder);
+        match self.section.last_index {
+            Some(last) if usize::from(number) != usize::from(last) + 1 => Some(CueWhy::IndexOrder),
+            None if number > 1 => Some(CueWhy::IndexOrder),
+            _ if time < self.latest => Some(CueWhy::TimeOrder),
+            _ => None,
         }
-        if time < self.latest {
-            return Some(CueWhy::TimeOrder);
-        }
-        None
     }
 
-    /// Why the sheet may not end here.
+    /// The reason to refuse the end of the sheet.
     pub(crate) fn end_reason(&self) -> Option<CueWhy>
         ensures { (said : CueState) → Judges said self.now → result ≡ end_reason said }
     {
@@ -190,7 +166,7 @@ impl SheetJudge {
         }
     }
 
-    /// What a trimmed line says that is not empty, or the first reason for which it is refused.
+    /// The line of a trimmed text that is not empty, or the first reason to refuse it.
     pub(crate) fn checked<'a>(&self, line: &'a [u8]) -> Result<SheetLine<'a>, CueWhy>
         requires { length line.now ≤ most_text_bytes }
         ensures { (said : CueState) → Judges said self.now
@@ -215,7 +191,7 @@ impl SheetJudge {
         }
     }
 
-    /// Takes a line that is in order.
+    /// Adds an accepted line.
     pub(crate) fn add(&mut self, line: &SheetLine<'_>)
         ensures { (said : CueState) → Judges said self.old
             → Judges (after said (line_said line.now)) self.new }

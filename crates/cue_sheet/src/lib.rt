@@ -1,14 +1,10 @@
-//! Cue sheets of Compact Discs: what a sheet says of the album and its tracks, or its first line that is refused and
-//! why.
+//! Cue sheets of Compact Discs: the album and its tracks, or the first refused line with the reason.
 #![tactic(auto)]
 
-mod argument;
 mod command;
-mod draft;
 mod fault;
 mod judge;
 mod reader;
-mod section;
 mod sheet;
 
 pub use fault::{CueStop, CueText, CueWhy};

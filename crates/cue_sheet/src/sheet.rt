@@ -9,16 +9,15 @@ ghost use Rattle.cue_sheet.specs.SheetBytes.{HasByteTexts};
 ghost use Rattle.cue_sheet.specs.Views.{sheet_value, track_value};
 
 use crate::fault::{CueStop, CueText};
-use crate::reader::SheetReader;
-use crate::section::{Section, Track};
+use crate::reader::{Section, SheetReader, Track};
 use std::alloc::Global;
 use std::marker::Model;
 
-/// What a cue sheet says of an album and its tracks, of which there are 1 to 99.
+/// The contents of a cue sheet: an album and its 1 to 99 tracks.
 #[derive(Drop)]
 pub struct Sheet {
-    album: Section,
-    tracks: Vec<Track>,
+    pub(crate) album: Section,
+    pub(crate) tracks: Vec<Track>,
 }
 
 impl Model for Sheet {
@@ -32,8 +31,8 @@ impl Model for Sheet {
 impl Sheet {
     ghost use Rattle.cue_sheet.specs.Answers.{IsCueAnswer};
 
-    /// What the text of a cue sheet says, or its first line that is refused. The text is read once, from front to
-    /// end, and nothing is copied but the texts that the sheet keeps. `NoMemory` comes only where no line is refused.
+    /// The sheet of a text, or its first refused line. The text is read once, and only the texts that the sheet keeps are
+    /// copied. `NoMemory` is returned only if no line is refused.
     pub fn parse(alloc: Global, text: &[u8]) -> Result<Sheet, CueStop>
         requires { length text.now ≤ most_text_bytes }
         ensures { IsCueAnswer (read_cue text.now) result }
@@ -46,14 +45,6 @@ impl Sheet {
         Ok(reader.finish()?)
     }
 
-    /// The sheet of what holds of the whole disc and of its tracks.
-    pub(crate) fn new(album: Section, tracks: Vec<Track>) -> Sheet
-        requires { IsSheet (sheet_value album tracks.items) }
-        ensures { result ≡ sheet_value album tracks.items }
-    {
-        Sheet { album, tracks }
-    }
-
     /// The number of tracks, 1 to 99.
     pub fn tracks(&self) -> usize
         ensures count { result ≡ length self.now.tracks }
@@ -62,7 +53,7 @@ impl Sheet {
         self.tracks.len()
     }
 
-    /// A law: the tracks of every sheet are in order, and what is said of each is in range.
+    /// A law: the tracks of every sheet are in order, and their values are in range.
     pub fn tracks_are_in_order(&self)
         ensures { IsSheet self.now }
     {
@@ -97,8 +88,8 @@ impl Sheet {
         }
     }
 
-    /// A text: at place 0 the album's, at place k that of the k-th track, counted from 1. It is empty where none is
-    /// given, has no byte below 20 hexadecimal and no byte 7F, and at most 64 MiB.
+    /// A text of the album (place 0) or of the k-th track (place k, from 1). It is empty if the sheet has none. It has at
+    /// most 64 MiB, no byte below 20 hexadecimal and no byte 7F.
     pub fn text(&self, kind: CueText, place: usize) -> &[u8]
         requires { place ≤ length self.now.tracks }
         ensures text { result.now ≡ text_at kind self.now place }
@@ -110,8 +101,7 @@ impl Sheet {
         self.track(place - 1).section.text(kind)
     }
 
-    /// The code of track k, counted from 0: two capital letters, three capital letters or digits, and seven digits,
-    /// in ASCII.
+    /// The ISRC of track k, from 0: two capital letters, three capital letters or digits, and seven digits, in ASCII.
     pub fn isrc(&self, k: usize) -> Option<&[u8]>
         requires { k < length self.now.tracks }
         ensures code { option_copied result ≡ (track_of self.now k).isrc }
@@ -171,7 +161,7 @@ impl Sheet {
     }
 }
 
-/// A law: every sheet that is accepted is in order, and the sheet of a text of bytes has texts of bytes.
+/// A law: every accepted sheet is in order, and the sheet of a text of bytes has texts of bytes.
 pub fn accepted_sheets_are_in_order()
     ensures order { (text : List ℕ) (sheet : CueSheet) → length text ≤ most_text_bytes
         → read_cue text ≡ Ok sheet → IsSheet sheet }

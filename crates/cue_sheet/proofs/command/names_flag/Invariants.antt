@@ -1,7 +1,7 @@
 use Rattle.std.proofs.Common.{◌≡◌, length}
 use Rattle.text_lines.specs.Text.{words_in}
 use Rattle.cue_sheet.specs.CueLines.{names_flag}
-use Rattle.cue_sheet.proofs.argument.names_flag.Given as goal
+use Rattle.cue_sheet.proofs.command.names_flag.Given as goal
 
 abbrev pub invariant-loop-word : goal.invariant-loop-word
 invariant-loop-word l = names_flag l.flag (words_in l.fn.argument) ≡ names_flag l.flag (words_in l.rest)

@@ -1,6 +1,6 @@
 use Rattle.std.proofs.Common.{◌≡◌, ◌+◌, ◌≤◌, length}
 use Rattle.text_lines.specs.Text.{words_in}
-use Rattle.cue_sheet.proofs.argument.word_count.Given as goal
+use Rattle.cue_sheet.proofs.command.word_count.Given as goal
 
 abbrev pub invariant-loop-after : goal.invariant-loop-after
 invariant-loop-after l = record {
