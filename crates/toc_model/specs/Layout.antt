@@ -13,23 +13,23 @@ use Rattle.q_channel.specs.declared.frame.QFrame.TheVariants.{Program, Toc, Cata
 use Rattle.q_channel.specs.declared.frame.TocPoint.{TocPoint}
 use Rattle.q_channel.specs.declared.frame.TocPoint.TheVariants.{Track, First, Last, LeadOut}
 
--- how many times in a row each entry of the table of contents stands in the lead-in
+-- how often each entry of the table of contents is repeated in a row
 abbrev pub entry_copies : ℕ
 entry_copies = 3
 
--- how many entries are of no one track: those of the first and the last number, and of the lead-out
+-- the entries for the whole disc: the first track number, the last one, and the lead-out
 abbrev pub disc_entries : ℕ
 disc_entries = 3
 
--- of how many program blocks one may carry the catalogue number, and one its track's code
+-- one of this many program blocks may carry the catalogue number, and one its track's ISRC
 abbrev pub code_period : ℕ
 code_period = 100
 
--- which of these blocks may carry the catalogue number
+-- the block in each period that may carry the catalogue number
 abbrev pub catalogue_turn : ℕ
 catalogue_turn = 49
 
--- which of these blocks may carry its track's code
+-- the block in each period that may carry its track's ISRC
 abbrev pub isrc_turn : ℕ
 isrc_turn = 99
 
@@ -49,32 +49,32 @@ unfoldable pub music_begin : TrackPlace → ℕ
 music_begin place = unwrap_or
     (option_map (λ (line : ℕ × ℕ). line.1) (find (λ (line : ℕ × ℕ). line.0 == 1) place.lines)) 0
 
--- the time of a block from the beginning of index 01 of its track, and before it the time that is left
+-- the time of a block since index 01 of its track began, or the time until it begins
 abbrev pub time_in_track : TrackPlace → ℕ → ℕ
 time_in_track place block = if nat_lt block (music_begin place) then music_begin place - block
     else block - music_begin place
 
--- whether a block lies in the two seconds before index 01 of a track, or in its pause where that is longer
+-- whether a block is in the pause of a track: at least two seconds before its index 01
 abbrev pub is_paused_for : ℕ → TrackPlace → Bool
 is_paused_for block place =
     nat_le (music_begin place - max pause_blocks (music_begin place - place.begin)) block
     && nat_lt block (music_begin place)
 
--- whether the P bit of a block is set: the block lies in the pause of some track
+-- whether the P bit of a block is set: the block is in the pause of some track
 unfoldable pub p_bit : DiscLayout → ℕ → Bool
 p_bit layout block = list_any (is_paused_for block) layout.tracks
 
--- the frame of a block where it says the time
+-- the frame with the time of a block
 abbrev pub time_frame : TrackPlace → ℕ → QFrame
 time_frame place block =
     Program place.control place.number (index_at place block) (time_in_track place block) block
 
--- the frame of a block that may carry the catalogue number: it does where there is one
+-- the frame of a block that carries the catalogue number, if there is one
 abbrev pub catalogue_frame : TrackPlace → ℕ → Option (List ℕ) → QFrame
 catalogue_frame place block None = time_frame place block
 catalogue_frame place block (Some number) = Catalogue place.control number (frame_of block)
 
--- the frame of a block that may carry its track's code: it does where there is one, but in the pause
+-- the frame of a block that carries its track's ISRC, if there is one, except in the pause
 abbrev pub isrc_frame : TrackPlace → ℕ → Option (List ℕ) → QFrame
 isrc_frame place block None = time_frame place block
 isrc_frame place block (Some code) = if index_at place block == 0 then time_frame place block
@@ -102,8 +102,7 @@ toc_entries layout =
     ++ (first.control, First first.number 0) ∷ (last.control, Last last.number) ∷
     (last.control, LeadOut layout.blocks) ∷ []
 
--- the frame of block l of so many lead-in blocks: each entry three times in a row, over and over, and the time that
--- ends at 00:00:00
+-- the frame of a lead-in block: each entry three times in a row, over and over, and the time until 00:00:00
 abbrev pub toc_frame : DiscLayout → ℕ → ℕ → QFrame
 toc_frame layout lead_in l =
     let place = l / entry_copies % (length layout.tracks + disc_entries) in

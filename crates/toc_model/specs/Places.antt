@@ -1,4 +1,4 @@
--- Where the tracks of a sheet lie on the disc.
+-- The places of the tracks of a sheet on the disc.
 use Rattle.std.specs.Prelude.{ℕ, ◌+◌, List, [], length, ◌∷◌, map, take, sum_by, Option, None, max, ◌==◌, if◌then◌else◌}
 use Rattle.bit_lists.specs.Counting.{below}
 use Rattle.disc_time.specs.Counts.{pause_blocks}
@@ -19,20 +19,20 @@ pub record DiscLayout : Type 0 where
   pub tracks : List TrackPlace
   pub blocks : ℕ
 
--- no track, for a place where there is none
+-- the default for a place without a track
 abbrev pub no_place : TrackPlace
 no_place = record { number = 0; control = 0; isrc = None; begin = 0; lines = [] }
 
--- the pregaps of so many tracks
+-- the sum of the pregaps of the first tracks
 unfoldable pub pregaps_to : CueSheet → ℕ → ℕ
 pregaps_to sheet count = sum_by (λ (t : CueTrack). t.pregap) (take count sheet.tracks)
 
--- the postgaps of so many tracks
+-- the sum of the postgaps of the first tracks
 unfoldable pub postgaps_to : CueSheet → ℕ → ℕ
 postgaps_to sheet count = sum_by (λ (t : CueTrack). t.postgap) (take count sheet.tracks)
 
--- the block at which file time 0 would lie, seen from track k, counted from 0: two seconds, the gaps of the tracks
--- before, and the track's own pregap come first
+-- the block of file time 0 for track k, from 0: two seconds, the gaps of the previous tracks and the track's own pregap
+-- come first
 abbrev pub blocks_before : CueSheet → ℕ → ℕ
 blocks_before sheet k = pause_blocks + pregaps_to sheet (k + 1) + postgaps_to sheet k
 
@@ -40,7 +40,7 @@ blocks_before sheet k = pause_blocks + pregaps_to sheet (k + 1) + postgaps_to sh
 abbrev pub first_index_time : CueTrack → ℕ
 first_index_time track = (index_line_of track 0).1
 
--- the block at which track k begins: the first at the beginning, each other with its pregap
+-- the block at which track k begins: block 0 for the first track, the pregap for each other track
 abbrev pub track_begin : CueSheet → ℕ → ℕ
 track_begin sheet k = if k == 0 then 0
     else pause_blocks + pregaps_to sheet k + postgaps_to sheet k + first_index_time (track_of sheet k)

@@ -8,30 +8,29 @@ ghost use Rattle.toc_model.specs.Layout.{IsLayout, disc_entries, entry_copies, p
 ghost use Rattle.q_channel.specs.declared.frame.TocPoint.TheVariants.{First};
 ghost use Rattle.toc_model.specs.Answers.{IsBlockCount};
 
-use crate::place::Place;
-use crate::places::{catalogue, gaps, need, places};
+use crate::place::{Place, catalogue, gaps, need, places};
 use cue_sheet::Sheet;
 use disc_time::{CATALOGUE_DIGITS, MOST_PROGRAM, Msf, PAUSE_BLOCKS, TIME_COUNT};
 use q_channel::{QFrame, TocPoint};
 use std::alloc::{AllocError, Global};
 use std::marker::Model;
 
-// How many times in a row each entry of the table of contents stands in the lead-in.
+// Each entry of the table of contents is repeated this often in a row.
 const ENTRY_COPIES: u32 = 3;
 
-// How many entries are of no one track: those of the first and the last number, and of the lead-out.
+// The entries for the whole disc: the first track number, the last one, and the lead-out.
 const DISC_ENTRIES: usize = 3;
 
-// Of how many program blocks one may carry the catalogue number, and one its track's code.
+// One of this many program blocks may carry the catalogue number, and one its track's ISRC.
 const CODE_PERIOD: u32 = 100;
 
-// Which of these blocks may carry the catalogue number.
+// The block in each period that may carry the catalogue number.
 const CATALOGUE_TURN: u32 = 49;
 
-// Which of these blocks may carry its track's code.
+// The block in each period that may carry its track's ISRC.
 const ISRC_TURN: u32 = 99;
 
-/// Why a sheet has no layout with an audio of some length.
+/// The reason why a sheet has no layout for an audio file.
 #[derive(PartialEq, Eq, Debug, Drop)]
 pub enum LayoutStop {
     /// The audio is too short: the index lines need so many blocks.
@@ -52,12 +51,12 @@ impl From<AllocError> for LayoutStop {
     }
 }
 
-/// The number of program blocks of a sheet whose audio file has so many blocks, or why it has no layout. This is told
-/// without memory.
+/// The number of program blocks of a sheet with an audio file of `length` blocks, or the reason why it has no layout. It
+/// allocates nothing.
 ///
 /// # Errors
 ///
-/// Those of `Layout::from_cue`, in their order, but `NoMemory`.
+/// Those of `Layout::from_cue` except `NoMemory`, in the same order.
 pub fn count_blocks(sheet: &Sheet, length: u32) -> Result<u32, LayoutStop>
     requires { length ≤ most_program }
     ensures { IsBlockCount sheet.now length result }
@@ -73,24 +72,16 @@ pub fn count_blocks(sheet: &Sheet, length: u32) -> Result<u32, LayoutStop>
     Ok(blocks)
 }
 
-/// The number of lead-in blocks in which each entry of the table of contents of a sheet stands three times.
+/// The number of lead-in blocks that repeat each entry of a sheet's table of contents three times.
 pub fn toc_need(sheet: &Sheet) -> u32
     ensures { result ≡ entry_copies * (length sheet.now.tracks + disc_entries) }
 {
     // A law, since there are at most 99 tracks.
     sheet.tracks_are_in_order();
-    blocks_of_entries(sheet.tracks())
+    ENTRY_COPIES * (sheet.tracks() as u32 + DISC_ENTRIES as u32)
 }
 
-// How many blocks the entries of a disc of so many tracks fill, each as often as it is repeated.
-fn blocks_of_entries(tracks: usize) -> u32
-    requires { tracks ≤ most_tracks }
-    ensures { result ≡ entry_copies * (tracks + disc_entries) }
-{
-    ENTRY_COPIES * (tracks as u32 + DISC_ENTRIES as u32)
-}
-
-/// Where the tracks of a sheet lie on a disc.
+/// The places of the tracks of a sheet on a disc.
 #[derive(Drop)]
 pub struct Layout {
     catalogue: Option<[u8; CATALOGUE_DIGITS]>,
@@ -117,8 +108,8 @@ impl Layout {
     ///
     /// # Errors
     ///
-    /// `LengthShort` where an index time is not inside the audio; then `DiscTooLong` where the program has more than
-    /// 449,999 blocks; then `NoMemory`.
+    /// `LengthShort` if an index time is not inside the audio; then `DiscTooLong` if the program has more than 449,999
+    /// blocks; then `NoMemory`.
     pub fn from_cue(alloc: Global, sheet: &Sheet, length: u32) -> Result<Layout, LayoutStop>
         requires { length ≤ most_program }
         ensures { IsLayoutAnswer sheet.now length result }
@@ -127,13 +118,13 @@ impl Layout {
         Ok(Layout::of_sheet(alloc, sheet, length)?)
     }
 
-    /// The layout of a sheet and an audio of so many blocks, which have one.
+    /// The layout of a sheet and an audio file of `length` blocks. The caller knows that there is one.
     pub fn of_sheet(alloc: Global, sheet: &Sheet, length: u32) -> Result<Layout, AllocError>
         requires need { audio_need sheet.now ≤ length }
         requires fits { program_blocks sheet.now length ≤ most_program }
         ensures { IfOk result (λ layout. layout ≡ layout_of sheet.now length) }
     {
-        // A law, since a layout is in order where its sheet is.
+        // A law: a layout is in order if its sheet is in order.
         sheet.tracks_are_in_order();
         Ok(Layout {
             catalogue: catalogue(sheet),
@@ -171,7 +162,7 @@ impl Layout {
         &self.tracks[begun - 1]
     }
 
-    /// The P bit of a program block: set in the pause before the music of a track, at least two seconds.
+    /// The P bit of a program block. It is set in the pause before the music of a track, for at least two seconds.
     pub fn p_bit(&self, block: u32) -> bool
         requires { block < self.now.blocks }
         ensures { result ≡ p_bit self.now block }
@@ -185,12 +176,12 @@ impl Layout {
         }
     }
 
-    /// The number of lead-in blocks in which each entry of the table of contents stands three times. It is for callers
-    /// of the library; `toc_need` tells it of a sheet, without a layout.
+    /// The number of lead-in blocks that repeat each entry of the table of contents three times. `toc_need` computes it
+    /// from a sheet.
     pub fn toc_blocks(&self) -> u32
         ensures { result ≡ entry_copies * (length self.now.tracks + disc_entries) }
     {
-        blocks_of_entries(self.tracks.len())
+        ENTRY_COPIES * (self.tracks.len() as u32 + DISC_ENTRIES as u32)
     }
 
     /// The frame of lead-in block `l` of `n`. The lead-in ends at 00:00:00.

@@ -3,6 +3,5 @@
 
 mod layout;
 mod place;
-mod places;
 
 pub use layout::{Layout, LayoutStop, count_blocks, toc_need};

@@ -1,19 +1,22 @@
-// A track on the disc.
-ghost use Rattle.std.specs.Prelude.{◌≡◌, ◌<◌, ◌≤◌, IsTrue};
-ghost use Rattle.disc_time.specs.Counts.{most_tracks, time_count};
+// The places of a sheet's tracks on the disc.
+ghost use Rattle.std.specs.Prelude.{◌≡◌, ◌<◌, ◌≤◌, IsTrue, ◌+◌, ◌*◌, ℕ, length, map, IfOk};
+ghost use Rattle.disc_time.specs.Counts.{most_tracks, time_count, most_program};
 ghost use Rattle.disc_time.specs.Fields.{control_values};
-ghost use Rattle.toc_model.specs.Places.{TrackPlace};
+ghost use Rattle.toc_model.specs.Places.{TrackPlace, audio_need, pregaps_to, postgaps_to, place_of, program_blocks, track_begin};
 ghost use Rattle.toc_model.specs.Layout.{IsPlace, music_begin, index_at, is_paused_for, time_frame, catalogue_frame, isrc_frame};
 ghost use Rattle.std.specs.Option.{ForSome};
-ghost use Rattle.cue_sheet.specs.CueSheet.{is_catalogue_number};
+ghost use Rattle.cue_sheet.specs.CueSheet.{is_catalogue_number, IsSheet, track_of};
 ghost use Rattle.q_channel.specs.declared.frame.TocPoint.TheVariants.{Track};
 ghost use Rattle.q_channel.specs.QFrame.{IsValid, IsValidPoint};
+ghost use Rattle.bit_lists.specs.Counting.{below};
 
+use cue_sheet::Sheet;
 use disc_time::{CATALOGUE_DIGITS, ISRC_CHARACTERS, Msf, PAUSE_BLOCKS};
 use q_channel::{QFrame, TocPoint};
+use std::alloc::{AllocError, Global};
 use std::marker::Model;
 
-/// A track on the disc. Its index lines are kept by number and block.
+/// A track on the disc. `lines` has the number and the block of each index line.
 #[derive(Drop)]
 pub(crate) struct Place {
     pub(crate) number: u8,
@@ -98,7 +101,7 @@ impl Place {
         music - pause <= block && block < music
     }
 
-    /// The frame that says the time of a block of the track.
+    /// The frame with the time of a block of the track.
     pub(crate) fn time_frame(&self, block: u32) -> QFrame
         requires { block < time_count }
         ensures frame { result ≡ time_frame self.now block }
@@ -166,4 +169,113 @@ impl Place {
             start: Msf::of_block(self.music_begin()),
         }
     }
+}
+
+/// The length of the audio that the index lines need, in blocks.
+pub(crate) fn need(sheet: &Sheet) -> u32
+    ensures need { result ≡ audio_need sheet.now }
+    ensures bound { result ≤ time_count }
+    ensures sheet { IsSheet sheet.now }
+{
+    let last = sheet.tracks() - 1;
+    let (_, time) = sheet.index(last, sheet.indices(last) - 1);
+    time + 1
+}
+
+/// The lengths of all gaps, in blocks.
+pub(crate) fn gaps(sheet: &Sheet) -> u32
+    ensures sum { result ≡ pregaps_to sheet.now (length sheet.now.tracks) + postgaps_to sheet.now
+        (length sheet.now.tracks) }
+    ensures bound { result ≤ 2 * most_tracks * time_count }
+{
+    let mut sum = 0;
+    for k in 0..sheet.tracks() {
+        sum += sheet.pregap(k) + sheet.postgap(k);
+    }
+    sum
+}
+
+pub(crate) fn catalogue(sheet: &Sheet) -> Option<[u8; CATALOGUE_DIGITS]>
+    ensures { result ≡ sheet.now.catalogue }
+{
+    let number = sheet.catalogue()?;
+    let mut digits = [0; CATALOGUE_DIGITS];
+    digits.copy_from_slice(number);
+    Some(digits)
+}
+
+// The code of a track.
+fn isrc(sheet: &Sheet, k: usize) -> Option<[u8; ISRC_CHARACTERS]>
+    requires { k < length sheet.now.tracks }
+    ensures { result ≡ (track_of sheet.now k).isrc }
+{
+    let code = sheet.isrc(k)?;
+    let mut characters = [0; ISRC_CHARACTERS];
+    characters.copy_from_slice(code);
+    Some(characters)
+}
+
+// The number and block of each index line of a track. File time 0 is at block `before`.
+fn lines(alloc: Global, sheet: &Sheet, k: usize, before: u32) -> Result<Vec<(u8, u32)>, AllocError>
+    requires track { k < length sheet.now.tracks }
+    requires fits { before ≤ 4000000000 }
+    ensures { IfOk result
+        (λ v. v.items ≡ map (λ (line : ℕ × ℕ). (line.0, before + line.1)) (track_of sheet.now k).indices) }
+{
+    let count = sheet.indices(k);
+    let mut lines = Vec::with_capacity(alloc, count)?;
+    for j in 0..count {
+        let (number, time) = sheet.index(k, j);
+        lines.push((number, before + time))?;
+    }
+    Ok(lines)
+}
+
+// The block at which track k begins, after `gaps` blocks of gaps.
+fn begin(sheet: &Sheet, k: usize, gaps: u32) -> u32
+    requires track { k < length sheet.now.tracks }
+    requires gaps { gaps ≡ pregaps_to sheet.now k + postgaps_to sheet.now k }
+    requires small { gaps ≤ most_program }
+    ensures { result ≡ track_begin sheet.now k }
+{
+    if k == 0 {
+        return 0;
+    }
+    // A law: each track has an index line.
+    sheet.tracks_are_in_order();
+    PAUSE_BLOCKS + gaps + sheet.index(k, 0).1
+}
+
+// The place of track k, after `gaps` blocks of gaps.
+fn track_place(alloc: Global, sheet: &Sheet, k: usize, gaps: u32) -> Result<Place, AllocError>
+    requires track { k < length sheet.now.tracks }
+    requires gaps { gaps ≡ pregaps_to sheet.now k + postgaps_to sheet.now k }
+    requires fits { program_blocks sheet.now (audio_need sheet.now) ≤ most_program }
+    requires small { gaps ≤ most_program }
+    ensures { IfOk result (λ p. p ≡ place_of sheet.now k) }
+{
+    // A law: the numbers of tracks are consecutive and at most 99.
+    sheet.tracks_are_in_order();
+    Ok(Place {
+        number: sheet.first() + k as u8,
+        control: sheet.control(k),
+        isrc: isrc(sheet, k),
+        begin: begin(sheet, k, gaps),
+        lines: lines(alloc, sheet, k, PAUSE_BLOCKS + gaps + sheet.pregap(k))?,
+    })
+}
+
+/// The places of all tracks in order.
+pub(crate) fn places(alloc: Global, sheet: &Sheet) -> Result<Vec<Place>, AllocError>
+    requires fits { program_blocks sheet.now (audio_need sheet.now) ≤ most_program }
+    ensures { IfOk result (λ v. v.items ≡ map (place_of sheet.now) (below (length sheet.now.tracks))) }
+{
+    let count = sheet.tracks();
+    let mut places = Vec::with_capacity(alloc, count)?;
+    let mut gaps = 0;
+    for k in 0..count {
+        places.push(track_place(alloc, sheet, k, gaps)?)?;
+        gaps += sheet.pregap(k) + sheet.postgap(k);
+    }
+    Ok(places)
 }

@@ -2,7 +2,7 @@ use Rattle.std.proofs.Common.{◌≡◌, ◌≤◌, ◌+◌}
 use Rattle.std.specs.Prelude.{map}
 use Rattle.bit_lists.specs.Counting.{below}
 use Rattle.toc_model.specs.Places.{pregaps_to, postgaps_to, place_of}
-use Rattle.toc_model.proofs.places.places.Given as goal
+use Rattle.toc_model.proofs.place.places.Given as goal
 
 abbrev pub invariant-loop-k : goal.invariant-loop-k
 invariant-loop-k l = record {

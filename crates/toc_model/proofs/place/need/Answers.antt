@@ -1,6 +1,6 @@
 use Rattle.std.proofs.Common.{ap, ℕ, ◌-◌}
 use Rattle.toc_model.proofs.Need.{need_is_last}
-use Rattle.toc_model.proofs.places.need.Goals as goal
+use Rattle.toc_model.proofs.place.need.Goals as goal
 
 pub returns-clause-need : goal.returns-clause-need
 returns-clause-need c =

@@ -1,6 +1,6 @@
 use Rattle.std.proofs.Common.{arith}
 use Rattle.toc_model.proofs.Gaps.{pregaps_to-zero, postgaps_to-zero, pregaps_to-more, postgaps_to-more}
-use Rattle.toc_model.proofs.places.gaps.Goals as goal
+use Rattle.toc_model.proofs.place.gaps.Goals as goal
 
 pub loop-k-init : goal.loop-k-init
 loop-k-init c = record {

@@ -1,6 +1,6 @@
 use Rattle.std.proofs.Common.{◌≡◌, ◌≤◌, ◌+◌, ◌*◌}
 use Rattle.toc_model.specs.Places.{pregaps_to, postgaps_to}
-use Rattle.toc_model.proofs.places.gaps.Given as goal
+use Rattle.toc_model.proofs.place.gaps.Given as goal
 
 abbrev pub invariant-loop-k : goal.invariant-loop-k
 invariant-loop-k l = record {

@@ -4,7 +4,7 @@ use Rattle.bit_lists.specs.Counting.{below}
 use Rattle.toc_model.specs.Places.{TrackPlace, place_of}
 use Rattle.toc_model.proofs.Gaps.{pregaps_to-zero, postgaps_to-zero, pregaps_to-more, postgaps_to-more, pregaps_to-le, postgaps_to-le}
 use Rattle.toc_model.proofs.SheetPlaces.{one_more_place}
-use Rattle.toc_model.proofs.places.places.Goals as goal
+use Rattle.toc_model.proofs.place.places.Goals as goal
 
 pub loop-k-init : goal.loop-k-init
 loop-k-init c = record {
@@ -21,9 +21,9 @@ loop-k-preserved c =
     record {
       places =
           c.in_ok-push.ensures.items
-          ∙ (ap (λ (ps : List TrackPlace). ps ++ c.in_ok-place.field-0 ∷ []) c.loop-k.invariant.places
+          ∙ (ap (λ (ps : List TrackPlace). ps ++ c.in_ok-track_place.field-0 ∷ []) c.loop-k.invariant.places
           ∙ (ap (λ (p : TrackPlace). map (place_of c.args.sheet.now) (below c.loop-k.k) ++ p ∷ [])
-          c.in_ok-place.ensures
+          c.in_ok-track_place.ensures
           ∙ sym (one_more_place c.args.sheet.now c.loop-k.k)));
       gaps = omega (arith, pregaps_to-more sheet k lt, postgaps_to-more sheet k lt, c.loop-k.invariant.gaps);
       small = omega (

@@ -5,8 +5,8 @@ use Rattle.toc_model.specs.Places.{TrackPlace, blocks_before, place_of}
 use Rattle.toc_model.specs.Layout.{IsPlace}
 use Rattle.toc_model.proofs.Gaps.{pregaps_to-more}
 use Rattle.toc_model.proofs.SheetPlaces.{IsPlace-of, same_place}
-use Rattle.toc_model.proofs.places.place.Goals as goal
-use Rattle.toc_model.proofs.places.place.Goals.{In_ok-lines}
+use Rattle.toc_model.proofs.place.track_place.Goals as goal
+use Rattle.toc_model.proofs.place.track_place.Goals.{In_ok-lines}
 
 same : (c : In_ok-lines)
     → (let place : TrackPlace = record {
