@@ -1,4 +1,4 @@
-// What texts, offers and faults there are.
+// The kinds of texts, the results of offers, and the reasons for missing texts.
 ghost use Rattle.std.specs.Prelude.{◌≡◌};
 ghost use Rattle.cdtext_packs.specs.Writing.{type_of};
 
@@ -31,27 +31,27 @@ pub const KINDS: [TextKind; 7] = [
 /// The type of the three size packs.
 pub(crate) const SIZE_TYPE: u8 = 0x8f;
 
-/// Which of the 36 size bytes is the first track.
+/// The index of the first track among the 36 size bytes.
 pub(crate) const FIRST_TRACK: usize = 1;
 
-/// Which of the 36 size bytes is the last track.
+/// The index of the last track among the 36 size bytes.
 pub(crate) const LAST_TRACK: usize = 2;
 
 pub(crate) const SIZE_PACKS: u8 = 3;
 
-/// The bytes of text of the size packs in a row.
+/// The number of text bytes in all three size packs.
 pub(crate) const SIZE_BYTES: usize = 36;
 
-/// Which of the 36 size bytes is the number of packs of codes.
+/// The index of the number of code packs among the 36 size bytes.
 pub(crate) const CODE_COUNT: usize = 18;
 
-/// Which of the 36 size bytes is the number of size packs.
+/// The index of the number of size packs among the 36 size bytes.
 pub(crate) const SIZE_COUNT: usize = 19;
 
-/// Which of the 36 size bytes is the number of the last pack.
+/// The index of the last pack's number among the 36 size bytes.
 pub(crate) const LAST_NUMBER: usize = 20;
 
-/// Which of the 36 size bytes is the language.
+/// The index of the language among the 36 size bytes.
 pub(crate) const LANGUAGE: usize = 28;
 
 /// The code of the language English.
@@ -73,37 +73,37 @@ impl TextKind {
     }
 }
 
-/// What became of an offered pack.
+/// The result of offering a pack to a reader.
 #[derive(Clone, Copy, PartialEq, Eq, Debug)]
 pub enum Offer {
-    /// It is kept from now on.
+    /// The pack was kept.
     Kept,
-    /// A pack with its number is kept already.
+    /// A pack with this number was kept before.
     Again,
-    /// Its last two bytes are not the check of the others.
+    /// The CRC of the pack is wrong.
     BadCrc,
-    /// Its check matches, but it is of double-byte text or of another block than the first.
+    /// The CRC is right, but the pack has double-byte text or belongs to another block than the first.
     OtherBlock,
 }
 
-/// Why the kept packs give no texts.
+/// The reason why the kept packs have no texts.
 #[derive(Clone, Copy, PartialEq, Eq, Debug)]
 pub enum TextFault {
-    /// The least number that is wanted and not kept.
+    /// A pack is missing. `seq` is the least missing number.
     Missing { seq: u8 },
-    /// One of the three size packs is not kept.
+    /// One of the three size packs is missing.
     NoSize,
-    /// A number or a text that cannot be. In size pack 0, byte 5: the first track is not 1 to 99; byte 6: the last
-    /// track is below the first or above 99. Byte 15: a kind ends with fewer strings than the album and the tracks
-    /// need; `seq` is its last pack.
+    /// A number or a text is invalid. Byte 5 of size pack 0: the first track is not 1 to 99. Byte 6: the last track is
+    /// below the first one or above 99. Byte 15: a kind has too few strings for the album and the tracks; `seq` is its
+    /// last pack.
     Malformed { seq: u8, byte: u8 },
     NoMemory,
 }
 
-/// Why texts have no packs.
+/// The reason why texts have no packs.
 #[derive(Clone, Copy, PartialEq, Eq, Debug)]
 pub enum PackStop {
-    /// They need more packs than 256.
+    /// They need more than 256 packs.
     TooMany { packs: u32 },
     NoMemory,
 }

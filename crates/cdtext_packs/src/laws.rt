@@ -1,4 +1,4 @@
-// Laws of what a reader keeps, and of how long the lines of it are.
+// Laws on the packs that a reader keeps and on the length of their lines.
 ghost use Rattle.std.specs.Prelude.{◌≡◌, ◌∷◌, ◌++◌, ◌^◌, ◌<◌, ◌≤◌, [], List, ℕ, Option, Ok, length, ◌≢◌, Bool, false, true};
 ghost use Rattle.cdtext_packs.specs.Kept.{nothing_kept, kept_among, kept_by, offer_of};
 ghost use Rattle.cdtext_packs.specs.Packs.{most_text_packs, check_matches};
@@ -10,8 +10,7 @@ ghost use Rattle.cdtext_packs.specs.Writing.{packs_of};
 ghost use Rattle.cdtext_packs.specs.declared.kinds.Offer.TheVariants.{BadCrc};
 ghost use Rattle.cdtext_packs.specs.Copies.{IsPack, AreCopies, HasNoTab};
 
-/// A law: what is kept after offers of a list of packs, one after another, is for each number the first good pack
-/// with it.
+/// A law: after a list of packs was offered, the reader keeps the first good pack for each number.
 pub fn offers_keep_the_first()
     ensures start { kept_among [] ≡ nothing_kept }
     ensures next { (packs : List (List ℕ)) (pack : List ℕ)
@@ -29,8 +28,7 @@ pub fn texts_of_packs_fit()
         → length (counted_lines texts good bad other) ≤ 932154 }
 {}
 
-/// A law: where the bits of a pack whose check matches change, all within sixteen neighbouring ones, the check no
-/// longer matches.
+/// A law: if a pack with a valid CRC changes only within sixteen neighbouring bits, its CRC becomes invalid.
 pub fn bursts_are_noticed()
     ensures { (kept : List (Option (List ℕ))) (pack changed : List ℕ) (before one other after : List Bool)
         → IsPack pack → IsPack changed → check_matches pack ≡ true

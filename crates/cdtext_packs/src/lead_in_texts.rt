@@ -12,22 +12,22 @@ use crate::{Offer, PACK_BYTES, TextReader, offers_keep_the_first};
 use cdg_io::{Piece, Stage};
 use raw_subcode::{BLOCK_BYTES, Block, SLOTS_A_BLOCK, SYMBOLS_A_SLOT, text_symbols};
 
-/// Offers the packs of the lead-in's blocks to a reader, four of each block, and counts what became of them.
+/// Offers the four packs of each lead-in block to a reader, and counts the results.
 #[derive(Drop)]
 pub struct LeadInTexts {
-    /// The blocks of the lead-in that are still to come.
+    /// The number of lead-in blocks to come.
     pub left: u32,
     pub reader: TextReader,
-    /// The packs that can be kept.
+    /// The number of good packs.
     pub good: u32,
-    /// The packs whose check does not match.
+    /// The number of packs with a wrong CRC.
     pub bad: u32,
-    /// The good packs of other blocks of text than the first.
+    /// The number of packs of other text blocks than the first.
     pub other: u32,
 }
 
 impl LeadInTexts {
-    /// A lead-in of no blocks.
+    /// A stage for a lead-in without blocks.
     pub fn start() -> LeadInTexts
         ensures { result ≡ fresh_texts 0 }
     {
@@ -40,7 +40,7 @@ impl LeadInTexts {
         }
     }
 
-    /// Begins with a lead-in of so many blocks.
+    /// Starts again, with a lead-in of this many blocks.
     pub fn begin(&mut self, lead_in: u32)
         ensures { self.new ≡ fresh_texts lead_in }
     {
@@ -51,7 +51,7 @@ impl LeadInTexts {
         self.other = 0;
     }
 
-    // Counts the four packs of an idle block: bytes of zeros, whose check does not match.
+    // Counts the four packs of an idle block: their bytes are 0, so their CRC is wrong.
     #[inline]
     fn count_idle(&mut self)
         ensures { self.new ≡ record self.old { bad = min (self.old.bad + 4) (2 ^ 32 - 1) } }
@@ -59,7 +59,7 @@ impl LeadInTexts {
         self.bad = self.bad.saturating_add(4);
     }
 
-    // Offers a pack to the reader, and counts the answer.
+    // Offers a pack to the reader, and counts the result.
     #[tactic(auto, unfolding(crate::specs::TextSteps::offered))]
     fn offer(&mut self, pack: &[u8; PACK_BYTES])
         ensures { self.new ≡ offered self.old pack.now }
@@ -72,7 +72,7 @@ impl LeadInTexts {
     }
 }
 
-// Whether no symbol of a block is other than 0: most lead-ins carry no texts.
+// Whether all symbols of a block are 0. Most lead-ins carry no texts.
 #[inline]
 fn is_idle(block: &[u8; BLOCK_BYTES]) -> bool
     ensures { result ≡ true → symbols_of block.now ≡ replicate block_bytes 0 }
@@ -120,8 +120,8 @@ pub fn lead_in_packs_are_read()
     offers_keep_the_first();
 }
 
-/// The symbols of block `l` of the lead-in, each below 64: the packs over and over, four in a block, without parity
-/// and not spread, or zeros where there are none.
+/// The symbols of block `l` of the lead-in, each below 64. The packs are repeated, four in a block, without parity and
+/// without spreading. Without packs the symbols are 0.
 pub fn lead_in_symbols(packs: &[TextPack], l: u32) -> [u8; BLOCK_BYTES]
     requires { l < most_lead_in }
     ensures symbols { result ≡ lead_in_symbols packs.now l }

@@ -8,16 +8,12 @@ mod map;
 mod pack;
 mod reader;
 mod reading;
-mod strings;
 mod text;
-mod writer;
 
 pub use kinds::{KINDS, Offer, PackStop, TextFault, TextKind};
 pub use laws::{bursts_are_noticed, offers_keep_the_first, texts_come_back, texts_of_packs_fit};
 pub use lead_in_texts::{LeadInTexts, lead_in_packs_are_read, lead_in_symbols};
-pub use map::TextMap;
-pub use pack::{MOST_PACKS, PACK_BYTES, TEXT_BYTES, TextPack};
+pub use map::{Strings, TextMap};
+pub use pack::{MOST_PACKS, PACK_BYTES, TEXT_BYTES, TextPack, pack_all};
 pub use reader::TextReader;
-pub use strings::Strings;
 pub use text::write_lines;
-pub use writer::pack_all;

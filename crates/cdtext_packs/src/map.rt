@@ -1,18 +1,127 @@
 // The texts of a disc.
-ghost use Rattle.std.specs.Prelude.{◌≡◌, ◌≤◌, ◌+◌, ◌-◌, length, None, IfOk, All};
-ghost use Rattle.disc_time.specs.Counts.{most_tracks};
+ghost use Rattle.std.specs.Prelude.{replicate, ◌≡◌, ◌≤◌, ◌+◌, ◌-◌, length, None, IfOk, All, ◌<◌, ◌*◌, ◌∷◌, ◌++◌, [], List, ℕ, MatchResult, slice_index_or, map};
+ghost use Rattle.disc_time.specs.Counts.{most_tracks, most_text_bytes};
 ghost use Rattle.cdtext_packs.specs.Packs.{most_text_packs};
-ghost use Rattle.cdtext_packs.specs.Texts.{no_texts, strings_of, text_of, texts_with, has_no_text, unless_empty, AreTexts, IsString};
-ghost use Rattle.cdtext_packs.specs.Reading.{first_short, all_texts};
+ghost use Rattle.cdtext_packs.specs.Texts.{no_texts, strings_of, text_of, texts_with, has_no_text, unless_empty, AreTexts, IsString, are_empty};
+ghost use Rattle.cdtext_packs.specs.Reading.{first_short, all_texts, meant};
+ghost use Rattle.cdtext_packs.specs.Writing.{joined, holders};
 
 use crate::kinds::TextKind;
 use crate::pack::TextPack;
-use crate::reading::{empty_strings, kind_texts};
-use crate::strings::Strings;
+use crate::reading::kind_texts;
 use std::alloc::{AllocError, Global};
 use std::marker::Model;
 
-/// The strings of each kind for the album and each track, or none at all.
+/// The album's string and each track's.
+#[derive(Drop)]
+pub struct Strings {
+    items: Vec<Vec<u8>>,
+}
+
+impl Model for Strings {
+    ghost Value = { List (List ℕ) };
+
+    ghost view = { λ s. map (λ v. v.items) s.items.items };
+}
+
+impl Strings {
+    /// An empty list.
+    pub fn new(alloc: Global) -> Strings
+        ensures { result ≡ [] }
+    {
+        Strings {
+            items: Vec::new(alloc),
+        }
+    }
+
+    /// Appends a string.
+    pub fn push(&mut self, string: Vec<u8>) -> Result<(), AllocError>
+        ensures pushed { MatchResult result (λ _. self.new ≡ self.old ++ string.items ∷ [])
+            (λ _. self.new ≡ self.old) }
+    {
+        self.items.push(string)?;
+        Ok(())
+    }
+
+    pub(crate) fn len(&self) -> usize
+        ensures { result ≡ length self.now }
+    {
+        self.items.len()
+    }
+
+    /// The string at a place, or an empty string past the end.
+    pub(crate) fn get(&self, place: usize) -> &[u8]
+        ensures { result.now ≡ slice_index_or self.now place [] }
+    {
+        match self.items.get(place) {
+            Some(string) => string,
+            None => &[],
+        }
+    }
+
+    /// The meaning of a string after these: a single tab repeats the previous one.
+    pub(crate) fn meant<'a>(&'a self, string: &'a [u8]) -> &'a [u8]
+        ensures { result.now ≡ meant self.now string.now }
+    {
+        if string.len() == 1 && string[0] == b'\t' && self.len() > 0 {
+            self.get(self.len() - 1)
+        } else {
+            string
+        }
+    }
+
+    /// Whether each string is empty.
+    pub(crate) fn are_empty(&self) -> bool
+        ensures { result ≡ are_empty self.now }
+    {
+        self.items.iter().all(|string| string.is_empty())
+    }
+
+    /// The length of `joined`.
+    pub(crate) fn joined_len(&self) -> usize
+        requires count { length self.now ≤ most_tracks + 1 }
+        requires strings { All IsString self.now }
+        ensures value { result ≡ length (joined self.now) }
+        ensures bound { result ≤ (most_text_bytes + 1) * length self.now }
+    {
+        let mut len = 0;
+        for place in 0..self.len() {
+            len += self.get(place).len() + 1;
+        }
+        len
+    }
+
+    /// The bytes of all strings, with a zero byte after each.
+    pub(crate) fn joined(&self, alloc: Global) -> Result<Vec<u8>, AllocError>
+        ensures { IfOk result (λ bytes. bytes.items ≡ joined self.now) }
+    {
+        let mut bytes = Vec::new(alloc);
+        for place in 0..self.len() {
+            bytes.extend_from_slice(self.get(place))?;
+            bytes.push(0)?;
+        }
+        Ok(bytes)
+    }
+
+    /// The place of the string that contains byte `at` of `joined`, and the offset of this byte in the string.
+    pub(crate) fn holder(&self, at: usize) -> (usize, usize)
+        requires { at < length (joined self.now) }
+        ensures holder { slice_index_or (holders 0 self.now) at (0, 0) ≡ result }
+        ensures place { result.0 < length self.now }
+    {
+        let mut offset = at;
+        for place in 0..self.len() {
+            let len = self.get(place).len();
+            if offset <= len {
+                return (place, offset);
+            }
+            offset -= len + 1;
+        }
+        unreachable!()
+    }
+}
+
+/// The strings of each kind for the album and each track, or no strings at all.
 #[derive(Drop)]
 pub struct TextMap {
     first: u8,
@@ -56,8 +165,8 @@ impl TextMap {
         }
     }
 
-    /// The titles, performers, songwriters and codes of the album and of the tracks from the number `first` on, and
-    /// empty strings of the other kinds. It is the empty map where all of them are empty.
+    /// The titles, performers, songwriters and codes of the album and of the tracks from number `first` on. The strings
+    /// of the other kinds are empty. If all strings are empty, the result is the empty map.
     pub fn of_strings(
         alloc: Global,
         first: u8,
@@ -77,35 +186,8 @@ impl TextMap {
         ensures { IfOk result
             (λ map. map ≡ unless_empty (texts_with first titles performers songwriters codes)) }
     {
-        let map = TextMap::with_strings(alloc, first, titles, performers, songwriters, codes)?;
-        if map.has_no_text() {
-            drop(map);
-            return Ok(TextMap::empty(alloc));
-        }
-        Ok(map)
-    }
-
-    // The same, where all of them may be empty.
-    fn with_strings(
-        alloc: Global,
-        first: u8,
-        titles: Strings,
-        performers: Strings,
-        songwriters: Strings,
-        codes: Strings,
-    ) -> Result<TextMap, AllocError>
-        requires first { 1 ≤ first }
-        requires some { 2 ≤ length titles }
-        requires last { first + length titles ≤ most_tracks + 2 }
-        requires performers { length performers ≡ length titles }
-        requires songwriters { length songwriters ≡ length titles }
-        requires codes { length codes ≡ length titles }
-        requires strings { All IsString titles × All IsString performers × All IsString songwriters
-            × All IsString codes }
-        ensures { IfOk result (λ map. map ≡ texts_with first titles performers songwriters codes) }
-    {
         let count = titles.len();
-        Ok(TextMap {
+        let map = TextMap {
             first,
             last: first + (count - 2) as u8,
             title: titles,
@@ -115,7 +197,12 @@ impl TextMap {
             arranger: empty_strings(alloc, count)?,
             message: empty_strings(alloc, count)?,
             code: codes,
-        })
+        };
+        if map.has_no_text() {
+            drop(map);
+            return Ok(TextMap::empty(alloc));
+        }
+        Ok(map)
     }
 
     /// The texts of kept packs, for the album and each track from the first to the last.
@@ -162,14 +249,14 @@ impl TextMap {
         self.last
     }
 
-    /// A law: every map has no texts at all, or those of tracks.
+    /// A law: a map has no texts at all, or the texts of an album with tracks.
     pub(crate) fn texts_are_of_tracks(&self)
         ensures { AreTexts self.now }
     {
         let _first = self.first;
     }
 
-    /// The string of a track, or of the album as track 0, and an empty one where there is none.
+    /// The string of a track (0 is the album), empty if there is none.
     pub fn text(&self, kind: TextKind, track: u8) -> &[u8]
         ensures text { result.now ≡ text_of kind track self.now }
     {
@@ -208,4 +295,16 @@ impl TextMap {
             && self.message.are_empty()
             && self.code.are_empty()
     }
+}
+
+pub(crate) fn empty_strings(alloc: Global, count: usize) -> Result<Strings, AllocError>
+    ensures strings { IfOk result (λ strings. strings ≡ replicate count []) }
+    ensures count { IfOk result (λ strings. length strings ≡ count) }
+    ensures each { IfOk result (All IsString) }
+{
+    let mut strings = Strings::new(alloc);
+    for _place in 0..count {
+        strings.push(Vec::new(alloc))?;
+    }
+    Ok(strings)
 }

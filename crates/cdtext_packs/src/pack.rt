@@ -1,29 +1,38 @@
-// A pack of eighteen bytes. Clauses call its sizes by the names of specs/Packs.antt.
-ghost use Rattle.std.specs.Prelude.{◌≡◌, ◌∷◌, List, ℕ, length, true};
-ghost use Rattle.cdtext_packs.specs.Packs.{pack_type, pack_track, pack_number, pack_text, check_matches, is_first_block, sealed, text_bytes};
+// Packs of eighteen bytes, and the packs of texts. specs/Packs.antt has the same sizes for clauses.
+ghost use Rattle.std.specs.Prelude.{◌≡◌, ◌∷◌, List, ℕ, length, true, ◌<◌, ◌≤◌, ◌+◌, ◌-◌, ◌*◌, ◌++◌, flat_map, MatchResult, IfOk};
+ghost use Rattle.cdtext_packs.specs.Packs.{pack_type, pack_track, pack_number, pack_text, check_matches, is_first_block, sealed, text_bytes, most_text_packs, size_packs};
+ghost use Rattle.disc_time.specs.Counts.{most_tracks};
+ghost use Rattle.cdtext_packs.specs.Texts.{kinds};
+ghost use Rattle.cdtext_packs.specs.Writing.{joined, most_kind_packs, twelve, text_content, kind_contents, contents, content_bytes, numbered, packs_of, type_of, size_bytes, size_contents, IsPackStop};
 
+use crate::kinds::{
+    CODE_COUNT, ENGLISH, FIRST_TRACK, KINDS, LANGUAGE, LAST_NUMBER, LAST_TRACK, PackStop,
+    SIZE_BYTES, SIZE_COUNT, SIZE_PACKS, SIZE_TYPE, TextKind,
+};
+use crate::map::{Strings, TextMap};
 use bit_lists::crc16;
+use std::alloc::{AllocError, Global};
 use std::marker::Model;
 
-/// How many packs a disc has at most: the number of a pack is a byte.
+/// The maximum number of packs: the number of a pack is a byte.
 pub const MOST_PACKS: u32 = 256;
 
-/// The bytes of a pack: those of its head and its text, and the two of their check.
+/// The bytes of a pack: head, text and CRC.
 pub const PACK_BYTES: usize = 18;
 
-/// The bytes of its head: type, track, number, position.
+/// The bytes of a pack's head: type, track, number, position.
 pub(crate) const HEAD_BYTES: usize = 4;
 
-/// The bytes of its text.
+/// The bytes of a pack's text.
 pub const TEXT_BYTES: usize = 12;
 
-/// The bytes of its head and its text, of which the check is.
+/// The bytes that the CRC covers: head and text.
 pub(crate) const CHECKED_BYTES: usize = HEAD_BYTES + TEXT_BYTES;
 
-/// The greatest position that a pack can tell, in four bits.
+/// The greatest position in a pack's head, which has four bits for it.
 pub(crate) const MOST_POSITION: usize = 15;
 
-/// A pack: its type, track, number and position, twelve bytes of text, and the check of these sixteen.
+/// A pack: type, track, number, position, twelve bytes of text, and the CRC of these sixteen bytes.
 #[derive(Clone, Copy, PartialEq, Eq)]
 pub struct TextPack {
     bytes: [u8; PACK_BYTES],
@@ -66,7 +75,7 @@ impl TextPack {
         self.bytes[0]
     }
 
-    /// Its second byte: the track of its first string, or of a size pack which of the three it is.
+    /// Its second byte: the track of its first string, or the index of a size pack.
     pub(crate) fn track(&self) -> u8
         ensures { result ≡ pack_track self.now }
     {
@@ -88,7 +97,7 @@ impl TextPack {
         &self.bytes[HEAD_BYTES..CHECKED_BYTES]
     }
 
-    /// Whether the last two bytes are the check of the others.
+    /// Whether the CRC is right.
     pub(crate) fn check_matches(&self) -> bool
         ensures { result ≡ check_matches self.now }
     {
@@ -97,14 +106,14 @@ impl TextPack {
         crc16(&self.bytes[..CHECKED_BYTES]) == 256 * high + low
     }
 
-    /// Whether it is of the first block, with single bytes as its characters.
+    /// Whether it belongs to the first block and has single-byte characters.
     pub(crate) fn is_first_block(&self) -> bool
         ensures { result ≡ is_first_block self.now }
     {
         self.bytes[3] < 16
     }
 
-    /// The pack of these bytes and their check.
+    /// The pack with this head and text.
     pub(crate) fn new(
         kind: u8,
         track: u8,
@@ -121,7 +130,7 @@ impl TextPack {
         TextPack::sealed(&content)
     }
 
-    // The pack of sixteen bytes and their check.
+    // The pack of sixteen bytes, with their CRC.
     fn sealed(content: &[u8; CHECKED_BYTES]) -> TextPack
         ensures { result ≡ sealed content.now }
     {
@@ -132,4 +141,157 @@ impl TextPack {
         bytes[CHECKED_BYTES + 1] = (check % 256) as u8;
         TextPack { bytes }
     }
+}
+
+/// The packs of the texts, in the order of their numbers. There are none if all strings are empty.
+pub fn pack_all(alloc: Global, map: &TextMap) -> Result<Vec<TextPack>, PackStop>
+    ensures { MatchResult result (λ packs. (packs.items ≡ packs_of map.now)
+        × (length packs.items ≤ most_text_packs)) (IsPackStop map.now) }
+{
+    let packs = packs_needed(map);
+    if packs > MOST_PACKS {
+        return Err(PackStop::TooMany { packs });
+    }
+    let mut all = Vec::with_capacity(alloc, packs as usize)?;
+    if packs > 0 {
+        for kind in KINDS {
+            push_kind(alloc, &mut all, map, kind)?;
+        }
+        push_sizes(&mut all, map)?;
+    }
+    Ok(all)
+}
+
+fn packs_needed(map: &TextMap) -> u32
+    ensures { result ≡ length (contents map.now) }
+{
+    if map.has_no_text() {
+        return 0;
+    }
+    let mut count = u32::from(SIZE_PACKS);
+    for kind in KINDS {
+        count += kind_packs(map, kind);
+    }
+    count
+}
+
+fn kind_packs(map: &TextMap, kind: TextKind) -> u32
+    ensures value { result ≡ length (kind_contents map.now kind) }
+    ensures bound { result ≤ most_kind_packs }
+{
+    // A law: it limits the number and the length of the strings.
+    map.texts_are_of_tracks();
+    let strings = map.strings(kind);
+    if strings.are_empty() {
+        0
+    } else {
+        ((strings.joined_len() + (TEXT_BYTES - 1)) / TEXT_BYTES) as u32
+    }
+}
+
+// Appends the packs of a kind.
+fn push_kind(
+    alloc: Global,
+    packs: &mut Vec<TextPack>,
+    map: &TextMap,
+    kind: TextKind,
+) -> Result<(), AllocError>
+    requires { length packs.old.items + length (kind_contents map.now kind) ≤ most_text_packs }
+    ensures { IfOk result (λ _. packs.new.items ≡ packs.old.items
+        ++ numbered (length packs.old.items) (kind_contents map.now kind)) }
+{
+    let first = map.first();
+    let strings = map.strings(kind);
+    let bytes = strings.joined(alloc)?;
+    for k in 0..kind_packs(map, kind) as usize {
+        let number = packs.len() as u8;
+        packs.push(text_pack(first, kind, strings, &bytes, k, number))?;
+    }
+    Ok(())
+}
+
+// Appends the three size packs.
+fn push_sizes(packs: &mut Vec<TextPack>, map: &TextMap) -> Result<(), AllocError>
+    requires before { length packs.old.items ≡ length (flat_map (kind_contents map.now) kinds) }
+    requires few { length packs.old.items ≤ most_text_packs - size_packs }
+    ensures { IfOk result (λ _. packs.new.items ≡ packs.old.items
+        ++ numbered (length packs.old.items) (size_contents map.now)) }
+{
+    let count = packs.len() as u8;
+    let bytes = size_bytes(map, count + (SIZE_PACKS - 1));
+    for d in 0..SIZE_PACKS {
+        packs.push(TextPack::new(SIZE_TYPE, d, count + d, 0, &twelve(&bytes, usize::from(d))))?;
+    }
+    Ok(())
+}
+
+// The text bytes of the size packs.
+fn size_bytes(map: &TextMap, last: u8) -> [u8; SIZE_BYTES]
+    requires last { last ≡ length (flat_map (kind_contents map.now) kinds) + (size_packs - 1) }
+    ensures { result ≡ size_bytes map.now }
+{
+    let mut bytes = [0; SIZE_BYTES];
+    bytes[FIRST_TRACK] = map.first();
+    bytes[LAST_TRACK] = map.last();
+    // From byte 4 on: the number of packs of each type from 80 to 8F.
+    bytes[4] = count_of(map, TextKind::Title);
+    bytes[5] = count_of(map, TextKind::Performer);
+    bytes[6] = count_of(map, TextKind::Songwriter);
+    bytes[7] = count_of(map, TextKind::Composer);
+    bytes[8] = count_of(map, TextKind::Arranger);
+    bytes[9] = count_of(map, TextKind::Message);
+    bytes[CODE_COUNT] = count_of(map, TextKind::Code);
+    bytes[SIZE_COUNT] = SIZE_PACKS;
+    bytes[LAST_NUMBER] = last;
+    bytes[LANGUAGE] = ENGLISH;
+    bytes
+}
+
+// The number of packs of a kind, as a byte.
+fn count_of(map: &TextMap, kind: TextKind) -> u8
+    requires { length (flat_map (kind_contents map.now) kinds) ≤ most_text_packs - size_packs }
+    ensures { result ≡ length (kind_contents map.now kind) }
+{
+    kind_packs(map, kind) as u8
+}
+
+// Pack k of a kind. `bytes` are its joined strings.
+fn text_pack(
+    first: u8,
+    kind: TextKind,
+    strings: &Strings,
+    bytes: &[u8],
+    k: usize,
+    number: u8,
+) -> TextPack
+    requires bytes { bytes.now ≡ joined strings.now }
+    requires inside { text_bytes * k < length bytes.now }
+    requires tracks { first + length strings.now ≤ most_tracks + 2 }
+    ensures { result ≡ sealed (content_bytes number (text_content first (type_of kind) strings.now k)) }
+{
+    let (place, offset) = strings.holder(TEXT_BYTES * k);
+    let track = if place == 0 {
+        0
+    } else {
+        first + (place - 1) as u8
+    };
+    TextPack::new(
+        kind.pack_type(),
+        track,
+        number,
+        offset.min(MOST_POSITION) as u8,
+        &twelve(bytes, k),
+    )
+}
+
+// The twelve bytes from 12 k on, with zeros past the end.
+fn twelve(bytes: &[u8], k: usize) -> [u8; TEXT_BYTES]
+    requires { text_bytes * k < length bytes.now }
+    ensures { result ≡ twelve bytes.now k }
+{
+    let rest = &bytes[TEXT_BYTES * k..];
+    let len = rest.len().min(TEXT_BYTES);
+    let mut part = [0; TEXT_BYTES];
+    part[..len].copy_from_slice(&rest[..len]);
+    part
 }

@@ -1,4 +1,4 @@
-// The reader of packs in any order, with any repeats.
+// Reads packs in any order, with repeats.
 ghost use Rattle.std.specs.Prelude.{◌≡◌, ◌≤◌, ◌⊎◌, List, ℕ, Option, true, length, IsOk, IfOk, IfErr, Ok, Err};
 ghost use Rattle.cdtext_packs.specs.Kept.{AreGood, nothing_kept, offer_of, kept_by};
 ghost use Rattle.cdtext_packs.specs.declared.kinds.Offer.TheVariants.{Again};
@@ -14,7 +14,7 @@ use disc_time::MOST_TRACKS;
 use std::alloc::{AllocError, Global};
 use std::marker::Model;
 
-/// The packs that are kept: at most one of each number. Each of them is good.
+/// The kept packs: at most one for each number. Each of them is good.
 #[derive(Drop)]
 pub struct TextReader {
     kept: [Option<TextPack>; MOST_PACKS as usize],
@@ -29,7 +29,7 @@ impl Model for TextReader {
 }
 
 impl TextReader {
-    /// What `new` gives: no memory is asked for, and none can be wanted.
+    /// A reader without packs. It allocates nothing.
     pub fn start(alloc: Global) -> Result<TextReader, AllocError>
         ensures fresh { IfOk result (λ reader. reader ≡ nothing_kept) }
         ensures memory { IsOk result }
@@ -37,7 +37,7 @@ impl TextReader {
         Ok(TextReader::new())
     }
 
-    /// A reader that keeps nothing.
+    /// A reader without packs.
     pub fn new() -> TextReader
         ensures { result ≡ nothing_kept }
     {
@@ -98,8 +98,8 @@ impl TextReader {
         Offer::Kept
     }
 
-    /// The texts of the kept packs, in any order of their offers, or the first reason that they give none. `NoMemory`
-    /// comes only where they give texts; where nothing is kept no memory is taken.
+    /// The texts of the kept packs, whatever the order of their offers, or the first reason why they have none.
+    /// `NoMemory` is returned only if they have texts. Without packs it allocates nothing.
     pub fn finish(&self, alloc: Global) -> Result<TextMap, TextFault>
         ensures texts { IfOk result (λ map. read_texts self.now ≡ Ok map) }
         ensures fault { IfErr result

@@ -1,5 +1,5 @@
-// The texts of kept packs. Pack n, if it is kept, stands at place n.
-ghost use Rattle.std.specs.Prelude.{◌≡◌, ◌≤◌, ◌*◌, false, [], length, replicate, Some, None, IfOk, All, if◌then◌else◌};
+// The texts of kept packs. Pack n, if it is kept, is at index n.
+ghost use Rattle.std.specs.Prelude.{◌≡◌, ◌≤◌, ◌*◌, false, [], length, Some, None, IfOk, All, if◌then◌else◌};
 ghost use Rattle.std.specs.List.{position_or_len};
 ghost use Rattle.std.specs.Option.{option_map};
 ghost use Rattle.disc_time.specs.Counts.{most_text_bytes};
@@ -8,8 +8,8 @@ ghost use Rattle.cdtext_packs.specs.Texts.{IsString};
 ghost use Rattle.cdtext_packs.specs.Reading.{keeps_nothing, is_size_pack, size_pack, first_missing, first_short, kind_packs, last_number, is_short, is_zero, ends_in, kind_texts, kind_bytes, strings_in, resolved};
 
 use crate::kinds::{KINDS, SIZE_TYPE, TextKind};
+use crate::map::{Strings, empty_strings};
 use crate::pack::TextPack;
-use crate::strings::Strings;
 use std::alloc::{AllocError, Global};
 
 pub(crate) fn keeps_nothing(kept: &[Option<TextPack>]) -> bool
@@ -18,7 +18,7 @@ pub(crate) fn keeps_nothing(kept: &[Option<TextPack>]) -> bool
     kept.iter().all(|slot| slot.is_none())
 }
 
-/// The size pack of a place, and of several the one with the least number.
+/// Size pack `d`: of several, the one with the least number.
 pub(crate) fn size_pack(kept: &[Option<TextPack>], d: u8) -> Option<TextPack>
     ensures { result ≡ size_pack kept.now d }
 {
@@ -53,7 +53,7 @@ pub(crate) fn first_missing(kept: &[Option<TextPack>], count: usize) -> Option<u
     None
 }
 
-/// The number of the last pack of the first kind with fewer strings than are wanted.
+/// The number of the last pack of the first kind that has too few strings.
 pub(crate) fn first_short(kept: &[Option<TextPack>], count: usize) -> Option<u8>
     requires { length kept.now ≤ most_text_packs }
     ensures { result ≡ option_map (λ kind. last_number (kind_packs kept.now kind))
@@ -68,7 +68,7 @@ pub(crate) fn first_short(kept: &[Option<TextPack>], count: usize) -> Option<u8>
     None
 }
 
-// The number of the last pack of a kind, if it has fewer strings than are wanted.
+// The number of the last pack of a kind, if the kind has too few strings.
 fn short_at(kept: &[Option<TextPack>], count: usize, kind: TextKind) -> Option<u8>
     requires { length kept.now ≤ most_text_packs }
     ensures { result ≡ (if is_short kept.now count kind then Some (last_number (kind_packs kept.now kind))
@@ -134,19 +134,7 @@ fn kind_bytes(
     Ok(bytes)
 }
 
-pub(crate) fn empty_strings(alloc: Global, count: usize) -> Result<Strings, AllocError>
-    ensures strings { IfOk result (λ strings. strings ≡ replicate count []) }
-    ensures count { IfOk result (λ strings. length strings ≡ count) }
-    ensures each { IfOk result (All IsString) }
-{
-    let mut strings = Strings::new(alloc);
-    for _place in 0..count {
-        strings.push(Vec::new(alloc))?;
-    }
-    Ok(strings)
-}
-
-// The first strings in these bytes, with what a single tab means.
+// The first strings in these bytes. A single tab repeats the previous string.
 fn strings_in(alloc: Global, bytes: &[u8], count: usize) -> Result<Strings, AllocError>
     requires size { length bytes.now ≤ most_text_bytes }
     requires count { count ≤ ends_in bytes.now }

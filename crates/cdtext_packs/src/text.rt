@@ -12,8 +12,8 @@ use cdg_io::{Failed, Piece, Sink, put_all};
 use disc_time::two_digits;
 use itoa::Buffer;
 
-/// Writes a line for each string that is not empty, and one on the packs that were offered: how many could be kept,
-/// how many have a check that does not match, and how many are of other blocks. After `Failed` a prefix was written.
+/// Writes a line for each string that is not empty, and a line with the numbers of good packs, of packs with a wrong CRC,
+/// and of packs of other blocks. After `Failed` a prefix was written.
 pub fn write_lines<K: Sink>(
     map: &TextMap,
     good: u32,
@@ -95,12 +95,12 @@ fn hex_byte(byte: u8) -> [u8; 2]
     ensures { result ≡ hex_digits 2 byte }
 {
     let mut digits = [0; 2];
-    // Two digits are room for a byte.
+    // Two digits are enough for a byte.
     let _ = hex::encode_to_slice([byte], &mut digits);
     digits
 }
 
-// What stands in a line before its string.
+// The beginning of a line, before its string.
 fn line_head(kind: TextKind, track: u8) -> Piece
     requires { track ≤ most_tracks }
     ensures { result ≡ line_head kind track }
@@ -129,7 +129,7 @@ fn kind_name(kind: TextKind) -> &'static [u8]
     }
 }
 
-// The line on the packs that were offered.
+// The line with the numbers of packs.
 fn count_line(good: u32, bad: u32, other: u32) -> Piece
     ensures { result ≡ offers_line good bad other }
 {

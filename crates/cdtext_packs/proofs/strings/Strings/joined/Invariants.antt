@@ -1,6 +1,0 @@
-use Rattle.std.proofs.Common.{◌≡◌, take}
-use Rattle.cdtext_packs.specs.Writing.{joined}
-use Rattle.cdtext_packs.proofs.strings.Strings.joined.Given as goal
-
-abbrev pub invariant-loop-place : goal.invariant-loop-place
-invariant-loop-place l = l.bytes.items ≡ joined (take l.place l.self)
