@@ -7,7 +7,7 @@ use Rattle.picture_script.specs.Script.{Drawing, Show, shows}
 use Rattle.picture_script.specs.Lines.{said_in, IsSound, Adds}
 use Rattle.picture_script.specs.Reader.{HasCounted}
 use Rattle.picture_script.specs.Stops.{StopsAt}
-use Rattle.picture_script.specs.declared.draft.ScriptDraft.{ScriptDraft}
+use Rattle.picture_script.specs.declared.reader.ScriptDraft.{ScriptDraft}
 use Rattle.picture_script.specs.declared.reader.ScriptReader.{ScriptReader}
 use Rattle.picture_script.specs.declared.reasons.ScriptStop.{ScriptStop}
 use Rattle.picture_script.specs.declared.reasons.ScriptStop.TheVariants.{NoMemory}

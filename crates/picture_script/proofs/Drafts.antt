@@ -11,10 +11,10 @@ use Rattle.picture_script.specs.Script.{Drawing, Row, Show, shows, pictures, sho
 use Rattle.picture_script.specs.ScriptGrammar.{is_after_hold}
 use Rattle.picture_script.specs.Board.{AreColours}
 use Rattle.picture_script.specs.Lines.{said, all_said, is_kept, is_drawing, no_show, times_of, IsIndexed, said_in, IsSound, Adds}
-use Rattle.picture_script.specs.declared.draft.ScriptDraft.{ScriptDraft}
-use Rattle.picture_script.specs.declared.line.ScriptLine.{ScriptLine}
-use Rattle.picture_script.specs.declared.line.ScriptLine.TheVariants.{TableColour, BorderColour, Filled, Rectangle, PixelRow, ShowLine}
-use Rattle.picture_script.specs.declared.line.Shown.{Shown}
+use Rattle.picture_script.specs.declared.reader.ScriptDraft.{ScriptDraft}
+use Rattle.picture_script.specs.declared.script.ScriptLine.{ScriptLine}
+use Rattle.picture_script.specs.declared.script.ScriptLine.TheVariants.{TableColour, BorderColour, Filled, Rectangle, PixelRow, ShowLine}
+use Rattle.picture_script.specs.declared.script.Shown.{Shown}
 use Rattle.picture_script.proofs.Scripts.{before_snoc, before_last}
 use Rattle.picture_script.proofs.Drawn.{length-all_said}
 

@@ -9,8 +9,8 @@ use Rattle.std.proofs.lemmas.List.Elements.{All-get_or}
 use Rattle.std.proofs.lemmas.List.Sums.{fold-append}
 use Rattle.picture_script.specs.Script.{Drawing, Border, Fill, Picture, blank_picture, drawn, drawn_by, lines_before, picture_pixel, picture_border, picture_colour, picture_tile}
 use Rattle.picture_script.specs.Lines.{said, all_said, is_kept}
-use Rattle.picture_script.specs.declared.line.ScriptLine.{ScriptLine}
-use Rattle.picture_script.specs.declared.line.ScriptLine.TheVariants.{Filled}
+use Rattle.picture_script.specs.declared.script.ScriptLine.{ScriptLine}
+use Rattle.picture_script.specs.declared.script.ScriptLine.TheVariants.{Filled}
 use Rattle.std.proofs.lemmas.Bool.Decides.{nat_tests}
 use Rattle.picture_script.specs.Board.{Board, IsBlank, IsPicture, IsDrawn, IsSet, ArePixelsOf, StandsBefore, pixel_of, tile_of}
 use Rattle.picture_script.proofs.Scripts.{before_prefix, before_rising}

@@ -8,9 +8,9 @@ use Rattle.std.proofs.lemmas.List.Elements.{All-nil, All-cons, All-head, All-tai
 use Rattle.picture_script.specs.Script.{Drawing, Colour, Border, Fill, Rect, Row, Show, shows, pictures, ready_time, hold_time, lines_before, Picture, blank_picture, drawn, drawn_by, picture_pixel, picture_border, picture_colour}
 use Rattle.picture_script.specs.Board.{AreColours}
 use Rattle.picture_script.specs.Lines.{said, all_said, is_kept, no_show, times_of, IsIndexed}
-use Rattle.picture_script.specs.declared.line.ScriptLine.{ScriptLine}
-use Rattle.picture_script.specs.declared.line.ScriptLine.TheVariants.{TableColour, BorderColour, Filled, Rectangle, PixelRow, ShowLine}
-use Rattle.picture_script.specs.declared.line.Shown.{Shown}
+use Rattle.picture_script.specs.declared.script.ScriptLine.{ScriptLine}
+use Rattle.picture_script.specs.declared.script.ScriptLine.TheVariants.{TableColour, BorderColour, Filled, Rectangle, PixelRow, ShowLine}
+use Rattle.picture_script.specs.declared.script.Shown.{Shown}
 use Rattle.picture_script.proofs.Scripts.{before_prefix}
 use Rattle.picture_script.proofs.Drafts.{shown_count}
 

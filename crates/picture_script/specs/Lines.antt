@@ -4,10 +4,10 @@ use Rattle.disc_time.specs.Counts.{time_count}
 use Rattle.picture_script.specs.Script.{Drawing, Colour, Border, Fill, Rect, Row, Show, shows, lines_before}
 use Rattle.picture_script.specs.Sizes.{most_pictures}
 use Rattle.picture_script.specs.Board.{AreColours}
-use Rattle.picture_script.specs.declared.line.ScriptLine.{ScriptLine}
-use Rattle.picture_script.specs.declared.line.ScriptLine.TheVariants.{TableColour, BorderColour, Filled, Rectangle, PixelRow, ShowLine}
-use Rattle.picture_script.specs.declared.line.Shown.{Shown}
-use Rattle.picture_script.specs.declared.draft.ScriptDraft.{ScriptDraft}
+use Rattle.picture_script.specs.declared.script.ScriptLine.{ScriptLine}
+use Rattle.picture_script.specs.declared.script.ScriptLine.TheVariants.{TableColour, BorderColour, Filled, Rectangle, PixelRow, ShowLine}
+use Rattle.picture_script.specs.declared.script.Shown.{Shown}
+use Rattle.picture_script.specs.declared.reader.ScriptDraft.{ScriptDraft}
 use Rattle.cdg_instructions.specs.Sizes.{colour_count, colour_values, window_height, window_width}
 
 -- what a line says; a row's colours stand among those of all rows

@@ -1,20 +1,156 @@
-// A canvas on which the pictures of a script are drawn.
-ghost use Rattle.std.specs.Prelude.{◌≡◌, ◌<◌, ◌≤◌, ◌+◌, ℕ, ◌↔◌, slice_index_or, true, false};
-ghost use Rattle.cdg_instructions.specs.Sizes.{tile_width, window_width};
+// A canvas with a window of pixels, on which the pictures of a script are drawn.
+ghost use Rattle.std.specs.Prelude.{◌≡◌, ◌<◌, ◌≤◌, ◌+◌, ℕ, ◌↔◌, slice_index_or, true, false, ◌-◌, ◌*◌, ◌==◌, ◌&&◌, if◌then◌else◌, List, length, slice_index, IfOk};
+ghost use Rattle.cdg_instructions.specs.Sizes.{tile_width, window_width, colour_count, tile_height, window_height, window_pixels};
+ghost use Rattle.picture_script.specs.Script.{is_within};
+ghost use Rattle.picture_script.specs.Board.{pixel_of, ArePixelsOf, AreWindowPixels, AreColours, IsSameColumn};
 
-use crate::line::ScriptLine;
-use crate::script::Script;
-use crate::window::Window;
+use crate::script::{Script, ScriptLine};
 use cdg_instructions::{
-    COLOURS, PIXELS, TILE_HEIGHT, TILE_WIDTH, Tile, WINDOW_COLUMNS, WINDOW_WIDTH,
+    COLOURS, PIXELS, TILE_HEIGHT, TILE_WIDTH, Tile, WINDOW_COLUMNS, WINDOW_PIXELS, WINDOW_WIDTH,
 };
 use std::alloc::{AllocError, Global};
 use std::marker::Model;
 
-// So many lines are drawn again rather than all pixels copied, which takes about as long.
+/// The colours of the pixels, row by row from the left.
+#[derive(Drop)]
+pub(crate) struct Window {
+    pixels: Vec<u8>,
+}
+
+impl Model for Window {
+    ghost Value = { List ℕ };
+
+    ghost view = { λ w. w.pixels.items };
+
+    ghost invariant = { λ w. AreWindowPixels w.pixels.items };
+}
+
+impl Window {
+    /// A window whose pixels are all 0.
+    pub(crate) fn new(alloc: Global) -> Result<Window, AllocError>
+        ensures { IfOk result (λ w. ArePixelsOf w (λ x y. 0)) }
+    {
+        let pixels = vec![in alloc; 0; WINDOW_PIXELS]?;
+        Ok(Window { pixels })
+    }
+
+    /// The colour number of a pixel.
+    pub(crate) fn get(&self, x: usize, y: usize) -> u8
+        requires width { x < window_width }
+        requires height { y < window_height }
+        ensures pixel { result ≡ pixel_of self.now x y }
+        ensures range { result < colour_count }
+    {
+        self.pixels[WINDOW_WIDTH * y + x]
+    }
+
+    /// Compares the columns of twelve pixels in a row of tiles, which begins at `start`, with those of another window.
+    pub(crate) fn equal_columns(&self, other: &Window, start: usize) -> [bool; WINDOW_WIDTH]
+        requires { start + tile_height * window_width ≤ window_pixels }
+        ensures { (x : ℕ) → x < window_width → slice_index_or result x false ≡ true
+            ↔ IsSameColumn self.now other.now (start + x) }
+    {
+        let mut equal = [true; WINDOW_WIDTH];
+        for j in 0..TILE_HEIGHT {
+            let line = start + WINDOW_WIDTH * j;
+            let end = line + WINDOW_WIDTH;
+            compare_line(
+                &self.pixels[line..end],
+                &other.pixels[line..end],
+                &mut equal,
+            );
+        }
+        equal
+    }
+
+    /// Reads six pixels of a row. All are read before the first is written, so several are moved at once.
+    #[inline]
+    pub(crate) fn read_line(&self, x: usize, y: usize, out: &mut [u8])
+        requires count { length out.old ≡ tile_width }
+        requires width { x + tile_width ≤ window_width }
+        requires height { y < window_height }
+        ensures count { length out.new ≡ tile_width }
+        ensures pixels { (i : ℕ) → i < tile_width → slice_index out.new i ≡ pixel_of self.now (x + i) y }
+        ensures range { (i : ℕ) → slice_index out.new i < colour_count }
+    {
+        let start = WINDOW_WIDTH * y + x;
+        let mut line = [0; TILE_WIDTH];
+        for i in 0..TILE_WIDTH {
+            line[i] = self.pixels[start + i];
+        }
+        out.copy_from_slice(&line);
+    }
+
+    /// Copies the pixels of another window.
+    pub(crate) fn copy(&mut self, other: &Window)
+        ensures { self.new ≡ other.now }
+    {
+        self.pixels.copy_from_slice(&other.pixels);
+    }
+
+    /// Sets all pixels to one colour.
+    pub(crate) fn clear(&mut self, colour: u8)
+        requires { colour < colour_count }
+        ensures { ArePixelsOf self.new (λ x y. colour) }
+    {
+        self.pixels.fill(colour);
+    }
+
+    // Sets pixels of a row to one colour.
+    fn fill_row(&mut self, x: usize, y: usize, width: usize, colour: u8)
+        requires width { x + width ≤ window_width }
+        requires height { y < window_height }
+        requires range { colour < colour_count }
+        ensures { ArePixelsOf self.new (λ x' y'.
+            if y' == y && is_within x width x' then colour else pixel_of self.old x' y') }
+    {
+        let start = WINDOW_WIDTH * y + x;
+        self.pixels[start..start + width].fill(colour);
+    }
+
+    /// Sets the pixels of a rectangle to one colour.
+    pub(crate) fn fill(&mut self, x: usize, y: usize, width: usize, height: usize, colour: u8)
+        requires width { x + width ≤ window_width }
+        requires height { y + height ≤ window_height }
+        requires range { colour < colour_count }
+        ensures { ArePixelsOf self.new (λ x' y'.
+            if is_within x width x' && is_within y height y' then colour else pixel_of self.old x' y') }
+    {
+        for j in 0..height {
+            self.fill_row(x, y + j, width, colour);
+        }
+    }
+
+    /// Sets pixels of a row to these colours.
+    pub(crate) fn draw_row(&mut self, x: usize, y: usize, colours: &[u8])
+        requires width { x + length colours.now ≤ window_width }
+        requires height { y < window_height }
+        requires range { AreColours colours.now }
+        ensures { ArePixelsOf self.new (λ x' y'.
+            if is_within x (length colours.now) x' && y' == y then slice_index colours.now (x' - x)
+            else pixel_of self.old x' y') }
+    {
+        let start = WINDOW_WIDTH * y + x;
+        self.pixels[start..start + colours.len()].copy_from_slice(colours);
+    }
+}
+
+// Clears the mark of each pixel that differs in two lines. The loop has no early exit, so it can be vectorized.
+fn compare_line(line: &[u8], other: &[u8], equal: &mut [bool; WINDOW_WIDTH])
+    requires line { length line.now ≡ window_width }
+    requires other { length other.now ≡ window_width }
+    ensures { (x : ℕ) → x < window_width → slice_index_or equal.new x false ≡ true
+        ↔ (slice_index_or equal.old x false ≡ true) × (slice_index line.now x ≡ slice_index other.now x) }
+{
+    for x in 0..WINDOW_WIDTH {
+        equal[x] &= line[x] == other[x];
+    }
+}
+
+// Up to this many lines are drawn again. To draw more is slower than to copy all pixels.
 const FEW_LINES: usize = 1_000;
 
-/// A window of 288 by 192 pixels, a border and a table of sixteen colours, as lines of a script set them.
+/// A window of 288 by 192 pixels, a border and a table of sixteen colours, drawn by the lines of a script.
 #[derive(Drop)]
 pub struct Canvas {
     window: Window,
@@ -40,7 +176,7 @@ impl Canvas {
     ghost use Rattle.picture_script.specs.Lines.{said, is_kept};
     ghost use Rattle.cdg_instructions.specs.Sizes.{colour_count, colour_values, window_columns, window_height, window_rows, window_width};
 
-    /// A canvas on which all is 0.
+    /// A canvas with all values 0.
     pub fn start(alloc: Global) -> Result<Canvas, AllocError>
         ensures blank { IfOk result IsBlank }
         ensures at { IfOk result (λ c. c.at ≡ None) }
@@ -53,7 +189,7 @@ impl Canvas {
         })
     }
 
-    /// Makes all 0 again.
+    /// Sets all values to 0 again.
     pub fn reset(&mut self)
         ensures blank { IsBlank self.new }
         ensures at { self.new.at ≡ None }
@@ -64,7 +200,7 @@ impl Canvas {
         self.at = None;
     }
 
-    /// The number of the picture that stands there, or none after start and reset.
+    /// The number of the picture on the canvas, or `None` after `start` and `reset`.
     pub fn at(&self) -> Option<u32>
         ensures { result ≡ self.now.at }
     {
@@ -104,7 +240,7 @@ impl Canvas {
         }
     }
 
-    // Sets what one line says of the border and the colours.
+    // Sets the border or the colour of one line.
     fn set(&mut self, line: ScriptLine)
         requires kept { (size : ℕ) × (is_kept size line ≡ true) }
         ensures set { (pixels : List ℕ) (before : Picture) → IsSet before self.old
@@ -117,7 +253,7 @@ impl Canvas {
         }
     }
 
-    // Draws the lines of a script from a place on, once those before it have been drawn.
+    // Draws the lines of a script between two places. The lines before them have been drawn.
     fn draw_lines(&mut self, script: &Script, from: usize, to: usize)
         requires order { from ≤ to }
         requires lines { to ≤ length script.now }
@@ -129,7 +265,7 @@ impl Canvas {
         }
     }
 
-    // Draws the lines from a place on up to a line that fills the window, of which no pixel is seen.
+    // Draws the lines up to a line that fills the window. The pixels of the lines before it are skipped.
     fn draw_fill(&mut self, script: &Script, from: usize, place: usize, colour: u8)
         requires order { from ≤ place }
         requires place { place < length script.now }
@@ -144,10 +280,10 @@ impl Canvas {
         self.window.clear(colour);
     }
 
-    /// Draws picture `k` of a script: the lines before its show line, from those on that have been drawn.
-    /// What a later line fills is not drawn.
+    /// Draws picture `k` of a script: the lines before its show line that have not been drawn yet. Pixels that a later
+    /// line fills are skipped.
     ///
-    /// The canvas is as after `start` and `reset`, or a picture of this script stands there that is not after `k`.
+    /// The canvas is empty, or it has a picture of this script up to `k`.
     pub fn draw_until(&mut self, script: &Script, k: u32)
         requires picture { k < pictures script.now }
         requires before { StandsBefore script.now k self.old }
@@ -169,7 +305,7 @@ impl Canvas {
         self.at = Some(k);
     }
 
-    // Makes all as on another canvas.
+    // Copies another canvas.
     fn copy(&mut self, other: &Canvas)
         ensures { self.new ≡ other.now }
     {
@@ -179,8 +315,7 @@ impl Canvas {
         self.at = other.at;
     }
 
-    /// Draws picture `k` of a script as `draw_until` does, where it already stands on another canvas: if many lines draw
-    /// it, it is copied from there.
+    /// Draws picture `k` of a script like `draw_until`, or copies it from another canvas if it has many lines.
     pub fn draw_like(&mut self, script: &Script, k: u32, other: &Canvas)
         requires picture { k < pictures script.now }
         requires before { StandsBefore script.now k self.old }
@@ -197,8 +332,8 @@ impl Canvas {
         }
     }
 
-    /// Which tiles of a row from 1 to 16 are those of another canvas, from the left. All pixels of the row are looked at,
-    /// many at once.
+    /// Compares the tiles of a row, from 1 to 16, with those of another canvas, from the left. Many pixels are compared
+    /// at once.
     pub fn shared_columns(&self, other: &Canvas, row: u8) -> [bool; WINDOW_COLUMNS]
         requires first { 1 ≤ row }
         requires last { row ≤ window_rows }
@@ -269,7 +404,7 @@ impl Canvas {
     }
 }
 
-// Whether six columns of pixels from one on are marked.
+// Whether six columns of pixels, from `first` on, are marked.
 #[inline]
 fn are_six_equal(equal: &[bool; WINDOW_WIDTH], first: usize) -> bool
     requires { first + tile_width ≤ window_width }

@@ -2,17 +2,11 @@
 #![tactic(auto)]
 
 mod canvas;
-mod draft;
-mod drawn_rows;
 mod grammar;
-mod line;
-mod parse;
 mod reader;
 mod reasons;
 mod script;
 mod show_lines;
-mod window;
-mod words;
 
 pub use canvas::Canvas;
 pub use reasons::{ScriptStop, ScriptWhy};

@@ -1,24 +1,24 @@
-// Why a script is refused.
-/// Why a line of a script is refused. Of several reasons the first in this order is given.
+// The reasons to refuse a script.
+/// The reason to refuse a line of a script. Of several reasons the first in this order is reported.
 #[derive(Clone, Copy, PartialEq, Eq, Debug)]
 pub enum ScriptWhy {
-    /// The first word is no command.
+    /// The first word is not a command.
     UnknownCommand,
-    /// There are too few or too many words, or one is not spelled as it must be.
+    /// There are too few or too many words, or a word is invalid.
     BadArgument,
     /// A number is out of its range, or pixels are outside the window.
     OutOfRange,
-    /// A picture is held until before it is ready, or is not ready after the hold time of the picture before.
+    /// The hold time of a picture is before its ready time, or its ready time is not after the previous hold time.
     TimeOrder,
     /// There are 20,000 pictures already.
     TooMany,
 }
 
-/// Why a script could not be read.
+/// The reason why a script was not read.
 #[derive(Clone, Copy, PartialEq, Eq, Debug)]
 pub enum ScriptStop {
-    /// The first line that is refused, counted from 1 with all lines, and its first reason.
+    /// The number of the first refused line, from 1, and the first reason to refuse it.
     Fault { line: u32, why: ScriptWhy },
-    /// No line is refused, and there was no memory for the script.
+    /// No line is refused, but memory ran out.
     NoMemory,
 }

@@ -1,17 +1,17 @@
-// The lines of a script's text on which its pictures are shown.
+// The numbers of the show lines in the text of a script.
 ghost use Rattle.std.specs.Prelude.{◌≡◌, ◌≤◌, ◌+◌, ◌∷◌, [], List, ℕ, Ok, length, MatchOption};
 ghost use Rattle.text_lines.specs.Text.{lines_in, most_text_bytes};
 ghost use Rattle.picture_script.specs.Script.{Drawing, pictures};
 ghost use Rattle.picture_script.specs.ScriptGrammar.{read_script};
 ghost use Rattle.picture_script.specs.ShowLines.{is_show_line, show_lines, show_lines_from};
 
-use crate::parse::is_passed_over;
+use crate::reader::is_passed_over;
 use std::marker::Model;
 use text_lines::{next_line, next_word, without_mark};
 
-/// The lines of a script's text on which its pictures are shown, one after another, counted from 1 with all lines.
+/// The numbers of the show lines in the text of a script, one after another. All lines are counted, from 1.
 ///
-/// A contract sees the numbers of those that are still to come.
+/// A contract sees the numbers that are still to come.
 #[derive(Drop)]
 pub struct ShowLines<'a> {
     rest: &'a [u8],
@@ -27,7 +27,7 @@ impl<'a> Model for ShowLines<'a> {
 }
 
 impl<'a> ShowLines<'a> {
-    /// Those of a text.
+    /// The show lines of a text.
     pub fn of(text: &'a [u8]) -> ShowLines<'a>
         requires { length text.now ≤ most_text_bytes }
         ensures { result ≡ show_lines text.now }
@@ -38,7 +38,7 @@ impl<'a> ShowLines<'a> {
         }
     }
 
-    /// The number of the next one, or none after the last.
+    /// The number of the next show line, or `None` after the last one.
     pub fn next_number(&mut self) -> Option<u32>
         ensures { MatchOption result ((self.old ≡ []) × (self.new ≡ []))
             (λ number. self.old ≡ number ∷ self.new) }
@@ -54,7 +54,7 @@ impl<'a> ShowLines<'a> {
     }
 }
 
-// The number of the first line that shows a picture, of lines from this number on, and the text after it.
+// The number of the first show line in a text whose lines are counted from `number` on, and the text after that line.
 fn next_show_line(text: &[u8], number: u32) -> Option<(u32, &[u8])>
     requires { number + length text.now ≤ most_text_bytes + 1 }
     ensures found { MatchOption result (show_lines_from number (lines_in text.now) ≡ [])
@@ -87,7 +87,7 @@ fn is_show_line(line: &[u8]) -> bool
     }
 }
 
-/// A law: as many lines of a script show a picture as it has pictures. So the line of picture `k` is number `k` of them.
+/// A law: a script has as many show lines as pictures. So show line `k` belongs to picture `k`.
 pub fn each_picture_has_a_line()
     ensures { (text : List ℕ) (script : List Drawing) → read_script text ≡ Ok script
         → length (show_lines text) ≡ pictures script }
