@@ -1,4 +1,4 @@
--- The plan that is written for a tile: the shortest list of instructions, and among these one by a fixed rule.
+-- The plan of a tile: a shortest list of instructions, chosen by a fixed rule.
 use Rattle.std.specs.Prelude.{◌/◌, ℕ, ◌+◌, ◌*◌, Bool, true, false, List, [], ◌∷◌, ◌++◌, length, map, slice_index, ◌==◌, nat_le, ◌&&◌, ◌||◌, if◌then◌else◌, bit_xor, max, min}
 use Rattle.std.specs.List.{list_all}
 use Rattle.bit_lists.specs.Counting.{below, parts}
@@ -7,13 +7,13 @@ use Rattle.cdg_instructions.specs.Sizes.{tile_height, tile_pixels, tile_width}
 use Rattle.cdg_instructions.specs.declared.instr.Instr.{Instr}
 use Rattle.cdg_instructions.specs.declared.instr.Instr.TheVariants.{SetTile, XorTile}
 
--- whether a number is the combination by exclusive or of some members: without the first one, or with it
+-- whether a number is the exclusive or of some members: without the first one, or with it
 unfoldable pub is_combination : List ℕ → ℕ → Bool
 is_combination [] number = number == 0
 is_combination (first ∷ rest) number =
     is_combination rest number || is_combination rest (bit_xor first number)
 
--- the members, followed by those numbers that are no combination of the members before them
+-- the members, followed by the numbers that are not combinations of previous members
 unfoldable pub basis_from : List ℕ → List ℕ → List ℕ
 basis_from members [] = members
 basis_from members (number ∷ rest) =
@@ -23,36 +23,36 @@ basis_from members (number ∷ rest) =
 unfoldable pub differences_from_first : List ℕ → List ℕ
 differences_from_first pixels = map (bit_xor (slice_index pixels 0)) pixels
 
--- those differences that are no combination of the ones before them
+-- the differences that are not combinations of previous ones
 unfoldable pub basis : List ℕ → List ℕ
 basis pixels = basis_from [] (differences_from_first pixels)
 
--- how many instructions draw the pixels where nothing stands, or everywhere the same
+-- the number of instructions that draw the pixels on a tile of one colour
 unfoldable pub weight : List ℕ → ℕ
 weight pixels = max 1 (length (basis pixels))
 
--- the number whose bit j tells whether member j has a part in the one combination that makes the number
+-- the selection for a number: bit j selects member j for the combination that equals the number
 unfoldable pub selection : List ℕ → ℕ → ℕ
 selection [] number = 0
 selection (first ∷ rest) number =
     if is_combination rest number then 2 * selection rest number
     else 1 + 2 * selection rest (bit_xor first number)
 
--- the combination of the members that a selection tells, bit 0 for the first of them
+-- the combination of the selected members; bit 0 selects the first one
 unfoldable pub combination : List ℕ → ℕ → ℕ
 combination [] chosen = 0
 combination (first ∷ rest) chosen =
     bit_xor (if has_bit 0 chosen then first else 0) (combination rest (chosen / 2))
 
--- for each pixel, whether member j has a part in its difference
+-- for each pixel, whether member j is selected for its difference
 unfoldable pub member_bits : List ℕ → ℕ → List Bool
 member_bits pixels j = map (λ d. has_bit j (selection (basis pixels) d)) (differences_from_first pixels)
 
--- the same as twelve lines of six bits, the leftmost the highest
+-- the same as twelve lines of six bits; the leftmost bit is the highest
 unfoldable pub tile_lines : List ℕ → ℕ → List ℕ
 tile_lines pixels j = map number_of (parts tile_height tile_width (member_bits pixels j))
 
--- instruction j of those that draw the pixels, or that combine them with what stands; the first is number 0
+-- instruction j, from 0, of those that draw the pixels, or that combine them with the old pixels
 unfoldable pub planned : Bool → ℕ → ℕ → List ℕ → ℕ → Instr
 planned draws row column pixels j =
     let colour0 = if j == 0 then slice_index pixels 0 else 0 in
@@ -61,7 +61,7 @@ planned draws row column pixels j =
     if draws && j == 0 then SetTile colour0 colour1 row column lines
     else XorTile colour0 colour1 row column lines
 
--- what is to be combined with the old pixels
+-- the values to combine with the old pixels
 unfoldable pub delta : List ℕ → List ℕ → List ℕ
 delta old new = map (λ p. bit_xor (slice_index old p) (slice_index new p)) (below tile_pixels)
 
@@ -69,7 +69,7 @@ delta old new = map (λ p. bit_xor (slice_index old p) (slice_index new p)) (bel
 unfoldable pub are_equal : List ℕ → List ℕ → Bool
 are_equal old new = list_all (λ d. d == 0) (delta old new)
 
--- nothing where the tiles are equal; the new tile drawn, where that is as short as combining what differs; else that
+-- no instructions for equal tiles; instructions that draw the new tile, unless it is shorter to combine the differences
 unfoldable pub plan : ℕ → ℕ → List ℕ → List ℕ → List Instr
 plan row column old new =
     let d = delta old new in

@@ -1,10 +1,10 @@
--- The sizes of bases and plans. Code calls them by the names of src/basis.rt.
+-- The sizes of bases and plans. src/basis.rt has the same constants.
 use Rattle.std.specs.Prelude.{ℕ}
 
--- the most instructions that a tile takes: so many numbers of four bits can be independent
+-- the maximum number of instructions for a tile: at most this many numbers of four bits are independent
 abbrev pub most_steps : ℕ
 most_steps = 4
 
--- how many numbers there are of four bits
+-- the number of values of four bits
 abbrev pub number_count : ℕ
 number_count = 16

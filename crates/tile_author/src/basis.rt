@@ -12,14 +12,14 @@ use arrayvec::ArrayVec;
 use cdg_instructions::{Instr, PIXELS, TILE_HEIGHT, TILE_WIDTH};
 use std::marker::Model;
 
-/// How many instructions a tile takes at most: so many numbers of four bits can be independent.
+/// The maximum number of instructions for a tile: at most this many numbers of four bits are independent.
 pub const MOST_STEPS: usize = 4;
 
-/// How many numbers there are of four bits.
+/// The number of values of four bits.
 pub(crate) const NUMBERS: usize = 16;
 
-/// Independent numbers of four bits, in the order in which they came, with the selection of them that makes each
-/// number.
+/// Independent numbers of four bits, in the order of their addition, and for each number the selection of members whose
+/// combination it is.
 ///
 /// A contract sees the members.
 #[derive(Drop)]
@@ -37,36 +37,31 @@ impl Model for Basis {
 }
 
 impl Basis {
-    // No members, which make 0 alone.
-    fn new() -> Basis
-        ensures { result ≡ [] }
-    {
-        let mut selections = [None; NUMBERS];
-        selections[0] = Some(0);
-        Basis {
-            members: ArrayVec::new(),
-            selections,
-        }
-    }
-
-    /// The basis of the differences of these pixels from the first one. One colour alone has none, and a line that is as
-    /// the one before adds nothing.
+    /// The basis of the differences of the pixels from the first pixel. A tile of one colour has no members, and a line
+    /// that equals the previous line adds none.
     pub(crate) fn of(pixels: &[u8; PIXELS]) -> Basis
         requires { IsTilePixels pixels.now }
         ensures { result ≡ basis pixels.now }
     {
-        let mut basis = Basis::new();
+        let mut selections = [None; NUMBERS];
+        selections[0] = Some(0);
+        let mut basis = Basis {
+            members: ArrayVec::new(),
+            selections,
+        };
         if is_one_colour(pixels) {
             return basis;
         }
         basis.offer_line(pixels, 0);
         for line in 1..TILE_HEIGHT {
-            basis.offer_later_line(pixels, line);
+            if !is_line_before(pixels, line) {
+                basis.offer_line(pixels, line);
+            }
         }
         basis
     }
 
-    // Takes the differences of a line's pixels as members where they are no combinations.
+    // Adds the differences of a line's pixels that are not combinations of members.
     fn offer_line(&mut self, pixels: &[u8; PIXELS], line: usize)
         requires tile { IsTilePixels pixels.now }
         requires line { line < tile_height }
@@ -78,21 +73,7 @@ impl Basis {
         }
     }
 
-    // The same for a line after the first: one that is as the line before it adds nothing.
-    fn offer_later_line(&mut self, pixels: &[u8; PIXELS], line: usize)
-        requires tile { IsTilePixels pixels.now }
-        requires first { 0 < line }
-        requires line { line < tile_height }
-        requires before { self.old ≡ basis_of_lines line pixels.now }
-        ensures { self.new ≡ basis_of_lines (line + 1) pixels.now }
-    {
-        if is_line_before(pixels, line) {
-            return;
-        }
-        self.offer_line(pixels, line);
-    }
-
-    /// The least number of instructions that draw pixels with this basis where everywhere the same stands.
+    /// The least number of instructions that draw pixels with this basis on a tile of one colour.
     #[inline]
     pub(crate) fn weight(&self) -> usize
         ensures value { result ≡ max 1 (length self.now) }
@@ -102,7 +83,7 @@ impl Basis {
         self.members.len().max(1)
     }
 
-    // The selection of members that makes a number; its bit j is for member j.
+    // The selection of members whose combination is a number. Bit j selects member j.
     #[inline]
     fn selection(&self, number: u8) -> Option<u8>
         requires { number < number_count }
@@ -111,16 +92,7 @@ impl Basis {
         self.selections[number as usize]
     }
 
-    // Whether members make a number.
-    #[inline]
-    fn makes(&self, number: u8) -> bool
-        requires { number < number_count }
-        ensures { result ≡ is_combination self.now number }
-    {
-        self.selection(number).is_some()
-    }
-
-    // The selection that makes a number once a further one is a member.
+    // The selection for a number after a further member is added.
     fn grown(&self, member: u8, number: u8) -> Option<u8>
         requires member { member < number_count }
         requires number { number < number_count }
@@ -138,7 +110,7 @@ impl Basis {
         }
     }
 
-    // The selections once a further number is a member.
+    // All selections after a further member is added.
     fn selections_with(&self, member: u8) -> [Option<u8>; NUMBERS]
         requires member { member < number_count }
         requires room { length self.now < most_steps }
@@ -153,7 +125,7 @@ impl Basis {
         selections
     }
 
-    // Takes the first member. It makes itself alone, beside 0, which is there.
+    // Adds the first member. Its combinations are 0 and itself.
     #[inline]
     fn take_first(&mut self, member: u8)
         requires none { self.old ≡ [] }
@@ -165,7 +137,7 @@ impl Basis {
         self.members.push(member);
     }
 
-    // Takes a further member. It stays a call of its own, since few tiles have more than two colours.
+    // Adds a further member. It is not inlined, since few tiles have more than two colours.
     #[inline(never)]
     fn take_further(&mut self, member: u8)
         requires member { member < number_count }
@@ -177,13 +149,14 @@ impl Basis {
         self.members.push(member);
     }
 
-    // Takes a number as a member where it is no combination of those that it has.
+    // Adds a number as a member, unless it is a combination of members.
     #[inline]
+    #[tactic(auto, using(crate::proofs::Growth::is_some_entry))]
     fn offer(&mut self, number: u8)
         requires { number < number_count }
         ensures { self.new ≡ (if is_combination self.old number then self.old else self.old ++ number ∷ []) }
     {
-        if self.makes(number) {
+        if self.selection(number).is_some() {
             return;
         }
         if self.members.is_empty() {
@@ -193,7 +166,7 @@ impl Basis {
         }
     }
 
-    // A member, or 0 where there are not so many.
+    // Member j, or 0 past the last one.
     fn member(&self, j: usize) -> u8
         ensures { result ≡ slice_index self.now j }
     {
@@ -204,7 +177,7 @@ impl Basis {
         }
     }
 
-    // Whether member j has a part in a number that the members make: 1 if so, and else 0.
+    // 1 if member j is selected for a number, and 0 otherwise.
     #[inline]
     fn bit(&self, number: u8, j: usize) -> u8
         requires number { number < number_count }
@@ -219,7 +192,7 @@ impl Basis {
         }
     }
 
-    // The six bits of a line of the instruction for member j.
+    // The six bits of a line in the instruction for member j.
     fn line(&self, pixels: &[u8; PIXELS], line: usize, j: usize) -> u8
         requires tile { IsTilePixels pixels.now }
         requires members { self.now ≡ basis pixels.now }
@@ -234,23 +207,7 @@ impl Basis {
         bits
     }
 
-    // The six bits of a line, where those of the line before it are known.
-    fn line_after(&self, pixels: &[u8; PIXELS], line: usize, j: usize, before: u8) -> u8
-        requires tile { IsTilePixels pixels.now }
-        requires members { self.now ≡ basis pixels.now }
-        requires first { 0 < line }
-        requires line { line < tile_height }
-        requires member { j < most_steps }
-        requires before { before ≡ slice_index (tile_lines pixels.now j) (line - 1) }
-        ensures { result ≡ slice_index (tile_lines pixels.now j) line }
-    {
-        if is_line_before(pixels, line) {
-            return before;
-        }
-        self.line(pixels, line, j)
-    }
-
-    // The twelve lines of the instruction for member j. Without members no pixel is marked.
+    // The twelve lines of the instruction for member j. Without members all bits are 0.
     fn lines(&self, pixels: &[u8; PIXELS], j: usize) -> [u8; TILE_HEIGHT]
         requires tile { IsTilePixels pixels.now }
         requires members { self.now ≡ basis pixels.now }
@@ -263,12 +220,16 @@ impl Basis {
         }
         lines[0] = self.line(pixels, 0, j);
         for i in 1..TILE_HEIGHT {
-            lines[i] = self.line_after(pixels, i, j, lines[i - 1]);
+            lines[i] = if is_line_before(pixels, i) {
+                lines[i - 1]
+            } else {
+                self.line(pixels, i, j)
+            };
         }
         lines
     }
 
-    /// Instruction j of those that draw the pixels, or that combine them with what stands.
+    /// Instruction j of those that draw the pixels, or that combine them with the old pixels.
     pub(crate) fn instruction(
         &self,
         pixels: &[u8; PIXELS],
@@ -304,7 +265,7 @@ impl Basis {
         }
     }
 
-    /// The instructions that draw the pixels, or that combine them with what stands.
+    /// The instructions that draw the pixels, or that combine them with the old pixels.
     pub(crate) fn instructions(
         &self,
         pixels: &[u8; PIXELS],
@@ -324,14 +285,14 @@ impl Basis {
     }
 }
 
-// The first colour of instruction j: the first pixel, and 0 in all but the first instruction.
+// Colour 0 of instruction j: the first pixel for the first instruction, and 0 for the others.
 fn ground(pixels: &[u8; PIXELS], j: usize) -> u8
     ensures { result ≡ (if j == 0 then slice_index pixels.now 0 else 0) }
 {
     if j == 0 { pixels[0] } else { 0 }
 }
 
-// Whether the pixels of a line are those of the line before it.
+// Whether a line equals the previous line.
 #[inline]
 fn is_line_before(pixels: &[u8; PIXELS], line: usize) -> bool
     requires first { 0 < line }
@@ -345,7 +306,7 @@ fn is_line_before(pixels: &[u8; PIXELS], line: usize) -> bool
         && four(pixels, start - 4) == four(pixels, start + 2)
 }
 
-// Four pixels as one number, so that they are compared at once.
+// Four pixels as one number, for a fast comparison.
 #[inline]
 fn four(pixels: &[u8; PIXELS], first: usize) -> u32
     requires { first + 4 ≤ tile_pixels }
@@ -360,7 +321,7 @@ fn four(pixels: &[u8; PIXELS], first: usize) -> u32
     ])
 }
 
-// Whether all pixels have the colour of the first. It looks at all of them, so that many can be compared at once.
+// Whether all pixels have the same colour. The loop has no early exit, so it can be vectorized.
 fn is_one_colour(pixels: &[u8; PIXELS]) -> bool
     ensures { IsTrue result → (i : ℕ) → i < tile_pixels
         → slice_index pixels.now i ≡ slice_index pixels.now 0 }

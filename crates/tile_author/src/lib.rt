@@ -27,8 +27,7 @@ pub fn steps(old: &Tile, new: &Tile) -> u8
     steps_of_weight(old, new, weight(new))
 }
 
-/// The length of a shortest list of tile instructions of one place that turns the old tile into the new one, whose
-/// weight is known.
+/// The same as `steps` if the weight of the new tile is known.
 pub fn steps_of_weight(old: &Tile, new: &Tile, drawn: u8) -> u8
     requires { drawn ≡ weight new.now }
     ensures value { result ≡ steps old.now new.now }
@@ -50,8 +49,7 @@ pub fn plan(old: &Tile, new: &Tile, row: u8, column: u8) -> ArrayVec<Instr, 4>
     list(old.pixels(), new.pixels(), row, column)
 }
 
-/// The one instruction that draws a tile of weight 1 wherever another tile stands, which need not be known. A heavier
-/// tile has none.
+/// The single instruction that draws a tile of weight 1 over any other tile, or `None` for a heavier tile.
 pub fn light_plan(new: &Tile, row: u8, column: u8) -> Option<Instr>
     ensures plan { IfSome result (λ instr. (old : List ℕ) → length old ≡ tile_pixels → old ≢ new.now
         → plan row column old new.now ≡ instr ∷ []) }
@@ -65,8 +63,7 @@ pub fn light_plan(new: &Tile, row: u8, column: u8) -> Option<Instr>
     Some(drawn.instruction(pixels, true, row, column, 0))
 }
 
-/// The length of a shortest list that draws the tile where everywhere one colour stands, unless the tile is that
-/// colour.
+/// The length of a shortest list that draws the tile over a tile of another single colour.
 pub fn weight(new: &Tile) -> u8
     ensures value { result ≡ weight new.now }
     ensures least { (row column c : ℕ) → row < row_values → column < column_values → c < colour_count
@@ -78,7 +75,7 @@ pub fn weight(new: &Tile) -> u8
     Basis::of(new.pixels()).weight() as u8
 }
 
-// The length of the plan for these pixels, of which the new ones have this weight.
+// The length of the plan for these pixels. The new ones have this weight.
 fn count(old: &[u8; PIXELS], new: &[u8; PIXELS], drawn: u8) -> u8
     requires old { IsTilePixels old.now }
     requires new { IsTilePixels new.now }
@@ -119,7 +116,7 @@ fn list(old: &[u8; PIXELS], new: &[u8; PIXELS], row: u8, column: u8) -> ArrayVec
     }
 }
 
-// What is to be combined with the old pixels.
+// The values to combine with the old pixels.
 fn changes(old: &[u8; PIXELS], new: &[u8; PIXELS]) -> [u8; PIXELS]
     requires old { IsTilePixels old.now }
     requires new { IsTilePixels new.now }
@@ -133,21 +130,20 @@ fn changes(old: &[u8; PIXELS], new: &[u8; PIXELS]) -> [u8; PIXELS]
     changes
 }
 
-// Whether nothing is to be combined.
+// Whether all these values are 0.
 fn is_blank(changes: &[u8; PIXELS]) -> bool
     ensures { result ≡ list_all (λ d. d == 0) changes.now }
 {
     changes.iter().all(|change| *change == 0)
 }
 
-/// Where each of some independent numbers is a combination of others, these are at least as many.
+/// A law: if each of some independent numbers is a combination of given numbers, there are at least as many given ones.
 pub fn independent_are_few()
     ensures { (given independent : List ℕ) → list_all (is_combination given) independent ≡ true
         → are_independent independent ≡ true → length independent ≤ length given }
 {}
 
-/// Each pixel's difference is the combination of the basis that its selection tells, and each combination has one
-/// selection.
+/// A law: each pixel's difference is the combination of its selection, and each combination has one selection.
 pub fn selections_are_the_only_ones()
     ensures makes { (pixels : List ℕ) (p : ℕ) → p < length pixels
         → let d = bit_xor (slice_index pixels 0) (slice_index pixels p) in combination (basis pixels)
@@ -156,7 +152,7 @@ pub fn selections_are_the_only_ones()
         → selection (basis pixels) (combination (basis pixels) chosen) ≡ chosen }
 {}
 
-/// The plan of each two tiles turns the one into the other, and no list of instructions of their place is shorter.
+/// A law: a plan turns the old tile into the new one, and no list of instructions for this place is shorter.
 pub fn plans_are_shortest()
     ensures turns { (row column : ℕ) (old new : List ℕ) → row < screen_rows → column < screen_columns
         → IsTilePixels old → IsTilePixels new → Turns row column old new (plan row column old new) }
@@ -166,7 +162,7 @@ pub fn plans_are_shortest()
         → IsTilePixels old → IsTilePixels new → IsLeast row column old new (steps old new) }
 {}
 
-/// A law: a tile of weight 1 takes one instruction where a tile stands that differs from it.
+/// A law: a tile of weight 1 needs one instruction after any other tile.
 pub fn light_tiles_take_one()
     ensures { (old new : List ℕ) → length old ≡ tile_pixels → length new ≡ tile_pixels → weight new ≡ 1
         → old ≢ new → steps old new ≡ 1 }
