@@ -1,8 +1,8 @@
 -- What the stops of the parts become.
 use Rattle.toc_model.specs.declared.layout.LayoutStop.{LayoutStop}
 use Rattle.toc_model.specs.declared.layout.LayoutStop.TheVariants.{LengthShort as layout_short, DiscTooLong as layout_long, NoMemory as layout_memory}
-use Rattle.stream_writer.specs.declared.room.LeadInStop.{LeadInStop}
-use Rattle.stream_writer.specs.declared.room.LeadInStop.TheVariants.{TextTooLong as text_long, LeadInShort as lead_in_short}
+use Rattle.stream_writer.specs.declared.sheet_texts.LeadInStop.{LeadInStop}
+use Rattle.stream_writer.specs.declared.sheet_texts.LeadInStop.TheVariants.{TextTooLong as text_long, LeadInShort as lead_in_short}
 use Rattle.cdg_press.specs.declared.stops.PressStop.{PressStop}
 use Rattle.cdg_press.specs.declared.stops.PressStop.TheVariants.{LengthShort, DiscTooLong, TextTooLong, LeadInShort, NoMemory}
 

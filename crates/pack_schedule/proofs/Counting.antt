@@ -17,7 +17,7 @@ use Rattle.pack_schedule.specs.Change.{tiles_before}
 use Rattle.pack_schedule.specs.PlannedChange.{tile_steps}
 use Rattle.pack_schedule.proofs.Places.{place_of, places_in_order, colour_is_tile}
 use Rattle.pack_schedule.specs.Weights.{IsWeighed, IsWeighedAt, AreWeights, not_weighed}
-use Rattle.pack_schedule.specs.declared.change.weights.Weighed.{Weighed}
+use Rattle.pack_schedule.specs.declared.change.tiles.Weighed.{Weighed}
 use Rattle.pack_schedule.proofs.PlannedLaws.{PlansAreShortest, least-unique}
 
 -- tiles counted one after another

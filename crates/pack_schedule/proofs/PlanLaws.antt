@@ -8,7 +8,7 @@ use Rattle.pack_schedule.specs.Plans.{ArePlanRows, IsFirstLate, IsPlanRow, no_ro
 use Rattle.pack_schedule.specs.PlannerParts.{IsBeforePicture}
 use Rattle.pack_schedule.specs.Weights.{AreWeights}
 use Rattle.pack_schedule.specs.declared.planner.PlanRow.{PlanRow}
-use Rattle.pack_schedule.specs.declared.change.weights.Weighed.{Weighed}
+use Rattle.pack_schedule.specs.declared.change.tiles.Weighed.{Weighed}
 use Rattle.pack_schedule.proofs.SurveyLaws.{stands_next}
 
 -- the picture of a row that is not late can be ready

@@ -18,7 +18,7 @@ use Rattle.pack_schedule.specs.Change.{settings, IsStart, tiles_before}
 use Rattle.pack_schedule.specs.PlannedChange.{planned_length, tile_steps, first_least, chosen_start}
 use Rattle.pack_schedule.specs.SameTiles.{IsRowTold, SameRow, SameTiles}
 use Rattle.pack_schedule.specs.Weights.{IsWeighed, AreWeights, not_weighed}
-use Rattle.pack_schedule.specs.declared.change.weights.Weighed.{Weighed}
+use Rattle.pack_schedule.specs.declared.change.tiles.Weighed.{Weighed}
 use Rattle.pack_schedule.proofs.Counting.{steps_so_far, none_so_far, one_more_tile, all_tiles}
 use Rattle.pack_schedule.proofs.SettingLaws.{zero_all}
 

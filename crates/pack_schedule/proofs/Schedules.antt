@@ -11,7 +11,7 @@ use Rattle.pack_schedule.specs.Schedule.{start_of, IsInTime, IsScheduleOf}
 use Rattle.pack_schedule.specs.PlannedChange.{planned_change}
 use Rattle.pack_schedule.specs.Survey.{IsSurvey, IsWithin}
 use Rattle.pack_schedule.specs.Woven.{ArePacks}
-use Rattle.pack_schedule.specs.declared.surveys.told.PlannedChange.{PlannedChange}
+use Rattle.pack_schedule.specs.declared.surveys.PlannedChange.{PlannedChange}
 
 the_same : (n : ℕ) → 0 + n ≡ n
 the_same n = omega arith

@@ -12,7 +12,7 @@ use Rattle.pack_schedule.specs.Shown.{AreTimesInOrder, AreColoursInRange}
 use Rattle.pack_schedule.specs.Brings.{CannotBeReady, IsChange, IsNeed}
 use Rattle.pack_schedule.specs.Survey.{nothing_planned, IsPlanned, ArePlanned, IsPastEnd, IsStop, IsSurvey, IsWithin}
 use Rattle.pack_schedule.specs.Weaving.{Stands}
-use Rattle.pack_schedule.specs.declared.surveys.told.PlannedChange.{PlannedChange}
+use Rattle.pack_schedule.specs.declared.surveys.PlannedChange.{PlannedChange}
 use Rattle.pack_schedule.specs.declared.stops.LatePicture.{LatePicture}
 use Rattle.pack_schedule.specs.declared.stops.Stop.{Stop}
 use Rattle.pack_schedule.specs.declared.stops.Stop.TheVariants.{Late}

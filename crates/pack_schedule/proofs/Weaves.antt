@@ -15,8 +15,8 @@ use Rattle.pack_schedule.specs.Survey.{nothing_planned, IsSurvey}
 use Rattle.pack_schedule.specs.Woven.{IsPackAt}
 use Rattle.picture_script.specs.Board.{StandsBefore}
 use Rattle.pack_schedule.specs.Weaving.{IsWeaving}
-use Rattle.pack_schedule.specs.declared.weaver.at_hand.ChangeAtHand.{ChangeAtHand}
-use Rattle.pack_schedule.specs.declared.surveys.told.PlannedChange.{PlannedChange}
+use Rattle.pack_schedule.specs.declared.weaver.ChangeAtHand.{ChangeAtHand}
+use Rattle.pack_schedule.specs.declared.surveys.PlannedChange.{PlannedChange}
 use Rattle.pack_schedule.proofs.TimeOrder.{hold_order}
 
 -- what a survey says of a picture

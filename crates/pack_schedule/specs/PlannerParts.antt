@@ -4,7 +4,7 @@ use Rattle.picture_script.specs.Script.{Drawing, pictures}
 use Rattle.picture_script.specs.Board.{Board}
 use Rattle.pack_schedule.specs.Weaving.{Stands}
 use Rattle.pack_schedule.specs.Weights.{AreWeights}
-use Rattle.pack_schedule.specs.declared.change.weights.Weighed.{Weighed}
+use Rattle.pack_schedule.specs.declared.change.tiles.Weighed.{Weighed}
 
 -- the picture before picture k stands on both canvases, and what is kept of its tiles
 pub record IsBeforePicture (script : List Drawing) (k : ℕ) (before now : Board)

@@ -2,7 +2,7 @@
 use Rattle.std.specs.Prelude.{◌≡◌, ℕ, ◌+◌, ◌-◌, ◌<◌, ◌≤◌, ◌↔◌, Bool, true, false, List, [], slice_index_or}
 use Rattle.cdg_instructions.specs.Sizes.{window_columns, window_rows}
 use Rattle.picture_script.specs.Board.{tile_of}
-use Rattle.pack_schedule.specs.declared.change.same_tiles.ToldTiles.{ToldTiles}
+use Rattle.pack_schedule.specs.declared.change.tiles.ToldTiles.{ToldTiles}
 
 -- the tiles of a row, from 1 to 16, are the same
 abbrev pub SameRow : List ℕ → List ℕ → ℕ → Type 0

@@ -5,7 +5,7 @@ use Rattle.picture_script.specs.Board.{IsBlank}
 use Rattle.pack_schedule.specs.Schedule.{start_of, IsInTime, IsLate}
 use Rattle.pack_schedule.specs.PlannedChange.{chosen_start, planned_change}
 use Rattle.pack_schedule.specs.declared.surveys.SurveyRoom.{SurveyRoom}
-use Rattle.pack_schedule.specs.declared.surveys.told.PlannedChange.{PlannedChange}
+use Rattle.pack_schedule.specs.declared.surveys.PlannedChange.{PlannedChange}
 use Rattle.pack_schedule.specs.declared.stops.LatePicture.{LatePicture}
 use Rattle.pack_schedule.specs.declared.stops.Stop.{Stop}
 use Rattle.pack_schedule.specs.declared.stops.Stop.TheVariants.{PastEnd, Late, NoMemory}

@@ -5,7 +5,7 @@ use Rattle.picture_script.specs.Board.{Board, IsBlank, IsPicture, StandsBefore}
 use Rattle.pack_schedule.specs.Schedule.{start_of}
 use Rattle.pack_schedule.specs.PlannedChange.{planned_change}
 use Rattle.pack_schedule.specs.Survey.{IsSurvey}
-use Rattle.pack_schedule.specs.declared.weaver.at_hand.ChangeAtHand.{ChangeAtHand}
+use Rattle.pack_schedule.specs.declared.weaver.ChangeAtHand.{ChangeAtHand}
 
 -- the picture before picture k stands on a canvas, or nothing before the first
 pub record Stands (script : List Drawing) (k : ℕ) (board : Board) : Type 0 where

@@ -4,7 +4,7 @@ use Rattle.cdg_instructions.specs.Sizes.{colour_count, tile_pixels, window_colum
 use Rattle.tile_author.specs.Sizes.{most_steps}
 use Rattle.tile_author.specs.Plan.{steps}
 use Rattle.picture_script.specs.Script.{Drawing, picture_tile}
-use Rattle.pack_schedule.specs.declared.change.weights.Weighed.{Weighed}
+use Rattle.pack_schedule.specs.declared.change.tiles.Weighed.{Weighed}
 
 abbrev pub not_weighed : Weighed
 not_weighed = record { weight = 0; single = None }

@@ -1,4 +1,4 @@
-// Laws on the change that is written for a picture: that it is one, its length, and that packs can hold it.
+// Laws on the planned change of a picture: it is a change, it has the planned length, and packs can contain it.
 ghost use Rattle.std.specs.Prelude.{◌≡◌, ◌≢◌, ◌<◌, ◌≤◌, All, List, Option, ℕ, length};
 ghost use Rattle.cdg_instructions.specs.Instruction.{InRange, IsKnown};
 ghost use Rattle.cdg_instructions.specs.Sizes.{colour_count};
@@ -11,7 +11,8 @@ ghost use Rattle.pack_schedule.specs.Shown.{AreColoursInRange};
 
 use tile_author::plans_are_shortest;
 
-/// A law: for each start the planned change is one with this start, and each of them has its length.
+/// A law: for each start, the planned change is a change with this start, and all changes with this start have its
+/// length.
 pub fn changes_have_planned_lengths()
     ensures planned { (script : List Drawing) (k : ℕ) (start : Option ℕ)
         → ((k x y : ℕ) → picture_pixel script k x y < colour_count)
@@ -23,9 +24,8 @@ pub fn changes_have_planned_lengths()
     plans_are_shortest();
 }
 
-/// A law: the change that is written for a picture is a change in order for it, of at most 3,076 instructions: four
-/// that set all memory, the border and the colours, and four for each of 768 tiles. That it is a shortest one of any
-/// form says `ordered_changes_are_shortest`.
+/// A law: the planned change of a picture is an ordered change of at most 3,076 instructions: one preset, three settings
+/// and four for each of 768 tiles. The law `ordered_changes_are_shortest` says that no change is shorter.
 pub fn planned_changes_are_changes()
     ensures change { (script : List Drawing) (k : ℕ)
         → ((k x y : ℕ) → picture_pixel script k x y < colour_count)
@@ -33,7 +33,7 @@ pub fn planned_changes_are_changes()
     ensures few { (script : List Drawing) (k : ℕ)
         → ((k x y : ℕ) → picture_pixel script k x y < colour_count)
         → length (planned_change script k) ≤ most_change }
-    // It begins with the chosen start, which is one.
+    // It begins with the chosen start, which is allowed.
     ensures start { (script : List Drawing) (k : ℕ) → IsStart k (chosen_start script k) }
     ensures planned { (script : List Drawing) (k : ℕ)
         → ((k x y : ℕ) → picture_pixel script k x y < colour_count)
@@ -46,7 +46,7 @@ pub fn planned_changes_are_changes()
     plans_are_shortest();
 }
 
-/// A law: each instruction of a change has its fields in their ranges and can be written.
+/// A law: each instruction of a change is in range and can be written.
 pub fn changes_can_be_written()
     ensures { (script : List Drawing) (k : ℕ) (start : Option ℕ) (instrs : List Instr)
         → AreColoursInRange script

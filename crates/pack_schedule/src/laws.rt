@@ -8,7 +8,7 @@ ghost use Rattle.pack_schedule.specs.Shown.{AreColoursInRange, AreTimesInOrder, 
 ghost use Rattle.pack_schedule.specs.Survey.{IsSurvey, IsWithin};
 ghost use Rattle.pack_schedule.specs.Woven.{ArePacks};
 ghost use Rattle.pack_schedule.specs.Plans.{ArePlanRows, IsFirstLate, no_row};
-ghost use Rattle.pack_schedule.specs.declared.surveys.told.PlannedChange.{PlannedChange};
+ghost use Rattle.pack_schedule.specs.declared.surveys.PlannedChange.{PlannedChange};
 ghost use Rattle.pack_schedule.specs.declared.planner.PlanRow.{PlanRow};
 ghost use Rattle.cdg_instructions.specs.declared.instr.Instr.{Instr};
 ghost use Rattle.cdg_screen.specs.Standing.{blank, standing_after};
@@ -18,8 +18,7 @@ use crate::{needs_are_fewest, planned_changes_are_changes};
 use cdg_instructions::{only_one_meaning, read_of_written};
 use cdg_screen::instructions_in_turn;
 
-/// A law: the packs that a weaver gives, as many as are whole in a program of so many blocks, are a schedule, and one
-/// of changes in their fixed order.
+/// A law: the packs of a weaver that are complete in a program are a schedule of ordered changes.
 pub fn packs_are_a_schedule()
     ensures schedule { (script : List Drawing) (blocks : ℕ) (survey : List PlannedChange)
         (packs : List (List ℕ))
@@ -40,8 +39,8 @@ pub fn packs_are_a_schedule()
     planned_changes_are_changes();
 }
 
-/// A law: the first late row of a plan is what `survey` tells, and where no row is late every picture is in time, so
-/// that there is a schedule.
+/// A law: the first late row of a plan is the late picture that `survey` reports. If no row is late, every picture is in
+/// time, so there is a schedule.
 pub fn plans_tell_what_a_survey_tells()
     ensures first { (script : List Drawing) (rows : List PlanRow) (k : ℕ) → ArePlanRows script rows
         → k < pictures script → IsFirstLate rows k
@@ -51,8 +50,7 @@ pub fn plans_tell_what_a_survey_tells()
         → (k : ℕ) → k < pictures script → CanBeReady script k }
 {}
 
-/// A law: from its ready time to its hold time each picture of a script stands on the screen, after the packs of a
-/// schedule that are whole at that time.
+/// A law: the packs of a schedule that are complete at some time show each picture from its ready time to its hold time.
 pub fn scheduled_pictures_are_shown()
     ensures { (script : List Drawing) (blocks : ℕ) (packs : List (List ℕ)) (k time : ℕ) (instrs : List Instr)
         → AreTimesInOrder script → IsSchedule script blocks packs

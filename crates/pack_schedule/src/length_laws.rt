@@ -1,4 +1,4 @@
-// The change of a picture is a shortest list of instructions, among all that do not scroll.
+// Laws: no list of instructions without scrolls is shorter than the change of a picture.
 ghost use Rattle.std.specs.Prelude.{◌≡◌, ◌<◌, List, ℕ, length};
 ghost use Rattle.cdg_instructions.specs.Sizes.{colour_count};
 ghost use Rattle.cdg_instructions.specs.declared.instr.Instr.{Instr};
@@ -13,9 +13,8 @@ use crate::{changes_can_be_written, changes_have_planned_lengths, planned_change
 use cdg_screen::instructions_in_turn;
 use tile_author::plans_are_shortest;
 
-/// A law: a change in order, as it is written, is a change for its picture: it brings it from whatever may stand
-/// before it, and no list of instructions without scrolls, of whatever form, brings it from any of that with fewer
-/// instructions.
+/// A law: an ordered change is a change of its picture. It shows the picture after any allowed state, and no list of
+/// instructions without scrolls shows it after any of these states with fewer instructions.
 pub fn ordered_changes_are_shortest()
     ensures { (script : List Drawing) (k : ℕ) (instrs : List Instr) → AreColoursInRange script
         → ((k x y : ℕ) → picture_pixel script k x y < colour_count) → IsOrderedChange script k instrs
@@ -27,7 +26,7 @@ pub fn ordered_changes_are_shortest()
     changes_have_planned_lengths();
 }
 
-/// A law: a schedule of changes in order, as they are written, is a schedule.
+/// A law: a schedule of ordered changes is a schedule.
 pub fn schedules_of_ordered_changes_are_schedules()
     ensures { (script : List Drawing) (blocks : ℕ) (packs : List (List ℕ)) → AreColoursInRange script
         → ((k x y : ℕ) → picture_pixel script k x y < colour_count) → IsOrderedSchedule script blocks packs
@@ -36,8 +35,8 @@ pub fn schedules_of_ordered_changes_are_schedules()
     ordered_changes_are_shortest();
 }
 
-/// A law: the change that is written for a picture is a change for it, and what the picture needs is its length, one
-/// number. So a late picture cannot be ready.
+/// A law: the planned change of a picture is a change of it, and its length is the only number of packs that the picture
+/// needs. So a late picture cannot be ready.
 pub fn needs_are_fewest()
     ensures change { (script : List Drawing) (k : ℕ) → AreColoursInRange script
         → ((k x y : ℕ) → picture_pixel script k x y < colour_count)

@@ -1,4 +1,4 @@
-//! The packs of a picture script: which changes bring its pictures, and when their packs are sent.
+//! The packs of a picture script: the changes that show its pictures, and when their packs are sent.
 #![tactic(auto)]
 
 mod change;
@@ -8,7 +8,6 @@ mod length_laws;
 mod planner;
 mod stops;
 mod surveys;
-mod times;
 mod weaver;
 
 pub use change_laws::{
@@ -20,7 +19,7 @@ pub use laws::{
 pub use length_laws::{
     needs_are_fewest, ordered_changes_are_shortest, schedules_of_ordered_changes_are_schedules,
 };
-pub use planner::{PlanRow, Planner};
+pub use planner::{PlanRow, Planner, survey};
 pub use stops::{LatePicture, Stop};
-pub use surveys::{PlannedChange, Survey, SurveyRoom, is_past_end, survey, survey_in};
+pub use surveys::{PlannedChange, Survey, SurveyRoom, is_past_end, survey_in};
 pub use weaver::Weaver;

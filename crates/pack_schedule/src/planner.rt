@@ -1,40 +1,45 @@
-// What each picture of a script needs and what is free for it, in rows that go on after a late one.
-ghost use Rattle.std.specs.Prelude.{◌≡◌, ◌<◌, ◌≤◌, ◌-◌};
+// The plan of a script: a row for each picture, also after a late one, or a survey up to the first late picture.
+ghost use Rattle.std.specs.Prelude.{◌≡◌, ◌<◌, ◌≤◌, ◌-◌, ℕ, slice_index_or, IfOk, IfErr, Err};
+ghost use Rattle.disc_time.specs.Counts.{time_count};
 ghost use Rattle.picture_script.specs.Script.{pictures};
 ghost use Rattle.picture_script.specs.Board.{IsPicture};
 ghost use Rattle.pack_schedule.specs.Change.{most_change};
 ghost use Rattle.pack_schedule.specs.Plans.{IsPlanRow};
+ghost use Rattle.pack_schedule.specs.Brings.{CannotBeReady, IsNeed};
+ghost use Rattle.pack_schedule.specs.Survey.{nothing_planned, IsSurvey, IsWithin, IsPastEnd, IsStop};
 ghost use Rattle.pack_schedule.specs.Weights.{AreWeights};
 
 use crate::change::{NOT_WEIGHED, Weighed};
 use crate::needs_are_fewest;
-use crate::surveys::plan_picture;
-use crate::times::{free_packs, is_in_time};
+use crate::stops::Stop;
+use crate::surveys::{
+    Survey, SurveyRoom, free_packs, is_in_time, is_past_end, plan_picture, survey_in,
+};
 use cdg_instructions::WINDOW_TILES;
 use picture_script::{Canvas, Script};
 use std::alloc::{AllocError, Global};
 use std::marker::Model;
 
-/// What is planned for a picture, whether it is in time or not. Times are blocks of the program.
+/// The plan of a picture, in time or late. Times are blocks of the program.
 #[derive(Clone, Copy)]
 pub struct PlanRow {
     /// When it is ready.
     pub ready: u32,
-    /// Until when it is held.
+    /// The end of its hold time.
     pub hold: u32,
-    /// How many packs its change needs, at most 3,076.
+    /// The number of packs of its change, at most 3,076.
     pub need: u32,
-    /// How many packs are free for it.
+    /// The number of packs that are free for it.
     pub free: u32,
-    /// The number of the first of them, from 0.
+    /// The number of the first free pack, from 0.
     pub first: u32,
-    /// Whether the packs of its change are not whole by its ready time.
+    /// Whether the packs of its change are incomplete at its ready time.
     pub late: bool,
 }
 
-/// The plan of a script, one row for each picture after another, whether it is in time or not.
+/// Plans a script row by row: one row for each picture, in time or late.
 ///
-/// A contract sees the script, and how many rows were given.
+/// A contract sees the script and the number of rows so far.
 #[derive(Drop)]
 pub struct Planner<'a> {
     script: &'a Script,
@@ -58,7 +63,7 @@ impl<'a> Model for Planner<'a> {
 impl<'a> Planner<'a> {
     ghost use Rattle.std.specs.Prelude.{◌+◌, ◌↔◌, IfOk, IfSome, IsSome, if◌then◌else◌, nat_lt};
 
-    /// A planner that has given no row.
+    /// A planner before its first row.
     pub fn start(alloc: Global, script: &'a Script) -> Result<Planner<'a>, AllocError>
         ensures script { IfOk result (λ p. p.script ≡ script.now) }
         ensures given { IfOk result (λ p. p.given ≡ 0) }
@@ -74,7 +79,7 @@ impl<'a> Planner<'a> {
         })
     }
 
-    /// The row of the next picture, or none after the last one.
+    /// The row of the next picture, or `None` after the last one.
     pub fn next_row(&mut self) -> Option<PlanRow>
         ensures row { IfSome result (IsPlanRow self.old.script self.old.given) }
         ensures few { IfSome result (λ row. row.need ≤ most_change) }
@@ -96,7 +101,7 @@ impl<'a> Planner<'a> {
     }
 }
 
-// The row of picture `k`, which stands on `now`, while the picture before it stands on `before`.
+// The row of picture `k`. This picture is on `now`, the previous one on `before`.
 fn plan_row(
     script: &Script,
     k: u32,
@@ -112,7 +117,7 @@ fn plan_row(
     ensures few { result.need ≤ most_change }
     ensures weights { AreWeights script.now k weights.new }
 {
-    // For the proof alone: what is counted is what the picture needs.
+    // A law: the counted instructions are those that the picture needs.
     needs_are_fewest();
     script.times_rise_and_colours_are_in_range();
     let change = plan_picture(script, k, before, now, weights);
@@ -124,4 +129,46 @@ fn plan_row(
         first: change.start,
         late: !is_in_time(script, k, change.start, change.need),
     }
+}
+
+/// Plans the change of each picture, for a program of `blocks` blocks, below 450,000.
+///
+/// A picture is in time if the packs of its change are complete at its ready time. The first of them is the first pack
+/// that is incomplete at the hold time of the previous picture.
+///
+/// # Errors
+///
+/// `PastEnd` exactly if the last picture is held for longer than `blocks`. `Late` for the first late picture, with the
+/// number of packs that it needs and the number that is free for it. `NoMemory` if memory runs out.
+pub fn survey(alloc: Global, script: &Script, blocks: u32) -> Result<Survey, Stop>
+    requires { blocks < time_count }
+    ensures within { IfOk result (λ _. IsWithin script.now blocks) }
+    ensures planned { IfOk result (IsSurvey script.now) }
+    ensures err { IfErr result (IsStop script.now blocks) }
+    ensures past_end { IsPastEnd script.now blocks → result ≡ Err (Stop.PastEnd blocks) }
+
+    // A picture needs the length of a shortest list without scrolls that shows it, and a late picture cannot be ready.
+    ensures fewest { IfOk result (λ planned. (k : ℕ) → k < pictures script.now
+        → IsNeed script.now k (slice_index_or planned k nothing_planned).need) }
+    ensures late { (picture need free : ℕ) → result ≡ Err (Stop.Late picture need free)
+        → CannotBeReady script.now picture need free }
+{
+    // A law: the counted instructions are those that each picture needs.
+    needs_are_fewest();
+    script.times_rise_and_colours_are_in_range();
+    if is_past_end(script, blocks) {
+        return Err(Stop::PastEnd { blocks });
+    }
+    plan_all(alloc, script, blocks)
+}
+
+// Allocates the memory of a survey, and plans the change of each picture.
+fn plan_all(alloc: Global, script: &Script, blocks: u32) -> Result<Survey, Stop>
+    requires end { ¬ IsPastEnd script.now blocks }
+    ensures within { IfOk result (λ _. IsWithin script.now blocks) }
+    ensures planned { IfOk result (IsSurvey script.now) }
+    ensures err { IfErr result (IsStop script.now blocks) }
+{
+    let room = SurveyRoom::start(alloc, script.pictures())?;
+    Ok(survey_in(room, script, blocks)?)
 }

@@ -1,7 +1,7 @@
-// The reasons for which a script has no schedule, and those that memory gives.
+// The reasons why a script has no schedule, and failed allocations.
 use std::alloc::{AllocError, AllocFailed};
 
-/// The first picture that cannot be ready, the packs that it needs and those that are free for it.
+/// The first picture that cannot be ready, the number of packs that it needs and the number that is free for it.
 #[derive(Clone, Copy)]
 pub struct LatePicture {
     pub picture: u32,
@@ -9,14 +9,14 @@ pub struct LatePicture {
     pub free: u32,
 }
 
-/// Why a script has no schedule.
+/// The reason why a script has no schedule.
 #[derive(Clone, Copy, PartialEq, Eq, Debug)]
 pub enum Stop {
     /// The last picture is held for longer than these program blocks.
     PastEnd { blocks: u32 },
-    /// The first picture that cannot be ready: it needs so many packs, and so many are free for it.
+    /// The first picture that cannot be ready, the packs that it needs, and the packs that are free for it.
     Late { picture: u32, need: u32, free: u32 },
-    /// There was no memory.
+    /// Memory ran out.
     NoMemory,
 }
 

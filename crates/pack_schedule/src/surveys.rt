@@ -1,61 +1,75 @@
-// When the change of each picture of a script is sent, and which picture is the first that cannot be ready.
-ghost use Rattle.std.specs.Prelude.{◌≡◌, ◌<◌, ◌≤◌, ◌+◌, ◌-◌, ◌*◌, ℕ, [], length, slice_index_or, IfOk, IfErr, IsTrue, OnOk, ◌↔◌, Err, vec_capacity, vec_len};
+// When the change of each picture of a script is sent, and which picture is the first late one.
+ghost use Rattle.std.specs.Prelude.{◌≡◌, ◌<◌, ◌≤◌, ◌+◌, ◌-◌, ◌*◌, ℕ, [], length, slice_index_or, IfOk, IfErr, IsTrue, OnOk, ◌↔◌, vec_capacity, vec_len, nat_le};
 ghost use Rattle.disc_time.specs.Counts.{time_count};
 ghost use Rattle.raw_subcode.specs.Sizes.{slots_a_block};
-ghost use Rattle.picture_script.specs.Script.{pictures};
+ghost use Rattle.picture_script.specs.Script.{pictures, ready_time};
 ghost use Rattle.picture_script.specs.Board.{IsPicture};
 ghost use Rattle.pack_schedule.specs.Schedule.{start_of, free_packs, IsInTime};
 ghost use Rattle.pack_schedule.specs.Change.{most_change};
 ghost use Rattle.pack_schedule.specs.PlannedChange.{chosen_start, planned_change};
-ghost use Rattle.pack_schedule.specs.Brings.{CannotBeReady, IsNeed};
-ghost use Rattle.pack_schedule.specs.Survey.{nothing_planned, IsRoomFor, IsLatePicture, IsPlanned, IsSurvey, IsWithin, IsPastEnd, IsStop};
+ghost use Rattle.pack_schedule.specs.Survey.{nothing_planned, IsRoomFor, IsLatePicture, IsPlanned, IsSurvey, IsWithin, IsPastEnd};
 ghost use Rattle.pack_schedule.specs.Weaving.{Stands};
 ghost use Rattle.pack_schedule.specs.Weights.{AreWeights};
-
-mod told;
+ghost use Rattle.rw_interleave.specs.Interleave.{packs_kept_back};
 
 use crate::change::{NOT_WEIGHED, Weighed, choose_start};
-use crate::stops::{LatePicture, Stop};
-use crate::times::{free_packs, is_in_time, start_of};
+use crate::stops::LatePicture;
 use crate::{changes_have_planned_lengths, needs_are_fewest, planned_changes_are_changes};
 use cdg_instructions::WINDOW_TILES;
 use picture_script::{Canvas, Script};
+use raw_subcode::SLOTS_A_BLOCK;
+use rw_interleave::{PACKS_KEPT_BACK, whole_packs};
 use std::alloc::{AllocError, Global};
-pub use told::{PlannedChange, Survey};
+use std::marker::Model;
 
-/// Plans the change of each picture, for a program of so many blocks, which are below 450,000.
-///
-/// A picture is in time where the packs of its change are whole by its ready time. They are sent from the first pack on
-/// that is not whole at the hold time of the picture before.
-///
-/// # Errors
-///
-/// `PastEnd` exactly where the last picture is held for longer than these blocks. `Late` at the first picture that is not
-/// in time, with the packs that it needs and those that are free for it. `NoMemory` where there is no memory.
-pub fn survey(alloc: Global, script: &Script, blocks: u32) -> Result<Survey, Stop>
-    requires { blocks < time_count }
-    ensures within { IfOk result (λ _. IsWithin script.now blocks) }
-    ensures planned { IfOk result (IsSurvey script.now) }
-    ensures err { IfErr result (IsStop script.now blocks) }
-    ensures past_end { IsPastEnd script.now blocks → result ≡ Err (Stop.PastEnd blocks) }
-
-    // What a picture needs is the fewest instructions that bring it, of whatever form without scrolls; and a late
-    // picture cannot be ready.
-    ensures fewest { IfOk result (λ planned. (k : ℕ) → k < pictures script.now
-        → IsNeed script.now k (slice_index_or planned k nothing_planned).need) }
-    ensures late { (picture need free : ℕ) → result ≡ Err (Stop.Late picture need free)
-        → CannotBeReady script.now picture need free }
-{
-    // For the proof alone: what is counted is what each picture needs.
-    needs_are_fewest();
-    script.times_rise_and_colours_are_in_range();
-    if is_past_end(script, blocks) {
-        return Err(Stop::PastEnd { blocks });
-    }
-    plan_all(alloc, script, blocks)
+/// When the packs of a picture's change are sent.
+#[derive(Clone, Copy)]
+pub struct PlannedChange {
+    /// The number of the first pack, from 0.
+    pub start: u32,
+    /// The number of packs of the change, at most 3,076.
+    pub need: u32,
+    /// The colour of the preset with which the change begins, or `None` if it begins without one.
+    pub preset: Option<u8>,
 }
 
-/// Whether the last picture is held for longer than so many blocks.
+/// When the packs of each picture's change are sent. A contract sees the list of the planned changes.
+#[derive(Drop)]
+pub struct Survey {
+    pub(crate) planned: Vec<PlannedChange>,
+}
+
+impl Model for Survey {
+    ghost use Rattle.std.specs.Prelude.{List};
+    ghost use Rattle.pack_schedule.specs.declared.surveys.PlannedChange.{PlannedChange};
+
+    ghost Value = { List PlannedChange };
+
+    ghost view = { λ s. s.planned.items };
+}
+
+impl Survey {
+    ghost use Rattle.std.specs.Prelude.{◌≡◌, ◌<◌, length, slice_index_or};
+    ghost use Rattle.pack_schedule.specs.Survey.{nothing_planned};
+
+    /// The number of packs of the change of picture `k`.
+    pub fn need(&self, k: u32) -> u32
+        requires { k < length self.now }
+        ensures { result ≡ (slice_index_or self.now k nothing_planned).need }
+    {
+        self.planned[k as usize].need
+    }
+
+    /// The planned change of picture `k`.
+    pub(crate) fn change(&self, k: u32) -> PlannedChange
+        requires { k < length self.now }
+        ensures { result ≡ slice_index_or self.now k nothing_planned }
+    {
+        self.planned[k as usize]
+    }
+}
+
+/// Whether the last picture is held for longer than `blocks` blocks.
 pub fn is_past_end(script: &Script, blocks: u32) -> bool
     ensures { IsTrue result ↔ IsPastEnd script.now blocks }
 {
@@ -63,23 +77,12 @@ pub fn is_past_end(script: &Script, blocks: u32) -> bool
     pictures > 0 && script.hold(pictures - 1) > blocks
 }
 
-// Takes the memory of a survey, and plans the change of each picture.
-fn plan_all(alloc: Global, script: &Script, blocks: u32) -> Result<Survey, Stop>
-    requires end { ¬ IsPastEnd script.now blocks }
-    ensures within { IfOk result (λ _. IsWithin script.now blocks) }
-    ensures planned { IfOk result (IsSurvey script.now) }
-    ensures err { IfErr result (IsStop script.now blocks) }
-{
-    let room = SurveyRoom::start(alloc, script.pictures())?;
-    Ok(survey_in(room, script, blocks)?)
-}
-
-/// Plans the change of each picture in room for all of them, where the last picture is not held for longer than so many
-/// blocks. It takes no memory: what is refused is what is late.
+/// Plans the change of each picture in allocated memory. The caller knows that the last picture is not held past the end.
+/// So the only error is a late picture.
 ///
 /// # Errors
 ///
-/// The first picture that is not in time.
+/// The first late picture.
 pub fn survey_in(room: SurveyRoom, script: &Script, blocks: u32) -> Result<Survey, LatePicture>
     requires end { ¬ IsPastEnd script.now blocks }
     requires room { IsRoomFor (pictures script.now) room }
@@ -87,7 +90,7 @@ pub fn survey_in(room: SurveyRoom, script: &Script, blocks: u32) -> Result<Surve
     ensures planned { IfOk result (IsSurvey script.now) }
     ensures late { IfErr result (IsLatePicture script.now) }
 {
-    // For the proof alone: no picture is held past the end.
+    // A law: the times of pictures rise, so no picture is held past the end.
     script.times_rise_and_colours_are_in_range();
     let SurveyRoom {
         mut before,
@@ -106,7 +109,7 @@ pub fn survey_in(room: SurveyRoom, script: &Script, blocks: u32) -> Result<Surve
     }
 }
 
-// Plans the changes in turn, with two canvases on which nothing is drawn.
+// Plans the changes in order, on two empty canvases.
 fn survey_on(
     script: &Script,
     before: &mut Canvas,
@@ -120,7 +123,7 @@ fn survey_on(
     ensures planned { OnOk result (IsSurvey script.now planned.new.items) }
     ensures late { IfErr result (IsLatePicture script.now) }
 {
-    // For the proof alone: a late picture needs what is told.
+    // A law: a late picture needs the reported packs.
     needs_are_fewest();
     let pictures = script.pictures();
     let mut weights = [NOT_WEIGHED; WINDOW_TILES];
@@ -132,7 +135,7 @@ fn survey_on(
     Ok(())
 }
 
-// The planned change of picture `k`, where it is in time. The picture is drawn on `now`.
+// The planned change of picture `k`, if it is in time. The picture is drawn on `now`.
 fn plan_in_time(
     script: &Script,
     k: u32,
@@ -165,7 +168,7 @@ fn plan_in_time(
     Ok(change)
 }
 
-/// The change of picture `k`, which stands on `now`, while the picture before it stands on `before`.
+/// The planned change of picture `k`. This picture is on `now`, the previous one on `before`.
 pub(crate) fn plan_picture(
     script: &Script,
     k: u32,
@@ -183,7 +186,7 @@ pub(crate) fn plan_picture(
     ensures need { result.need ≡ length (planned_change script.now k) }
     ensures below { (result.start < slots_a_block * time_count) × (result.need ≤ most_change) }
 {
-    // For the proof alone: the change that is written has the length that was counted.
+    // Laws: the planned change has the counted length.
     planned_changes_are_changes();
     changes_have_planned_lengths();
     script.times_rise_and_colours_are_in_range();
@@ -195,8 +198,7 @@ pub(crate) fn plan_picture(
     }
 }
 
-/// What a survey of so many pictures is made in: two canvases on which nothing is drawn, and room for what is planned of
-/// each picture. It is taken without a look at any of them.
+/// The memory of a survey: two empty canvases, and room for the planned change of each picture.
 #[derive(Drop)]
 pub struct SurveyRoom {
     pub(crate) before: Canvas,
@@ -205,7 +207,7 @@ pub struct SurveyRoom {
 }
 
 impl SurveyRoom {
-    /// Room for a survey of so many pictures, where there is memory.
+    /// Allocates the memory for a survey of `pictures` pictures.
     pub fn start(alloc: Global, pictures: u32) -> Result<SurveyRoom, AllocError>
         ensures { IfOk result (IsRoomFor pictures) }
     {
@@ -215,4 +217,35 @@ impl SurveyRoom {
             planned: Vec::with_capacity(alloc, pictures as usize)?,
         })
     }
+}
+
+/// The pack at which the change of picture `k` begins.
+pub(crate) fn start_of(script: &Script, k: u32) -> u32
+    requires { k < pictures script.now }
+    ensures value { result ≡ start_of script.now k }
+    ensures below { result < slots_a_block * time_count }
+{
+    if k == 0 {
+        0
+    } else {
+        whole_packs(script.hold(k - 1))
+    }
+}
+
+/// Whether `need` packs from a start on are complete at the ready time of picture `k`.
+pub(crate) fn is_in_time(script: &Script, k: u32, start: u32, need: u32) -> bool
+    requires picture { k < pictures script.now }
+    requires start { start < slots_a_block * time_count }
+    requires need { need ≤ most_change }
+    ensures { result ≡ nat_le (start + need + packs_kept_back) (slots_a_block * ready_time script.now k) }
+{
+    start + need + PACKS_KEPT_BACK as u32 <= SLOTS_A_BLOCK as u32 * script.ready(k)
+}
+
+pub(crate) fn free_packs(script: &Script, k: u32, start: u32) -> u32
+    requires picture { k < pictures script.now }
+    requires start { start ≡ start_of script.now k }
+    ensures { result ≡ free_packs script.now k }
+{
+    whole_packs(script.ready(k)).saturating_sub(start)
 }

@@ -1,16 +1,169 @@
-// The packs of a program: those of the changes where they are sent, and idle ones between them.
-mod at_hand;
+// The packs of a program: the packs of the changes, and idle packs between them.
+ghost use Rattle.std.specs.Prelude.{◌<◌, ◌-◌};
+ghost use Rattle.picture_script.specs.Board.{IsPicture, StandsBefore};
+ghost use Rattle.picture_script.specs.Script.{pictures};
 
+use crate::change::ChangeList;
 use crate::surveys::Survey;
-use at_hand::ChangeAtHand;
-use picture_script::Script;
+use crate::{changes_can_be_written, planned_changes_are_changes};
+use cdg_instructions::write;
+use picture_script::{Canvas, Script};
 use rw_code::Pack;
 use std::alloc::{AllocError, Global};
 use std::marker::Model;
 
-/// What gives the packs of a script in turn.
+/// The current change, of picture `k`. If it has packs, this picture and the previous one are drawn.
+#[derive(Drop)]
+pub(crate) struct ChangeAtHand {
+    pub(crate) survey: Survey,
+    pub(crate) before: Canvas,
+    pub(crate) now: Canvas,
+    pub(crate) change: ChangeList,
+    pub(crate) k: u32,
+    // The first pack of the change, or the maximum after the last change.
+    pub(crate) start: u32,
+}
+
+impl ChangeAtHand {
+    ghost use Rattle.std.specs.Prelude.{◌≡◌, ◌↔◌, ◌<◌, ◌≤◌, ◌+◌, ◌-◌, length, unwrap_or, IfOk, IsNone};
+    ghost use Rattle.picture_script.specs.Board.{StandsBefore};
+    ghost use Rattle.picture_script.specs.Script.{pictures};
+    ghost use Rattle.rw_code.specs.Packs.{idle_pack};
+    ghost use Rattle.pack_schedule.specs.Schedule.{start_of};
+    ghost use Rattle.pack_schedule.specs.PlannedChange.{planned_change};
+    ghost use Rattle.pack_schedule.specs.Survey.{IsSurvey};
+    ghost use Rattle.pack_schedule.specs.Woven.{IsPackAt};
+    ghost use Rattle.pack_schedule.specs.Weaving.{IsWeaving};
+
+    /// Begins with the change of the first picture, if there is one.
+    pub(crate) fn start(
+        alloc: Global,
+        script: &Script,
+        survey: Survey,
+    ) -> Result<ChangeAtHand, AllocError>
+        requires { IsSurvey script.now survey }
+        ensures { IfOk result (λ at_hand. IsWeaving script.now at_hand 0) }
+    {
+        let mut at_hand = ChangeAtHand {
+            survey,
+            before: Canvas::start(alloc)?,
+            now: Canvas::start(alloc)?,
+            change: ChangeList::start(alloc)?,
+            k: 0,
+            start: u32::MAX,
+        };
+        if script.pictures() > 0 {
+            at_hand.prepare(script);
+        }
+        Ok(at_hand)
+    }
+
+    // Plans the change of picture `k`. If it is empty, nothing is drawn.
+    fn prepare(&mut self, script: &Script)
+        requires surveyed { IsSurvey script.now self.old.survey }
+        requires picture { self.old.k < pictures script.now }
+        requires before { StandsBefore script.now (self.old.k - 1) self.old.before }
+        requires now { StandsBefore script.now (self.old.k - 1) self.old.now }
+        ensures change { self.new.change ≡ planned_change script.now self.old.k }
+        ensures start { self.new.start ≡ start_of script.now self.old.k }
+        ensures before { StandsBefore script.now self.old.k self.new.before }
+        ensures now { StandsBefore script.now self.old.k self.new.now }
+        ensures survey { self.new.survey ≡ self.old.survey }
+        ensures k { self.new.k ≡ self.old.k }
+    {
+        // A law: the planned start is allowed.
+        planned_changes_are_changes();
+        let planned = self.survey.change(self.k);
+        self.start = planned.start;
+        if planned.need == 0 {
+            self.change.clear();
+            return;
+        }
+        draw(script, self.k, &mut self.before, &mut self.now);
+        self.change
+            .plan(script, self.k, planned.preset, &self.before, &self.now);
+    }
+
+    // Moves to the change of the next picture. It is not inlined, since most packs are idle.
+    #[inline(never)]
+    fn advance(&mut self, script: &Script, given: u32)
+        requires weaving { IsWeaving script.now self.old given }
+        requires picture { self.old.k < pictures script.now }
+        requires sent { start_of script.now self.old.k + length (planned_change script.now self.old.k) ≤
+            given }
+        ensures weaving { IsWeaving script.now self.new given }
+        ensures next { self.new.k ≡ self.old.k + 1 }
+    {
+        let pictures = script.pictures();
+        self.k += 1;
+        self.start = u32::MAX;
+        if self.k < pictures {
+            self.prepare(script);
+        }
+    }
+
+    /// Moves to the first change that is not finished after `given` packs.
+    pub(crate) fn skip_sent(&mut self, script: &Script, given: u32)
+        requires { IsWeaving script.now self.old given }
+        ensures weaving { IsWeaving script.now self.new given }
+        ensures current { self.new.k < pictures script.now
+            → given < start_of script.now self.new.k + length (planned_change script.now self.new.k) }
+    {
+        if given < self.start {
+            return;
+        }
+        let pictures = script.pictures();
+        for _k in self.k..pictures {
+            let planned = self.survey.change(self.k);
+            if given < planned.start + planned.need {
+                return;
+            }
+            self.advance(script, given);
+        }
+    }
+
+    /// The pack with this number: an instruction of the current change, or `None` if it is idle.
+    #[inline]
+    pub(crate) fn pack(&self, script: &Script, given: u32) -> Option<Pack>
+        requires weaving { IsWeaving script.now self.now given }
+        requires current { self.now.k < pictures script.now
+            → given < start_of script.now self.now.k + length (planned_change script.now self.now.k) }
+        ensures pack { IsPackAt script.now given (unwrap_or result idle_pack) }
+        ensures none { IsNone result ↔ (unwrap_or result idle_pack ≡ idle_pack) }
+    {
+        // Laws: each instruction can be written.
+        planned_changes_are_changes();
+        changes_can_be_written();
+        let pictures = script.pictures();
+        if given < self.start || self.k >= pictures {
+            return None;
+        }
+        Some(write(&self.change.get((given - self.start) as usize)))
+    }
+}
+
+// Draws picture `k` on `now`, and the previous picture on `before`.
+fn draw(script: &Script, k: u32, before: &mut Canvas, now: &mut Canvas)
+    requires picture { k < pictures script.now }
+    requires before { StandsBefore script.now (k - 1) before.old }
+    requires now { StandsBefore script.now (k - 1) now.old }
+    ensures before { 0 < k → IsPicture script.now (k - 1) before.new }
+    ensures now { IsPicture script.now k now.new }
+    ensures before_stands { StandsBefore script.now k before.new }
+    ensures now_stands { StandsBefore script.now k now.new }
+{
+    if k == 0 {
+        now.draw_until(script, k);
+        return;
+    }
+    now.draw_until(script, k - 1);
+    before.draw_like(script, k - 1, now);
+    now.draw_until(script, k);
+}
+
+/// Returns the packs of a script one after another.
 ///
-/// A contract sees the script, and how many packs were given.
+/// A contract sees the script and the number of packs so far.
 #[derive(Drop)]
 pub struct Weaver<'a> {
     script: &'a Script,
@@ -35,7 +188,7 @@ impl<'a> Weaver<'a> {
     ghost use Rattle.pack_schedule.specs.Survey.{IsSurvey};
     ghost use Rattle.pack_schedule.specs.Woven.{ArePassedBy, IsPackAt};
 
-    /// A weaver that has given no pack.
+    /// A weaver before its first pack.
     pub fn start(
         alloc: Global,
         script: &'a Script,
@@ -53,7 +206,7 @@ impl<'a> Weaver<'a> {
         })
     }
 
-    /// The next pack; after the changes it is idle. The number of packs given stays at the last value of its type.
+    /// The next pack, which is idle after all changes. The number of packs saturates.
     pub fn next(&mut self) -> Pack
         ensures pack { IsPackAt self.old.script self.old.given result }
         ensures script { self.new.script ≡ self.old.script }
@@ -65,7 +218,7 @@ impl<'a> Weaver<'a> {
         }
     }
 
-    /// The next pack, or none where it is idle. It counts as given all the same.
+    /// The next pack, or `None` if it is idle. An idle pack is counted too.
     #[inline]
     pub fn next_unless_idle(&mut self) -> Option<Pack>
         ensures pack { IsPackAt self.old.script self.old.given (unwrap_or result idle_pack) }
@@ -79,8 +232,7 @@ impl<'a> Weaver<'a> {
         pack
     }
 
-    /// Passes over so many packs where each change is either over or begins only after them, so that they are idle, and
-    /// answers whether that is so. Otherwise nothing is done.
+    /// Skips the next `packs` packs if no change has one of them, and returns whether it did so.
     #[inline]
     pub fn pass_idle(&mut self, packs: u32) -> bool
         ensures passes { result ≡ true ↔ ArePassedBy self.old packs }

@@ -24,12 +24,12 @@ built_block p (q ∷ qs) (symbol ∷ symbols) = built_byte p q symbol ∷ built_
 unfoldable pub bits_of_frame : QFrame → List Bool
 bits_of_frame frame = spelled (fields_of frame) ++ check_bits (spelled (fields_of frame))
 
--- block l of so many lead-in blocks: no pause, an entry of the table of contents, and the text packs as they stand
+-- block l of the lead-in: the P bit is 0, the frame is an entry of the table of contents, the symbols are text packs
 unfoldable pub lead_in_block : DiscLayout → List (List ℕ) → ℕ → ℕ → List ℕ
 lead_in_block layout texts lead_in l =
     built_block false (bits_of_frame (toc_frame layout lead_in l)) (lead_in_symbols texts l)
 
--- the symbols of block b, where these are the symbols of all program blocks
+-- the symbols of block b, taken from the symbols of all program blocks
 abbrev pub symbols_at : List ℕ → ℕ → List ℕ
 symbols_at symbols b = take block_bytes (drop (block_bytes * b) symbols)
 
@@ -38,11 +38,11 @@ unfoldable pub carrying_block : DiscLayout → ℕ → List ℕ → List ℕ
 carrying_block layout b symbols =
     built_block (p_bit layout b) (bits_of_frame (program_frame layout b)) symbols
 
--- program block b, where these are the symbols of all program blocks
+-- program block b, taken from the symbols of all program blocks
 abbrev pub program_block : DiscLayout → List ℕ → ℕ → List ℕ
 program_block layout symbols b = carrying_block layout b (symbols_at symbols b)
 
--- a stream: the lead-in blocks, and so many program blocks of a disc, which have these symbols
+-- a stream: the lead-in blocks, and the first program blocks of a disc with these symbols
 unfoldable pub stream_bytes : DiscLayout → List (List ℕ) → ℕ → ℕ → List ℕ → List ℕ
 stream_bytes layout texts lead_in blocks symbols =
     flat_map (lead_in_block layout texts lead_in) (below lead_in)

@@ -1,4 +1,4 @@
--- Packs as they come, and what is put of them. `Comes n pack` says that pack n, counted from 0, may be this.
+-- The packs of a source, and the bytes written from them. `Comes n pack` says that pack n, from 0, may be this pack.
 use Rattle.std.specs.Prelude.{◌≡◌, ℕ, ◌+◌, ◌*◌, ◌<◌, ◌≤◌, List, [], length, flat_map, replicate, ◌++◌, Some, slice_index_or, All}
 use Rattle.std.specs.List.{concat}
 use Rattle.std.specs.Io.KnownBytes.{Appends}
@@ -18,25 +18,25 @@ use Rattle.toc_model.specs.Layout.{p_bit, program_frame}
 use Rattle.stream_writer.specs.Blocks.{program_block, symbols_at, stream_bytes, IsBuilt}
 use Rattle.stream_writer.specs.Framing.{HasFraming}
 
--- the symbols of all slots over which packs are spread, where these packs came before
+-- the symbols of all slots over which packs are spread, after these previous packs
 abbrev pub symbols_from : List (List ℕ) → List (List ℕ) → List ℕ
 symbols_from before packs = concat (run_gives spread_next spread_gives before packs)
 
--- after so many packs these come
+-- the packs after the first ones
 abbrev pub ComesLater : (ℕ → List ℕ → Type 0) → ℕ → (ℕ → List ℕ → Type 0) → Type 0
 ComesLater Comes many Later = (n : ℕ) (pack : List ℕ) → Later n pack → Comes (many + n) pack
 
--- the packs of so many blocks have come, and no more
+-- exactly the packs of the first blocks were read
 abbrev pub ComesAfterBlocks : (ℕ → List ℕ → Type 0) → ℕ → (ℕ → List ℕ → Type 0) → Type 0
 ComesAfterBlocks Comes blocks Later = ComesLater Comes (slots_a_block * blocks) Later
 
--- so many packs as they come, from the one with this number on
+-- these are the next packs, from this number on
 pub record AreGiven (Comes : ℕ → List ℕ → Type 0) (first many : ℕ) (packs : List (List ℕ)) : Type 0 where
   pub count : length packs ≡ many
   pub each : (k : ℕ) → k < many → Comes (first + k) (slice_index_or packs k [])
   pub codewords : All IsCodeword packs
 
--- the slot that comes with one more pack, and the packs that are still to be spread before and after it
+-- the slot for one more pack, and the unfinished packs of the spreader before and after it
 pub record TakesPack (Comes : ℕ → List ℕ → Type 0) (before after : List (List ℕ))
     (slot pack : List ℕ) : Type 0 where
   pub comes : Comes 0 pack
@@ -44,20 +44,20 @@ pub record TakesPack (Comes : ℕ → List ℕ → Type 0) (before after : List 
   pub after_is : after ≡ spread_next before pack
   pub slot_is : Some slot ≡ spread_gives before pack
 
--- of the packs that are still to be spread, so many of the last are idle
+-- the last unfinished packs of the spreader are idle, this many of them
 pub record AreQuiet (packs : List (List ℕ)) (quiet : ℕ) : Type 0 where
   pub few : length packs ≤ packs_kept_back
   pub before : List (List ℕ)
   pub idle : packs ≡ before ++ replicate quiet idle_pack
 
--- the symbols of so many packs, and the packs that are still to be spread before and after them
+-- the symbols for some packs, and the unfinished packs of the spreader before and after them
 pub record TakesPacks (Comes : ℕ → List ℕ → Type 0) (many : ℕ) (waiting : Change (List (List ℕ)))
     (symbols : List ℕ) (packs : List (List ℕ)) : Type 0 where
   pub given_are : AreGiven Comes 0 many packs
   pub symbols_are : symbols ≡ symbols_from waiting.before packs
   pub after_is : waiting.after ≡ run_state spread_next waiting.before packs
 
--- program blocks with these packs were put
+-- program blocks with these packs were written
 pub record PutsProgram (layout : DiscLayout) (Comes : ℕ → List ℕ → Type 0) (blocks : ℕ)
     (held : Change Bytes) (packs : List (List ℕ)) : Type 0 where
   pub given_are : AreGiven Comes 0 (slots_a_block * blocks) packs
@@ -67,25 +67,25 @@ pub record PutsProgram (layout : DiscLayout) (Comes : ℕ → List ℕ → Type 
       → IsBuilt (program_block layout (symbols_from [] packs) b) (p_bit layout b) (program_frame layout b)
       (symbols_at (symbols_from [] packs) b)
 
--- a prefix of so many program blocks with these packs was put, up to some byte of the last of them
+-- a prefix of the first program blocks with these packs was written; it ends inside the last of them
 pub record PutsPart (layout : DiscLayout) (Comes : ℕ → List ℕ → Type 0) (held : Change Bytes) (n : ℕ)
     (packs : List (List ℕ)) : Type 0 where
   pub within : n ≤ layout.blocks
   pub given_are : AreGiven Comes 0 (slots_a_block * n) packs
   pub put : AppendsPrefix held.before held.after
       (flat_map (program_block layout (symbols_from [] packs)) (below n))
-  -- all of the earlier blocks was put
+  -- all earlier blocks were written
   pub in_turn : (m : ℕ) → n ≡ m + 1 → AppendsBetween held.before held.after
       (flat_map (program_block layout (symbols_from [] packs)) (below m))
       (flat_map (program_block layout (symbols_from [] packs)) (below n))
 
--- what stands around the packs of a stream: the places of a disc, and the text packs and blocks of its lead-in
+-- the framing of a stream: the places of a disc, and the text packs and blocks of its lead-in
 pub record Framing : Type 0 where
   pub layout : DiscLayout
   pub texts : List (List ℕ)
   pub lead_in : ℕ
 
--- the places of a disc, and the text packs and blocks of a lead-in, as one
+-- the framing with these parts
 abbrev pub framing_of : DiscLayout → List (List ℕ) → ℕ → Framing
 framing_of layout texts lead_in = record { layout = layout; texts = texts; lead_in = lead_in }
 
@@ -93,7 +93,7 @@ framing_of layout texts lead_in = record { layout = layout; texts = texts; lead_
 abbrev pub framed_bytes : Framing → ℕ → List (List ℕ) → List ℕ
 framed_bytes around n packs = stream_bytes around.layout around.texts around.lead_in n (symbols_from [] packs)
 
--- a stream with these packs was put
+-- a stream with these packs was written
 pub record PutsStream (around : Framing) (Comes : ℕ → List ℕ → Type 0) (held : Change Bytes)
     (packs : List (List ℕ)) : Type 0 where
   pub given_are : AreGiven Comes 0 (slots_a_block * around.layout.blocks) packs
@@ -103,17 +103,17 @@ pub record PutsStream (around : Framing) (Comes : ℕ → List ℕ → Type 0) (
   pub symbols_are : program_symbols Raw (framed_bytes around around.layout.blocks packs) around.lead_in
       ≡ symbols_from [] packs
 
--- a prefix of the lead-in and so many program blocks with these packs was put, up to some byte of the last of them
+-- a prefix of the lead-in and the first program blocks with these packs was written; it ends inside the last of them
 pub record PutsStreamPart (around : Framing) (Comes : ℕ → List ℕ → Type 0) (held : Change Bytes) (n : ℕ)
     (packs : List (List ℕ)) : Type 0 where
   pub within : n ≤ around.layout.blocks
   pub given_are : AreGiven Comes 0 (slots_a_block * n) packs
   pub put : AppendsPrefix held.before held.after (framed_bytes around n packs)
-  -- all of the lead-in and of the earlier blocks was put
+  -- the whole lead-in and all earlier blocks were written
   pub in_turn : (m : ℕ) → n ≡ m + 1
       → AppendsBetween held.before held.after (framed_bytes around m packs) (framed_bytes around n packs)
 
--- the bytes have this framing, and their program carries these packs, which are as they come
+-- the bytes have this framing, and their program carries these packs of the source
 pub record CarriesComing (around : Framing) (Comes : ℕ → List ℕ → Type 0) (bytes : List ℕ)
     (packs : List (List ℕ)) : Type 0 where
   pub given_are : AreGiven Comes 0 (whole_packs around.layout.blocks) packs

@@ -1,4 +1,4 @@
--- What a sheet needs of a disc and of its lead-in.
+-- The space that a sheet needs on a disc and in its lead-in.
 use Rattle.std.specs.Prelude.{◌≡◌, ℕ, ◌+◌, ◌*◌, ◌/◌, ◌<◌, ◌≤◌, List, length, max}
 use Rattle.disc_time.specs.Counts.{most_program}
 use Rattle.cue_sheet.specs.CueSheet.{CueSheet}
@@ -7,7 +7,7 @@ use Rattle.stream_writer.specs.SheetTexts.{texts_of_sheet}
 use Rattle.cdtext_packs.specs.Packs.{most_text_packs}
 use Rattle.cdtext_packs.specs.Writing.{packs_of}
 
--- the sheet has a layout with this audio
+-- the sheet has a layout for this audio file
 abbrev pub HasLayout : CueSheet → ℕ → Type 0
 HasLayout sheet audio = (audio_need sheet ≤ audio) × (program_blocks sheet audio ≤ most_program)
 
@@ -15,8 +15,8 @@ HasLayout sheet audio = (audio_need sheet ≤ audio) × (program_blocks sheet au
 abbrev pub text_packs : CueSheet → List (List ℕ)
 text_packs sheet = packs_of (texts_of_sheet sheet)
 
--- the least count of lead-in blocks, if there are any: each entry of the table of contents three times, and each text
--- pack once
+-- the least number of lead-in blocks, if there is a lead-in: each entry of the table of contents three times, and each
+-- text pack once
 abbrev pub lead_in_need : CueSheet → ℕ
 lead_in_need sheet = max (3 * (length sheet.tracks + 3)) ((length (text_packs sheet) + 3) / 4)
 
@@ -25,13 +25,12 @@ abbrev pub HasRoom : CueSheet → ℕ → Type 0
 HasRoom sheet lead_in = 0 < lead_in
     → (length (text_packs sheet) ≤ most_text_packs) × (lead_in_need sheet ≤ lead_in)
 
--- a lead-in was asked for, and its texts need so many packs, which are more than 256
+-- there is a lead-in, and its texts need this many packs, more than 256
 abbrev pub IsTextTooLong : CueSheet → ℕ → ℕ → Type 0
 IsTextTooLong sheet lead_in packs =
     (0 < lead_in) × (most_text_packs < packs) × (packs ≡ length (text_packs sheet))
 
--- a lead-in was asked for, its texts have at most 256 packs, and it has fewer blocks than these and the table of
--- contents need
+-- there is a lead-in, its texts have at most 256 packs, and it is too short for them or for the table of contents
 abbrev pub IsLeadInShort : CueSheet → ℕ → ℕ → Type 0
 IsLeadInShort sheet lead_in need =
     (0 < lead_in) × (length (text_packs sheet) ≤ most_text_packs) × (lead_in < need)

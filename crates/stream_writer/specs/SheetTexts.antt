@@ -9,12 +9,12 @@ use Rattle.cdtext_packs.specs.Texts.{Texts, unless_empty}
 abbrev pub for_each : CueSheet → (ℕ → List ℕ) → List (List ℕ)
 for_each sheet string = map string (below (length sheet.tracks + 1))
 
--- the catalogue number for the album, and a track's code, each empty where there is none
+-- the catalogue number for the album, and a track's ISRC, each empty if there is none
 abbrev pub code_at : CueSheet → ℕ → List ℕ
 code_at sheet place = if place == 0 then unwrap_or sheet.catalogue []
     else unwrap_or (track_of sheet (place - 1)).isrc []
 
--- the texts of a sheet, of which all strings may be empty
+-- the texts of a sheet, maybe with only empty strings
 abbrev pub sheet_texts : CueSheet → Texts
 sheet_texts sheet =
     let none = replicate (length sheet.tracks + 1) [] in
@@ -30,6 +30,6 @@ sheet_texts sheet =
       code = for_each sheet (code_at sheet);
     }
 
--- the texts of a sheet: none at all where every string is empty
+-- the texts of a sheet: no texts at all if every string is empty
 abbrev pub texts_of_sheet : CueSheet → Texts
 texts_of_sheet sheet = unless_empty (sheet_texts sheet)

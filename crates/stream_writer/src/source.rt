@@ -1,4 +1,4 @@
-// Where the packs of a stream come from.
+// The sources of the packs of a stream.
 ghost use Rattle.std.specs.Prelude.{◌≡◌, ◌↔◌, ◌<◌, ℕ, List, Option, IsNone, unwrap_or, true, false};
 ghost use Rattle.raw_subcode.specs.Sizes.{slots_a_block};
 ghost use Rattle.rw_code.specs.Packs.{idle_pack};
@@ -6,18 +6,18 @@ ghost use Rattle.stream_writer.specs.Given.{ComesLater};
 
 use rw_code::{Pack, SYMBOLS};
 
-/// Gives the packs of a stream one after another, without an end.
+/// An endless source of packs.
 pub trait PackSource {
-    /// Which packs come: pack n of those to come, counted from 0, may be this.
+    /// Which packs are possible: pack n from now on, counted from 0, may be this pack.
     ghost comes: { Self → ℕ → List ℕ → Type 0 };
 
-    /// The next pack, or none where it is idle.
+    /// The next pack, or `None` if it is idle.
     fn next_pack(&mut self) -> Option<Pack>
         ensures pack { comes self.old 0 (unwrap_or result idle_pack) }
         ensures later { ComesLater (comes self.old) 1 (comes self.new) };
 
-    /// Passes over the packs of a block where the source quickly sees that all of them are idle, and answers whether it
-    /// did. Else nothing is done: a source that sees no such thing leaves this as it is.
+    /// Skips the packs of a block if the source knows that all of them are idle, and returns whether it did so. The
+    /// default skips nothing.
     #[inline]
     fn pass_idle(&mut self) -> bool
         ensures idle { result ≡ true → (k : ℕ) → k < slots_a_block → comes self.old k idle_pack }
@@ -28,7 +28,7 @@ pub trait PackSource {
     }
 }
 
-/// The pack, or none where it is idle.
+/// The pack, or `None` if it is idle.
 pub fn unless_idle(pack: Pack) -> Option<Pack>
     ensures pack { unwrap_or result idle_pack ≡ pack }
     ensures none { IsNone result ↔ (pack ≡ idle_pack) }

@@ -16,7 +16,7 @@ use Rattle.pack_schedule.specs.Change.{IsChangeFrom}
 use Rattle.pack_schedule.specs.PlannedChange.{chosen_start, planned_change}
 use Rattle.pack_schedule.specs.Survey.{nothing_planned, IsPlanned, IsSurvey}
 use Rattle.pack_schedule.specs.Woven.{IsPackAt, ArePacks}
-use Rattle.pack_schedule.specs.declared.surveys.told.PlannedChange.{PlannedChange}
+use Rattle.pack_schedule.specs.declared.surveys.PlannedChange.{PlannedChange}
 use Rattle.pack_schedule.proofs.TimeOrder.{hold_order}
 use Rattle.pack_schedule.specs.Shown.{AreTimesInOrder, AreColoursInRange}
 use Rattle.subcode_author.proofs.Prompt.{ArePrompt}

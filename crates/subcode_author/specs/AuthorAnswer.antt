@@ -1,4 +1,4 @@
--- When a stream is written, and otherwise the first refusal that holds.
+-- When a stream is written, and the first refusal otherwise.
 use Rattle.std.specs.Prelude.{◌≡◌, ℕ, ◌<◌, ◌≤◌, ⊤, List}
 use Rattle.disc_time.specs.Counts.{most_program}
 use Rattle.cue_sheet.specs.CueSheet.{CueSheet}
@@ -18,7 +18,7 @@ HoldsPictures sheet script audio = HasLayout sheet audio × ¬ IsPastEnd script 
 abbrev pub AreReady : List Drawing → Type 0
 AreReady script = (k : ℕ) → k < pictures script → CanBeReady script k
 
--- why a sheet, with its audio and the last picture, has no place on a disc
+-- the reason why a sheet with its audio file and its last picture does not fit on a disc
 abbrev pub IsDiscStop : CueSheet → List Drawing → ℕ → AuthorStop → Type 0
 IsDiscStop sheet script audio (LengthShort need) = (need ≡ audio_need sheet) × (audio < audio_need sheet)
 IsDiscStop sheet script audio (DiscTooLong blocks) = (audio_need sheet ≤ audio)
@@ -27,7 +27,7 @@ IsDiscStop sheet script audio (PastEnd blocks) = HasLayout sheet audio × (block
     × IsPastEnd script blocks
 IsDiscStop sheet script audio _ = ⊥
 
--- why the pictures cannot be sent in time
+-- the reason why the pictures cannot be sent in time
 abbrev pub IsPictureStop : List Drawing → AuthorStop → Type 0
 IsPictureStop script (Late picture need free) = IsLate script picture need free
 IsPictureStop script NoMemory = ⊤
@@ -39,8 +39,8 @@ pub record IsAccepted (sheet : CueSheet) (script : List Drawing) (lead_in audio 
   pub room : HasRoom sheet lead_in
   pub ready : AreReady script
 
--- why a stream is not written: each refusal comes only where those before it do not hold. Pictures are planned in
--- memory, so want of memory comes where none but `Late` holds.
+-- the reason why a stream is not written: each refusal is returned only if the previous ones do not apply. Pictures
+-- are planned in allocated memory, so `NoMemory` is possible if no refusal but `Late` applies.
 abbrev pub IsAuthorStop : CueSheet → List Drawing → ℕ → ℕ → AuthorStop → Type 0
 IsAuthorStop sheet script lead_in audio (TextTooLong packs) = HoldsPictures sheet script audio
     × IsTextTooLong sheet lead_in packs
@@ -52,14 +52,14 @@ IsAuthorStop sheet script lead_in audio WriteFault = IsAccepted sheet script lea
 IsAuthorStop sheet script lead_in audio NoMemory = HoldsPictures sheet script audio × HasRoom sheet lead_in
 IsAuthorStop sheet script lead_in audio stop = IsDiscStop sheet script audio stop
 
--- a refusal that comes before any picture is planned, and before memory is asked
+-- a refusal before any picture is planned and before anything is allocated
 abbrev pub ComesBeforePlans : AuthorStop → Type 0
 ComesBeforePlans (Late picture need free) = ⊥
 ComesBeforePlans WriteFault = ⊥
 ComesBeforePlans NoMemory = ⊥
 ComesBeforePlans stop = ⊤
 
--- why a disc has no plan: one of the refusals that come before any picture is planned
+-- the reason why a disc has no plan: a refusal before any picture is planned
 abbrev pub IsDiscRefusal : CueSheet → List Drawing → ℕ → ℕ → AuthorStop → Type 0
 IsDiscRefusal sheet script lead_in audio stop =
     IsAuthorStop sheet script lead_in audio stop × ComesBeforePlans stop

@@ -11,14 +11,14 @@ use Rattle.pack_schedule.specs.Woven.{ArePacks}
 use Rattle.stream_writer.specs.Framing.{HasFraming}
 pub use Rattle.stream_writer.specs.Needs.{text_packs, lead_in_need}
 
--- What a disc is made of: a cue sheet and a picture script, and so many blocks of lead-in and of audio.
+-- The parts of a disc: a cue sheet, a picture script, and the numbers of blocks of the lead-in and of the audio file.
 pub record Disc : Type 0 where
   pub sheet : CueSheet
   pub script : List Drawing
   pub lead_in : ℕ
   pub audio : ℕ
 
--- the disc of these
+-- the disc with these parts
 abbrev pub disc_of : CueSheet → List Drawing → ℕ → ℕ → Disc
 disc_of sheet script lead_in audio = record {
   sheet = sheet;
@@ -27,14 +27,14 @@ disc_of sheet script lead_in audio = record {
   audio = audio;
 }
 
--- An authored stream of a disc, whoever made it: it carries a schedule of the script in the framing of the sheet.
+-- An authored stream of a disc, by any author: it carries a schedule of the script in the framing of the sheet.
 pub record IsAuthored (disc : Disc) (bytes : List ℕ) (packs : List (List ℕ)) : Type 0 where
   pub schedule : IsSchedule disc.script (program_blocks disc.sheet disc.audio) packs
   pub framing : HasFraming (layout_of disc.sheet disc.audio) (text_packs disc.sheet) disc.lead_in bytes
   pub carries : Carries (program_blocks disc.sheet disc.audio) (program_symbols Raw bytes disc.lead_in) packs
   pub enough : 0 < disc.lead_in → lead_in_need disc.sheet ≤ disc.lead_in
 
--- The one authored stream that `author_stream` writes: its packs are those of the planned changes.
+-- The authored stream that `author_stream` writes: its packs are those of the planned changes.
 pub record IsWrittenStream (disc : Disc) (bytes : List ℕ) (packs : List (List ℕ)) : Type 0 where
   pub authored : IsAuthored disc bytes packs
   pub planned : ArePacks disc.script packs

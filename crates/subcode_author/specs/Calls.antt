@@ -1,4 +1,4 @@
--- What the calls that write an authored stream answer, and what they leave in their output.
+-- The results of the calls that write an authored stream, and the bytes that they write.
 use Rattle.std.specs.Prelude.{◌≡◌, ◌≢◌, ◌<◌, ℕ, List, IfErr, OnOk, Err, Result}
 use Rattle.std.specs.Io.KnownBytes.{Appends}
 use Rattle.cdg_io.specs.Causes.{TellsFault}
@@ -12,7 +12,7 @@ use Rattle.subcode_author.specs.Given.{PutsScriptPart}
 use Rattle.subcode_author.specs.declared.stops.AuthorStop.{AuthorStop}
 use Rattle.subcode_author.specs.declared.stops.AuthorStop.TheVariants.{Late, WriteFault}
 
--- What a call that writes the authored stream of a disc leaves in an output, of which its bytes and its faults are told.
+-- The output before and after a call that writes the authored stream of a disc, described by its bytes and its faults.
 pub record WritesDisc {T K : Type 0} (held : K → Bytes) (faults : K → ℕ) (disc : Disc) (before after : K)
     (result : Result T AuthorStop) : Type 0 where
   -- the authored stream with the planned changes was written
@@ -25,7 +25,7 @@ pub record WritesDisc {T K : Type 0} (held : K → Bytes) (faults : K → ℕ) (
   pub part : result ≡ Err WriteFault
       → (n : ℕ) × (packs : List (List ℕ)) × PutsScriptPart disc (held before) (held after) n packs
 
--- What a call answers that is to write the authored stream of any disc.
+-- The result of a call that writes the authored stream of any disc.
 pub record AnswersDisc {T : Type 0} (disc : Disc) (result : Result T AuthorStop) : Type 0 where
   pub accepted : OnOk result (IsAccepted disc.sheet disc.script disc.lead_in disc.audio)
   -- what is sent for each picture is a change for it: no list without scrolls that brings it is shorter

@@ -1,4 +1,4 @@
--- What a failed write leaves of a stream.
+-- The part of a stream that a failed write leaves.
 use Rattle.std.specs.Prelude.{ℕ, List}
 use Rattle.std.specs.declared.option.Option.{Option}
 use Rattle.cdg_io.specs.Change.{from_to}
@@ -7,7 +7,7 @@ use Rattle.toc_model.specs.Places.{layout_of}
 use Rattle.stream_writer.specs.Given.{PutsStreamPart as PutsPartAsItComes, framing_of}
 use Rattle.subcode_author.specs.Authored.{Disc, text_packs}
 
--- a prefix of the lead-in of a disc and so many program blocks with these packs of its script was put
+-- a prefix of the lead-in of a disc and of its program blocks with these packs was written
 abbrev pub PutsScriptPart : Disc → Option (List ℕ) → Option (List ℕ) → ℕ → List (List ℕ) → Type 0
 PutsScriptPart disc held held' n packs =
     PutsPartAsItComes (framing_of (layout_of disc.sheet disc.audio) (text_packs disc.sheet) disc.lead_in)

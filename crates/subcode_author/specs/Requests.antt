@@ -1,4 +1,4 @@
--- What a call returned and left that got the allocator and two values to change.
+-- The result of a call with the allocator and two values to change.
 use Rattle.std.specs.Prelude.{◌≡◌}
 use denote.Param.Members.{Once}
 use denote.Ref.{MutBor}

@@ -1,4 +1,4 @@
-// The heap: the allocator with a count of the requests for memory that failed. Only `asked` requests memory and counts.
+// The heap: the allocator and the number of failed requests. Only `asked` and `asked_with` request memory and count.
 ghost use Rattle.std.specs.Prelude.{◌≡◌, ◌≢◌, ◌≤◌, ◌↔◌, ℕ, [], length, IsTrue, IfErr, IfOk, Ok};
 ghost use Rattle.cdg_io.specs.Causes.{Rose, TellsFault};
 ghost use Rattle.cue_sheet.specs.Answers.{IsCueAnswer};
@@ -59,8 +59,8 @@ impl MemoryStop for ScriptStop {
     }
 }
 
-/// The allocator, with a count of the requests that failed. Seen as that count. A function that cannot run out of memory
-/// gets none.
+/// The allocator and the number of failed requests. A contract sees this number. A function that allocates nothing gets
+/// no heap.
 #[derive(Drop)]
 pub struct Heap {
     alloc: Global,
@@ -74,28 +74,28 @@ impl Model for Heap {
 }
 
 impl Heap {
-    /// Before the first request.
+    /// A heap before the first request.
     pub fn new(alloc: Global) -> Heap
         ensures { result ≡ 0 }
     {
         Heap { alloc, failures: 0 }
     }
 
-    /// Takes the heap out for a value that requests memory later, and leaves one with a count of 0.
+    /// Moves the heap into a value that requests memory later, and leaves a heap with count 0.
     pub fn take(&mut self) -> Heap
         ensures { result ≡ self.old }
     {
         mem::replace(self, Heap::new(self.alloc))
     }
 
-    /// A vector with no memory yet.
+    /// An empty vector. It allocates nothing.
     pub fn empty_vec<T>(&self) -> Vec<T>
         ensures { result.items ≡ [] }
     {
         Vec::new(self.alloc)
     }
 
-    /// Makes a call that requests memory, and counts it if the request failed.
+    /// Makes a call that requests memory, and counts a failed request.
     pub fn asked<T, E: MemoryStop, F: FnOnce(Global) -> Result<T, E>>(
         &mut self,
         call: F,
@@ -111,7 +111,7 @@ impl Heap {
         answer
     }
 
-    /// The same of a call that changes two values, such as an input and an output.
+    /// The same for a call that changes two values, for example an input and an output.
     pub fn asked_with<X, Y, T, E: MemoryStop, F: FnOnce(Global, &mut X, &mut Y) -> Result<T, E>>(
         &mut self,
         first: &mut X,
@@ -129,7 +129,7 @@ impl Heap {
         answer
     }
 
-    /// What the text of a cue sheet says.
+    /// Parses a cue sheet.
     pub fn sheet(&mut self, text: &[u8]) -> Result<Sheet, CueStop>
         requires { length text.now ≤ most_text_bytes }
         ensures read { IsCueAnswer (read_cue text.now) result }
@@ -138,7 +138,7 @@ impl Heap {
         self.asked(|alloc| Sheet::parse(alloc, text))
     }
 
-    /// What the text of a picture script says.
+    /// Parses a picture script.
     pub fn script(&mut self, text: &[u8]) -> Result<Script, ScriptStop>
         requires { length text.now ≤ most_text_bytes }
         ensures ok { IfOk result (λ script. read_script text.now ≡ Ok script) }

@@ -1,5 +1,5 @@
-// Laws on authored streams: accepted scripts are in order, an accepted sheet and script have one stream with the
-// planned changes, and what a failed write leaves is a prefix of it.
+// Laws on authored streams: accepted scripts are in order, an accepted disc has one stream with the planned changes, and
+// a failed write leaves a prefix of it.
 ghost use Rattle.std.specs.Prelude.{◌≡◌, ◌<◌, ◌≤◌, List, ℕ, Ok, length, ◌≢◌, ◌⊎◌};
 ghost use Rattle.disc_time.specs.Counts.{most_lead_in};
 ghost use Rattle.std.specs.declared.option.Option.{Option};
@@ -21,7 +21,7 @@ use pack_schedule::{
 };
 use rw_interleave::spread_carries;
 
-/// A law: the pictures of every script that is accepted are shown in order, and all their colours are in range.
+/// A law: the pictures of every accepted script are in order, and all their colours are in range.
 pub fn accepted_scripts_are_in_order()
     ensures times { (text : List ℕ) (script : List Drawing) → read_script text ≡ Ok script
         → AreTimesInOrder script }
@@ -31,9 +31,8 @@ pub fn accepted_scripts_are_in_order()
         → picture_pixel script k x y < 16 }
 {}
 
-/// A law: a sheet, a script, a lead-in and a length of the audio have one authored stream with the planned changes,
-/// which carries one list of packs. So what `author_stream` writes is one function of them: no two of its calls write
-/// different bytes for the same four.
+/// A law: a sheet, a script, a lead-in and an audio length have at most one authored stream with the planned changes. So
+/// `author_stream` is deterministic: two calls with equal arguments write equal bytes.
 pub fn authored_streams_are_one()
     ensures packs { (sheet : CueSheet) (script : List Drawing) (lead_in audio : ℕ) (one other : List ℕ)
         (packs others : List (List ℕ))
@@ -45,7 +44,7 @@ pub fn authored_streams_are_one()
         → IsWrittenStream (disc_of sheet script lead_in audio) other others → one ≡ other }
 {}
 
-/// A law: a part of a stream, which is all that stands after a failed write, is a prefix of the authored stream.
+/// A law: the part of a stream that a failed write leaves is a prefix of the authored stream.
 pub fn parts_are_prefixes()
     ensures { (sheet : CueSheet) (script : List Drawing) (lead_in audio n : ℕ) (bytes : List ℕ)
         (packs given : List (List ℕ)) (held after : Option (List ℕ))
@@ -58,7 +57,7 @@ pub fn parts_are_prefixes()
     spread_carries();
 }
 
-/// A law: every sheet and every script that are accepted have an authored stream, of which each part is a prefix.
+/// A law: every accepted disc has an authored stream, and each part of it is a prefix of it.
 pub fn accepted_scripts_have_streams()
     ensures stream { (sheet : CueSheet) (script : List Drawing) (lead_in audio : ℕ)
         → IsSheet sheet → AreTimesInOrder script → AreColoursInRange script

@@ -4,16 +4,14 @@
 mod author;
 mod heap;
 mod laws;
-mod parts;
-mod plans;
-mod scheduled;
 mod stops;
 
-pub use author::{author_in, author_planned, author_stream};
+pub use author::{
+    accept_disc, author_in, author_planned, author_stream, plans_tell_what_an_author_tells,
+};
 pub use heap::{Heap, MemoryStop};
 pub use laws::{
     accepted_scripts_are_in_order, accepted_scripts_have_streams, authored_streams_are_one,
     each_disc_has_one_answer, parts_are_prefixes,
 };
-pub use plans::{accept_disc, plans_tell_what_an_author_tells};
 pub use stops::AuthorStop;

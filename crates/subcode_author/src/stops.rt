@@ -1,4 +1,4 @@
-// Why no stream is written.
+// The reasons why no stream, or only a part of it, is written.
 ghost use Rattle.std.specs.Prelude.{◌≡◌};
 
 use cdg_io::Failed;
@@ -7,7 +7,7 @@ use std::alloc::AllocError;
 use stream_writer::LeadInStop;
 use toc_model::LayoutStop;
 
-/// Why a stream was not written, or not whole.
+/// The reason why a stream was not written, or only a part of it.
 #[derive(Clone, Copy, PartialEq, Eq, Debug)]
 pub enum AuthorStop {
     /// The audio is too short: the index lines need so many blocks.
@@ -20,7 +20,7 @@ pub enum AuthorStop {
     TextTooLong { packs: u32 },
     /// The lead-in needs so many blocks.
     LeadInShort { need: u32 },
-    /// The first picture that cannot be ready: it needs so many packs, and so many are free for it.
+    /// The first picture that cannot be ready, the packs that it needs, and the packs that are free for it.
     Late { picture: u32, need: u32, free: u32 },
     /// A write failed.
     WriteFault,

@@ -1,4 +1,4 @@
-// The start from which the change of a picture is shortest.
+// Chooses the start with the shortest change of a picture.
 ghost use Rattle.std.specs.Prelude.{◌≡◌, ◌<◌, ◌≤◌, ◌+◌, ◌-◌, ℕ, length, slice_index, Some, None, nat_lt, if◌then◌else◌};
 ghost use Rattle.cdg_instructions.specs.Sizes.{colour_count};
 ghost use Rattle.picture_script.specs.Board.{IsPicture};
@@ -6,14 +6,12 @@ ghost use Rattle.pack_schedule.specs.Weights.{AreWeights};
 ghost use Rattle.pack_schedule.specs.Change.{most_change, most_tile_steps, settings};
 ghost use Rattle.pack_schedule.specs.PlannedChange.{tile_steps, planned_length, preferred, chosen_start};
 
-use crate::change::same_tiles::{are_undrawn, is_same_picture, same_tiles};
-use crate::change::settings::count_settings;
-use crate::change::tiles::{TileCounts, count_tiles};
-use crate::change::weights::Weighed;
+use crate::change::count_settings;
+use crate::change::tiles::{TileCounts, Weighed, count_tiles, is_same_picture, same_tiles};
 use cdg_instructions::{COLOURS, WINDOW_TILES};
 use picture_script::{Canvas, Script};
 
-/// The colour of which all memory is set first, if one is, and how many instructions the change then has.
+/// A start, which is a preset colour or none, and the number of instructions of the change with this start.
 #[derive(Clone, Copy)]
 pub(crate) struct Choice {
     pub(crate) preset: Option<u8>,
@@ -21,7 +19,7 @@ pub(crate) struct Choice {
 }
 
 impl Choice {
-    // The shorter one of two, and this one of two that are equal.
+    // The shorter choice, or this one if both are equal.
     fn or_colour(self, colour: u8, need: u32) -> Choice
         ensures preset { result.preset ≡ (if nat_lt need self.need then Some colour else self.preset) }
         ensures need { result.need ≡ (if nat_lt need self.need then need else self.need) }
@@ -37,7 +35,7 @@ impl Choice {
     }
 }
 
-// The length of a change that begins with a colour.
+// The length of the change that begins with a preset colour.
 fn colour_length(script: &Script, k: u32, beside: u32, counts: &TileCounts, colour: u8) -> u32
     requires beside { beside ≡ length (settings script.now k) }
     requires few_beside { beside ≤ 3 }
@@ -51,7 +49,7 @@ fn colour_length(script: &Script, k: u32, beside: u32, counts: &TileCounts, colo
     1 + beside + (counts.whole - counts.single[usize::from(colour)])
 }
 
-// The start that is preferred to all others.
+// The preferred start: no preset, or colour 0 for the first picture.
 fn first_choice(script: &Script, k: u32, beside: u32, counts: &TileCounts) -> Choice
     requires beside { beside ≡ length (settings script.now k) }
     requires few_beside { beside ≤ 3 }
@@ -95,7 +93,7 @@ fn choose(script: &Script, k: u32, beside: u32, counts: &TileCounts) -> Choice
     choice
 }
 
-/// The start of the change of picture `k`, which stands on `now`, while the picture before it stands on `before`.
+/// The start of the change of picture `k`. This picture is on `now`, the previous one on `before`.
 pub(crate) fn choose_start(
     script: &Script,
     k: u32,
@@ -113,12 +111,6 @@ pub(crate) fn choose_start(
 {
     let beside = count_settings(script, k, before, now);
     let drawn = script.drawn_rows(k);
-    if k > 0 && are_undrawn(&drawn) {
-        return Choice {
-            preset: None,
-            need: beside,
-        };
-    }
     let same = same_tiles(script, k, &drawn, before, now);
     if k > 0 && is_same_picture(&same, before, now) {
         return Choice {

@@ -1,25 +1,190 @@
-// The tiles of a picture: how many instructions bring them, from each start at once, and which from one.
-ghost use Rattle.std.specs.Prelude.{◌≡◌, ◌≢◌, ◌<◌, ◌≤◌, ◌+◌, ◌-◌, ◌++◌, ℕ, List, length, slice_index, replicate, Some, None};
-ghost use Rattle.cdg_instructions.specs.Sizes.{colour_count, tile_pixels, window_columns, window_rows};
+// The tiles of a picture: their number of instructions for all starts at once, and the instructions for one start.
+ghost use Rattle.std.specs.Prelude.{◌≡◌, ◌≢◌, ◌<◌, ◌≤◌, ◌+◌, ◌-◌, ◌++◌, ℕ, List, length, slice_index, replicate, Some, None, ◌/◌, ◌%◌, slice_index_or, MatchOption, true, false, IsTrue, ◌↔◌};
+ghost use Rattle.cdg_instructions.specs.Sizes.{colour_count, tile_pixels, window_columns, window_rows, window_tiles};
 ghost use Rattle.tile_author.specs.Sizes.{most_steps};
-ghost use Rattle.tile_author.specs.Plan.{plan, steps};
+ghost use Rattle.tile_author.specs.Plan.{plan, steps, weight};
 ghost use Rattle.picture_script.specs.Board.{IsPicture, tile_of};
 ghost use Rattle.picture_script.specs.Script.{picture_tile};
 ghost use Rattle.pack_schedule.specs.Change.{most_tile_steps, tiles_before, IsStart};
 ghost use Rattle.pack_schedule.specs.PlannedChange.{planned_tiles, tile_steps};
-ghost use Rattle.pack_schedule.specs.SameTiles.{AreToldTiles};
-ghost use Rattle.pack_schedule.specs.Weights.{AreWeights, IsWeighed};
+ghost use Rattle.pack_schedule.specs.SameTiles.{AreToldTiles, IsRowTold, SameRow, SameTiles};
+ghost use Rattle.pack_schedule.specs.Weights.{AreWeights, IsWeighed, IsWeighedAt, not_weighed};
+ghost use Rattle.cdg_instructions.specs.Instruction.{IsTilePixels};
+ghost use Rattle.picture_script.specs.DrawnRows.{KeepsRows};
 
-use crate::change::list::ChangeList;
-use crate::change::same_tiles::{ToldTiles, is_same_tile, same_tiles};
-use crate::change::weights::{Weighed, weigh_tile};
+use crate::change::ChangeList;
 use arrayvec::ArrayVec;
-use cdg_instructions::{COLOURS, Instr, PIXELS, Tile, WINDOW_COLUMNS, WINDOW_TILES};
+use cdg_instructions::{COLOURS, Instr, PIXELS, Tile, WINDOW_COLUMNS, WINDOW_ROWS, WINDOW_TILES};
 use picture_script::{Canvas, Script};
-use tile_author::{MOST_STEPS, light_plan, plan};
+use tile_author::{
+    MOST_STEPS, light_plan, light_tiles_take_one, plan, plans_are_shortest, steps_of_weight, weight,
+};
 
-/// The sums over tiles of what they take: from what stands there, and from a colour; and of the tiles that are all
-/// one colour.
+/// The equal tiles of two canvases: whether a whole row is equal, and the equal columns of each other row.
+#[derive(Clone, Copy)]
+pub(crate) struct ToldTiles {
+    pub(crate) rows: [bool; WINDOW_ROWS],
+    pub(crate) columns: [[bool; WINDOW_COLUMNS]; WINDOW_ROWS],
+}
+
+/// The equal tiles of picture `k` on `now` and the previous picture on `before`. Rows on which no line drew are not
+/// compared.
+pub(crate) fn same_tiles(
+    script: &Script,
+    k: u32,
+    drawn: &[bool; WINDOW_ROWS],
+    before: &Canvas,
+    now: &Canvas,
+) -> ToldTiles
+    requires drawn { KeepsRows script.now k drawn.now }
+    requires now { IsPicture script.now k now.now }
+    requires before { 0 < k → IsPicture script.now (k - 1) before.now }
+    ensures { AreToldTiles before.now.pixels now.now.pixels result }
+{
+    let mut told = ToldTiles {
+        rows: [false; WINDOW_ROWS],
+        columns: [[false; WINDOW_COLUMNS]; WINDOW_ROWS],
+    };
+    for r in 0..WINDOW_ROWS {
+        told.rows[r] = tell_row(r, drawn[r], before, now, &mut told.columns[r]);
+    }
+    told
+}
+
+// Compares a row: whether all its tiles are equal, and otherwise which columns. A row on which no line drew is equal.
+fn tell_row(
+    r: usize,
+    drawn: bool,
+    before: &Canvas,
+    now: &Canvas,
+    columns: &mut [bool; WINDOW_COLUMNS],
+) -> bool
+    requires row { r < window_rows }
+    requires stays { drawn ≡ false → SameRow before.now.pixels now.now.pixels (r + 1) }
+    ensures { IsRowTold before.now.pixels now.now.pixels (r + 1) result columns.new }
+{
+    if !drawn {
+        return true;
+    }
+    *columns = before.shared_columns(now, r as u8 + 1);
+    let mut all = true;
+    for i in 0..WINDOW_COLUMNS {
+        all &= columns[i];
+    }
+    all
+}
+
+// Whether the tile at a place is equal on two canvases with these equal tiles.
+#[inline(always)]
+pub(crate) fn is_same_tile(
+    same: &ToldTiles,
+    before: &Canvas,
+    now: &Canvas,
+    row: u8,
+    column: u8,
+) -> bool
+    requires same { AreToldTiles before.now.pixels now.now.pixels same.now }
+    requires row_first { 1 ≤ row }
+    requires row_last { row ≤ window_rows }
+    requires column_first { 1 ≤ column }
+    requires column_last { column ≤ window_columns }
+    ensures { IsTrue result ↔ tile_of before.now.pixels row column ≡ tile_of now.now.pixels row column }
+{
+    let r = usize::from(row) - 1;
+    same.rows[r] || same.columns[r][usize::from(column) - 1]
+}
+
+/// Whether all tiles are equal on two canvases with these equal tiles.
+pub(crate) fn is_same_picture(same: &ToldTiles, before: &Canvas, now: &Canvas) -> bool
+    requires { AreToldTiles before.now.pixels now.now.pixels same.now }
+    ensures { IsTrue result → SameTiles before.now.pixels now.now.pixels }
+{
+    for r in 0..WINDOW_ROWS {
+        if !same.rows[r] {
+            return false;
+        }
+    }
+    true
+}
+
+/// The number of instructions for a tile after a preset: 0 after its single colour, and its weight after other colours.
+#[derive(Clone, Copy)]
+pub(crate) struct Weighed {
+    pub(crate) weight: u8,
+    pub(crate) single: Option<u8>,
+}
+
+/// The initial value before the first picture.
+pub(crate) const NOT_WEIGHED: Weighed = Weighed {
+    weight: 0,
+    single: None,
+};
+
+// The weight of a tile and its single colour.
+fn weigh(tile: &Tile) -> Weighed
+    ensures weighed { IsWeighed tile.now result }
+    ensures weight { result.weight ≡ weight tile.now }
+{
+    plans_are_shortest();
+    let weight = weight(tile);
+    let single = single_colour(tile);
+    Weighed { weight, single }
+}
+
+fn single_colour(tile: &Tile) -> Option<u8>
+    ensures tile { IsTilePixels tile.now }
+    ensures colour { MatchOption result ((c : ℕ) → tile.now ≢ replicate tile_pixels c)
+        (λ c. (c < colour_count) × (tile.now ≡ replicate tile_pixels c)) }
+{
+    let pixels = tile.pixels();
+    if pixels[1..PIXELS] == pixels[0..PIXELS - 1] {
+        return Some(pixels[0]);
+    }
+    None
+}
+
+// The number of instructions for tile `i` of picture `k` on `now` after the previous picture on `before`. It stores the
+// weight of the tile.
+pub(crate) fn weigh_tile(
+    weights: &mut [Weighed; WINDOW_TILES],
+    script: &Script,
+    k: u32,
+    i: usize,
+    before: &Canvas,
+    now: &Canvas,
+    same: &ToldTiles,
+) -> u32
+    requires place { i < window_tiles }
+    requires same { AreToldTiles before.now.pixels now.now.pixels same.now }
+    requires now { IsPicture script.now k now.now }
+    requires before { 0 < k → IsPicture script.now (k - 1) before.now }
+    requires kept { 0 < k → IsWeighedAt script.now (k - 1) i weights.old }
+    ensures taken { 0 < k → result
+        ≡ steps (picture_tile script.now (k - 1) (i / window_columns + 1) (i % window_columns + 1))
+        (picture_tile script.now k (i / window_columns + 1) (i % window_columns + 1)) }
+    ensures few { result ≤ most_steps }
+    ensures kept { IsWeighedAt script.now k i weights.new }
+    ensures others { (m : ℕ) → m ≢ i
+        → slice_index_or weights.new m not_weighed ≡ slice_index_or weights.old m not_weighed }
+{
+    let row = (i / WINDOW_COLUMNS) as u8 + 1;
+    let column = (i % WINDOW_COLUMNS) as u8 + 1;
+    if k > 0 && is_same_tile(same, before, now, row, column) {
+        return 0;
+    }
+    let new = now.tile(row, column);
+    let kept = weigh(&new);
+    weights[i] = kept;
+    if kept.weight == 1 {
+        // A law: a tile of weight 1 needs one instruction after any other tile.
+        light_tiles_take_one();
+        return 1;
+    }
+    u32::from(steps_of_weight(&before.tile(row, column), &new, kept.weight))
+}
+
+/// Sums over all tiles: the instructions after the previous picture, the weights, and the weights of the tiles with a
+/// single colour, by colour.
 #[derive(Clone, Copy)]
 pub(crate) struct TileCounts {
     pub(crate) stands: u32,
@@ -28,7 +193,7 @@ pub(crate) struct TileCounts {
 }
 
 impl TileCounts {
-    // Counts a tile that takes so many instructions from what stands there, and these from a colour.
+    // Adds a tile that needs `taken` instructions after the previous picture.
     fn add(&mut self, taken: u32, kept: Weighed)
         requires taken { taken ≤ most_steps }
         requires kept { (tile : List ℕ) × IsWeighed tile kept }
@@ -53,7 +218,7 @@ impl TileCounts {
     }
 }
 
-/// Counts the tiles of picture `k`, which stands on `now`, while the picture before it stands on `before`.
+/// Counts the instructions for the tiles of picture `k` on `now` after the previous picture on `before`.
 pub(crate) fn count_tiles(
     script: &Script,
     k: u32,
@@ -85,7 +250,7 @@ pub(crate) fn count_tiles(
 }
 
 impl ChangeList {
-    /// Adds the plans of all tiles.
+    /// Appends the plans of all tiles.
     pub(crate) fn push_tiles(
         &mut self,
         script: &Script,
@@ -112,7 +277,7 @@ impl ChangeList {
         }
     }
 
-    // Adds the plan of a tile that differs from what stands there. A light tile is drawn, without a look at what stands.
+    // Appends the plan of a tile that differs from the previous one. A tile of weight 1 is drawn without a comparison.
     fn push_tile(
         &mut self,
         script: &Script,
@@ -148,7 +313,7 @@ impl ChangeList {
         self.push_all(&plan(&old, &new, row, column));
     }
 
-    // Adds the instructions of a tile.
+    // Appends the instructions of a tile.
     fn push_all(&mut self, instrs: &ArrayVec<Instr, MOST_STEPS>)
         requires { length self.old ≤ most_tile_steps }
         ensures whole { self.new ≡ self.old ++ instrs.now.items }

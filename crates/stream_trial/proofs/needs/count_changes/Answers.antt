@@ -5,7 +5,7 @@ use Rattle.bit_lists.specs.Counting.{below}
 use Rattle.picture_script.specs.Script.{Drawing, pictures}
 use Rattle.pack_schedule.specs.PlannedChange.{planned_change}
 use Rattle.pack_schedule.specs.Survey.{IsSurvey, nothing_planned}
-use Rattle.pack_schedule.specs.declared.surveys.told.PlannedChange.{PlannedChange}
+use Rattle.pack_schedule.specs.declared.surveys.PlannedChange.{PlannedChange}
 use Rattle.stream_trial.specs.Trial.{all_changes}
 use Rattle.stream_trial.proofs.Plays.{below_more}
 use Rattle.stream_trial.proofs.needs.count_changes.Goals as goal

@@ -4,15 +4,15 @@ use Rattle.toc_model.specs.Places.{DiscLayout, layout_of, program_blocks}
 use Rattle.picture_script.specs.Script.{Drawing, pictures, ready_time, hold_time, picture_pixel}
 use Rattle.pack_schedule.specs.Shown.{AreColoursInRange}
 use Rattle.pack_schedule.specs.Survey.{IsSurvey, IsWithin}
-use Rattle.pack_schedule.specs.declared.surveys.told.PlannedChange.{PlannedChange}
+use Rattle.pack_schedule.specs.declared.surveys.PlannedChange.{PlannedChange}
 use Rattle.subcode_author.proofs.Schedules.{authored, cut_idle, part_of, IsPlannedScript}
 use Rattle.subcode_author.proofs.author.author_planned.Goals as goal
 
-pub take_layout-requires-clause-need : goal.take_layout-requires-clause-need
-take_layout-requires-clause-need g c = c.requires.disc.0.0
+pub allocate_inputs-requires-clause-need : goal.allocate_inputs-requires-clause-need
+allocate_inputs-requires-clause-need g c = c.requires.disc.0.0
 
-pub take_layout-requires-clause-fits : goal.take_layout-requires-clause-fits
-take_layout-requires-clause-fits g c = c.requires.disc.0.1
+pub allocate_inputs-requires-clause-fits : goal.allocate_inputs-requires-clause-fits
+allocate_inputs-requires-clause-fits g c = c.requires.disc.0.1
 
 known_script : (script : List Drawing) (blocks blocks' : ℕ) → blocks ≡ blocks' → IsWithin script blocks
     → ((planned : List PlannedChange) × IsSurvey script planned)
@@ -39,14 +39,14 @@ same_blocks sheet audio layout is = sym (ap (λ (l : DiscLayout). l.blocks) is)
 pub write_stream-requires-clause-cut : goal.write_stream-requires-clause-cut
 write_stream-requires-clause-cut g c =
     let known = c.times_rise_and_colours_are_in_range.ensures in
-    cut_idle c.args.script.now c.in_ok-weaver.weaver c.in_ok-layout.layout.blocks
-    (few_blocks c.args.sheet.now c.args.length c.in_ok-layout.layout c.in_ok-layout.ensures.layout
+    cut_idle c.args.script.now c.in_ok-inputs.inputs.weaver c.in_ok-inputs.inputs.layout.blocks
+    (few_blocks c.args.sheet.now c.args.length c.in_ok-inputs.inputs.layout c.in_ok-inputs.ensures.layout
     c.requires.disc.0.1)
-    (record { script_is = c.in_ok-weaver.ensures.script; given_is = c.in_ok-weaver.ensures.given })
+    (record { script_is = c.in_ok-inputs.ensures.script; given_is = c.in_ok-inputs.ensures.given })
     (known_script c.args.script.now (program_blocks c.args.sheet.now c.args.length)
-    c.in_ok-layout.layout.blocks
-    (same_blocks c.args.sheet.now c.args.length c.in_ok-layout.layout
-    c.in_ok-layout.ensures.layout) c.requires.within
+    c.in_ok-inputs.inputs.layout.blocks
+    (same_blocks c.args.sheet.now c.args.length c.in_ok-inputs.inputs.layout
+    c.in_ok-inputs.ensures.layout) c.requires.within
     (c.args.planned, c.requires.planned)
     known.held (record { border = known.borders; colour = known.colours }) known.pixels)
 
@@ -56,15 +56,15 @@ returns-in_err-write_stream-clause-written g c = record {
   untouched = search rules;
   write_fault = search rules;
   part = λ failed.
-      part_of c.args.sheet.now c.args.script.now c.in_ok-weaver.weaver c.in_ok-layout.layout
+      part_of c.args.sheet.now c.args.script.now c.in_ok-inputs.inputs.weaver c.in_ok-inputs.inputs.layout
       c.deref.result.now
       c.args.lead_in c.args.length
       (g.K.Sink.held c.args.out.now) (g.K.Sink.held c.write_stream.new.out)
-      c.in_ok-layout.ensures.layout
-      (few_blocks c.args.sheet.now c.args.length c.in_ok-layout.layout c.in_ok-layout.ensures.layout
+      c.in_ok-inputs.ensures.layout
+      (few_blocks c.args.sheet.now c.args.length c.in_ok-inputs.inputs.layout c.in_ok-inputs.ensures.layout
       c.requires.disc.0.1)
-      (record { script_is = c.in_ok-weaver.ensures.script; given_is = c.in_ok-weaver.ensures.given })
-      (λ some. c.deref.ensures.value ∙ c.in_ok-texts.ensures.texts some)
+      (record { script_is = c.in_ok-inputs.ensures.script; given_is = c.in_ok-inputs.ensures.given })
+      (λ some. c.deref.ensures.value ∙ c.in_ok-inputs.ensures.texts some)
       (let part = c.in_err-write_stream.ensures.part in (part.0, part.1, part.2));
 }
 
@@ -76,14 +76,14 @@ returns-clause-written g c =
       write_fault = search rules;
       part = search rules;
       authored = authored c.packs_are_a_schedule.ensures.schedule c.args.sheet.now c.args.script.now
-          c.in_ok-weaver.weaver
-          c.in_ok-layout.layout c.deref.result.now c.args.lead_in c.args.length
+          c.in_ok-inputs.inputs.weaver
+          c.in_ok-inputs.inputs.layout c.deref.result.now c.args.lead_in c.args.length
           (g.K.Sink.held c.args.out.now) (g.K.Sink.held c.write_stream.new.out)
-          c.in_ok-layout.ensures.layout
-          (few_blocks c.args.sheet.now c.args.length c.in_ok-layout.layout c.in_ok-layout.ensures.layout
+          c.in_ok-inputs.ensures.layout
+          (few_blocks c.args.sheet.now c.args.length c.in_ok-inputs.inputs.layout c.in_ok-inputs.ensures.layout
           c.requires.disc.0.1)
-          (record { script_is = c.in_ok-weaver.ensures.script; given_is = c.in_ok-weaver.ensures.given })
-          (λ some. c.deref.ensures.value ∙ c.in_ok-texts.ensures.texts some)
+          (record { script_is = c.in_ok-inputs.ensures.script; given_is = c.in_ok-inputs.ensures.given })
+          (λ some. c.deref.ensures.value ∙ c.in_ok-inputs.ensures.texts some)
           c.requires.room
           (known_script c.args.script.now (program_blocks c.args.sheet.now c.args.length) _ refl
           c.requires.within

@@ -1,0 +1,11 @@
+use Rattle.std.proofs.Common.{◌≡◌, ◌≤◌, ◌*◌, length, map}
+use Rattle.bit_lists.specs.Counting.{below}
+use Rattle.cue_sheet.specs.CueSheet.{text_at}
+use Rattle.cdtext_packs.specs.Writing.{joined}
+use Rattle.stream_writer.proofs.sheet_texts.text_packs_of.Given as goal
+
+abbrev pub invariant-loop-place : goal.invariant-loop-place
+invariant-loop-place l = record {
+  joined : l.bytes ≡ length (joined (map (text_at l.kind l.sheet) (below l.place)));
+  bound : l.bytes ≤ 67108865 * l.place;
+}
