@@ -80,7 +80,8 @@ returns-clause-written g c =
           c.in_ok-inputs.inputs.layout c.deref.result.now c.args.lead_in c.args.length
           (g.K.Sink.held c.args.out.now) (g.K.Sink.held c.write_stream.new.out)
           c.in_ok-inputs.ensures.layout
-          (few_blocks c.args.sheet.now c.args.length c.in_ok-inputs.inputs.layout c.in_ok-inputs.ensures.layout
+          (few_blocks c.args.sheet.now c.args.length c.in_ok-inputs.inputs.layout
+          c.in_ok-inputs.ensures.layout
           c.requires.disc.0.1)
           (record { script_is = c.in_ok-inputs.ensures.script; given_is = c.in_ok-inputs.ensures.given })
           (λ some. c.deref.ensures.value ∙ c.in_ok-inputs.ensures.texts some)
