@@ -1,4 +1,4 @@
-// The packs of a file: how many they are, and a source of them.
+// The packs of a `.cdg` file: their number, and a source of them.
 ghost use Rattle.std.specs.Prelude.{◌≡◌, length, unwrap_or};
 ghost use Rattle.raw_subcode.specs.Channels.{symbols_of};
 ghost use Rattle.cdg_instructions.specs.MadeGood.{IsMadeGood};
@@ -11,7 +11,7 @@ use gf64::Sym;
 use rw_code::{Pack, SYMBOLS, Word, words_have_24_symbols};
 use stream_writer::{PackSource, unless_idle};
 
-/// How many bytes a pack of a file has: one for each symbol.
+/// The number of bytes of a pack in a file: one for each symbol.
 pub(crate) const PACK_BYTES: usize = SYMBOLS;
 
 pub(crate) fn whole_packs_of(cdg: &[u8]) -> Result<u32, PressStop>
@@ -25,12 +25,12 @@ pub(crate) fn whole_packs_of(cdg: &[u8]) -> Result<u32, PressStop>
     Ok(packs)
 }
 
-/// Gives idle packs, then the packs of a file with their parity made good, and then idle packs again.
+/// A source of idle packs, then the packs of a file with correct parity, and then idle packs again.
 #[derive(Drop)]
 pub(crate) struct FileSource<'a> {
-    /// How many idle packs still come before those of the file.
+    /// The number of idle packs before the packs of the file.
     pub(crate) wait: u32,
-    /// The packs of the file that still come.
+    /// The packs of the file that are still to come.
     pub(crate) rest: &'a [u8],
 }
 
@@ -53,8 +53,8 @@ impl<'a> PackSource for FileSource<'a> {
     }
 }
 
-// The codeword of the symbols of a pack, whatever parity it has, or none where it is idle. Most packs of a file are
-// zeros, which are told before any symbol is taken; idle ones are told without a look at their sums.
+// The codeword of the symbols of a pack, with correct parity, or `None` if it is idle. Most packs of a file are zeros.
+// They are detected first, and idle packs are detected without computing sums.
 fn made_good(pack: &[u8]) -> Option<Pack>
     requires { length pack.now ≡ pack_bytes }
     ensures { IsMadeGood (symbols_of pack.now) (unwrap_or result idle_pack) }
@@ -75,11 +75,11 @@ fn made_good(pack: &[u8]) -> Option<Pack>
     }
 }
 
-// The codeword of the symbols of a word, but for its parity.
+// The codeword with the symbols of a word, except its parity.
 fn sealed(word: &Word) -> Pack
     ensures { IsMadeGood word.now result }
 {
-    // A law: the symbols that are taken are there.
+    // A law: a word has all the symbols that are read.
     words_have_24_symbols(word);
     let head = [word.get(0), word.get(1)];
     let mut body = [Sym::default(); 16];

@@ -1,4 +1,4 @@
-// Laws on presses: each has one answer and, where nothing is refused, one stream, of which each part is a prefix.
+// Laws on pressing: each call has one result and, if nothing is refused, one stream. Each part of it is a prefix.
 ghost use Rattle.std.specs.Prelude.{◌≡◌, ◌≢◌, ◌≤◌, ◌⊎◌, List, ℕ};
 ghost use Rattle.disc_time.specs.Counts.{most_lead_in};
 ghost use Rattle.cdg_io.specs.Change.{Bytes, Change};
@@ -14,9 +14,9 @@ ghost use Rattle.cdg_press.specs.declared.stops.PressStop.{PressStop};
 use crate::PressStop;
 use rw_interleave::spread_carries;
 
-/// A law: each sheet and file, with their lead-in and audio, are pressed or refused, and not both, and they are
-/// refused for one reason alone, with one set of numbers. So `press_stream` answers a refusal exactly where its
-/// reason is the first that holds, but for want of memory.
+/// A law: each sheet and file, with their lead-in and audio file, are either pressed or refused, and there is exactly
+/// one reason with its numbers. So, given memory, `press_stream` returns a refusal exactly if it is the first that
+/// applies.
 pub fn each_press_has_one_answer()
     ensures some { (sheet : CueSheet) (file : List ℕ) (lead_in audio : ℕ)
         → IsPressable sheet file lead_in audio
@@ -31,8 +31,8 @@ pub fn each_press_has_one_answer()
         → stop ≢ PressStop.NoMemory → other ≢ PressStop.NoMemory → stop ≡ other }
 {}
 
-/// A law: a sheet, a file, a lead-in and a length of the audio have one pressed stream, which carries one list of
-/// packs. So what `press_stream` writes is one function of them.
+/// A law: a sheet, a file, a lead-in and an audio length have at most one pressed stream. So `press_stream` is
+/// deterministic.
 pub fn pressed_streams_are_one()
     ensures packs { (sheet : CueSheet) (file : List ℕ) (lead_in audio : ℕ) (one other : List ℕ)
         (packs others : List (List ℕ))
@@ -46,8 +46,8 @@ pub fn pressed_streams_are_one()
         → one ≡ other }
 {}
 
-/// A law: every sheet and file, with their lead-in and audio, that are not refused have a pressed stream, and a part
-/// of a stream, which is all that stands after a failed write of `press_stream`, is a prefix of it.
+/// A law: a disc that is not refused has a pressed stream, and the part that a failed write of `press_stream` leaves is
+/// a prefix of it.
 pub fn pressable_files_have_streams()
     ensures stream { (sheet : CueSheet) (file : List ℕ) (lead_in audio : ℕ)
         → IsSheet sheet → lead_in ≤ most_lead_in → IsPressable sheet file lead_in audio

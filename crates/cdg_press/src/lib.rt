@@ -1,5 +1,5 @@
-//! Presses a `.cdg` file into the subcode of a disc, in time with the audio of a cue sheet; and makes packs of such a file
-//! idle that change nothing.
+//! Presses a `.cdg` file into the subcode of a disc, in time with the audio of a cue sheet. Also makes those packs of
+//! such a file idle that change nothing.
 #![tactic(auto)]
 
 mod file;

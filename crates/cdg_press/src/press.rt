@@ -1,4 +1,4 @@
-// Pressing a file into a stream.
+// Presses a file into a stream.
 ghost use Rattle.std.specs.Prelude.{◌≡◌, ◌≢◌, ◌≤◌, ◌<◌, [], IfErr, IfOk, OnOk, Err, MatchOption};
 ghost use Rattle.disc_time.specs.Counts.{most_lead_in, most_program};
 ghost use Rattle.toc_model.specs.Places.{layout_of};
@@ -20,22 +20,27 @@ use std::alloc::{AllocError, Global};
 use stream_writer::{judge_lead_in, pack_texts, write_stream};
 use toc_model::{Layout, count_blocks};
 
-// The pack of the stream that is the file's first: its last symbol comes with the first slot of file time 00:00:00.
+// The number of the stream's pack that is the file's first: its last symbol is in the first slot of file time 00:00:00.
 const FILE_BEGIN: u32 = SLOTS_A_BLOCK as u32 * PAUSE_BLOCKS - PACKS_KEPT_BACK as u32;
 
-/// Writes the subcode of a disc with a lead-in of so many blocks and an audio of so many blocks: the lead-in with the
-/// table of contents and the texts, and the program with the frames of the sheet and the packs of a `.cdg` file, 24
-/// bytes each, in time with the audio. Of a pack only symbols 0, 1 and 4 to 19 are taken, the low six bits of these
-/// bytes; its parity is made good.
+/// Writes the subcode of a disc with a lead-in of `lead_in` blocks and an audio file of `length` blocks. The lead-in
+/// has the table of contents and the texts. The program has the frames of the sheet and the packs of a `.cdg` file, 24
+/// bytes each, in time with the audio. Only symbols 0, 1 and 4 to 19 of a pack are used: the low six bits of these
+/// bytes. The parity is computed.
 ///
 /// # Errors
 ///
-/// In this order: `PackTorn` where the file is not whole packs; `LengthShort` and `DiscTooLong` where the sheet has
-/// no layout with this audio; `Gap` where a track has a gap; `CdgTooLong` where the file has more than four packs for
-/// each block of audio; where there is a lead-in, `TextTooLong` where its texts need more than 256 packs, and
-/// `LeadInShort` where it has no room for them or for the table of contents. All of these are judged before memory is
-/// asked, so `NoMemory` comes only where nothing is refused. Nothing is written before all memory is taken. After
-/// `WriteFault` a prefix of the stream was written.
+/// In this order:
+///
+/// - `PackTorn` if the file does not end after a whole pack
+/// - `LengthShort` or `DiscTooLong` if the sheet has no layout for this audio file
+/// - `Gap` if a track has a gap
+/// - `CdgTooLong` if the file has more than four packs for each block of audio
+/// - `TextTooLong` if there is a lead-in and its texts need more than 256 packs
+/// - `LeadInShort` if the lead-in has no room for them or for the table of contents
+///
+/// All of them are detected before anything is allocated, so `NoMemory` is returned only if nothing is refused. Nothing
+/// is written before all memory is allocated. After `WriteFault` a prefix of the stream was written.
 pub fn press_stream<K: Sink>(
     alloc: Global,
     sheet: &Sheet,
@@ -48,12 +53,12 @@ pub fn press_stream<K: Sink>(
     requires audio { length ≤ most_program }
     requires file { IsShort cdg.now }
     ensures accepted { OnOk result (IsPressable sheet.now cdg.now lead_in length) }
-    // Why no stream was written.
+    // The reason why no stream was written.
     ensures stop { IfErr result (IsPressStop sheet.now cdg.now lead_in length) }
     ensures written { WritesPressed K.held K.faults (press_of sheet.now cdg.now lead_in length)
         out.old out.new result }
 {
-    // Laws: what is not refused has a stream, since the tracks of every sheet are in order.
+    // Laws: a disc that is not refused has a stream, since the tracks of every sheet are in order.
     pressable_files_have_streams();
     sheet.tracks_are_in_order();
     judge(sheet, cdg, lead_in, length)?;
@@ -70,7 +75,7 @@ pub fn press_stream<K: Sink>(
     Ok(())
 }
 
-// What is refused. This is told without memory, so that want of memory is told only where nothing is refused.
+// Checks for refusals. It allocates nothing, so `NoMemory` is returned only if nothing is refused.
 fn judge(sheet: &Sheet, cdg: &[u8], lead_in: u32, length: u32) -> Result<(), PressStop>
     requires audio { length ≤ most_program }
     requires file { IsShort cdg.now }
@@ -91,7 +96,7 @@ fn judge(sheet: &Sheet, cdg: &[u8], lead_in: u32, length: u32) -> Result<(), Pre
     Ok(())
 }
 
-// What a stream is written from, and the memory for it.
+// The inputs of a stream, allocated.
 #[derive(Drop)]
 struct Ready {
     layout: Layout,
@@ -100,7 +105,7 @@ struct Ready {
 }
 
 impl Ready {
-    // What the stream is written from, once nothing is refused.
+    // Allocates the inputs of a stream that is not refused.
     fn of(alloc: Global, sheet: &Sheet, lead_in: u32, length: u32) -> Result<Ready, AllocError>
         requires layout { HasLayout sheet.now length }
         requires room { HasRoom sheet.now lead_in }

@@ -1,25 +1,26 @@
-// Why no stream is pressed.
+// The reasons why no stream, or only a part of it, is pressed.
 use cdg_io::Failed;
 use std::alloc::AllocError;
 use stream_writer::LeadInStop;
 use toc_model::LayoutStop;
 
-/// Why a stream was not pressed, or not whole.
+/// The reason why a stream was not pressed, or only a part of it.
 #[derive(Clone, Copy, PartialEq, Eq, Debug)]
 pub enum PressStop {
-    /// The file has a rest of fewer than 24 bytes after so many whole packs.
+    /// The file has fewer than 24 bytes after this many whole packs.
     PackTorn { pack: u32 },
-    /// The audio is too short: the index lines need so many blocks.
+    /// The audio file is too short: the index lines need this many blocks.
     LengthShort { need: u32 },
-    /// The program would have so many blocks.
+    /// The program would have this many blocks.
     DiscTooLong { blocks: u32 },
-    /// The first track, by its number, that has a gap, so that the file's time would not run with the disc's.
+    /// The number of the first track with a gap. With a gap, the time of the file would differ from the time of the
+    /// disc.
     Gap { track: u8 },
-    /// The file has so many packs, and the audio has room for so many.
+    /// The number of packs of the file, and the number that the audio has room for.
     CdgTooLong { packs: u32, room: u32 },
-    /// The texts need so many packs, and 256 are the most.
+    /// The texts need this many packs, and the maximum is 256.
     TextTooLong { packs: u32 },
-    /// The lead-in needs so many blocks.
+    /// The lead-in needs this many blocks.
     LeadInShort { need: u32 },
     /// A write failed.
     WriteFault,

@@ -1,4 +1,4 @@
-// From packs to those of the thin form.
+// Writes the thin form of packs.
 ghost use Rattle.std.specs.Prelude.{◌≡◌, ◌*◌, List, ℕ, [], ◌∷◌, length, IfOk, IfSome, Some, ◌/◌, IsTrue};
 ghost use Rattle.std.specs.List.{concat};
 ghost use Rattle.cdg_instructions.specs.Instruction.{InRange};
@@ -27,10 +27,10 @@ use rw_code::Word;
 use std::alloc::{AllocError, Global};
 use std::marker::Model;
 
-// The most packs that are read: those of the most blocks.
+// The maximum number of packs: those of the maximum number of blocks.
 const MOST_PACKS: u32 = SLOTS_A_BLOCK as u32 * MOST_UNITS;
 
-/// Makes packs that change nothing idle. All its memory is taken at the start.
+/// Makes packs that change nothing idle. All its memory is allocated at the start.
 #[derive(Drop)]
 pub struct Thinner {
     screen: Screen,
@@ -45,7 +45,7 @@ impl Model for Thinner {
 }
 
 impl Thinner {
-    /// Takes the memory of a screen.
+    /// Allocates the memory of a screen.
     pub fn start(alloc: Global) -> Result<Thinner, AllocError>
         ensures { IfOk result (λ t. t ≡ blank) }
     {
@@ -54,17 +54,17 @@ impl Thinner {
         })
     }
 
-    /// Writes the thin form of a file of packs as it is read: 24 zeros for each pack with a graphics instruction that
-    /// changes nothing where it stands, and every other pack as it is. `Ok` tells how many packs there are.
+    /// Writes the thin form of a file of packs while reading it: 24 zeros for each graphics instruction that changes
+    /// nothing, and every other pack unchanged. `Ok` contains the number of packs.
     ///
-    /// A pack is 24 bytes, and at most 4,000,000 are read. Their parity is not looked at. Each call begins anew, with
-    /// all zero, whatever stopped the one before.
+    /// A pack has 24 bytes, and at most 4,000,000 packs are read. Their parity is ignored. Each call starts with an
+    /// empty screen.
     ///
     /// # Errors
     ///
-    /// `Torn` where the file ends within a pack, `TooLong` where a byte follows the last pack that is read,
-    /// `ReadFault` where a read failed: these come after all is written for the whole packs read. After `WriteFault`
-    /// the sink holds a prefix, and no later pack was read.
+    /// `Torn` if the file ends inside a pack, `TooLong` if a byte follows the last pack that is read, `ReadFault` if a
+    /// read failed. Before these errors, the output for all whole packs was written. After `WriteFault` a prefix was
+    /// written, and no later pack was read.
     pub fn run<S: Source, K: Sink>(
         &mut self,
         source: &mut S,
@@ -72,8 +72,7 @@ impl Thinner {
     ) -> Result<Pumped, PumpStop>
         ensures thins { (taken : List ℕ)
             × Thins (passed S.left K.held (source.old, out.old) (source.new, out.new)) result taken }
-        // Of a whole input: after each number of packs the same stands in what was put, and it is its own
-        // thin form.
+        // For a whole input: the output has the same screen after each number of packs, and it is its own thin form.
         ensures whole { IfSome (S.left source.old)
             (λ all. ThinsAll all (change K.held out.old out.new) result) }
         ensures reads { ReadsUnits S.Source symbols_a_slot most_file_packs
@@ -86,14 +85,14 @@ impl Thinner {
         pump_units(source, MOST_PACKS, self, out)
     }
 
-    // Makes all zero again.
+    // Sets the screen to zero again.
     fn reset(&mut self)
         ensures { self.new ≡ blank }
     {
         self.screen.reset();
     }
 
-    // Carries out an instruction, and tells whether it was needless.
+    // Executes an instruction, and returns whether it changed nothing.
     #[inline]
     fn passes_over(&mut self, instr: &Instr) -> bool
         requires { InRange instr.now }
@@ -107,21 +106,21 @@ impl Thinner {
         is_graphic(instr)
     }
 
-    // The same of the instruction of a pack. Most packs are idle.
+    // The same for the instruction of a pack. Most packs are idle.
     #[inline]
     fn is_needless(&mut self, pack: &[u8; SYMBOLS_A_SLOT]) -> bool
         ensures next { self.new ≡ thin_next self.old pack.now }
         ensures needless { result ≡ is_needless self.old (pack_instruction pack.now) }
     {
         if is_idle(pack) {
-            // A law: what stands is as after no instructions, and so after an idle pack.
+            // A law: an idle pack changes nothing.
             self.screen.what_stands_is_whole();
             return false;
         }
         self.is_needless_drawing(pack)
     }
 
-    // The same where the pack is seen to say something. It stands apart, so that idle packs do not pay for it.
+    // The same for a pack that may have an instruction. It is separate, so that idle packs stay fast.
     #[inline(never)]
     fn is_needless_drawing(&mut self, pack: &[u8; SYMBOLS_A_SLOT]) -> bool
         ensures next { self.new ≡ thin_next self.old pack.now }
@@ -130,7 +129,7 @@ impl Thinner {
         self.passes_over(&instruction(pack))
     }
 
-    // Makes a pack idle where it is needless.
+    // Makes a pack idle if it changes nothing.
     #[inline]
     #[tactic(auto, unfolding(crate::specs::Steps::thin_gives))]
     fn thin(&mut self, pack: &mut [u8; SYMBOLS_A_SLOT])
@@ -160,7 +159,7 @@ impl InPlace for Thinner {
         }
     }
 
-    // Two at a time, since most packs are idle, which takes a look at a byte.
+    // Two packs at a time: most packs are idle, which one byte shows.
     #[inline]
     fn change_row(&mut self, packs: &mut [u8], count: usize) {
         let mut at = 0;
@@ -202,8 +201,8 @@ impl UnitStage for Thinner {
     }
 }
 
-/// Laws: after each number of packs the same stands in a file and in its thin form; the thin form of a thin form is
-/// itself; each file has exactly one thin form, of as many packs.
+/// Laws: a file and its thin form have the same screen after each number of packs. A thin form is its own thin form.
+/// Each file has exactly one thin form, with the same number of packs.
 pub fn thin_forms_stand_alike()
     ensures alike { (bytes text : List ℕ) (m : ℕ) → IsThinText bytes text
         → StandAlike m (whole_parts symbols_a_slot bytes) (whole_parts symbols_a_slot text) }
@@ -219,8 +218,7 @@ pub fn thin_forms_stand_alike()
         → AreInstructionsOf packs one → AreInstructionsOf packs other → one ≡ other }
 {}
 
-// The instruction of 24 bytes, whose parity may be anything. The codeword that they make, whose parity is made good,
-// has the same.
+// The instruction of 24 bytes with any parity. It equals the instruction of the codeword with correct parity.
 fn instruction(bytes: &[u8; SYMBOLS_A_SLOT]) -> Instr
     ensures meaning { result ≡ pack_instruction bytes.now }
     ensures range { InRange result }
@@ -228,7 +226,7 @@ fn instruction(bytes: &[u8; SYMBOLS_A_SLOT]) -> Instr
     read_word(&Word::new(bytes))
 }
 
-// Whether 24 bytes are seen to say nothing, by the first of them.
+// Whether the first of 24 bytes shows that they have no instruction.
 #[inline]
 fn is_idle(bytes: &[u8; SYMBOLS_A_SLOT]) -> bool
     ensures { IsTrue result → pack_instruction bytes.now ≡ Idle }
@@ -236,7 +234,7 @@ fn is_idle(bytes: &[u8; SYMBOLS_A_SLOT]) -> bool
     bytes[0] % 64 == 0
 }
 
-// Whether it is one of the nine graphics instructions.
+// Whether an instruction is one of the nine graphics instructions.
 fn is_graphic(instr: &Instr) -> bool
     ensures { result ≡ is_graphic instr.now }
 {

@@ -18,9 +18,9 @@ pub fn offers_keep_the_first()
         ≡ kept_among (packs ++ pack ∷ []) }
 {}
 
-/// A law: the lines of the texts of kept packs are at most 932,154 bytes. The packs hold 3,072 bytes of text at most, each
-/// of which is printed in three and, where tracks have the string before theirs, up to a hundred times; beside its string
-/// each of the 700 lines has at most 15 bytes, and the last line has at most 54.
+/// A law: the lines of the texts of kept packs are at most 932,154 bytes. The packs hold 3,072 bytes of text at most,
+/// each of which is printed in three and, where tracks have the string before theirs, up to a hundred times; beside its
+/// string each of the 700 lines has at most 15 bytes, and the last line has at most 54.
 pub fn texts_of_packs_fit()
     ensures { (kept : List (Option (List ℕ))) (texts : Texts) (good bad other : ℕ)
         → length kept ≤ most_text_packs → read_texts kept ≡ Ok texts

@@ -12,8 +12,8 @@ use cdg_io::{Failed, Piece, Sink, put_all};
 use disc_time::two_digits;
 use itoa::Buffer;
 
-/// Writes a line for each string that is not empty, and a line with the numbers of good packs, of packs with a wrong CRC,
-/// and of packs of other blocks. After `Failed` a prefix was written.
+/// Writes a line for each string that is not empty, and a line with the numbers of good packs, of packs with a wrong
+/// CRC, and of packs of other blocks. After `Failed` a prefix was written.
 pub fn write_lines<K: Sink>(
     map: &TextMap,
     good: u32,

@@ -33,8 +33,8 @@ pub enum CueWhy {
 /// The reason why a cue sheet was not read.
 #[derive(PartialEq, Eq, Debug, Drop)]
 pub enum CueStop {
-    /// The number of the first refused line, from 1, and the first reason to refuse it. The end of a sheet counts as one
-    /// more line.
+    /// The number of the first refused line, from 1, and the first reason to refuse it. The end of a sheet counts as
+    /// one more line.
     Fault { line: u32, why: CueWhy },
     /// No line is refused, but memory ran out.
     NoMemory,

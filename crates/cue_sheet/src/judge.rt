@@ -64,8 +64,8 @@ impl SectionMarks {
     }
 }
 
-/// What decides whether the next line is allowed. `section` describes the last track, or the lines before the first one.
-/// It allocates nothing.
+/// What decides whether the next line is allowed. `section` describes the last track, or the lines before the first
+/// one. It allocates nothing.
 #[derive(Clone, Copy)]
 pub(crate) struct SheetJudge {
     pub(crate) has_file: bool,

@@ -31,8 +31,8 @@ impl Model for Sheet {
 impl Sheet {
     ghost use Rattle.cue_sheet.specs.Answers.{IsCueAnswer};
 
-    /// The sheet of a text, or its first refused line. The text is read once, and only the texts that the sheet keeps are
-    /// copied. `NoMemory` is returned only if no line is refused.
+    /// The sheet of a text, or its first refused line. The text is read once, and only the texts that the sheet keeps
+    /// are copied. `NoMemory` is returned only if no line is refused.
     pub fn parse(alloc: Global, text: &[u8]) -> Result<Sheet, CueStop>
         requires { length text.now ≤ most_text_bytes }
         ensures { IsCueAnswer (read_cue text.now) result }
@@ -88,8 +88,8 @@ impl Sheet {
         }
     }
 
-    /// A text of the album (place 0) or of the k-th track (place k, from 1). It is empty if the sheet has none. It has at
-    /// most 64 MiB, no byte below 20 hexadecimal and no byte 7F.
+    /// A text of the album (place 0) or of the k-th track (place k, from 1). It is empty if the sheet has none. It has
+    /// at most 64 MiB, no byte below 20 hexadecimal and no byte 7F.
     pub fn text(&self, kind: CueText, place: usize) -> &[u8]
         requires { place ≤ length self.now.tracks }
         ensures text { result.now ≡ text_at kind self.now place }

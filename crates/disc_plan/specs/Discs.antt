@@ -1,4 +1,4 @@
--- The plan of a disc, and why it has none.
+-- The plan of a disc, or the reason why it has none.
 use Rattle.std.specs.Prelude.{◌≡◌, ℕ, ◌<◌, ◌≤◌, List, Ok, Err, count_by, length, take}
 use Rattle.text_lines.specs.Text.{most_text_bytes}
 use Rattle.cue_sheet.specs.CueSheet.{CueSheet}
@@ -14,27 +14,27 @@ use Rattle.disc_plan.specs.declared.picture_rows.PlannedRow.{PlannedRow}
 use Rattle.disc_plan.specs.declared.stops.PlanStop.{PlanStop}
 use Rattle.disc_plan.specs.declared.stops.PlanStop.TheVariants.{SheetTooLong, Sheet, ScriptTooLong, Script, Disc, NoRoom, NoMemory}
 
--- The texts of a disc, and how many blocks its lead-in and its audio have.
+-- The texts of a disc, and the numbers of blocks of its lead-in and its audio file.
 pub record DiscTexts : Type 0 where
   pub sheet : List ℕ
   pub script : List ℕ
   pub lead_in : ℕ
   pub audio : ℕ
 
--- the disc of these
+-- the disc with these parts
 abbrev pub planned_disc : List ℕ → List ℕ → ℕ → ℕ → DiscTexts
 planned_disc sheet script lead_in audio =
     record { sheet = sheet; script = script; lead_in = lead_in; audio = audio }
 
--- the text of the sheet is not too long, and is read as this one
+-- the text of the sheet is not too long, and this is its sheet
 abbrev pub HasSheetText : DiscTexts → CueSheet → Type 0
 HasSheetText disc sheet = (length disc.sheet ≤ most_text_bytes) × (read_cue disc.sheet ≡ Ok sheet)
 
--- the text of the script is not too long, and is read as this one
+-- the text of the script is not too long, and this is its script
 abbrev pub HasScriptText : DiscTexts → List Drawing → Type 0
 HasScriptText disc script = (length disc.script ≤ most_text_bytes) × (read_script disc.script ≡ Ok script)
 
--- the texts of a disc are read as this sheet and this script
+-- the texts of a disc have this sheet and this script
 abbrev pub IsReadAs : DiscTexts → CueSheet → List Drawing → Type 0
 IsReadAs disc sheet script = HasSheetText disc sheet × HasScriptText disc script
 
@@ -43,7 +43,7 @@ abbrev pub HasPlan : DiscTexts → CueSheet → List Drawing → Type 0
 HasPlan disc sheet script = IsReadAs disc sheet script × HoldsPictures sheet script disc.audio
     × HasRoom sheet disc.lead_in
 
--- why a text is no sheet
+-- the reason why a text is not a sheet
 abbrev pub IsPlanSheetStop : List ℕ → PlanStop → Type 0
 IsPlanSheetStop text SheetTooLong = most_text_bytes < length text
 IsPlanSheetStop text (Sheet line why) = (length text ≤ most_text_bytes) × (read_cue text ≡ Err (line, why))
@@ -51,7 +51,7 @@ IsPlanSheetStop text NoMemory =
     (sheet : CueSheet) × (length text ≤ most_text_bytes) × (read_cue text ≡ Ok sheet)
 IsPlanSheetStop text _ = ⊥
 
--- why a text is no script
+-- the reason why a text is not a script
 abbrev pub IsPlanScriptStop : List ℕ → PlanStop → Type 0
 IsPlanScriptStop text ScriptTooLong = most_text_bytes < length text
 IsPlanScriptStop text (Script line why) =
@@ -60,8 +60,8 @@ IsPlanScriptStop text NoMemory =
     (script : List Drawing) × (length text ≤ most_text_bytes) × (read_script text ≡ Ok script)
 IsPlanScriptStop text _ = ⊥
 
--- why a disc has no plan in so many rows: each reason comes only where those before it do not hold, and want of memory
--- where neither text is too long and no line of them is refused
+-- the reason why a disc has no plan in these rows: each reason is reported only if the previous ones do not apply, and
+-- `NoMemory` only if neither text is too long and no line is refused
 abbrev pub IsPlanStop : DiscTexts → ℕ → PlanStop → Type 0
 IsPlanStop disc room (Disc stop) = (sheet : CueSheet) × (script : List Drawing) × IsReadAs disc sheet script
     × IsDiscRefusal sheet script disc.lead_in disc.audio stop
@@ -75,7 +75,7 @@ IsPlanStop disc room (Script line why) = (sheet : CueSheet) × HasSheetText disc
 IsPlanStop disc room NoMemory = (sheet : CueSheet) × (script : List Drawing) × IsReadAs disc sheet script
 IsPlanStop disc room stop = IsPlanSheetStop disc.sheet stop
 
--- The rows of a disc, and what is told of it.
+-- The rows of a disc, and its numbers.
 pub record IsPlan (disc : DiscTexts) (rows : List PlannedRow) (told : PlannedDisc) : Type 0 where
   pub sheet : CueSheet
   pub script : List Drawing

@@ -1,4 +1,4 @@
--- The rows of a plan, as programs in C hold them.
+-- The rows of a plan, for programs in C.
 use Rattle.std.specs.Prelude.{◌≡◌, ◌==◌, ℕ, ◌<◌, Bool, List, slice_index, slice_index_or, if◌then◌else◌}
 use Rattle.picture_script.specs.Script.{Drawing}
 use Rattle.pack_schedule.specs.Plans.{IsPlanRow}
@@ -8,7 +8,7 @@ use Rattle.disc_plan.specs.declared.picture_rows.PlannedRow.{PlannedRow}
 abbrev pub no_disc_row : PlannedRow
 no_disc_row = record { line = 0; ready = 0; hold = 0; need = 0; free = 0; first = 0; late = 0 }
 
--- the row of a picture whose `show` stands on this line
+-- the row of a picture with this `show` line
 abbrev pub told_row : ℕ → PlanRow → PlannedRow
 told_row line plan = record {
   line = line;
@@ -24,11 +24,11 @@ told_row line plan = record {
 abbrev pub is_late : PlannedRow → Bool
 is_late row = row.late == 1
 
--- the row of picture k, whose `show` stands on this line
+-- the row of picture k, with this `show` line
 abbrev pub IsToldRow : List Drawing → ℕ → ℕ → PlannedRow → Type 0
 IsToldRow script line k row = (plan : PlanRow) × IsPlanRow script k plan × (row ≡ told_row line plan)
 
--- the rows of the first pictures, whose `show` lines are these
+-- the rows of the first pictures, with these `show` lines
 abbrev pub AreToldRows : List Drawing → List ℕ → ℕ → List PlannedRow → Type 0
 AreToldRows script lines count rows = (k : ℕ) → k < count
     → IsToldRow script (slice_index lines k) k (slice_index_or rows k no_disc_row)

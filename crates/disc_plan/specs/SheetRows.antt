@@ -1,4 +1,4 @@
--- What a cue sheet says, as rows.
+-- A cue sheet as rows.
 use Rattle.std.specs.Prelude.{◌≡◌, ◌<◌, ◌≤◌, ◌++◌, ℕ, List, map, drop, length, replicate, Option, Some, None, Ok, Err}
 use Rattle.std.specs.List.{flat_map}
 use Rattle.text_lines.specs.Text.{most_text_bytes}
@@ -14,12 +14,12 @@ use Rattle.disc_plan.specs.declared.stops.SheetStop.TheVariants.{TooLong, Fault,
 use Rattle.disc_plan.specs.declared.stops.TextStop.{TextStop}
 use Rattle.disc_plan.specs.declared.stops.TextStop.TheVariants.{TooLong as text_too_long, Fault as text_fault, NoTrack, NoRoom as no_room_for, NoMemory as no_memory_for}
 
--- a code, or so many zeros where there is none
+-- an ISRC, or zeros if there is none
 abbrev pub or_zeros : ℕ → Option (List ℕ) → List ℕ
 or_zeros size (Some code) = code
 or_zeros size None = replicate size 0
 
--- 1 where there is a code, or else 0
+-- 1 if there is an ISRC, otherwise 0
 abbrev pub flag_of : Option (List ℕ) → ℕ
 flag_of (Some code) = 1
 flag_of None = 0
@@ -45,7 +45,7 @@ track_rows track = map (sheet_row track) track.indices
 abbrev pub sheet_rows : CueSheet → List SheetRow
 sheet_rows sheet = flat_map track_rows sheet.tracks
 
--- what is told of a sheet
+-- the counts of a sheet
 abbrev pub told_sheet : CueSheet → ToldSheet
 told_sheet sheet = record {
   rows = length (sheet_rows sheet);
@@ -56,7 +56,7 @@ told_sheet sheet = record {
   catalogue = or_zeros 13 sheet.catalogue;
 }
 
--- what is told where a line is refused
+-- the refused line
 abbrev pub told_refusal : ℕ → CueWhy → ToldSheet
 told_refusal line why = record {
   rows = 0;
@@ -67,16 +67,16 @@ told_refusal line why = record {
   catalogue = replicate 13 0;
 }
 
--- the text is not too long, and is read as this sheet
+-- the text is not too long, and this is its sheet
 abbrev pub IsTextOfSheet : List ℕ → CueSheet → Type 0
 IsTextOfSheet text sheet = (length text ≤ most_text_bytes) × (read_cue text ≡ Ok sheet)
 
--- the rows of the text of a sheet stand at the front, and this is told of it
+-- the rows of a sheet are at the front, and these are its counts
 abbrev pub AreRowsOf : List ℕ → List SheetRow → List SheetRow → ToldSheet → Type 0
 AreRowsOf text old new told = (sheet : CueSheet) × IsTextOfSheet text sheet × (told ≡ told_sheet sheet)
     × (new ≡ sheet_rows sheet ++ drop (length (sheet_rows sheet)) old)
 
--- why the text of a sheet gives no rows where there are so many; memory may run out for a sheet alone
+-- the reason why a sheet has no rows in this room; memory can run out only for a text that has a sheet
 abbrev pub IsRowsStop : List ℕ → ℕ → SheetStop → Type 0
 IsRowsStop text room TooLong = most_text_bytes < length text
 IsRowsStop text room (Fault line why) = (length text ≤ most_text_bytes) × (read_cue text ≡ Err (line, why))
@@ -84,13 +84,13 @@ IsRowsStop text room (NoRoom told) = (sheet : CueSheet) × IsTextOfSheet text sh
     × (told ≡ told_sheet sheet) × (room < length (sheet_rows sheet))
 IsRowsStop text room NoMemory = (sheet : CueSheet) × IsTextOfSheet text sheet
 
--- a text of the sheet stands at the front, and has so many bytes
+-- a text of the sheet is at the front, with this length
 abbrev pub IsTextOf : CueText → ℕ → List ℕ → List ℕ → List ℕ → ℕ → Type 0
 IsTextOf kind place text old new bytes = (sheet : CueSheet) × IsTextOfSheet text sheet
     × (place ≤ length sheet.tracks) × (bytes ≡ length (text_at kind sheet place))
     × (new ≡ text_at kind sheet place ++ drop (length (text_at kind sheet place)) old)
 
--- why the text of a sheet gives no text at a place, where there is so much room
+-- the reason why a sheet has no text at a place in this room
 abbrev pub IsTextStop : CueText → ℕ → List ℕ → ℕ → TextStop → Type 0
 IsTextStop kind place text room text_too_long = most_text_bytes < length text
 IsTextStop kind place text room (text_fault line why) =

@@ -1,4 +1,4 @@
--- What is told of a plan, and where there is none why.
+-- The result of a plan, or the reason why there is none.
 use Rattle.std.specs.Prelude.{ℕ}
 use Rattle.picture_script.specs.declared.reasons.ScriptWhy.{ScriptWhy}
 use Rattle.picture_script.specs.declared.reasons.ScriptWhy.TheVariants as script
@@ -11,7 +11,7 @@ use Rattle.disc_plan.specs.declared.told.ToldPlan.{ToldPlan}
 use Rattle.cue_sheet.specs.declared.fault.CueWhy.{CueWhy}
 use Rattle.cue_sheet.specs.declared.fault.CueWhy.TheVariants.{UnknownCommand, SecondFile, Misplaced, BadArgument, Repeated, NoIndex, NotAudio, NumberOrder, IndexOrder, TimeOrder, NoFile, NoTrack}
 
--- the number of the reason for which a line of a sheet is refused
+-- the number of a reason to refuse a line of a sheet
 abbrev pub cue_number : CueWhy → ℕ
 cue_number UnknownCommand = 1
 cue_number SecondFile = 2
@@ -26,7 +26,7 @@ cue_number TimeOrder = 10
 cue_number NoFile = 11
 cue_number NoTrack = 12
 
--- of a disc that has a plan
+-- the result for a disc with a plan
 abbrev pub told_plan : PlannedDisc → ToldPlan
 told_plan disc = record {
   pictures = disc.pictures;
@@ -37,12 +37,12 @@ told_plan disc = record {
   number = 0;
 }
 
--- of a disc that has none: the reason, its line and its number
+-- the result for a disc without a plan: the reason, its line and its number
 abbrev pub refusal : ℕ → ℕ → ℕ → ToldPlan
 refusal why line number =
     record { pictures = 0; blocks = 0; late = 0; why = why; line = line; number = number }
 
--- the number of the reason for which a line of a script is refused
+-- the number of a reason to refuse a line of a script
 abbrev pub script_number : ScriptWhy → ℕ
 script_number script.UnknownCommand = 1
 script_number script.BadArgument = 2
@@ -50,7 +50,7 @@ script_number script.OutOfRange = 3
 script_number script.TimeOrder = 4
 script_number script.TooMany = 5
 
--- of a sheet and a script that have no place on their disc
+-- the result for a sheet and a script that do not fit on their disc
 abbrev pub disc_refusal : AuthorStop → ToldPlan
 disc_refusal (LengthShort need) = refusal 4 0 need
 disc_refusal (DiscTooLong blocks) = refusal 5 0 blocks
@@ -59,7 +59,7 @@ disc_refusal (TextTooLong packs) = refusal 7 0 packs
 disc_refusal (LeadInShort need) = refusal 8 0 need
 disc_refusal _ = refusal 0 0 0
 
--- where there is no plan
+-- the result if there is no plan
 abbrev pub told_stop : PlanStop → ToldPlan
 told_stop SheetTooLong = refusal 1 0 0
 told_stop (Sheet line why) = refusal 2 line (cue_number why)

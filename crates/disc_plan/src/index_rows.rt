@@ -1,4 +1,4 @@
-// A row for each index line of a sheet.
+// A cue sheet as rows: one row for each index line.
 ghost use Rattle.std.specs.Prelude.{◌≡◌, ◌<◌, ◌≤◌, ◌+◌, ◌++◌, drop, length, take, IfSome, IsTrue, option_copied, IfErr, IfOk, OnErr};
 ghost use Rattle.cdg_io.specs.Causes.{TellsFault};
 ghost use Rattle.cue_sheet.specs.CueSheet.{index_line_of, track_of, is_capital_code, is_catalogue_number};
@@ -11,7 +11,7 @@ use disc_time::{CATALOGUE_DIGITS, ISRC_CHARACTERS};
 use subcode_author::Heap;
 use text_lines::MOST_TEXT_BYTES;
 
-/// An index line of a sheet, with what the sheet says of its track. Times are blocks, 75 a second.
+/// An index line of a sheet, with the values of its track. Times are blocks, 75 a second.
 #[repr(C)]
 #[derive(Clone, Copy)]
 pub struct SheetRow {
@@ -19,7 +19,7 @@ pub struct SheetRow {
     pub time: u32,
     /// The silence before its track.
     pub pregap: u32,
-    /// The silence behind its track.
+    /// The silence after its track.
     pub postgap: u32,
     /// The number of its track, 1 to 99.
     pub track: u8,
@@ -27,13 +27,13 @@ pub struct SheetRow {
     pub index: u8,
     /// The control bits of its track.
     pub control: u8,
-    /// 1 where its track has a code, or else 0.
+    /// 1 if its track has an ISRC, otherwise 0.
     pub has_isrc: u8,
-    /// The code, or zeros.
+    /// The ISRC, or zeros.
     pub isrc: [u8; ISRC_CHARACTERS],
 }
 
-/// Writes a row for each index line of the text of a cue sheet to the front of some rows.
+/// Writes a row for each index line of a cue sheet to the front of `rows`.
 pub fn sheet_rows(
     heap: &mut Heap,
     text: &[u8],
@@ -42,7 +42,7 @@ pub fn sheet_rows(
     ensures rows { IfOk result (AreRowsOf text.now rows.old rows.new) }
     ensures stop { IfErr result (IsRowsStop text.now (length rows.old)) }
     ensures untouched { OnErr result (rows.new ≡ rows.old) }
-    // The answer is `NoMemory` exactly if a request for memory failed.
+    // The error is `NoMemory` exactly if a request for memory failed.
     ensures wants { TellsFault SheetStop.NoMemory heap.old heap.new result }
 {
     if text.len() > MOST_TEXT_BYTES {
@@ -61,7 +61,7 @@ pub fn sheet_rows(
     Ok(told)
 }
 
-/// How many index lines a sheet has, at most 9,900.
+/// The number of index lines of a sheet, at most 9,900.
 pub(crate) fn count_rows(sheet: &Sheet) -> usize
     ensures count { result ≡ length (sheet_rows sheet.now) }
     ensures few { result ≤ 9900 }
@@ -82,7 +82,7 @@ fn lines_of(sheet: &Sheet, k: usize) -> usize
     sheet.indices(k)
 }
 
-// Writes a row for each index line to the front of some rows.
+// Writes a row for each index line to the front of `rows`.
 fn write_rows(sheet: &Sheet, rows: &mut [SheetRow])
     requires { length (sheet_rows sheet.now) ≤ length rows.old }
     ensures { rows.new ≡ sheet_rows sheet.now ++ drop (length (sheet_rows sheet.now)) rows.old }
@@ -94,7 +94,7 @@ fn write_rows(sheet: &Sheet, rows: &mut [SheetRow])
     }
 }
 
-// Writes the rows of a track from a place on.
+// Writes the rows of a track, from a place on.
 fn write_track(sheet: &Sheet, k: usize, rows: &mut [SheetRow], at: usize)
     requires track { k < length sheet.now.tracks }
     requires room { at + length (track_rows (track_of sheet.now k)) ≤ length rows.old }
@@ -155,7 +155,7 @@ fn isrc_or_zeros(code: Option<&[u8]>) -> [u8; ISRC_CHARACTERS]
     bytes
 }
 
-/// 1 where there is a code, or else 0.
+/// 1 if there is an ISRC, otherwise 0.
 pub(crate) fn flag_of(code: Option<&[u8]>) -> u8
     ensures { result ≡ flag_of (option_copied code.entry) }
 {

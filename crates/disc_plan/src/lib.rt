@@ -1,4 +1,4 @@
-//! What a cue sheet says and how a disc is planned, in rows of plain numbers for programs in C.
+//! Cue sheets and plans of discs as rows of plain numbers, for programs in C.
 #![tactic(auto)]
 
 mod index_rows;

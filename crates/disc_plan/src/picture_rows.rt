@@ -12,27 +12,27 @@ use picture_script::{Script, ShowLines, each_picture_has_a_line};
 use std::alloc::AllocError;
 use subcode_author::Heap;
 
-/// A picture of a script in a plan, as programs in C hold it. Times are blocks of the program.
+/// The row of a picture in a plan, for programs in C. Times are blocks of the program.
 #[repr(C)]
 #[derive(Clone, Copy)]
 pub struct PlannedRow {
-    /// The line of the script on which its `show` stands, counted from 1.
+    /// The number of its `show` line in the script, from 1.
     pub line: u32,
     /// When it is ready.
     pub ready: u32,
-    /// Until when it is held.
+    /// The end of its hold time.
     pub hold: u32,
-    /// How many packs its change needs, at most 3,076.
+    /// The number of packs of its change, at most 3,076.
     pub need: u32,
-    /// How many packs are free for it.
+    /// The number of packs that are free for it.
     pub free: u32,
-    /// The number of the first of them, from 0.
+    /// The number of the first free pack, from 0.
     pub first: u32,
-    /// 1 where it is late, or else 0.
+    /// 1 if it is late, otherwise 0.
     pub late: u8,
 }
 
-// The row of a picture whose `show` stands on this line.
+// The row of a picture with this `show` line.
 fn told_row(line: u32, plan: &PlanRow) -> PlannedRow
     ensures { result ≡ told_row line plan.now }
 {
@@ -47,8 +47,8 @@ fn told_row(line: u32, plan: &PlanRow) -> PlannedRow
     }
 }
 
-/// Writes a row for each picture of a script that is read from this text to the front of some rows, and tells how many
-/// pictures are late. Where there is no memory it writes nothing.
+/// Writes a row for each picture of a script to the front of `rows`, and returns the number of late pictures. `text` is
+/// the text of the script. If memory runs out, it writes nothing.
 pub(crate) fn write_rows(
     heap: &mut Heap,
     script: &Script,

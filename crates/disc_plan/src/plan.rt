@@ -11,21 +11,21 @@ use subcode_author::{Heap, accept_disc};
 
 #[derive(Clone, Copy)]
 pub struct PlannedDisc {
-    /// How many pictures its script shows.
+    /// The number of pictures of its script.
     pub pictures: u32,
-    /// How many blocks its program has.
+    /// The number of blocks of its program.
     pub blocks: u32,
     pub late: u32,
 }
 
-/// Plans the pictures of a disc with a lead-in and an audio of so many blocks: writes a row for each picture, in time or
-/// not, to the front of some rows, from the texts of its cue sheet and its picture script.
+/// Plans the pictures of a disc from the texts of its cue sheet and its picture script. It writes a row for each
+/// picture, in time or late, to the front of `rows`.
 ///
 /// # Errors
 ///
-/// The reasons of `PlanStop` in their order, which is that in which the program refuses to write the disc. Those of the
-/// texts are found without memory. `Disc` and `NoRoom` are found only where there is memory for both texts: `NoMemory`
-/// may come in their place. Then no row is written.
+/// The reasons of `PlanStop` in their order, which is the order of the program's refusals. Refusals of the texts need
+/// no memory. `Disc` and `NoRoom` are detected only if there is memory for both texts, and otherwise `NoMemory` is
+/// returned. After an error no row was written.
 pub fn plan_disc(
     heap: &mut Heap,
     sheet: &[u8],
@@ -40,9 +40,9 @@ pub fn plan_disc(
     ensures stop { IfErr result (IsPlanStop (planned_disc sheet.now script.now lead_in audio)
         (length rows.old)) }
     ensures untouched { OnErr result (rows.new ≡ rows.old) }
-    // `NoMemory` comes only if a request for memory failed.
+    // `NoMemory` is returned only if a request for memory failed.
     ensures wants { result ≡ Err PlanStop.NoMemory → Rose heap.old heap.new }
-    // Where there is a plan, none failed.
+    // If there is a plan, no request failed.
     ensures found { OnOk result (heap.new ≡ heap.old) }
     ensures later { heap.old ≤ heap.new }
 {
@@ -73,7 +73,7 @@ pub fn plan_disc(
     }
 }
 
-// Why a script is refused; where it is not, want of memory.
+// The reason to refuse a script, or `NoMemory`.
 fn stop_of_script(heap: &mut Heap, script: &[u8]) -> PlanStop
     ensures stop { IsPlanScriptStop script.now result }
     ensures counted { (heap.new ≡ heap.old) ⊎ Rose heap.old heap.new }

@@ -1,4 +1,4 @@
-// Reading the texts of a disc.
+// Reads the texts of a disc.
 ghost use Rattle.std.specs.Prelude.{◌≡◌, ◌≢◌, ◌<◌, ◌≤◌, Ok, IfErr, IfOk, length};
 ghost use Rattle.text_lines.specs.Text.{most_text_bytes};
 ghost use Rattle.cdg_io.specs.Causes.{TellsFault};
@@ -12,7 +12,7 @@ use picture_script::{Script, ScriptStop};
 use subcode_author::Heap;
 use text_lines::MOST_TEXT_BYTES;
 
-/// What the text of a cue sheet says, or why it is refused.
+/// Reads a cue sheet, or returns the reason to refuse it.
 pub(crate) fn read_sheet(heap: &mut Heap, text: &[u8]) -> Result<Sheet, PlanStop>
     ensures read { IfOk result (λ sheet. read_cue text.now ≡ Ok sheet) }
     ensures few { IfOk result (λ _. length text.now ≤ most_text_bytes) }
@@ -29,7 +29,7 @@ pub(crate) fn read_sheet(heap: &mut Heap, text: &[u8]) -> Result<Sheet, PlanStop
     }
 }
 
-/// What the text of a picture script says, or why it is refused.
+/// Reads a picture script, or returns the reason to refuse it.
 pub(crate) fn read_script(heap: &mut Heap, text: &[u8]) -> Result<Script, PlanStop>
     ensures read { IfOk result (λ script. read_script text.now ≡ Ok script) }
     ensures few { IfOk result (λ _. length text.now ≤ most_text_bytes) }

@@ -1,50 +1,50 @@
-// Why a sheet gives no rows or no text, and why a disc has no plan.
+// The reasons why a sheet has no rows or no text, and why a disc has no plan.
 use crate::told::ToldSheet;
 use cue_sheet::CueWhy;
 use picture_script::ScriptWhy;
 use subcode_author::AuthorStop;
 
-/// Why a sheet gives no rows.
+/// The reason why a sheet has no rows.
 #[derive(Clone, Copy)]
 pub enum SheetStop {
     /// It has more than 64 MiB.
     TooLong,
-    /// Its first line that is refused, counted from 1, and the first reason.
+    /// The number of its first refused line, from 1, and the first reason to refuse it.
     Fault { line: u32, why: CueWhy },
     /// It has more index lines than there are rows.
     NoRoom { told: ToldSheet },
     NoMemory,
 }
 
-/// Why a sheet gives no text.
+/// The reason why a sheet has no text.
 #[derive(Clone, Copy)]
 pub enum TextStop {
     /// It has more than 64 MiB.
     TooLong,
-    /// Its first line that is refused, counted from 1, and the first reason.
+    /// The number of its first refused line, from 1, and the first reason to refuse it.
     Fault { line: u32, why: CueWhy },
     NoTrack,
-    /// The text has so many bytes, and there is room for fewer.
+    /// The text has this many bytes, and there is less room.
     NoRoom { bytes: u32 },
     NoMemory,
 }
 
-/// Why a disc has no plan. Of several reasons the first in this order is given.
+/// The reason why a disc has no plan. Of several reasons the first in this order is reported.
 #[derive(Clone, Copy)]
 pub enum PlanStop {
     /// The sheet has more than 67,108,864 bytes.
     SheetTooLong,
-    /// The first line of the sheet that is refused, counted from 1, and its first reason.
+    /// The number of the first refused line of the sheet, from 1, and the first reason to refuse it.
     Sheet { line: u32, why: CueWhy },
     /// The script has more than 67,108,864 bytes.
     ScriptTooLong,
-    /// The first line of the script that is refused, counted from 1, and its first reason.
+    /// The number of the first refused line of the script, from 1, and the first reason to refuse it.
     Script { line: u32, why: ScriptWhy },
-    /// The sheet and the script have no place on a disc with this lead-in and audio. No picture is late here, and no
-    /// write fails.
+    /// The sheet and the script do not fit on a disc with this lead-in and audio file. The reason is never a late
+    /// picture or a failed write.
     Disc { stop: AuthorStop },
-    /// There are fewer rows than pictures. The program has so many blocks.
+    /// There are fewer rows than pictures. The program has this many blocks.
     NoRoom { pictures: u32, blocks: u32 },
-    /// No line of either text is refused, and memory ran out.
+    /// No line of either text is refused, but memory ran out.
     NoMemory,
 }

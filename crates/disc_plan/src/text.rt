@@ -9,8 +9,8 @@ use cue_sheet::{CueStop, CueText};
 use subcode_author::Heap;
 use text_lines::MOST_TEXT_BYTES;
 
-/// Writes a text of a cue sheet to the front of some bytes, and answers how many it has: at place 0 that of the album, at
-/// place k that of the k-th track, counted from 1. It is empty where none is given.
+/// Writes a text of the album (place 0) or of the k-th track (place k, from 1) to the front of `bytes`, and returns its
+/// length. It is empty if the sheet has none.
 pub fn sheet_text(
     heap: &mut Heap,
     text: &[u8],
@@ -21,7 +21,7 @@ pub fn sheet_text(
     ensures text { IfOk result (IsTextOf kind place text.now out.old out.new) }
     ensures stop { IfErr result (IsTextStop kind place text.now (length out.old)) }
     ensures untouched { OnErr result (out.new ≡ out.old) }
-    // The answer is `NoMemory` exactly if a request for memory failed.
+    // The error is `NoMemory` exactly if a request for memory failed.
     ensures wants { TellsFault TextStop.NoMemory heap.old heap.new result }
 {
     if text.len() > MOST_TEXT_BYTES {

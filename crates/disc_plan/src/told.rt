@@ -1,4 +1,4 @@
-// What is told of a sheet beside its rows, and of a plan.
+// The counts of a sheet, and the result of a plan, for programs in C.
 ghost use Rattle.std.specs.Prelude.{◌≡◌, ◌≤◌, length};
 ghost use Rattle.disc_plan.specs.Told.{told_plan, told_stop, refusal, script_number, disc_refusal, cue_number};
 ghost use Rattle.disc_plan.specs.SheetRows.{sheet_rows, told_refusal, told_sheet};
@@ -14,21 +14,21 @@ use subcode_author::AuthorStop;
 #[repr(C)]
 #[derive(Clone, Copy)]
 pub struct ToldSheet {
-    /// How many index lines it has, at most 9,900.
+    /// The number of its index lines, at most 9,900.
     pub rows: u32,
-    /// How many tracks it has, 1 to 99.
+    /// The number of its tracks, 1 to 99.
     pub tracks: u32,
-    /// The line that is refused, or 0.
+    /// The number of the refused line, or 0.
     pub line: u32,
     /// The number of the reason, or 0.
     pub why: u32,
-    /// 1 where it has a catalogue number, or else 0.
+    /// 1 if it has a catalogue number, otherwise 0.
     pub has_catalogue: u8,
     /// The digits of the catalogue number, or zeros.
     pub catalogue: [u8; CATALOGUE_DIGITS],
 }
 
-/// What is told of a sheet that is read.
+/// The counts of an accepted sheet.
 pub(crate) fn told_sheet(sheet: &Sheet) -> ToldSheet
     ensures told { result ≡ told_sheet sheet.now }
     ensures few { result.rows ≤ 9900 }
@@ -45,7 +45,7 @@ pub(crate) fn told_sheet(sheet: &Sheet) -> ToldSheet
     }
 }
 
-/// What is told of a sheet of which a line is refused.
+/// The refused line of a sheet.
 pub fn told_refusal(line: u32, why: CueWhy) -> ToldSheet
     ensures { result ≡ told_refusal line why }
 {
@@ -62,22 +62,22 @@ pub fn told_refusal(line: u32, why: CueWhy) -> ToldSheet
 #[repr(C)]
 #[derive(Clone, Copy)]
 pub struct ToldPlan {
-    /// How many pictures the script shows, where there is a plan or no room for it.
+    /// The number of pictures, if there is a plan or too little room for it.
     pub pictures: u32,
-    /// How many blocks the program has, where there is a plan or no room for it.
+    /// The number of blocks of the program, if there is a plan or too little room for it.
     pub blocks: u32,
     pub late: u32,
-    /// Why there is no plan: 1 a text is too long, 2 a line of the sheet is refused, 3 one of the script, 4 the audio is
-    /// short, 5 the disc is too long, 6 a picture is held past the end, 7 the CD-TEXT is too long, 8 the lead-in is
-    /// short; or 0.
+    /// The reason why there is no plan: 1 a text is too long, 2 a line of the sheet is refused, 3 one of the script, 4
+    /// the audio is short, 5 the disc is too long, 6 a picture is held past the end, 7 the CD-TEXT is too long, 8 the
+    /// lead-in is short; or 0.
     pub why: u32,
-    /// The line that is refused, or 0.
+    /// The number of the refused line, or 0.
     pub line: u32,
-    /// The number of its reason, or what the reason of a disc tells, or 0.
+    /// The number of its reason, or the number in the reason of a disc, or 0.
     pub number: u32,
 }
 
-/// What is told of a disc that has a plan.
+/// The result for a disc with a plan.
 pub fn told_plan(disc: &PlannedDisc) -> ToldPlan
     ensures { result ≡ told_plan disc.now }
 {
@@ -91,7 +91,7 @@ pub fn told_plan(disc: &PlannedDisc) -> ToldPlan
     }
 }
 
-/// What is told where there is no plan.
+/// The result for a disc without a plan.
 pub fn told_stop(stop: &PlanStop) -> ToldPlan
     ensures { result ≡ told_stop stop.now }
 {
@@ -109,7 +109,7 @@ pub fn told_stop(stop: &PlanStop) -> ToldPlan
     }
 }
 
-// What is told of a plan that is refused: why, at which line, and a number with it.
+// The numbers of a refused plan: reason, line and value.
 fn refusal(why: u32, line: u32, number: u32) -> ToldPlan
     ensures { result ≡ refusal why line number }
 {
@@ -137,7 +137,7 @@ fn disc_refusal(stop: AuthorStop) -> ToldPlan
     }
 }
 
-// The number of a reason why a line of a script is refused.
+// The number of a reason to refuse a line of a script.
 fn script_number(why: ScriptWhy) -> u32
     ensures { result ≡ script_number why }
 {
@@ -150,7 +150,7 @@ fn script_number(why: ScriptWhy) -> u32
     }
 }
 
-// The number of a reason why a line of a sheet is refused, 1 to 12.
+// The number of a reason to refuse a line of a sheet, 1 to 12.
 fn cue_number(why: CueWhy) -> u32
     ensures { result ≡ cue_number why }
 {

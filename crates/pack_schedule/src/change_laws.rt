@@ -24,8 +24,8 @@ pub fn changes_have_planned_lengths()
     plans_are_shortest();
 }
 
-/// A law: the planned change of a picture is an ordered change of at most 3,076 instructions: one preset, three settings
-/// and four for each of 768 tiles. The law `ordered_changes_are_shortest` says that no change is shorter.
+/// A law: the planned change of a picture is an ordered change of at most 3,076 instructions: one preset, three
+/// settings and four for each of 768 tiles. The law `ordered_changes_are_shortest` says that no change is shorter.
 pub fn planned_changes_are_changes()
     ensures change { (script : List Drawing) (k : ℕ)
         → ((k x y : ℕ) → picture_pixel script k x y < colour_count)

@@ -39,8 +39,8 @@ pub fn packs_are_a_schedule()
     planned_changes_are_changes();
 }
 
-/// A law: the first late row of a plan is the late picture that `survey` reports. If no row is late, every picture is in
-/// time, so there is a schedule.
+/// A law: the first late row of a plan is the late picture that `survey` reports. If no row is late, every picture is
+/// in time, so there is a schedule.
 pub fn plans_tell_what_a_survey_tells()
     ensures first { (script : List Drawing) (rows : List PlanRow) (k : ℕ) → ArePlanRows script rows
         → k < pictures script → IsFirstLate rows k
@@ -50,7 +50,8 @@ pub fn plans_tell_what_a_survey_tells()
         → (k : ℕ) → k < pictures script → CanBeReady script k }
 {}
 
-/// A law: the packs of a schedule that are complete at some time show each picture from its ready time to its hold time.
+/// A law: the packs of a schedule that are complete at some time show each picture from its ready time to its hold
+/// time.
 pub fn scheduled_pictures_are_shown()
     ensures { (script : List Drawing) (blocks : ℕ) (packs : List (List ℕ)) (k time : ℕ) (instrs : List Instr)
         → AreTimesInOrder script → IsSchedule script blocks packs

@@ -35,8 +35,8 @@ pub fn schedules_of_ordered_changes_are_schedules()
     ordered_changes_are_shortest();
 }
 
-/// A law: the planned change of a picture is a change of it, and its length is the only number of packs that the picture
-/// needs. So a late picture cannot be ready.
+/// A law: the planned change of a picture is a change of it, and its length is the only number of packs that the
+/// picture needs. So a late picture cannot be ready.
 pub fn needs_are_fewest()
     ensures change { (script : List Drawing) (k : ℕ) → AreColoursInRange script
         → ((k x y : ℕ) → picture_pixel script k x y < colour_count)

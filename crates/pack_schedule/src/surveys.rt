@@ -77,8 +77,8 @@ pub fn is_past_end(script: &Script, blocks: u32) -> bool
     pictures > 0 && script.hold(pictures - 1) > blocks
 }
 
-/// Plans the change of each picture in allocated memory. The caller knows that the last picture is not held past the end.
-/// So the only error is a late picture.
+/// Plans the change of each picture in allocated memory. The caller knows that the last picture is not held past the
+/// end. So the only error is a late picture.
 ///
 /// # Errors
 ///

@@ -1,4 +1,4 @@
-// A screen beside a canvas.
+// Compares a screen with a canvas.
 ghost use Rattle.std.specs.Prelude.{◌≡◌, ◌<◌, ◌≤◌, ◌↔◌, ℕ, slice_index, IsTrue};
 ghost use Rattle.cdg_instructions.specs.Sizes.{screen_height, screen_width};
 ghost use Rattle.cdg_screen.specs.Standing.{screen_pixel};
@@ -17,7 +17,7 @@ const TOP: u32 = TILE_HEIGHT as u32;
 
 const BOTTOM: u32 = SCREEN_HEIGHT as u32 - TOP;
 
-/// Whether the screen shows what stands on the canvas: each pixel, the colours and the border.
+/// Whether the screen equals the canvas: each pixel, the colours and the border.
 pub(crate) fn agrees(screen: &Screen, canvas: &Canvas) -> bool
     ensures { IsTrue result ↔ Agrees screen.now canvas.now }
 {
@@ -38,7 +38,7 @@ fn colours_agree(screen: &Screen, canvas: &Canvas) -> bool
     true
 }
 
-// Whether all pixels agree, where the borders do.
+// Whether all pixels are equal, if the borders are.
 fn pixels_agree(screen: &Screen, canvas: &Canvas) -> bool
     requires { screen.now.border ≡ canvas.now.border }
     ensures { IsTrue result ↔ ((x y : ℕ) → x < screen_width → y < screen_height
@@ -52,7 +52,7 @@ fn pixels_agree(screen: &Screen, canvas: &Canvas) -> bool
     true
 }
 
-// Whether the pixels of a row agree in the window. It looks at all of them, so that many can be compared at once.
+// Whether the pixels of a row are equal in the window. The loop has no early exit, so it can be vectorized.
 fn row_agrees(screen: &Screen, canvas: &Canvas, y: u32) -> bool
     requires { y < screen_height }
     ensures { IsTrue result ↔ ((x : ℕ) → 6 ≤ x → x < 294
@@ -67,7 +67,7 @@ fn row_agrees(screen: &Screen, canvas: &Canvas, y: u32) -> bool
     same
 }
 
-// The pixel that a screen is to show: that of the canvas in its window, and else the border.
+// The expected pixel of the screen: that of the canvas inside the window, and the border outside.
 fn wanted(canvas: &Canvas, x: u32, y: u32) -> u8
     requires x { x < screen_width }
     requires y { y < screen_height }

@@ -1,4 +1,4 @@
-// What a trial does with each block of a stream.
+// Processes each block of a stream in a trial.
 ghost use Rattle.std.specs.Prelude.{◌≡◌, ◌<◌, ◌≤◌, ◌+◌, ◌*◌, ℕ, List, length, IfOk};
 ghost use Rattle.cdg_io.specs.Causes.{HasCause};
 ghost use Rattle.raw_subcode.specs.Sizes.{block_bytes, most_units};
@@ -15,21 +15,21 @@ use rw_interleave::{Gather, gather_gives_words};
 use std::alloc::AllocError;
 use subcode_author::Heap;
 
-/// Goes over a stream with no lead-in block by block: each block is scratched, its words are corrected and played, and
-/// the screen is compared with the next picture of a script when that is ready. It holds a window of slots, a screen and
-/// a canvas.
+/// Processes a stream without a lead-in block by block: each block is damaged, its words are corrected and played, and
+/// the screen is compared with the next picture of a script when that must be ready. It has a window of slots, a screen
+/// and a canvas.
 #[derive(Drop)]
 pub(crate) struct Course {
     pub(crate) scratches: Scratches,
     pub(crate) gather: Gather,
     pub(crate) replay: Replay,
     pub(crate) gallery: Gallery,
-    /// How many blocks it has gone over.
+    /// The number of blocks so far.
     pub(crate) blocks: u32,
 }
 
 impl Course {
-    /// Before the first block, with the scratches of a seed.
+    /// A trial before the first block, with the scratches of a seed.
     pub(crate) fn start(heap: &mut Heap, seed: u64) -> Result<Course, AllocError>
         ensures blocks { IfOk result (λ course. course.blocks ≡ 0) }
         ensures steady { IfOk result (λ course. (script : List Drawing) → IsSteady script course) }
@@ -48,7 +48,7 @@ impl Course {
         })
     }
 
-    /// Goes over the next block.
+    /// Processes the next block.
     pub(crate) fn go_over(&mut self, script: &Script, block: &[u8; BLOCK_BYTES])
         requires few { self.old.blocks < most_units }
         requires steady { IsSteady script.now self.old }
@@ -64,7 +64,7 @@ impl Course {
         scratches_are_bursts();
         gather_gives_words();
         scheduled_pictures_are_shown();
-        // What holds of every script: its pictures are in order.
+        // A law: the pictures of a script are in order.
         script.times_rise_and_colours_are_in_range();
         let mut scratched = *block;
         self.scratches.scratch(&mut scratched);

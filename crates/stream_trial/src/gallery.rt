@@ -1,4 +1,4 @@
-// The pictures of a script, one after another, beside a screen.
+// Compares the pictures of a script with a screen, one after another.
 ghost use Rattle.std.specs.Prelude.{◌≡◌, ◌≢◌, ◌<◌, ◌≤◌, ◌+◌, ◌*◌, List, IfOk};
 ghost use Rattle.cdg_io.specs.Causes.{HasCause};
 ghost use Rattle.picture_script.specs.Script.{Drawing, pictures, ready_time};
@@ -12,7 +12,7 @@ use raw_subcode::SLOTS_A_BLOCK;
 use std::alloc::AllocError;
 use subcode_author::Heap;
 
-/// The pictures that are still to be shown, and how many were shown when they were ready.
+/// The pictures that are still to come, and the number of pictures that were shown in time.
 #[derive(Drop)]
 pub(crate) struct Gallery {
     pub(crate) canvas: Canvas,
@@ -35,7 +35,7 @@ impl Gallery {
         })
     }
 
-    /// Looks at the screen after so many slots: where the next picture is ready, compares it.
+    /// Compares the screen after `slots` slots with the next picture, if that must be ready.
     pub(crate) fn look(&mut self, script: &Script, screen: &Screen, slots: u32)
         requires canvas { StandsBefore script.now self.old.next self.old.canvas }
         requires next { self.old.next ≤ pictures script.now }

@@ -8,21 +8,21 @@ use itoa::Buffer;
 
 pub(crate) type Lines = ArrayString<384>;
 
-/// What the lines of a trial say.
+/// The numbers in the lines of a trial.
 #[derive(Clone, Copy)]
 pub(crate) struct Report {
     pub(crate) seed: u64,
     pub(crate) pictures: u64,
     pub(crate) blocks: u64,
     pub(crate) packs: u64,
-    /// The instructions of all changes.
+    /// The number of instructions of all changes.
     pub(crate) changes: u64,
-    /// The words that were corrected in one symbol, and in two.
+    /// The number of words that were corrected in one symbol, and in two.
     pub(crate) one: u64,
     pub(crate) two: u64,
-    /// The words with no codeword near.
+    /// The number of words without a codeword nearby.
     pub(crate) bad: u64,
-    /// The pictures that stood on the screen when they were ready.
+    /// The number of pictures that were shown in time.
     pub(crate) equal: u64,
 }
 
@@ -37,7 +37,7 @@ impl Report {
         text
     }
 
-    // The lines on what was made.
+    // The lines on the script and the stream.
     #[tactic(auto, unfolding(crate::specs::TrialLines::input_lines))]
     fn push_input(&self, text: &mut Lines)
         requires { length text.old.bytes ≤ 0 }
@@ -52,7 +52,7 @@ impl Report {
         push_number(text, "changes", self.changes);
     }
 
-    // The lines on what was found.
+    // The lines on the results.
     #[tactic(auto, unfolding(crate::specs::TrialLines::output_lines))]
     fn push_output(&self, text: &mut Lines)
         requires { length text.old.bytes ≤ 150 }

@@ -13,7 +13,7 @@ use pack_schedule::{Survey, SurveyRoom, survey_in};
 use picture_script::Script;
 use subcode_author::Heap;
 
-/// The planned changes of a generated script, which fits in so many blocks.
+/// The planned changes of a generated script, which fits in `blocks` blocks.
 pub(crate) fn plan_changes(
     heap: &mut Heap,
     script: &Script,
@@ -36,7 +36,7 @@ pub(crate) fn plan_changes(
     }
 }
 
-/// How many instructions the planned changes of a script have.
+/// The number of instructions in the planned changes of a script.
 pub(crate) fn count_changes(script: &Script, planned: &Survey) -> u64
     requires { IsSurvey script.now planned.now }
     ensures { result ≡ all_changes script.now }

@@ -1,4 +1,4 @@
-// A stream that is played again, word by word.
+// Plays a stream again, word by word.
 ghost use Rattle.std.specs.Prelude.{◌≡◌, ◌≤◌, ◌+◌, ◌*◌, ℕ, List, IfOk, length};
 ghost use Rattle.cdg_io.specs.Causes.{HasCause};
 ghost use Rattle.rw_code.specs.Codeword.{Reads};
@@ -17,20 +17,20 @@ use rw_interleave::gather_gives_words;
 use std::alloc::AllocError;
 use subcode_author::Heap;
 
-/// Words are corrected, and what their packs say is carried out.
+/// Corrects words and executes the instructions of their packs.
 #[derive(Drop)]
 pub(crate) struct Replay {
     pub(crate) screen: Screen,
-    /// The words that were corrected in one symbol.
+    /// The number of words that were corrected in one symbol.
     pub(crate) one: u32,
-    /// The words that were corrected in two symbols.
+    /// The number of words that were corrected in two symbols.
     pub(crate) two: u32,
-    /// The words with no codeword near.
+    /// The number of words without a codeword nearby.
     pub(crate) bad: u32,
 }
 
 impl Replay {
-    /// No word was taken.
+    /// A player before the first word.
     pub(crate) fn start(heap: &mut Heap) -> Result<Replay, AllocError>
         ensures screen { IfOk result (λ replay. replay.screen ≡ blank) }
         ensures counts { IfOk result (λ replay. (replay.one ≡ 0) × (replay.two ≡ 0) × (replay.bad ≡ 0)) }
@@ -44,7 +44,7 @@ impl Replay {
         })
     }
 
-    /// Takes the words that come with a block, at most four.
+    /// Plays the words that a block completes, at most four.
     pub(crate) fn take_words(&mut self, words: &ArrayVec<Word, 4>)
         requires { IsBelow 3999999996 self.old }
         ensures more { (most : ℕ) → IsBelow most self.old → IsBelow (most + length words.now.items) self.new }
@@ -61,7 +61,7 @@ impl Replay {
         }
     }
 
-    // Corrects a word, and does what its pack says.
+    // Corrects a word, and executes the instruction of its pack.
     fn take_word(&mut self, word: &Word)
         requires { IsBelow 4000000000 self.old }
         ensures near { (codeword : List ℕ) → Reads word.now codeword

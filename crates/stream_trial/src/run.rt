@@ -1,4 +1,4 @@
-// A sink that is a trial: what is put to it is played at once, and is not kept.
+// A sink that is a trial: it plays each block at once and keeps none.
 ghost use Rattle.std.specs.Prelude.{◌≡◌, ◌<◌, ◌≤◌, ◌+◌, ◌/◌, ◌++◌, ℕ, List, [], ◌∷◌, Some, length, take, IfOk};
 ghost use Rattle.cdg_io.specs.Causes.{HasCause};
 ghost use Rattle.raw_subcode.specs.Channels.{symbols_of};
@@ -16,27 +16,27 @@ use raw_subcode::{BLOCK_BYTES, MOST_UNITS};
 use std::alloc::AllocError;
 use subcode_author::Heap;
 
-/// What was counted.
+/// The counts of a trial.
 #[derive(Clone, Copy)]
 pub(crate) struct Found {
-    /// The words that were corrected in one symbol, and in two.
+    /// The number of words that were corrected in one symbol, and in two.
     pub(crate) one: u32,
     pub(crate) two: u32,
-    /// The words with no codeword near.
+    /// The number of words without a codeword nearby.
     pub(crate) bad: u32,
-    /// The pictures that stood on the screen when they were ready.
+    /// The number of pictures that were shown in time.
     pub(crate) equal: u32,
 }
 
-/// A trial of the generated script of a seed, which is under way. Each block that is put is gone over at once, and only
-/// the one that has begun is kept.
+/// A running trial of the generated script of a seed. Each block is processed as soon as it is complete, and only the
+/// current block is kept.
 #[derive(Drop)]
 pub(crate) struct TrialRun<'a> {
     script: &'a Script,
     pub(crate) seed: u64,
     pub(crate) pictures: u32,
     course: Course,
-    /// The block that has begun, and how many of its bytes were put.
+    /// The current block, and the number of its bytes so far.
     block: [u8; BLOCK_BYTES],
     filled: usize,
     faults: u64,
@@ -48,7 +48,7 @@ pub(crate) struct TrialRun<'a> {
 }
 
 impl<'a> TrialRun<'a> {
-    /// Before the first byte.
+    /// A trial before the first byte.
     pub(crate) fn start(
         heap: &mut Heap,
         script: &'a Script,
@@ -72,7 +72,7 @@ impl<'a> TrialRun<'a> {
         })
     }
 
-    /// What was found of the whole blocks that were put: of a damaged schedule of the script all of it.
+    /// The counts of the complete blocks so far.
     pub(crate) fn found(&self) -> Found
         ensures { let others = scratched 0 self.now.seed self.now.history.bytes in
             let script = generated_drawings self.now.seed self.now.pictures in
@@ -82,7 +82,7 @@ impl<'a> TrialRun<'a> {
     {
         // For the size of the stream with scratches.
         scratches_are_bursts();
-        // What holds of every script: its pictures are in order.
+        // A law: the pictures of a script are in order.
         self.script.times_rise_and_colours_are_in_range();
         Found {
             one: self.course.replay.one,
@@ -92,7 +92,7 @@ impl<'a> TrialRun<'a> {
         }
     }
 
-    // Takes bytes of the block that has begun, and goes over it where they end it.
+    // Adds bytes to the current block, and processes it if it is complete.
     fn take(&mut self, part: &[u8])
         requires few { self.old.course.blocks < most_units }
         requires fits { self.old.filled + length part.now ≤ block_bytes }

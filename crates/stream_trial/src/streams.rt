@@ -24,8 +24,8 @@ use pack_schedule::Survey;
 use picture_script::Script;
 use subcode_author::{AuthorStop, Heap, accepted_scripts_have_streams, author_planned};
 
-/// Writes the stream of the script of a seed, whose changes are planned, and plays each of its blocks, with scratches of
-/// the same seed, as soon as it is written.
+/// Writes the stream of the script of a seed, whose changes are planned, and plays each of its blocks, with scratches
+/// of the same seed, as soon as it is written.
 pub(crate) fn play_stream(
     heap: &mut Heap,
     script: &Script,

@@ -95,8 +95,8 @@ pub enum LeadInStop {
 
 const SIZE_PACKS: usize = 3;
 
-/// Checks that a lead-in, if there is one, has room for the texts of a sheet and for its table of contents. It allocates
-/// nothing.
+/// Checks that a lead-in, if there is one, has room for the texts of a sheet and for its table of contents. It
+/// allocates nothing.
 ///
 /// # Errors
 ///

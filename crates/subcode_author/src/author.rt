@@ -209,8 +209,8 @@ impl<'a> PackSource for Scheduled<'a> {
     }
 }
 
-/// Writes the subcode of a disc with a lead-in of `lead_in` blocks and an audio file of `length` blocks. The lead-in has
-/// the table of contents and the texts. The program has the frames of the sheet and the pictures of the script.
+/// Writes the subcode of a disc with a lead-in of `lead_in` blocks and an audio file of `length` blocks. The lead-in
+/// has the table of contents and the texts. The program has the frames of the sheet and the pictures of the script.
 ///
 /// # Errors
 ///
@@ -223,8 +223,9 @@ impl<'a> PackSource for Scheduled<'a> {
 /// - `Late` for the first picture that cannot be ready
 ///
 /// All errors but `Late` are detected before anything is allocated, so `NoMemory` is returned only if none of them
-/// occurs. Pictures are planned in allocated memory. Nothing is written before all checks and all allocations succeeded. After
-/// `WriteFault` a prefix of the stream was written; the law `accepted_scripts_have_streams` says which stream.
+/// occurs. Pictures are planned in allocated memory. Nothing is written before all checks and all allocations
+/// succeeded. After `WriteFault` a prefix of the stream was written; the law `accepted_scripts_have_streams` says which
+/// stream.
 pub fn author_stream<K: Sink>(
     alloc: Global,
     sheet: &Sheet,

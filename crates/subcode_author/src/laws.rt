@@ -1,5 +1,5 @@
-// Laws on authored streams: accepted scripts are in order, an accepted disc has one stream with the planned changes, and
-// a failed write leaves a prefix of it.
+// Laws on authored streams: accepted scripts are in order, an accepted disc has one stream with the planned changes,
+// and a failed write leaves a prefix of it.
 ghost use Rattle.std.specs.Prelude.{◌≡◌, ◌<◌, ◌≤◌, List, ℕ, Ok, length, ◌≢◌, ◌⊎◌};
 ghost use Rattle.disc_time.specs.Counts.{most_lead_in};
 ghost use Rattle.std.specs.declared.option.Option.{Option};
@@ -31,8 +31,8 @@ pub fn accepted_scripts_are_in_order()
         → picture_pixel script k x y < 16 }
 {}
 
-/// A law: a sheet, a script, a lead-in and an audio length have at most one authored stream with the planned changes. So
-/// `author_stream` is deterministic: two calls with equal arguments write equal bytes.
+/// A law: a sheet, a script, a lead-in and an audio length have at most one authored stream with the planned changes.
+/// So `author_stream` is deterministic: two calls with equal arguments write equal bytes.
 pub fn authored_streams_are_one()
     ensures packs { (sheet : CueSheet) (script : List Drawing) (lead_in audio : ℕ) (one other : List ℕ)
         (packs others : List (List ℕ))

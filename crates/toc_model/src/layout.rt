@@ -51,8 +51,8 @@ impl From<AllocError> for LayoutStop {
     }
 }
 
-/// The number of program blocks of a sheet with an audio file of `length` blocks, or the reason why it has no layout. It
-/// allocates nothing.
+/// The number of program blocks of a sheet with an audio file of `length` blocks, or the reason why it has no layout.
+/// It allocates nothing.
 ///
 /// # Errors
 ///
