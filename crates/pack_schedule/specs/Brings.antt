@@ -1,5 +1,4 @@
--- Lists of instructions that bring a picture of a script, of whatever form, but without scrolls, and the fewest that
--- do.
+-- Lists of instructions without scrolls that show a picture of a script, and the shortest of them.
 use Rattle.std.specs.Prelude.{◌≡◌, ℕ, zero, suc, ◌<◌, ◌≤◌, Bool, true, false, List, length, count_by, All}
 use Rattle.cdg_instructions.specs.Instruction.{InRange}
 use Rattle.cdg_instructions.specs.declared.instr.Instr.{Instr}
@@ -12,7 +11,7 @@ use Rattle.pack_schedule.specs.Shown.{ShowsPicture}
 abbrev pub IsUnmoved : Standing → Type 0
 IsUnmoved now = (now.h ≡ 0) × (now.v ≡ 0)
 
--- what may stand before picture k: anything before the first one, and before a later one the picture before it
+-- the allowed states before picture k: any state before the first one, and the previous picture before a later one
 abbrev pub IsBefore : List Drawing → ℕ → Standing → Type 0
 IsBefore script zero now = IsUnmoved now
 IsBefore script (suc k) now = ShowsPicture script k now × IsUnmoved now
@@ -28,45 +27,46 @@ abbrev pub sets_memory : Instr → Bool
 sets_memory (MemoryPreset colour repeat) = true
 sets_memory _ = false
 
--- those that set the border
+-- the instructions that set the border
 abbrev pub sets_border : Instr → Bool
 sets_border (BorderPreset colour) = true
 sets_border _ = false
 
--- those that set colours 0 to 7
+-- the instructions that set colours 0 to 7
 abbrev pub sets_low : Instr → Bool
 sets_low (ColoursLow colours) = true
 sets_low _ = false
 
--- those that set colours 8 to 15
+-- the instructions that set colours 8 to 15
 abbrev pub sets_high : Instr → Bool
 sets_high (ColoursHigh colours) = true
 sets_high _ = false
 
--- all of them are set, each at least once
+-- memory, border and all colours are set, each at least once
 pub record SetsAll (instrs : List Instr) : Type 0 where
   pub memory : 0 < count_by sets_memory instrs
   pub border : 0 < count_by sets_border instrs
   pub low : 0 < count_by sets_low instrs
   pub high : 0 < count_by sets_high instrs
 
--- the instructions bring picture k where this stands before: after them it is shown, and those for the first picture set all there is
+-- the instructions show picture k after this state; those for the first picture set memory, border and all colours
 pub record Brings (script : List Drawing) (k : ℕ) (now : Standing) (instrs : List Instr) : Type 0 where
   pub still : All IsStill instrs
   pub shows : ShowsPicture script k (standing_after now instrs)
   pub sets : k ≡ 0 → SetsAll instrs
 
--- a change for picture k: it brings the picture from whatever may stand before it, and no list brings it from any of that with fewer instructions
+-- a change for picture k: it shows the picture after every allowed state, and no list shows it after any of these
+-- states with fewer instructions
 pub record IsChange (script : List Drawing) (k : ℕ) (instrs : List Instr) : Type 0 where
   pub brings : (now : Standing) → IsBefore script k now → Brings script k now instrs
   pub shortest : (now : Standing) (others : List Instr) → IsBefore script k now → Brings script k now others
       → length instrs ≤ length others
 
--- the number of instructions that picture k needs: the fewest that bring it
+-- the number of instructions that picture k needs: the length of a change for it
 abbrev pub IsNeed : List Drawing → ℕ → ℕ → Type 0
 IsNeed script k need = (instrs : List Instr) × IsChange script k instrs × (length instrs ≡ need)
 
--- picture k cannot be ready: the packs that are free for it are fewer than the fewest instructions that bring it
+-- picture k cannot be ready: it needs more instructions than packs are free for it
 pub record CannotBeReady (script : List Drawing) (k need free : ℕ) : Type 0 where
   pub fewest : IsNeed script k need
   pub more : free < need

@@ -1,4 +1,4 @@
--- Changes in a fixed order, as they are written: the border and the colours first, and then tile after tile.
+-- Changes in the fixed order in which they are written: the border and the colours first, and then tile after tile.
 use Rattle.std.specs.Prelude.{◌≡◌, ℕ, zero, suc, ◌+◌, ◌-◌, ◌<◌, ◌≤◌, List, [], ◌∷◌, ◌++◌, length, map, flat_map, replicate, Option, Some, None, ⊤, ◌==◌, if◌then◌else◌}
 use Rattle.bit_lists.specs.Counting.{below}
 use Rattle.tile_author.specs.Plan.{are_equal}
@@ -12,8 +12,8 @@ use Rattle.cdg_instructions.specs.declared.instr.Instr.TheVariants.{MemoryPreset
 abbrev pub window_places : List (ℕ × ℕ)
 window_places = flat_map (λ r. map (λ c. (r + 1, c + 1)) (below window_columns)) (below window_rows)
 
--- the instructions that set the border and both halves of the colours: all of them for the first picture, and for a
--- later one what differs from the picture before
+-- the instructions that set the border and both halves of the colours: all of them for the first picture, and those
+-- that differ from the previous picture for a later one
 abbrev pub settings : List Drawing → ℕ → List Instr
 settings script zero = BorderPreset (picture_border script 0) ∷ ColoursLow (low_colours script 0) ∷
     ColoursHigh (high_colours script 0) ∷ []
@@ -36,26 +36,26 @@ AreTileChanges old new (place ∷ rest) instrs =
     × IsLeast row column (old row column) (new row column) (length first)
     × AreTileChanges old new rest others
 
--- the most instructions that bring the tiles of a picture: four for each of 768
+-- the maximum number of instructions for the tiles of a picture: four for each of 768
 abbrev pub most_tile_steps : ℕ
 most_tile_steps = 3072
 
--- the most instructions of a change: one that sets all memory, three settings, and four for each of 768 tiles
+-- the maximum number of instructions in a change: one preset, three settings, and four for each of 768 tiles
 abbrev pub most_change : ℕ
 most_change = 3076
 
--- A start is a colour of which all memory is set first, or none. Picture 0 has a colour.
+-- A start is the colour of a memory preset, or none. Picture 0 has a colour.
 abbrev pub IsStart : ℕ → Option ℕ → Type 0
 IsStart k (Some colour) = colour < colour_count
 IsStart zero None = ⊥
 IsStart (suc k) None = ⊤
 
--- the instruction that a start is, if any
+-- the instruction of a start, if it has one
 abbrev pub preset_of : Option ℕ → List Instr
 preset_of (Some colour) = MemoryPreset colour 0 ∷ []
 preset_of None = []
 
--- the tiles that stand before picture k: those of the picture before, or of one colour
+-- the tiles before picture k: those of the previous picture, or of the preset colour
 abbrev pub tiles_before : List Drawing → ℕ → Option ℕ → ℕ → ℕ → List ℕ
 tiles_before script k (Some colour) row column = replicate tile_pixels colour
 tiles_before script k None row column = picture_tile script (k - 1) row column
@@ -68,7 +68,7 @@ pub record IsChangeFrom (script : List Drawing) (k : ℕ) (start : Option ℕ)
   pub whole : instrs ≡ preset_of start ++ settings script k ++ tiles
   pub tile_changes : AreTileChanges (tiles_before script k start) (picture_tile script k) window_places tiles
 
--- a change for picture k in a fixed order: one with a start for which it is shortest
+-- an ordered change for picture k: its start is one with the shortest change
 pub record IsOrderedChange (script : List Drawing) (k : ℕ) (instrs : List Instr) : Type 0 where
   pub start : Option ℕ
   pub change : IsChangeFrom script k start instrs

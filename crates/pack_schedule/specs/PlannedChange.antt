@@ -1,4 +1,4 @@
--- The change that is written, among the shortest ones.
+-- The planned change, which is one of the shortest changes.
 use Rattle.std.specs.Prelude.{ℕ, zero, suc, ◌+◌, List, [], ◌∷◌, ◌++◌, length, map, flat_map, sum_by, Option, Some, None, nat_lt, if◌then◌else◌}
 use Rattle.bit_lists.specs.Counting.{below}
 use Rattle.tile_author.specs.Plan.{plan, steps}
@@ -12,7 +12,7 @@ unfoldable pub planned_tiles : List Drawing → ℕ → Option ℕ → List Inst
 planned_tiles script k start = flat_map (λ p. plan p.0 p.1 (tiles_before script k start p.0 p.1)
     (picture_tile script k p.0 p.1)) window_places
 
--- how many instructions the plans of all tiles of the window are
+-- the number of instructions in the plans of all tiles of the window
 unfoldable pub tile_steps : List Drawing → ℕ → Option ℕ → ℕ
 tile_steps script k start =
     sum_by (λ p. steps (tiles_before script k start p.0 p.1) (picture_tile script k p.0 p.1)) window_places
@@ -21,26 +21,26 @@ tile_steps script k start =
 unfoldable pub planned_from : List Drawing → ℕ → Option ℕ → List Instr
 planned_from script k start = preset_of start ++ settings script k ++ planned_tiles script k start
 
--- how many instructions the change with this start is
+-- the number of instructions of the change with this start
 unfoldable pub planned_length : List Drawing → ℕ → Option ℕ → ℕ
 planned_length script k start =
     length (preset_of start) + length (settings script k) + tile_steps script k start
 
--- the first of several that has the least number, where one is preferred to all of them
+-- the first start with the least number, with a preferred start before all others
 unfoldable pub first_least : {X : Type 0} → (X → ℕ) → X → List X → X
 first_least number best [] = best
 first_least number best (x ∷ rest) =
     first_least number (if nat_lt (number x) (number best) then x else best) rest
 
--- no start, if the picture is not the first one, and then the sixteen colours, the least of them preferred
+-- the preferred start: none, or colour 0 for the first picture
 abbrev pub preferred : ℕ → Option ℕ
 preferred zero = Some 0
 preferred (suc k) = None
 
--- the start of the change that is written: the preferred one, where none gives a shorter change
+-- the start of the planned change: the preferred one, unless another has a shorter change
 unfoldable pub chosen_start : List Drawing → ℕ → Option ℕ
 chosen_start script k = first_least (planned_length script k) (preferred k) (map Some (below colour_count))
 
--- the change that is written for picture k
+-- the planned change of picture k
 unfoldable pub planned_change : List Drawing → ℕ → List Instr
 planned_change script k = planned_from script k (chosen_start script k)

@@ -1,4 +1,4 @@
--- What a planner keeps.
+-- The state of a planner.
 use Rattle.std.specs.Prelude.{ℕ, ◌-◌, ◌<◌, ◌≤◌, List}
 use Rattle.picture_script.specs.Script.{Drawing, pictures}
 use Rattle.picture_script.specs.Board.{Board}
@@ -6,7 +6,7 @@ use Rattle.pack_schedule.specs.Weaving.{Stands}
 use Rattle.pack_schedule.specs.Weights.{AreWeights}
 use Rattle.pack_schedule.specs.declared.change.tiles.Weighed.{Weighed}
 
--- the picture before picture k stands on both canvases, and what is kept of its tiles
+-- the state before picture k: the previous picture is on both canvases, and the weights are those of its tiles
 pub record IsBeforePicture (script : List Drawing) (k : ℕ) (before now : Board)
     (weights : List Weighed) : Type 0 where
   pub k_most : k ≤ pictures script

@@ -1,4 +1,4 @@
--- A row for each picture of a script, in time or not. Each speaks of its picture alone, so a late one changes no other.
+-- A row for each picture of a script, in time or late. A late picture does not change the other rows.
 use Rattle.std.specs.Prelude.{◌≡◌, ℕ, ◌<◌, true, false, List, length, slice_index_or}
 use Rattle.picture_script.specs.Script.{Drawing, pictures, ready_time, hold_time}
 use Rattle.pack_schedule.specs.Brings.{IsNeed}
@@ -8,7 +8,7 @@ use Rattle.pack_schedule.specs.declared.planner.PlanRow.{PlanRow}
 abbrev pub no_row : PlanRow
 no_row = record { ready = 0; hold = 0; need = 0; free = 0; first = 0; late = false }
 
--- the times of picture k, the fewest instructions that bring it, the packs that are free for it, the first of them,
+-- the times of picture k, the number of instructions that it needs, the packs that are free for it, the first of them,
 -- and whether it is late
 pub record IsPlanRow (script : List Drawing) (k : ℕ) (row : PlanRow) : Type 0 where
   pub ready : row.ready ≡ ready_time script k
@@ -24,12 +24,12 @@ pub record ArePlanRows (script : List Drawing) (rows : List PlanRow) : Type 0 wh
   pub count : length rows ≡ pictures script
   pub each : (k : ℕ) → k < pictures script → IsPlanRow script k (slice_index_or rows k no_row)
 
--- row k is late, and none before it
+-- row k is late, and no row before it
 abbrev pub IsFirstLate : List PlanRow → ℕ → Type 0
 IsFirstLate rows k = ((slice_index_or rows k no_row).late ≡ true)
     × ((j : ℕ) → j < k → (slice_index_or rows j no_row).late ≡ false)
 
--- a script, and how many of its rows were given
+-- a script, and the number of its rows so far
 pub record Planning : Type 0 where
   pub script : List Drawing
   pub given : ℕ

@@ -1,4 +1,4 @@
--- When the packs of a change are sent, so that each picture stands from its ready time to its hold time.
+-- When the packs of a change are sent, so that each picture is shown from its ready time to its hold time.
 use Rattle.std.specs.Prelude.{◌≡◌, ℕ, zero, suc, ◌+◌, ◌-◌, ◌*◌, ◌<◌, ◌≤◌, ◌⊎◌, List, [], length, slice_index_or}
 use Rattle.raw_subcode.specs.Sizes.{slots_a_block}
 use Rattle.rw_interleave.specs.Interleave.{packs_kept_back, whole_packs}
@@ -10,12 +10,12 @@ use Rattle.pack_schedule.specs.Change.{IsOrderedChange}
 use Rattle.cdg_instructions.specs.declared.instr.Instr.{Instr}
 use Rattle.cdg_instructions.specs.declared.instr.Instr.TheVariants.{Idle}
 
--- the pack at which the change of picture k begins: the first that is not whole at the hold time of the picture before
+-- the first pack of the change of picture k: the first one that is incomplete at the hold time of the previous picture
 abbrev pub start_of : List Drawing → ℕ → ℕ
 start_of script zero = 0
 start_of script (suc k) = whole_packs (hold_time script k)
 
--- so many packs are whole at the ready time of picture k
+-- this many packs are complete at the ready time of picture k
 abbrev pub IsInTime : List Drawing → ℕ → ℕ → Type 0
 IsInTime script k need = start_of script k + need + packs_kept_back ≤ slots_a_block * ready_time script k
 
@@ -23,12 +23,12 @@ IsInTime script k need = start_of script k + need + packs_kept_back ≤ slots_a_
 abbrev pub free_packs : List Drawing → ℕ → ℕ
 free_packs script k = whole_packs (ready_time script k) - start_of script k
 
--- picture k can be ready: there is a number of packs that it needs, and so many are whole by its ready time
+-- picture k can be ready: the packs that it needs are complete at its ready time
 abbrev pub CanBeReady : List Drawing → ℕ → Type 0
 CanBeReady script k = (need : ℕ) × IsNeed script k need × IsInTime script k need
 
--- the packs of so many blocks hold a list of instructions of this kind for each picture, from its start on, in time,
--- and else are idle
+-- the packs of a program contain a list of instructions of this kind for each picture, from its start on and in time;
+-- all other packs are idle
 pub record IsScheduleOf (IsOne : List Drawing → ℕ → List Instr → Type 0) (script : List Drawing) (blocks : ℕ)
     (packs : List (List ℕ)) : Type 0 where
   pub count : length packs ≡ whole_packs blocks
@@ -44,15 +44,15 @@ pub record IsScheduleOf (IsOne : List Drawing → ℕ → List Instr → Type 0)
       → (n < start_of script k) ⊎ (start_of script k + length (slice_index_or changes k []) ≤ n)) →
       slice_index_or packs n [] ≡ idle_pack
 
--- a schedule holds a change of each picture: no list that brings it is shorter
+-- a schedule contains a change of each picture, so no list that shows the picture is shorter
 abbrev pub IsSchedule : List Drawing → ℕ → List (List ℕ) → Type 0
 IsSchedule script blocks packs = IsScheduleOf IsChange script blocks packs
 
--- one whose changes have the fixed order in which they are written
+-- a schedule whose changes are ordered
 abbrev pub IsOrderedSchedule : List Drawing → ℕ → List (List ℕ) → Type 0
 IsOrderedSchedule script blocks packs = IsScheduleOf IsOrderedChange script blocks packs
 
--- picture k is the first that does not fit
+-- picture k is the first late picture
 pub record IsLate (script : List Drawing) (k need free : ℕ) : Type 0 where
   pub picture : k < pictures script
   pub need_is : IsNeed script k need

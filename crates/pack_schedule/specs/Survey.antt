@@ -1,4 +1,4 @@
--- When the change of each picture is sent, what it begins with, and how long it is.
+-- The start, the preset and the length of the change of each picture.
 use Rattle.std.specs.Prelude.{◌≡◌, ℕ, ◌-◌, ◌<◌, ◌≤◌, ⊤, List, [], length, slice_index_or, None, vec_capacity, vec_len}
 use Rattle.picture_script.specs.Script.{Drawing, pictures, hold_time}
 use Rattle.picture_script.specs.Board.{IsBlank}
@@ -13,7 +13,7 @@ use Rattle.pack_schedule.specs.declared.stops.Stop.TheVariants.{PastEnd, Late, N
 abbrev pub nothing_planned : PlannedChange
 nothing_planned = record { start = 0; need = 0; preset = None }
 
--- where the planned change of picture k is sent, and that it is in time
+-- the planned change of picture k: its first pack, its length and its preset; the picture is in time
 pub record IsPlanned (script : List Drawing) (k : ℕ) (planned : PlannedChange) : Type 0 where
   pub start_is : planned.start ≡ start_of script k
   pub preset_is : planned.preset ≡ chosen_start script k
@@ -29,7 +29,7 @@ pub record ArePlanned (script : List Drawing) (count : ℕ) (planned : List Plan
 abbrev pub IsSurvey : List Drawing → List PlannedChange → Type 0
 IsSurvey script planned = ArePlanned script (pictures script) planned
 
--- every picture is held until so many blocks at most
+-- every picture is held until at most this block
 abbrev pub IsWithin : List Drawing → ℕ → Type 0
 IsWithin script blocks = (k : ℕ) → k < pictures script → hold_time script k ≤ blocks
 
@@ -37,7 +37,7 @@ IsWithin script blocks = (k : ℕ) → k < pictures script → hold_time script 
 abbrev pub IsPastEnd : List Drawing → ℕ → Type 0
 IsPastEnd script blocks = (0 < pictures script) × (blocks < hold_time script (pictures script - 1))
 
--- room for a survey of so many pictures, in which nothing is drawn and nothing planned
+-- the memory for a survey of this many pictures, with empty canvases and no planned change
 pub record IsRoomFor (count : ℕ) (room : SurveyRoom) : Type 0 where
   pub before : IsBlank room.before × (room.before.at ≡ None)
   pub now : IsBlank room.now × (room.now.at ≡ None)
@@ -48,7 +48,7 @@ pub record IsRoomFor (count : ℕ) (room : SurveyRoom) : Type 0 where
 abbrev pub IsLatePicture : List Drawing → LatePicture → Type 0
 IsLatePicture script late = IsLate script late.picture late.need late.free
 
--- why there is no schedule
+-- the reason why there is no schedule
 abbrev pub IsStop : List Drawing → ℕ → Stop → Type 0
 IsStop script blocks (PastEnd program) = (program ≡ blocks) × IsPastEnd script blocks
 IsStop script blocks (Late picture need free) = IsWithin script blocks × IsLate script picture need free

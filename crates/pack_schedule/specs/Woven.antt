@@ -1,4 +1,4 @@
--- The pack at each place of a program: one of a change where it is sent there, and else an idle one.
+-- The pack at each place of a program: a pack of a change, or an idle pack.
 use Rattle.std.specs.Prelude.{◌≡◌, ℕ, ◌+◌, ◌-◌, ◌<◌, ◌≤◌, ◌⊎◌, List, [], length, slice_index_or}
 use Rattle.cdg_instructions.specs.Instruction.{IsWritten}
 use Rattle.cdg_instructions.specs.declared.instr.Instr.TheVariants.{Idle}
@@ -7,19 +7,19 @@ use Rattle.rw_code.specs.Packs.{idle_pack}
 use Rattle.pack_schedule.specs.Schedule.{start_of}
 use Rattle.pack_schedule.specs.PlannedChange.{planned_change}
 
--- a script, and how many of its packs were given
+-- a script, and the number of its packs so far
 pub record Woven : Type 0 where
   pub script : List Drawing
   pub given : ℕ
 
--- of each change all packs were given before, or none comes in so many more, and their numbers fit their type
+-- each change is finished, or has none of the next packs; the numbers of these packs fit their type
 pub record ArePassedBy (woven : Woven) (packs : ℕ) : Type 0 where
   pub fits : woven.given + packs ≤ 4294967295
   pub apart : (k : ℕ) → k < pictures woven.script
       → (start_of woven.script k + length (planned_change woven.script k) ≤ woven.given)
       ⊎ (woven.given + packs ≤ start_of woven.script k)
 
--- pack n: the written instruction of the planned change that stands there, or an idle pack
+-- pack n: the written instruction of the planned change at this place, or an idle pack
 pub record IsPackAt (script : List Drawing) (n : ℕ) (pack : List ℕ) : Type 0 where
   pub changed : (k : ℕ) → k < pictures script → start_of script k ≤ n
       → n < start_of script k + length (planned_change script k) →

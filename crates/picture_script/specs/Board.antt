@@ -1,11 +1,11 @@
--- What stands on a canvas.
+-- The contents of a canvas.
 use Rattle.std.specs.Prelude.{◌≡◌, ℕ, ◌+◌, ◌-◌, ◌*◌, ◌/◌, ◌%◌, ◌<◌, ◌≤◌, List, length, map, slice_index, Option, MatchOption}
 use Rattle.bit_lists.specs.Counting.{below}
 use Rattle.picture_script.specs.Script.{Drawing, Picture, picture_pixel, picture_border, picture_colour}
 use Rattle.cdg_instructions.specs.Sizes.{colour_count, colour_values, tile_height, tile_pixels, tile_width, window_height, window_pixels, window_width}
 
--- 288 by 192 pixels, a border, sixteen colours, and the number of the picture that stands there, or none where
--- nothing was drawn
+-- 288 by 192 pixels, a border, sixteen colours, and the number of the picture on the canvas, or none if nothing was
+-- drawn
 pub record Board : Type 0 where
   pub pixels : List ℕ
   pub border : ℕ
@@ -26,25 +26,25 @@ pub record IsBlank (board : Board) : Type 0 where
   pub border_is : board.border ≡ 0
   pub colours_are : (n : ℕ) → n < colour_count → slice_index board.colours n ≡ 0
 
--- picture k of the script stands there
+-- picture k of the script is on the canvas
 pub record IsPicture (script : List Drawing) (k : ℕ) (board : Board) : Type 0 where
   pub pixels_are : (x y : ℕ) → x < window_width → y < window_height
       → pixel_of board.pixels x y ≡ picture_pixel script k x y
   pub border_is : board.border ≡ picture_border script k
   pub colours_are : (n : ℕ) → n < colour_count → slice_index board.colours n ≡ picture_colour script k n
 
--- nothing is drawn, or a picture of the script that is not after k stands there
+-- the canvas is empty, or has a picture of the script up to k
 abbrev pub StandsBefore : List Drawing → ℕ → Board → Type 0
 StandsBefore script k board = MatchOption board.at (IsBlank board) (λ j. (j ≤ k) × IsPicture script j board)
 
--- this picture stands there
+-- this picture is on the canvas
 pub record IsDrawn (picture : Picture) (board : Board) : Type 0 where
   pub pixels_are : (x y : ℕ) → x < window_width → y < window_height
       → pixel_of board.pixels x y ≡ picture.pixel x y
   pub border_is : board.border ≡ picture.border
   pub colours_are : (n : ℕ) → n < colour_count → slice_index board.colours n ≡ picture.colour n
 
--- the border and the colours of this picture stand there
+-- the canvas has the border and the colours of this picture
 pub record IsSet (picture : Picture) (board : Board) : Type 0 where
   pub border_is : board.border ≡ picture.border
   pub colours_are : (n : ℕ) → n < colour_count → slice_index board.colours n ≡ picture.colour n
@@ -55,7 +55,7 @@ tile_of pixels row column =
     map (λ p. pixel_of pixels (tile_width * (column - 1) + p % tile_width)
     (tile_height * (row - 1) + p / tile_width)) (below tile_pixels)
 
--- twelve pixels, one below the other from a place on, are the same
+-- twelve pixels, one below the other from a place on, are equal
 abbrev pub IsSameColumn : List ℕ → List ℕ → ℕ → Type 0
 IsSameColumn a b place = (j : ℕ) → j < tile_height
     → slice_index a (place + window_width * j) ≡ slice_index b (place + window_width * j)
@@ -69,7 +69,7 @@ pub record AreWindowPixels (pixels : List ℕ) : Type 0 where
   pub count : length pixels ≡ window_pixels
   pub colours : (i : ℕ) → slice_index pixels i < colour_count
 
--- the ranges of what stands beside the pixels
+-- the ranges of the border and the colours
 pub record IsCanvasInRange (border : ℕ) (colours : List ℕ) : Type 0 where
   pub border_below : border < colour_count
   pub colours_count : length colours ≡ colour_count

@@ -3,17 +3,17 @@ use Rattle.std.specs.Prelude.{◌≡◌, ℕ, ◌+◌, ◌-◌, ◌*◌, ◌/◌
 use Rattle.picture_script.specs.Script.{Drawing, drawn_by, lines_before, picture_pixel, pictures, Border, Fill, Rect, Row}
 use Rattle.cdg_instructions.specs.Sizes.{tile_height}
 
--- lines from a place on up to another draw on no row that is not marked
+-- the lines between two places draw only on marked rows
 abbrev pub LeavesRows : List Drawing → ℕ → ℕ → List Bool → Type 0
 LeavesRows script from to rows = (r x y : ℕ) → slice_index_or rows r true ≡ false → y / tile_height ≡ r
     → (drawn_by (take from script)).pixel x y ≡ (drawn_by (take to script)).pixel x y
 
--- a row that is not marked is the same in picture k and in the picture before
+-- a row without a mark is equal in picture k and in the previous picture
 abbrev pub KeepsRows : List Drawing → ℕ → List Bool → Type 0
 KeepsRows script k rows = (r : ℕ) → slice_index_or rows r true ≡ false → (0 < k)
     × ((x y : ℕ) → y / tile_height ≡ r → picture_pixel script (k - 1) x y ≡ picture_pixel script k x y)
 
--- a line draws on a row of tiles: a rectangle on each that lies between its edges
+-- a line draws on a row of tiles: a rectangle draws on each row between its edges
 abbrev pub DrawsOn : Drawing → ℕ → Type 0
 DrawsOn (Fill colour) r = ⊤
 DrawsOn (Rect left top width height colour) r = (top < tile_height * (r + 1))
@@ -21,12 +21,12 @@ DrawsOn (Rect left top width height colour) r = (top < tile_height * (r + 1))
 DrawsOn (Row left top colours) r = top / tile_height ≡ r
 DrawsOn _ r = ⊥
 
--- on each row that is marked a line draws, from a place on up to another
+-- on each marked row, a line between two places draws
 abbrev pub MarksRows : List Drawing → ℕ → ℕ → List Bool → Type 0
 MarksRows script from to rows = (r : ℕ) → slice_index_or rows r false ≡ true
     → (i : ℕ) × (from ≤ i) × (i < to) × DrawsOn (slice_index_or script i (Border 0)) r
 
--- on each row that is marked a line draws between the show lines of picture k and of the picture before, if both are
+-- on each marked row, a line between the show lines of the previous picture and of picture k draws, if both exist
 abbrev pub TellsRows : List Drawing → ℕ → List Bool → Type 0
 TellsRows script k rows = 0 < k → k < pictures script
     → MarksRows script (length (lines_before script (k - 1))) (length (lines_before script k)) rows

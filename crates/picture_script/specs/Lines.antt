@@ -10,7 +10,7 @@ use Rattle.picture_script.specs.declared.script.Shown.{Shown}
 use Rattle.picture_script.specs.declared.reader.ScriptDraft.{ScriptDraft}
 use Rattle.cdg_instructions.specs.Sizes.{colour_count, colour_values, window_height, window_width}
 
--- what a line says; a row's colours stand among those of all rows
+-- the command of a line; the colours of a row are a part of the colours of all rows
 abbrev pub said : List ℕ → ScriptLine → Drawing
 said pixels (TableColour number value) = Colour number value
 said pixels (BorderColour colour) = Border colour
@@ -22,7 +22,7 @@ said pixels (ShowLine ready hold) = Show ready hold
 unfoldable pub all_said : List ℕ → List ScriptLine → List Drawing
 all_said pixels lines = map (said pixels) lines
 
--- whether a line is in its ranges, and a row's colours are among so many
+-- whether a line is in range, with this many colours of rows
 abbrev pub is_kept : ℕ → ScriptLine → Bool
 is_kept size (TableColour number value) = nat_lt number colour_count && nat_lt value colour_values
 is_kept size (BorderColour colour) = nat_lt colour colour_count
@@ -40,7 +40,7 @@ no_show = record { place = 0; ready = 0; hold = 0 }
 abbrev pub times_of : Shown → ℕ × ℕ
 times_of shown = (shown.ready, shown.hold)
 
--- the show lines of a script: how many lines stand before each, and its times
+-- the show lines of a script: the number of lines before each, and its times
 pub record IsIndexed (pixels : List ℕ) (lines : List ScriptLine) (shown : List Shown) : Type 0 where
   pub kept : All (λ line. is_kept (length pixels) line ≡ true) lines
   pub colours : AreColours pixels
@@ -54,7 +54,7 @@ pub record IsIndexed (pixels : List ℕ) (lines : List ScriptLine) (shown : List
       → (slice_index_or shown k no_show).hold < (slice_index_or shown (k + 1) no_show).ready
   pub most : length shown ≤ most_pictures
 
--- what the lines of a draft say
+-- the commands of a draft
 abbrev pub said_in : ScriptDraft → List Drawing
 said_in draft = all_said draft.pixels.items draft.lines.items
 

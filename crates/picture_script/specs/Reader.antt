@@ -1,4 +1,4 @@
--- What has been read of a script.
+-- The state of a reader of a script.
 use Rattle.std.specs.Prelude.{◌≡◌, ℕ, ◌-◌, ◌<◌, List, [], ◌∷◌, ◌++◌, Result, Ok, Err, MatchResult, IfSome}
 use Rattle.picture_script.specs.Script.{Drawing, pictures, hold_time}
 use Rattle.picture_script.specs.ScriptGrammar.{script_step}
@@ -6,12 +6,12 @@ use Rattle.picture_script.specs.Lines.{said_in, IsSound}
 use Rattle.picture_script.specs.declared.reader.ScriptReader.{ScriptReader}
 use Rattle.picture_script.specs.declared.reasons.ScriptWhy.{ScriptWhy}
 
--- the pictures of these lines were counted, and the hold time of the last one is known
+-- the number of pictures in these lines, and the hold time of the last one
 pub record HasCounted (script : List Drawing) (reader : ScriptReader) : Type 0 where
   pub count : reader.pictures ≡ pictures script
   pub held : 0 < pictures script → reader.held ≡ hold_time script (pictures script - 1)
 
--- these are the lines that are kept, if there was memory for them
+-- the kept lines are these, if there was memory for them
 abbrev pub IsKeptBy : List Drawing → ScriptReader → Type 0
 IsKeptBy script reader = IfSome reader.draft (λ draft. IsSound draft × (said_in draft ≡ script))
 
@@ -19,14 +19,14 @@ IsKeptBy script reader = IfSome reader.draft (λ draft. IsSound draft × (said_i
 abbrev pub Followed : List Drawing → ScriptReader → Type 0
 Followed script reader = HasCounted script reader × IsKeptBy script reader
 
--- the answer to a line that is judged like this after the lines before it
+-- the result of reading a line with this check after the previous lines
 abbrev pub Takes : List Drawing → Result Drawing ScriptWhy → ScriptReader → Result (Unit {0}) ScriptWhy
     → Type 0
 Takes before judged reader result =
     MatchResult result (λ _. (line : Drawing) × (judged ≡ Ok line) × Followed (before ++ line ∷ []) reader)
     (λ why. judged ≡ Err why)
 
--- the answer to a line of the text after the lines before it
+-- the result of reading a line of the text after the previous lines
 abbrev pub Follows : List Drawing → List ℕ → ScriptReader → Result (Unit {0}) ScriptWhy → Type 0
 Follows before line reader result =
     MatchResult result (λ _. (after : List Drawing) × (script_step before line ≡ Ok after)

@@ -1,9 +1,9 @@
--- Picture scripts: lines that draw, and the pictures that stand at each line that shows.
+-- Picture scripts: lines that draw, and the picture at each show line.
 use Rattle.std.specs.Prelude.{ℕ, zero, suc, ◌+◌, ◌-◌, ◌*◌, Bool, List, [], ◌∷◌, length, fold, filter_map, slice_index, slice_index_or, ◌/◌, ◌%◌, Option, Some, None, ◌==◌, nat_le, nat_lt, ◌&&◌, if◌then◌else◌, map}
 use Rattle.bit_lists.specs.Counting.{below}
 use Rattle.cdg_instructions.specs.Sizes.{tile_height, tile_pixels, tile_width}
 
--- the lines of a script that say something
+-- the commands of a script
 pub data Drawing : Type 0 where
   Colour : ℕ → ℕ → Drawing
   Border : ℕ → Drawing
@@ -21,15 +21,15 @@ shown_times _ = None
 unfoldable pub shows : List Drawing → List (ℕ × ℕ)
 shows script = filter_map shown_times script
 
--- how many pictures a script has
+-- the number of pictures of a script
 abbrev pub pictures : List Drawing → ℕ
 pictures script = length (shows script)
 
--- when picture k is ready
+-- the ready time of picture k
 abbrev pub ready_time : List Drawing → ℕ → ℕ
 ready_time script k = (slice_index_or (shows script) k (0, 0)).0
 
--- until when picture k is held
+-- the hold time of picture k
 abbrev pub hold_time : List Drawing → ℕ → ℕ
 hold_time script k = (slice_index_or (shows script) k (0, 0)).1
 
@@ -44,7 +44,7 @@ lines_before (line ∷ rest) k = line ∷ lines_before rest k
 abbrev pub is_within : ℕ → ℕ → ℕ → Bool
 is_within first count x = nat_le first x && nat_lt x (first + count)
 
--- what is drawn: the pixels of the window of 288 by 192, the border and the colours of the table
+-- a picture: the pixels of the window of 288 by 192, the border and the colours of the table
 pub record Picture : Type 0 where
   pub pixel : ℕ → ℕ → ℕ
   pub border : ℕ
@@ -54,7 +54,7 @@ pub record Picture : Type 0 where
 abbrev pub blank_picture : Picture
 blank_picture = record { pixel = λ x y. 0; border = 0; colour = λ n. 0 }
 
--- what a line makes of what was drawn before it
+-- the picture after a line
 abbrev pub drawn : Picture → Drawing → Picture
 drawn old (Colour number value) = record old { colour = λ n. if number == n then value else old.colour n }
 drawn old (Border colour) = record old { border = colour }
@@ -68,7 +68,7 @@ drawn old (Row left top colours) = record old {
 }
 drawn old (Show ready hold) = old
 
--- what lines draw, one after the other
+-- the picture after all lines
 abbrev pub drawn_by : List Drawing → Picture
 drawn_by lines = fold drawn blank_picture lines
 

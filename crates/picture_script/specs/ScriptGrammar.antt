@@ -40,8 +40,7 @@ unfoldable pub pixels_in : List ℕ → Option (List ℕ)
 pixels_in word =
     if is_some_bytes word && list_all is_ascii_hexdigit word then Some (map digit_value word) else None
 
--- What the words after each command say if they are spelled as they must be, whatever the size of their
--- numbers; None otherwise.
+-- The values in the words after each command, if the words are valid, before their ranges are checked; None otherwise.
 
 -- a line of a number and a value
 abbrev pub colour_of : Option ℕ → Option ℕ → Option Drawing
@@ -111,11 +110,11 @@ is_in_range (Rect x y width height colour) =
 is_in_range (Row x y pixels) = nat_le (x + length pixels) window_width && nat_lt y window_height
 is_in_range (Show ready hold) = true
 
--- whether a picture is ready after the picture before it was held
+-- whether a ready time is after the hold time of the previous picture
 abbrev pub is_after_hold : List Drawing → ℕ → Bool
 is_after_hold before ready = pictures before == 0 || nat_lt (hold_time before (pictures before - 1)) ready
 
--- the reason for which a well spelled line is refused after the lines before it
+-- the reason to refuse a line with valid words after the previous lines
 abbrev pub later_reason : List Drawing → Drawing → Option ScriptWhy
 later_reason before (Show ready hold) =
     if nat_lt hold ready || not (is_after_hold before ready) then Some TimeOrder
@@ -127,20 +126,20 @@ abbrev pub unless_refused : Drawing → Option ScriptWhy → Result Drawing Scri
 unless_refused line None = Ok line
 unless_refused line (Some why) = Err why
 
--- a line after the lines before: refused first where it is not well spelled, and then for later reasons
+-- a line after the previous lines: it is refused first for invalid words, and then for other reasons
 unfoldable pub checked_line : List Drawing → Option Drawing → Result Drawing ScriptWhy
 checked_line before None = Err BadArgument
 checked_line before (Some line) = unless_refused line (later_reason before line)
 
--- a text of one number, which is that of a colour
+-- one number, which is a colour number
 abbrev pub IsColourNumber : List ℕ → ℕ → Type 0
 IsColourNumber text colour = (numbers_in 1 (words_in text) ≡ Some (colour ∷ [])) × (colour < colour_count)
 
--- the reason to refuse a line of these words, whatever lines stand before it
+-- the reason to refuse a line with these words after any lines
 abbrev pub IsWrongAs : (List (List ℕ) → Option Drawing) → List ℕ → ScriptWhy → Type 0
 IsWrongAs line text why = (before : List Drawing) → checked_line before (line (words_in text)) ≡ Err why
 
--- what a command and the words after it say after the lines before, or the first reason to refuse them
+-- the command of a line after the previous lines, or the first reason to refuse it
 unfoldable pub checked_command : List Drawing → List ℕ → List (List ℕ) → Result Drawing ScriptWhy
 checked_command before command words =
     if bytes_eq command (codes "colour") then checked_line before (colour_line words)
@@ -151,30 +150,30 @@ checked_command before command words =
     else (if bytes_eq command (codes "show") then checked_line before (show_line words)
     else Err UnknownCommand)))))
 
--- the words of a line after the lines before: the first of them is the command
+-- the words of a line after the previous lines; the first word is the command
 unfoldable pub checked_words : List Drawing → List (List ℕ) → Result Drawing ScriptWhy
 checked_words before [] = Err UnknownCommand
 checked_words before (command ∷ words) = checked_command before command words
 
--- a line that says nothing: empty, or a remark
+-- an ignored line: empty, or a remark
 abbrev pub is_passed_over : List ℕ → Bool
 is_passed_over line = length (without_blanks line) == 0 || slice_index (without_blanks line) 0 == 35
 
--- lines with one more, where it is accepted
+-- the lines with one more, if it is accepted
 abbrev pub grown : List Drawing → Result Drawing ScriptWhy → Result (List Drawing) ScriptWhy
 grown before (Ok line) = Ok (before ++ line ∷ [])
 grown before (Err why) = Err why
 
--- what a line of the text adds to the lines before it, or the first reason for which it is refused
+-- the lines with one more line of the text, or the first reason to refuse it
 abbrev pub script_step : List Drawing → List ℕ → Result (List Drawing) ScriptWhy
 script_step before line =
     if is_passed_over line then Ok before else grown before (checked_words before (words_in line))
 
--- the lines of a script from a number on, after those before them; or the first that is refused, with its
--- first reason
+-- the lines of a script from a line number on, after the previous lines; or the first refused line with its first
+-- reason
 unfoldable pub checked_lines : ℕ → List Drawing → List (List ℕ) → Result (List Drawing) (ℕ × ScriptWhy)
 checked_lines number before lines = read_on script_step (λ script. Ok script) number before lines
 
--- what a text is read as: what the lines of its script say, or its first refused line with the first reason
+-- the script of a text, or its first refused line with the first reason
 unfoldable pub read_script : List ℕ → Result (List Drawing) (ℕ × ScriptWhy)
 read_script text = checked_lines 1 [] (lines_of text)

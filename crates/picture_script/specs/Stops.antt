@@ -1,11 +1,11 @@
--- Where reading a script stops.
+-- The errors of reading a script.
 use Rattle.std.specs.Prelude.{◌≡◌, ℕ, List, Result, Ok, Err}
 use Rattle.picture_script.specs.Script.{Drawing}
 use Rattle.picture_script.specs.declared.reasons.ScriptWhy.{ScriptWhy}
 use Rattle.picture_script.specs.declared.reasons.ScriptStop.{ScriptStop}
 use Rattle.picture_script.specs.declared.reasons.ScriptStop.TheVariants.{Fault, NoMemory}
 
--- a fault is that of the first refused line, with its first reason; memory may be wanting for what is accepted alone
+-- a fault is the first refused line with its first reason; memory can run out only for an accepted script
 abbrev pub StopsAt : Result (List Drawing) (ℕ × ScriptWhy) → ScriptStop → Type 0
 StopsAt read (Fault line why) = read ≡ Err (line, why)
 StopsAt read NoMemory = (script : List Drawing) × (read ≡ Ok script)
