@@ -141,23 +141,31 @@ def end_of(lines: list[str], at: int) -> int:
     return next(k for k in range(at + 1, len(lines)) if lines[k].startswith((indent + "}", indent + "{}")))
 
 
-def extent(file: Path, owner: str, name: str) -> tuple[int, int] | None:
-    """The lines of a function from its head to its end, if it is no law; its owner is a type, or a type and a trait in one,
-    or `Any` and a trait that each type of some kind has."""
-    lines = file.read_text().splitlines()
+def line_of(lines: list[str], owner: str, name: str) -> int | None:
+    """The line of a function's head; its owner is a type, or a type and a trait in one, or `Any` and a trait that each
+    type of some kind has."""
     for item in items(lines):
         is_owner = owner.startswith(item.owner or "-") or item.is_of_trait and owner.startswith("Any")
         if item.kind == "fn" and item.name == name and (is_owner if owner else not item.owner):
-            return None if is_law(lines, item.at, name) else (item.at, end_of(lines, item.at))
+            return item.at
     return None
 
 
 @cache
 def found_at(symbol: str) -> Place | None:
-    """Where a function of the repository stands, if it is one and no law."""
+    """The file and the lines of a function of the repository, if it is one and not a law. A method may be in another file
+    of its crate than its type."""
     place = place_of(symbol)
-    lines = extent(*place) if place else None
-    return (place[0], *lines) if place and lines else None
+    if place is None:
+        return None
+    first, owner, name = place
+    others = sorted(first.parent.rglob("*.rt")) if owner else []
+    for file in (first, *(it for it in others if it != first)):
+        lines = file.read_text().splitlines()
+        at = line_of(lines, owner, name)
+        if at is not None:
+            return None if is_law(lines, at, name) else (file, at, end_of(lines, at))
+    return None
 
 
 def ran_of(ran: Calls) -> Ran:
