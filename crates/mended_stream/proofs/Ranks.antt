@@ -3,6 +3,7 @@ use Rattle.std.proofs.Common.{◌≡◌, ℕ, zero, suc, ◌+◌, ◌<◌, ◌�
 use Rattle.std.specs.Prelude.{◌⊎◌, Some, if◌then◌else◌, not}
 use Rattle.std.specs.Cmp.Lexicographic.{slice_cmp, slice_partial_cmp, texts_ties}
 use Rattle.std.specs.List.{list_any}
+use Rattle.std.specs.Str.{bytes_eq}
 use Rattle.std.specs.Ordering.{MatchOrdering, is_eq, is_gt, is_some_and, nat_cmp, ordering_reverse, ordering_then}
 use Rattle.std.specs.declared.cmp.Ordering.{Ordering}
 use Rattle.std.specs.declared.cmp.Ordering.TheVariants.{Less, Equal, Greater}
@@ -349,3 +350,17 @@ leads_surely a b above is other =
 pub leads_if : (a b above r : Bool) → a ≡ true → b ≡ true → r ≡ above → r ≡ (a && (not b || above))
 leads_if a b above r is other same =
     same ∙ sym (ap (λ t. t && (not b || above)) is ∙ ap (λ t. not t || above) other)
+
+-- ranks of as many matches and of the same part
+pub same_ranks : (rule : Rule) (blocks : List (List ℕ)) (one other : List ℕ) (m m' : ℕ) (own its : List ℕ)
+    (same : Bool) → same ≡ bytes_eq own its → same ≡ true → m ≡ rule.matches one → m' ≡ rule.matches other
+    → own ≡ rule.part one → its ≡ rule.part other → m ≡ m'
+    → false ≡ is_gt (slice_cmp nat_cmp (rank_of rule blocks one) (rank_of rule blocks other))
+same_ranks rule blocks one other m m' own its same is holds matches matches' own_is its_is level_matches =
+    let parts : rule.part one ≡ rule.part other =
+    sym own_is ∙ (bytes_eq-Decides own its).0 (sym is ∙ holds) ∙ its_is in
+    let ranks : rank_of rule blocks one ≡ rank_of rule blocks other =
+    ap₂ (λ n part. n ∷ votes_for rule blocks part ∷ part) (sym matches ∙ level_matches ∙ matches') parts in
+    sym
+    (ap (λ rank. is_gt (slice_cmp nat_cmp rank (rank_of rule blocks other))) ranks
+    ∙ itself (rank_of rule blocks other))

@@ -6,7 +6,7 @@ ghost use Rattle.raw_subcode.specs.Sizes.{block_bytes};
 ghost use Rattle.mended_stream.specs.Chosen.{IsChosen, channel_rule, channels_of, completed, rank_of, symbol_rule, votes_for};
 ghost use Rattle.mended_stream.specs.Readings.{AreHeld, AreMarks, IsAny, held_blocks, is_eligible_for, part_of, rule_of};
 
-use crate::parts::BlockPart;
+use crate::parts::{BlockPart, are_same};
 use crate::readings::HeldReadings;
 use raw_subcode::BLOCK_BYTES;
 use rw_mend::MOST_READINGS;
@@ -128,6 +128,9 @@ impl<'a> HeldReadings<'a> {
         }
         let own = part.of(self.block(one, b));
         let its = part.of(self.block(other, b));
+        if are_same(&own, &its) {
+            return false;
+        }
         let votes = self.votes(b, part, eligible, &own);
         let its_votes = self.votes(b, part, eligible, &its);
         if votes != its_votes {
@@ -153,7 +156,7 @@ impl<'a> HeldReadings<'a> {
     {
         let mut votes = 0;
         for r in 0..self.count {
-            if eligible[r] && part.of(self.block(r, b)) == *own {
+            if eligible[r] && are_same(&part.of(self.block(r, b)), own) {
                 votes += 1;
             }
         }

@@ -1,5 +1,6 @@
 // The part of a block that is chosen among readings.
 ghost use Rattle.std.specs.Prelude.{◌≡◌, ◌<◌, ◌≤◌, ◌/◌, [], length, None, slice_index, slice_index_or};
+ghost use Rattle.std.specs.Str.{bytes_eq};
 ghost use Rattle.raw_subcode.specs.Sizes.{block_bytes};
 ghost use Rattle.mended_stream.specs.Chosen.{channels_of, completed, has_symbol, matches_of, symbol_or};
 ghost use Rattle.mended_stream.specs.Readings.{matches_in, part_of};
@@ -94,4 +95,15 @@ pub(crate) fn symbol_or(known: Option<u8>, byte: u8) -> u8
         Some(symbol) => symbol,
         None => byte % 64,
     }
+}
+
+/// Whether two parts are the same. A loop over all numbers is faster than one that stops early.
+pub(crate) fn are_same(one: &[u8; BLOCK_BYTES], other: &[u8; BLOCK_BYTES]) -> bool
+    ensures { result ≡ bytes_eq one.now other.now }
+{
+    let mut same = true;
+    for k in 0..BLOCK_BYTES {
+        same &= one[k] == other[k];
+    }
+    same
 }

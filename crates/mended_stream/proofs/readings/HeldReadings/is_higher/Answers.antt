@@ -1,6 +1,6 @@
 use Rattle.std.proofs.Common.{◌∙◌, ap, get_or, []}
 use Rattle.mended_stream.specs.Readings.{held_blocks, matches_in, part_of, rule_of}
-use Rattle.mended_stream.proofs.Ranks.{gt_is, higher_part}
+use Rattle.mended_stream.proofs.Ranks.{gt_is, higher_part, same_ranks}
 use Rattle.mended_stream.proofs.readings.HeldReadings.is_higher.Goals as goal
 
 pub returns : goal.returns
@@ -16,3 +16,15 @@ returns c =
     (c.of-own.ensures ∙ ap (part_of part) c.block-3.ensures.block)
     (c.of-its.ensures ∙ ap (part_of part) c.block-4.ensures.block) c.votes-votes.ensures
     c.votes-its_votes.ensures c.if-matches-its_matches.false c.if-votes-its_votes.false
+
+pub returns-then-are_same : goal.returns-then-are_same
+returns-then-are_same c =
+    let part = c.args.part.now in
+    let blocks = held_blocks c.args.self.now c.args.b in
+    same_ranks (rule_of part blocks) blocks (get_or blocks c.args.one []) (get_or blocks c.args.other [])
+    c.matches-matches.result c.matches-its_matches.result c.of-own.result c.of-its.result c.are_same.result
+    c.are_same.ensures c.if-are_same.true
+    (c.matches-matches.ensures.value ∙ ap (matches_in part) c.block.ensures.block)
+    (c.matches-its_matches.ensures.value ∙ ap (matches_in part) c.block-2.ensures.block)
+    (c.of-own.ensures ∙ ap (part_of part) c.block-3.ensures.block)
+    (c.of-its.ensures ∙ ap (part_of part) c.block-4.ensures.block) c.if-matches-its_matches.false
