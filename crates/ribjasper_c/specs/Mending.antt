@@ -1,4 +1,4 @@
--- Readings in memory that are mended, or why they are not.
+-- Mended readings in memory, and the refusals of a request.
 use Rattle.std.specs.Prelude.{◌≡◌, ◌==◌, ◌||◌, ◌*◌, ◌-◌, ◌/◌, ◌%◌, not, nat_lt, if◌then◌else◌, ℕ, List, length, Option, Some, None}
 use Rattle.disc_time.specs.Counts.{most_lead_in}
 use Rattle.raw_subcode.specs.Sizes.{block_bytes, most_units, symbols_a_slot}
@@ -11,8 +11,8 @@ use Rattle.ribjasper_c.specs.declared.mending.MendReported.{MendReported}
 use Rattle.ribjasper_c.specs.declared.mending.MendedReadings.{MendedReadings}
 use Rattle.ribjasper_c.specs.declared.mending.MendedStream.{MendedStream}
 
--- Why readings of these sizes are not mended, as an exit number of the program: 2 where the lead-in is too long, else 3
--- where they differ in size, or are no whole blocks, or too many, else 6 where the room is smaller than their packs.
+-- The exit status with which two readings of these sizes are refused. It is 2 if the lead-in is too long; else 3 if the
+-- sizes differ, are not whole blocks or are too large; else 6 if the room is smaller than the packs.
 abbrev pub refusal_of : ℕ → ℕ → ℕ → ℕ → Option ℕ
 refusal_of first second lead_in room =
     if nat_lt most_lead_in lead_in then Some 2
@@ -21,22 +21,22 @@ refusal_of first second lead_in room =
     else (if nat_lt room (symbols_a_slot * whole_packs (first / block_bytes - lead_in)) then Some 6
     else None))
 
--- The packs of both readings stand at the front of the room, and what is told of them is true.
+-- The packs of both readings are at the front of the room, and the result is right.
 pub record AreMendedInto (lead_in : ℕ) (first second old new : List ℕ) (told : MendedStream) : Type 0 where
   pub mended : IsMendedInto lead_in first second old new told.words
   pub bytes : told.bytes ≡ symbols_a_slot * whole_packs (length first / block_bytes - lead_in)
   pub blocks : told.blocks ≡ length first / block_bytes - lead_in
 
--- The packs of all readings stand at the front of the room, their sources where there is room for any, and what is told
--- of them is true.
+-- The packs of all readings are at the front of the room. Their sources are at the front of theirs, if there is room for
+-- sources. The result is right.
 pub record AreReadingsMended (count lead_in : ℕ) (readings old new old_sources new_sources : List ℕ)
     (told : MendedReadings) : Type 0 where
   pub mended : Many.AreAllMendedInto count lead_in readings old new old_sources new_sources told.words
   pub bytes : told.bytes ≡ symbols_a_slot * words_in_each count lead_in readings
   pub blocks : told.blocks ≡ length readings / count / block_bytes - lead_in
 
--- Why so many readings of these sizes together are not mended into a stream: 2 and 3 as for packs (`readings_refusal`),
--- else 6 where the room is smaller than a reading, or that for sources smaller than the words.
+-- The exit status with which readings of this total size are refused as a stream. It is 2 or 3 as for packs
+-- (`readings_refusal`), else 6 if the room is smaller than a reading or the room for sources is smaller than the words.
 abbrev pub stream_refusal : ℕ → ℕ → ℕ → ℕ → ℕ → Option ℕ
 stream_refusal length_of_all count lead_in room sources =
     if nat_lt most_lead_in lead_in || (count == 0) || nat_lt 254 count then Some 2
@@ -47,15 +47,15 @@ stream_refusal length_of_all count lead_in room sources =
     then Some 6
     else None))
 
--- The stream of all readings stands at the front of the room, the sources of its words at the front of theirs, and what is
--- told of them is true.
+-- The stream of all readings is at the front of the room, the sources of its words are at the front of theirs, and the
+-- result is right.
 pub record IsStreamMended (count lead_in : ℕ) (readings old new old_sources new_sources : List ℕ)
     (told : MendedReadings) : Type 0 where
   pub mended : AreMendedIntoStream count lead_in readings old new old_sources new_sources told.words
   pub bytes : told.bytes ≡ length readings / count
   pub blocks : told.blocks ≡ length readings / count / block_bytes - lead_in
 
--- What is reported of readings that are mended is true.
+-- The report on readings mended into packs is right.
 pub record AreReadingsReported (count lead_in : ℕ) (readings old new old_sources new_sources : List ℕ)
     (report : MendReported) : Type 0 where
   pub mended : Many.AreAllReported count lead_in readings old new old_sources new_sources report.told.words
@@ -63,7 +63,7 @@ pub record AreReadingsReported (count lead_in : ℕ) (readings old new old_sourc
   pub bytes : report.told.bytes ≡ symbols_a_slot * words_in_each count lead_in readings
   pub blocks : report.told.blocks ≡ length readings / count / block_bytes - lead_in
 
--- And of readings that are mended into a stream.
+-- The report on readings mended into a stream is right.
 pub record IsStreamReported (count lead_in : ℕ) (readings old new old_sources new_sources : List ℕ)
     (report : MendReported) : Type 0 where
   pub mended : AreReportedIntoStream count lead_in readings old new old_sources new_sources report.told.words

@@ -1,4 +1,4 @@
-// The packs of readings of one stream in memory, each mended by the others.
+// The calls that mend readings of one stream in memory.
 ghost use Rattle.std.specs.Prelude.{◌≡◌, ◌==◌, if◌then◌else◌, IfSome, None, length, pos};
 ghost use Rattle.rw_mend.specs.Refusals.{readings_refusal};
 ghost use Rattle.ribjasper_c.specs.Mending.{refusal_of, stream_refusal, AreMendedInto, AreReadingsMended, AreReadingsReported, IsStreamMended, IsStreamReported};
@@ -11,7 +11,7 @@ use rw_code::SYMBOLS;
 use rw_interleave::PACKS_KEPT_BACK;
 use rw_mend::{MOST_READINGS, MendCounts, Tallies, mend_readings, mend_report, mend_streams};
 
-/// What is told of two readings that were mended.
+/// The result of mending two readings.
 #[repr(C)]
 #[derive(Clone, Copy)]
 pub struct MendedStream {
@@ -19,11 +19,11 @@ pub struct MendedStream {
     pub bytes: u64,
     /// The blocks of the program.
     pub blocks: u32,
-    /// Its words by the way in which each is mended.
+    /// The number of words mended in each way.
     pub words: MendCounts,
 }
 
-/// Mends two readings of a stream of raw blocks into the front of a buffer, and answers by an exit number of the program.
+/// Mends two readings of a stream of raw blocks into packs at the front of a buffer. Returns an exit status of the program.
 #[unsafe(no_mangle)]
 pub extern "C" fn ribjasper_mend(
     first: &[u8],
@@ -61,7 +61,7 @@ pub extern "C" fn ribjasper_mend(
     if words.none == 0 { DONE } else { DAMAGED }
 }
 
-/// What is told of any number of readings that were mended.
+/// The result of mending any number of readings.
 #[repr(C)]
 #[derive(Clone, Copy)]
 pub struct MendedReadings {
@@ -69,12 +69,12 @@ pub struct MendedReadings {
     pub bytes: u64,
     /// The blocks of the program.
     pub blocks: u32,
-    /// Its words by the reading that each is of, and what counts for nothing.
+    /// The number of words from each reading, and of codewords that do not count.
     pub words: Tallies,
 }
 
-/// Mends readings of a stream of raw blocks, which lie one behind another, into the front of a buffer, names the source
-/// of each word where there is room for any, and answers by an exit number of the program.
+/// Mends readings of a stream of raw blocks, one behind another, into packs at the front of a buffer. Names the source of
+/// each word if there is room for sources. Returns an exit status of the program.
 #[unsafe(no_mangle)]
 pub extern "C" fn ribjasper_mend_readings(
     readings: &[u8],
@@ -117,8 +117,8 @@ pub extern "C" fn ribjasper_mend_readings(
     if tallies.none == 0 { DONE } else { DAMAGED }
 }
 
-/// Mends readings of a stream of raw blocks, which lie one behind another, into a stream of blocks at the front of a
-/// buffer, names the source of each word, and answers by an exit number of the program.
+/// Mends readings of a stream of raw blocks, one behind another, into a stream of blocks at the front of a buffer. Names
+/// the source of each word. Returns an exit status of the program.
 #[unsafe(no_mangle)]
 pub extern "C" fn ribjasper_mend_stream(
     readings: &[u8],
@@ -161,13 +161,13 @@ pub extern "C" fn ribjasper_mend_stream(
     if tallies.none == 0 { DONE } else { DAMAGED }
 }
 
-/// What is told of readings that were mended, and how many words of each are lost.
+/// The result of mending readings, and the number of lost words of each.
 #[repr(C)]
 #[derive(Clone, Copy)]
 pub struct MendReported {
-    /// What the calls above tell.
+    /// The result of the calls above.
     pub told: MendedReadings,
-    /// Words that each reading gives with no wrong symbol, and that did not come out.
+    /// Error-free words of each reading that are not in the output.
     pub lost: [u32; MOST_READINGS],
 }
 
