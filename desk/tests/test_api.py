@@ -296,7 +296,7 @@ class ExamplesTest(FolderTest):
         self.assertEqual(printed[0], [f"raw {LEAD_IN} {LEAD_IN + PROGRAM_BLOCKS}", "tracks: [1, 2]"])
         self.assertEqual(printed[1], ["0 0.0"])
         self.assertEqual(printed[2], ["(216, 300, 3) uint8"])
-        self.assertEqual(printed[3], ["0 words are lost"])
+        self.assertEqual(printed[3], ["0 words are missing"])
         self.assertEqual((self.folder / "hello.cdg").read_bytes(), hello_packs())
         self.assertEqual((self.folder / "hello.sub").read_bytes(), program("planar", stdin=hello()))
         self.assertTrue(printed[4][0].endswith("late: []"))
