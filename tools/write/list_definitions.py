@@ -1,11 +1,11 @@
 #!/usr/bin/env python3
 """Writes docs/DEFINITIONS.md: the claims of the headline, and the definitions that they cite.
 
-An act begins with clauses of the top call `run`, with definitions or with laws. It shows each definition that these rest
-on once, in the order in which they are met; definitions that only name a number stand in a table at its end. A later act
-does not repeat them. The document has the acts of the headline. With --whole (`make definitions`) the script writes all
-acts, and the names that no act reaches, to a file that is not committed. With --check it reports whether the document is
-current; --count prints the lines of each act.
+A part begins with clauses of the top call `run`, with definitions or with laws. It shows each definition that these rest
+on once, in the order in which they are met; definitions that only name a number stand in a table at its end. A later part
+does not repeat them. The document has the parts of the headline. With --whole (`make definitions`) the script writes all
+parts, and the names that no part reaches, to a file that is not committed. With --check it reports whether the document is
+current; --count prints the lines of each part.
 """
 import argparse
 import re
@@ -24,9 +24,9 @@ CLAIMS = TOP / "crates" / "cdg_cmd" / "src" / "top.rt"
 LAWS = TOP / "crates" / "run_laws" / "src"
 NAME = re.compile(r"[A-Za-z_][A-Za-z0-9_'?!-]*|◌[^◌\s]+◌")
 
-# Each act with its roots: clauses of `run`, definitions, or the laws of run_laws. What a later act begins with is not
-# shown before it: an act takes it on trust, and says in which act it stands.
-ACTS = [
+# Each part with its roots: clauses of `run`, definitions, or the laws of run_laws. What a later part begins with is not
+# shown before it: a part takes it on trust, and says in which part it stands.
+PARTS = [
     ("Packs are recovered", ["run.gives_back"]),
     ("Pictures are shown", ["IsAuthored", "run.shows", "pixmap", "Drawing", "written_symbols"]),
     ("The stream that is written, and late pictures", ["ArePacks", "HavePlace", "run.authors", "run.late"]),
@@ -38,22 +38,20 @@ ACTS = [
     ("The calls of the library", ["library"]),
 ]
 
-# The acts of the headline, which the document shows.
+# The parts of the headline, which the document shows.
 HEADLINE = 3
 
 # The crates whose definitions the clauses of the library for programs in C rest on, beside those of the program.
 LIBRARY = ("block_survey", "rw_mend", "mended_stream", "disc_plan", "live_player", "ribjasper_c")
 
-# What an act says first, where its claims name something that it does not show.
+# What a part says first, where its claims name something that it does not show.
 SAID = {
-    "Packs are recovered": "This act is about `convert`. In its clause, `disc` is a cue sheet and a script with a lead-in and a length. `stream`"
-    " is the bytes of an authored stream of this disc, and `packs` is the list of packs in this stream, each a list of 24 symbols. The act"
-    " uses only two facts about `IsAuthored`: its field `carries` says that these packs are spread over the program symbols of `stream`,"
-    " and their number is known.",
-    "Pictures are shown": "This act is about `screen`. An authored stream contains a schedule of its script, and any program may have made it."
-    " This act does not show the definitions of P, Q and the table of contents, the grammars of the two texts, and the words of the command"
-    " line.",
-    "The stream that is written, and late pictures": "This act is about `author`: which stream it writes, and when it reports a late"
+    "Packs are recovered": "This part is about `convert`. In its clause, `disc` is a cue sheet and a script with the numbers of blocks of the"
+    " lead-in and of the audio. `stream` is the bytes of an authored stream of this disc. `packs` is the list of packs in this stream, each a"
+    " list of 24 symbols. Part II defines `IsAuthored`. Two of its facts matter in this part, and both are in its field `carries`: the packs"
+    " are spread over the program symbols of `stream`, and their number follows from the number of blocks.",
+    "Pictures are shown": "This part is about `screen`. An authored stream contains a schedule of its script, and any program may have made it.",
+    "The stream that is written, and late pictures": "This part is about `author`: which stream it writes, and when it reports a late"
     " picture.",
 }
 
@@ -61,13 +59,12 @@ SAID = {
 STATED = {
     "gives_back": "The clause `gives_back` states: if the input of `convert` is a copy of an authored stream with at most two wrong symbols in"
     " each word, `convert` recovers every scheduled pack.",
-    "shows": "The clause `shows` states: if the input of `screen` is such a copy, `screen` shows each picture of an accepted script from its"
-    " ready time to its hold time.",
-    "authors": "The clause `authors` states: if a sheet and a script fit on the disc, `author` writes an authored stream, or reports the first"
-    " late picture.",
-    "late": "The clause `late` states: if `author` reports a picture as late, no list of instructions without scrolls draws it in the packs that"
-    " are free for it. A list for the first picture must also set all pixels, the border and all colours, so even a blank first picture may be"
-    " late.",
+    "shows": "The clause `shows` states: if the input of `screen` is a copy of an authored stream with at most two wrong symbols in each word,"
+    " `screen` shows each picture of the script from its ready time to its hold time.",
+    "authors": "The clause `authors` states: if a sheet and a script fit on the disc, `author` writes the authored stream with the planned"
+    " changes, or reports the first late picture and writes nothing.",
+    "late": "The clause `late` states: if `author` reports a picture as late, even the shortest list of instructions that draws this picture"
+    " is longer than the number of packs that are free for it.",
 }
 
 ROMAN = "I II III IV V VI VII VIII IX".split()
@@ -75,7 +72,7 @@ ROMAN = "I II III IV V VI VII VIII IX".split()
 # How a clause is read. The signature of `run` and the variants of the named types come from the code.
 KEY = """
 The caller chooses the types of the inputs and outputs of `run`: `S` and `T` are types of inputs (*sources*), and `K` and `E` are types of
-outputs (*sinks*). A clause `ensures name { .. }` is a statement that is true after every call. It uses these signs:
+outputs (*sinks*). A clause `ensures name { .. }` is a statement that is true after every call. Clauses and definitions use these signs:
 
 | Sign | Meaning |
 |---|---|
@@ -101,6 +98,18 @@ outputs (*sinks*). A clause `ensures name { .. }` is a statement that is true af
 | `abbrev`, `unfoldable` | Both define a name for the right side of the definition. They differ only for the checker. |
 | `data`, `name : A → B ..` | This defines a statement that is true in one of these ways and in no other; or a value of one of these kinds. |
 | `{A : Type 0}` | This is an argument that the checker finds by itself. |
+| `f x y`, `f : A → B → C` | This is the function f, applied to x and y. Its arguments have the types A and B, and its result has the type C. |
+| `f [] = ..`, `f _ = ..` | A definition by cases has a line for each form of the argument, and the first line that fits is used; `_` fits every argument. |
+| `Type 0` | A value of this type is a statement or a type. |
+| `ℕ × ℕ`, `(a, b)` | These are the type of pairs of numbers, and a pair. |
+| `record old { name = e }` | This is the value `old`, with e as its part `name`. |
+| `let x = e in d` | This is d, in which x means e. |
+
+The lines that begin with `--` use some words in a special sense. Bytes are *put* if they were written to an output, and *taken* if they were
+read from an input. A *text* may be any list of bytes that is written. *Told* means reported. A pack is *whole* if its last symbol was read;
+this symbol is seven slots after the slot in which the pack begins. Instructions *bring* a picture if the screen shows it after them. What
+*stands* is the state of the screen. The *framing* of a stream is its P bits, its Q frames and its text packs. A stream is *cooked* if the 24
+symbols of each word are next to each other.
 
 `slice_index xs n` is element n of a list, counted from 0. If the list has no such element, it is 0. `pixel_at` and `word_of` depend on this.
 """.strip()
@@ -377,7 +386,7 @@ class Book:
         return cited
 
     def claims_of(self, root: str) -> tuple[list[Claim], list[Target]]:
-        """The claims that a root of an act stands for, and the definitions that these cite."""
+        """The claims that a root of a part stands for, and the definitions that these cite."""
         if root == "library":
             modules = [(where, module) for where, module in self.modules.items() if module.crate in LIBRARY]
             return [], [(where, name) for where, module in modules for name in module.blocks]
@@ -395,10 +404,10 @@ class Book:
         claims = [self.clauses[name] for name in names]
         return claims, [target for _, lines in claims for target in self.cites(lines, self.names)]
 
-    def act(
+    def part(
         self, roots: list[str], later: dict[Target, str]
     ) -> tuple[list[Claim], list[Target], list[Target]]:
-        """The claims of an act, the definitions that they rest on as they are met, and those of later acts."""
+        """The claims of a part, the definitions that they rest on as they are met, and those of later parts."""
         claims: list[Claim] = []
         waiting: list[Target] = []
         for root in roots:
@@ -423,34 +432,34 @@ class Book:
     def link(self, module: Module) -> str:
         return f"../crates/{module.crate}/specs/{module.path.relative_to(TOP / 'crates' / module.crate / 'specs')}"
 
-    def acts(self, is_whole: bool) -> tuple[list[str], list[tuple[str, int, int]]]:
-        """The lines of the acts, and how many definitions and printed lines each has."""
+    def parts(self, is_whole: bool) -> tuple[list[str], list[tuple[str, int, int]]]:
+        """The lines of the parts, and how many definitions and printed lines each has."""
         out: list[str] = []
         counts = []
-        for number, (title, _) in enumerate(ACTS if is_whole else ACTS[:HEADLINE]):
+        for number, (title, _) in enumerate(PARTS if is_whole else PARTS[:HEADLINE]):
             lines, definitions = self.printed(number)
             counts.append((title, definitions, len(lines)))
             out += [f"## {ROMAN[number]}. {title}", "", *lines]
         return out, counts
 
     def later_than(self, number: int) -> dict[Target, str]:
-        """The definitions that later acts begin with, each with the number of its act."""
+        """The definitions that later parts begin with, each with the number of its part."""
         later: dict[Target, str] = {}
-        for place in range(number + 1, len(ACTS)):
-            for root in ACTS[place][1]:
+        for place in range(number + 1, len(PARTS)):
+            for root in PARTS[place][1]:
                 if not root.startswith("run.") and root not in ("laws", "library"):
                     later.setdefault(self.target(root), ROMAN[place])
         return later
 
     def printed(self, number: int) -> tuple[list[str], int]:
-        """What an act prints, and how many definitions it shows."""
-        title, roots = ACTS[number]
+        """What a part prints, and how many definitions it shows."""
+        title, roots = PARTS[number]
         later = self.later_than(number)
-        claims, order, put_off = self.act(roots, later)
+        claims, order, put_off = self.part(roots, later)
         out = [SAID[title], ""] if title in SAID else []
         if put_off:
             where = ", ".join(f"`{target[1]}` ({later[target]})" for target in put_off)
-            out += [f"This act uses further definitions. Another act, given in parentheses, shows them: {where}.", ""]
+            out += [f"This part uses further definitions. Another part, given in parentheses, shows them: {where}.", ""]
         for comment, lines in claims:
             out += [" ".join(comment), ""] if comment else []
             out += ["```", *lines, "```", ""]
@@ -479,7 +488,7 @@ class Book:
         return out
 
     def rest(self) -> list[str]:
-        """What no act shows, by name."""
+        """What no part shows, by name."""
         out = []
         for where, module in self.modules.items():
             names = [name for name in module.blocks if (where, name) not in self.shown]
@@ -489,29 +498,30 @@ class Book:
         return out
 
     def text(self, is_whole: bool) -> tuple[str, list[tuple[str, int, int]]]:
-        """The document, and how many definitions and printed lines each act has."""
-        acts, counts = self.acts(is_whole)
+        """The document, and how many definitions and printed lines each part has."""
+        parts, counts = self.parts(is_whole)
         first, second, third = (counts[k][2] for k in range(HEADLINE))
         out = [
             "# Definitions",
             "",
-            "This document shows the most important proved statement of Ribjasper, the *headline*, as it is in the code. It is for",
-            "readers who want to judge whether the headline says what they expect. The checker proves that the program meets",
-            "its clauses, but only a reader can judge what a clause means. [PROVED](PROVED.md) explains the headline in words.",
+            "This document shows the most important proved statement of Ribjasper, the *headline*, as it is in the code. It is for readers who",
+            "want to judge whether the headline says what they expect. The checker proves that the program meets its clauses, but only a reader",
+            "can judge what a clause means. [PROVED](PROVED.md#the-headline) explains the headline in words.",
             "",
-            "In the code, the headline is a set of clauses of the function `run`. This document has an *act* for each part of it.",
-            "An act begins with its clauses, and then shows every definition that they use. A line that begins with `--` explains",
-            f"the next definition. Acts I and II ({first + second} lines) say that packs and pictures are recovered from a stream. Act III ({third} lines)",
-            "says which stream is written, and when a picture is late.",
+            "This document shows parts I to III of the definitions. Each part begins with clauses of the function `run`, and then shows",
+            "definitions that these clauses use. A line that begins with `--` explains the next definition. Parts I and II",
+            f"({first + second} lines) say that packs and pictures are recovered from a stream. Part III ({third} lines) says which stream is",
+            "written, and when a picture is late. The clauses also use some definitions of parts IV to VII, and each part names those that it",
+            "uses. `make definitions` writes all nine parts to `docs/DEFINITIONS-WHOLE.md`.",
             "",
-            "All definitions are copied from the code. `tools/write/list_definitions.py` writes this document, and `make check`",
-            "compares it with the code. `make definitions` writes all acts to `docs/DEFINITIONS-WHOLE.md`.",
+            "All definitions are copied from the code. `tools/write/list_definitions.py` writes this document, and `make check` compares it with",
+            "the code.",
             "",
-            "| Act | Definitions | Lines |",
+            "| Part | Definitions | Lines |",
             "|---|---|---|",
         ]
         out += [f"| {ROMAN[k]}. {title} | {number} | {count} |" for k, (title, number, count) in enumerate(counts)]
-        out += [f"| {ROMAN[k]}. {title} | `make definitions` | |" for k, (title, _) in enumerate(ACTS) if k >= len(counts)]
+        out += [f"| {ROMAN[k]}. {title} | not in this document | |" for k, (title, _) in enumerate(PARTS) if k >= len(counts)]
         out += ["", "## How to read them", "", "The function `run` performs one command of the program. It has these arguments:", "", "```", *signature(), "```", "", KEY, ""]
         for crate, name in (("raw_subcode", "Form"), ("cdg_cmd", "Status"), ("cdg_instructions", "Instr")):
             out += [f"The type `{name}` has these variants:", "", "```", *variants(crate, name), "```", ""]
@@ -519,9 +529,9 @@ class Book:
         out += [f"| `{word}` | {WORDS[word]} |" for word in sorted(self.words) if word in WORDS]
         types = sorted({f"`{it.split('.')[-1]}` ({it.split('.')[0]})" for it in self.types})
         out += ["", f"The definitions also use these types of the code, each from the crate in parentheses: {', '.join(types)}."]
-        out += ["", *acts]
+        out += ["", *parts]
         if is_whole:
-            out += ["## What no act reaches", "", "These definitions are steps of proofs, or are about calls below `run`:", "", *self.rest()]
+            out += ["## What no part reaches", "", "These definitions are steps of proofs, or are about calls below `run`:", "", *self.rest()]
         return "\n".join(out).rstrip("\n") + "\n", counts
 
 
@@ -532,8 +542,8 @@ def main() -> int:
     )
     how = parser.add_mutually_exclusive_group()
     how.add_argument("--check", action="store_true", help="only say whether the document would change")
-    how.add_argument("--count", action="store_true", help="print the lines of each act")
-    how.add_argument("--whole", action="store_true", help=f"write all acts, to {WHOLE.relative_to(TOP)}")
+    how.add_argument("--count", action="store_true", help="print the lines of each part")
+    how.add_argument("--whole", action="store_true", help=f"write all parts, to {WHOLE.relative_to(TOP)}")
     arguments = parser.parse_args()
     book = Book()
     text, counts = book.text(arguments.whole)
