@@ -107,9 +107,8 @@ outputs (*sinks*). A clause `ensures name { .. }` is a statement that is true af
 
 The lines that begin with `--` use some words in a special sense. Bytes are *put* if they were written to an output, and *taken* if they were
 read from an input. A *text* may be any list of bytes that is written. *Told* means reported. A pack is *whole* if its last symbol was read;
-this symbol is seven slots after the slot in which the pack begins. Instructions *bring* a picture if the screen shows it after them. What
-*stands* is the state of the screen. The *framing* of a stream is its P bits, its Q frames and its text packs. A stream is *cooked* if the 24
-symbols of each word are next to each other.
+this symbol is seven slots after the slot in which the pack begins. A picture *stands* while the screen shows it. The *framing* of a stream is
+its P bits, its Q frames and its text packs. A stream is *cooked* if the 24 symbols of each word are next to each other.
 
 `slice_index xs n` is element n of a list, counted from 0. If the list has no such element, it is 0. `pixel_at` and `word_of` depend on this.
 """.strip()
@@ -173,6 +172,7 @@ WORDS = {
     "is_ascii_hexdigit": "This function returns whether a character is one of 0 to 9, a to f, A to F.",
     "is_ascii_uppercase": "This function returns whether a character is one of A to Z.",
     "is_err": "This function returns whether a result is `Err`.",
+    "is_gt": "This function returns whether a comparison says that the first value is greater.",
     "is_none": "This function returns whether there is no value.",
     "is_ok": "This function returns whether a result is `Ok`.",
     "is_prefix": "This function returns whether a list is the beginning of another.",
@@ -184,6 +184,7 @@ WORDS = {
     "map": "This function applies a function to each element of a list.",
     "max": "This function returns the greater of two numbers.",
     "min": "This function returns the smaller of two numbers.",
+    "nat_cmp": "This function compares two numbers.",
     "nat_eq": "This function returns whether two numbers are equal.",
     "nat_le": "This function returns whether a number is at most another.",
     "nat_lt": "This function returns whether a number is below another.",
@@ -195,6 +196,7 @@ WORDS = {
     "range_with_len": "This function returns a list of n numbers that count up from a first number.",
     "replicate": "This function returns a list of n equal elements.",
     "reverse": "This function returns a list in reverse order.",
+    "slice_cmp": "This function compares two lists in lexicographic order.",
     "slice_index": "This function returns element n of a list, counted from 0; or 0 if there is none.",
     "slice_index_or": "This function returns element n of a list, counted from 0; or another value if there is none.",
     "slice_range": "This function returns the elements of a list between two indices.",
@@ -521,7 +523,8 @@ class Book:
             "|---|---|---|",
         ]
         out += [f"| {ROMAN[k]}. {title} | {number} | {count} |" for k, (title, number, count) in enumerate(counts)]
-        out += [f"| {ROMAN[k]}. {title} | not in this document | |" for k, (title, _) in enumerate(PARTS) if k >= len(counts)]
+        others = "; ".join(f"{ROMAN[k]}. {title}" for k, (title, _) in enumerate(PARTS) if k >= len(counts))
+        out += ["", f"These parts are not in this document: {others}."] if others else []
         out += ["", "## How to read them", "", "The function `run` performs one command of the program. It has these arguments:", "", "```", *signature(), "```", "", KEY, ""]
         for crate, name in (("raw_subcode", "Form"), ("cdg_cmd", "Status"), ("cdg_instructions", "Instr")):
             out += [f"The type `{name}` has these variants:", "", "```", *variants(crate, name), "```", ""]
