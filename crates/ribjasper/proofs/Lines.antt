@@ -8,7 +8,7 @@ use Rattle.cdg_io.specs.Waiting.{Buffered}
 use Rattle.cdg_cmd.specs.Words.{texts}
 use Rattle.cdg_cmd.specs.declared.status.Status.{Status}
 use Rattle.ribjasper.specs.declared.inputs.InputReader.{InputReader}
-use Rattle.ribjasper.specs.declared.output.TellingWriter.{TellingWriter}
+use Rattle.ribjasper.specs.declared.machine.RecordingWriter.{RecordingWriter}
 use Rattle.ribjasper.specs.Inputs.{AreInputs, InputSource, IsNewSource}
 use Rattle.ribjasper.specs.Runs.{AreOwnWords, IsSettled, RunsLine, RunsOver, RunsProgram, words_of_command, input_names, taken_bytes}
 
@@ -46,8 +46,8 @@ runs_line F stdin openers contents line words names one other first second old u
 -- a line that was run over a new output was the program's
 pub runs_program : (F : Type 0) {I O W : Type 0} (words : Result (IntoIter (String Global) Global) Error)
     (stdin : I)
-    (openers : O × O) (writer : W) (telling : TellingWriter W) (line items : List (String Global))
-    (old new : Buffered (TellingWriter W)) (result : Result Status Error) → AreOwnWords words items
+    (openers : O × O) (writer : W) (telling : RecordingWriter W) (line items : List (String Global))
+    (old new : Buffered (RecordingWriter W)) (result : Result Status Error) → AreOwnWords words items
     → line ≡ items → telling.writer ≡ writer → telling.taken.bytes ≡ []
     → old ≡ record { inner = telling; waiting = []; faults = 0; failed = 0; turn = 65536; room = 131072 }
     → IfOk result (RunsLine F stdin openers taken_bytes line (from_to old new))

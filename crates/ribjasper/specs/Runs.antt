@@ -27,7 +27,7 @@ use Rattle.cdg_cmd.specs.declared.status.Status.{Status}
 use Rattle.cdg_cmd.specs.declared.status.Status.TheVariants.{NoMemory, Usage, WriteFault}
 use Rattle.ribjasper.specs.declared.inputs.InputReader.{InputReader}
 use Rattle.ribjasper.specs.declared.machine.MachineStreams.{MachineStreams}
-use Rattle.ribjasper.specs.declared.output.TellingWriter.{TellingWriter}
+use Rattle.ribjasper.specs.declared.machine.RecordingWriter.{RecordingWriter}
 use Rattle.ribjasper.specs.Inputs.{AreInputs, InputSource, IsNewSource}
 
 -- the command's words of a line
@@ -95,7 +95,7 @@ AreOwnWords (Err error) line = (error_kind error ≡ InvalidData) × (line ≡ [
 
 -- An output over this writer, to which nothing was put yet, as the program makes it: with room for 128 KiB, of
 -- which 64 KiB may wait after a piece is put.
-pub record IsNewOutput {W : Type 0} (writer : W) (out : Buffered (TellingWriter W)) : Type 0 where
+pub record IsNewOutput {W : Type 0} (writer : W) (out : Buffered (RecordingWriter W)) : Type 0 where
   pub over : out.inner.writer ≡ writer
   pub taken : out.inner.taken.bytes ≡ []
   pub waiting : out.waiting ≡ []
@@ -104,7 +104,7 @@ pub record IsNewOutput {W : Type 0} (writer : W) (out : Buffered (TellingWriter 
   pub room : out.room ≡ 131072
 
 -- the bytes that a writer has taken
-abbrev pub taken_bytes : {W : Type 0} → TellingWriter W → Bytes
+abbrev pub taken_bytes : {W : Type 0} → RecordingWriter W → Bytes
 taken_bytes writer = Some writer.taken.bytes
 
 -- The words that the machine gave were run on the inputs that they name, and over a new output, which tells the
@@ -114,14 +114,14 @@ pub record RunsProgram (F : Type 0) {I O W : Type 0}
     (openers : O × O) (writer : W) (status : Status) : Type 0 where
   pub line : List (String Global)
   pub own_words : AreOwnWords words line
-  pub out : Change (Buffered (TellingWriter W))
+  pub out : Change (Buffered (RecordingWriter W))
   pub new_output : IsNewOutput writer out.before
   pub runs : RunsLine F stdin openers taken_bytes line out status
 
 -- The line of a status was put to an error output over this writer, to which nothing was put before, unless a write
 -- failed.
 pub record TellsLine {E : Type 0} (writer : E) (status : Status) : Type 0 where
-  pub err : Change (Counted (TellingWriter E))
+  pub err : Change (Counted (RecordingWriter E))
   pub over : err.before.inner.writer ≡ writer
   pub taken : err.before.inner.taken.bytes ≡ []
   pub told : Rose err.before.faults err.after.faults

@@ -1,19 +1,21 @@
-// What the program may do with the machine: read its inputs, open the files of their names, write its outputs.
+// The machine: the program reads its inputs, opens files by their names and writes its outputs.
 //
 // The rest of the program is proved for every machine, over these traits. A relation of a trait says what one call
-// answered, and holds of no other answer that a body could make up: so a body passes on each answer as it is, and calls
-// once for each. The types of std stand here alone.
-ghost use Rattle.std.specs.Prelude.{◌≡◌, ⊤, ℕ, List, Result, string_bytes};
+// returned. It holds for no other result, so a body must return the result of exactly one call. Only this file names the
+// types of std.
+ghost use Rattle.std.specs.Prelude.{◌≡◌, ◌++◌, ⊤, ℕ, List, [], None, Result, Some, string_bytes};
 ghost use Rattle.std.specs.Io.{ReadsAtMost, WritesAtMost};
+ghost use Rattle.std.specs.Io.KnownBytes.{Keeps, WriteAppends};
 ghost use Rattle.std.specs.declared.io.Error.{Error};
 
+use cdg_io::History;
 use std::fs::{File, Files};
 use std::io;
 use std::io::{Read, Stderr, Stdin, Stdout, Write};
 
 /// Standard input, or an open file.
 pub(crate) trait MachineInput {
-    /// One read from one state to another, of a buffer before and after it, answered this.
+    /// One read changed the state and the buffer, and returned this.
     ghost reads: { Self → Self → List ℕ → List ℕ → Result ℕ Error → Type 0 };
 
     fn read(&mut self, buf: &mut [u8]) -> io::Result<usize>
@@ -21,18 +23,18 @@ pub(crate) trait MachineInput {
         ensures answer { reads self.old self.new buf.old buf.new result };
 }
 
-/// Opens one file to read, and is used up by that.
+/// Opens one file to read. An opener is used once.
 pub(crate) trait Opener<F> {
-    /// The file of this name was to be opened, and this was answered.
+    /// Opening the file of this name returned this.
     ghost opens: { Self → List ℕ → Result F Error → Type 0 };
 
     fn open(self, name: &str) -> io::Result<F>
         ensures { opens self name.now result };
 }
 
-/// Standard output, or standard error. Nothing waits in it.
+/// Standard output, or standard error, without a buffer.
 pub(crate) trait MachineOutput {
-    /// One write from one state to another, of these bytes, answered this.
+    /// One write of these bytes changed the state, and returned this.
     ghost writes: { Self → Self → List ℕ → Result ℕ Error → Type 0 };
 
     fn write(&mut self, bytes: &[u8]) -> io::Result<usize>
@@ -72,7 +74,7 @@ impl MachineOutput for Stderr {
     }
 }
 
-/// The files of a machine, of which one is opened.
+/// The files of a machine. One of them is opened.
 #[derive(Drop)]
 pub(crate) struct FilesOf<'a, R> {
     files: &'a R,
@@ -92,7 +94,7 @@ impl<R: Files<File = File>> Opener<File> for FilesOf<'_, R> {
     }
 }
 
-/// What the program is given of the machine, beside its words.
+/// The streams of the machine, and the openers of its files.
 #[derive(Drop)]
 pub(crate) struct MachineStreams<I, O, W, E> {
     pub stdin: I,
@@ -100,4 +102,50 @@ pub(crate) struct MachineStreams<I, O, W, E> {
     pub openers: (O, O),
     pub stdout: W,
     pub stderr: E,
+}
+
+/// A writer over an output. For proofs only, it records the bytes that the output has taken.
+#[derive(Drop)]
+pub(crate) struct RecordingWriter<W> {
+    writer: W,
+    taken: History,
+}
+
+impl<W> RecordingWriter<W> {
+    pub(crate) fn new(writer: W) -> RecordingWriter<W>
+        ensures writer { result.writer ≡ writer }
+        ensures nothing { result.taken.bytes ≡ [] }
+    {
+        RecordingWriter {
+            writer,
+            taken: History::nothing(),
+        }
+    }
+}
+
+impl<W: MachineOutput> Write for RecordingWriter<W> {
+    ghost contents = { λ w. Some w.taken.bytes };
+
+    // One write of the output.
+    fn write(&mut self, buf: &[u8]) -> io::Result<usize>
+        ensures bound { WritesAtMost result buf.now }
+        ensures bytes { WriteAppends (Some self.old.taken.bytes) (Some self.new.taken.bytes) result buf.now }
+        ensures answer { W.writes self.old.writer self.new.writer buf.now result }
+    {
+        match self.writer.write(buf) {
+            Ok(count) => {
+                self.taken.note(&buf[..count]);
+                Ok(count)
+            }
+            Err(error) => Err(error),
+        }
+    }
+
+    // This writer has no buffer.
+    fn flush(&mut self) -> io::Result<()>
+        ensures bytes { Keeps (Some self.old.taken.bytes) (Some self.new.taken.bytes) }
+        ensures same { self.new ≡ self.old }
+    {
+        Ok(())
+    }
 }

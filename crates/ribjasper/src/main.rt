@@ -3,13 +3,34 @@
 
 mod inputs;
 mod machine;
-mod output;
-mod running;
 
-use machine::{FilesOf, MachineStreams};
-use running::run_program;
-use std::env;
+ghost use Rattle.std.specs.Prelude.{◌≡◌, ◌≢◌, ◌⊎◌, ◌-◌, [], drop, take, length, Err, IfOk, IsOk, OnErr};
+ghost use Rattle.std.specs.Io.KnownBytes.{Appends};
+ghost use Rattle.std.specs.IoError.{error_kind};
+ghost use Rattle.std.specs.Process.{exit_status};
+ghost use Rattle.std.specs.Vec.Iter.{into_iter_items};
+ghost use Rattle.std.specs.declared.io.Error.{Error};
+ghost use Rattle.cdg_io.specs.Causes.{Rose};
+ghost use Rattle.cdg_io.specs.Change.{from_to};
+ghost use Rattle.cdg_cmd.specs.Line.{error_line, exit_of};
+ghost use Rattle.ribjasper.specs.Runs.{AreOwnWords, EndsProgram, IsSettled, RunsLine, RunsProgram, TellsLine, words_of_command, input_names};
+
+use cdg_cmd::{Status, perform, read_words, split, tell};
+use cdg_io::{BufferedSink, Failed, WriteSink};
+use inputs::{InputReader, named};
+use machine::{FilesOf, MachineInput, MachineOutput, MachineStreams, Opener, RecordingWriter};
+use std::alloc::{AllocError, Global};
+use std::env::Args;
+use std::io::{ErrorKind, Write};
 use std::process::ExitCode;
+use std::{env, io};
+use subcode_author::Heap;
+
+// The size of the output buffer: more than one read of an input returns.
+const BUFFER: usize = 131_072;
+
+// The most that stays in the output buffer after a piece is put: as much as a pipe holds.
+const TURN: usize = 65_536;
 
 fn main(rt: HostRuntime) -> ExitCode {
     let machine = MachineStreams {
@@ -19,4 +40,120 @@ fn main(rt: HostRuntime) -> ExitCode {
         stderr: rt.stderr(),
     };
     run_program(rt.alloc(), env::args(&rt), machine)
+}
+
+// Runs the command of these words, prints its status and returns the exit status. Any machine will do.
+fn run_program<I, F, O, W, E>(
+    alloc: Global,
+    words: io::Result<Args>,
+    machine: MachineStreams<I, O, W, E>,
+) -> ExitCode
+where
+    I: MachineInput + Drop,
+    F: MachineInput + Drop,
+    O: Opener<F> + Drop,
+    W: MachineOutput + Drop,
+    E: MachineOutput + Drop,
+    ensures { EndsProgram F words machine result }
+{
+    let MachineStreams {
+        stdin,
+        openers,
+        stdout,
+        stderr,
+    } = machine;
+    let status = ended(run_line::<I, F, O, W>(alloc, words, stdin, openers, stdout));
+    print_status(stderr, status);
+    ExitCode::from(status.exit())
+}
+
+// Runs the command of these words on the inputs that they name. It fails only if no memory is found for the words or the
+// buffers.
+fn run_line<
+    I: MachineInput + Drop,
+    F: MachineInput + Drop,
+    O: Opener<F> + Drop,
+    W: MachineOutput + Drop,
+>(
+    alloc: Global,
+    words: io::Result<Args>,
+    stdin: I,
+    openers: (O, O),
+    stdout: W,
+) -> io::Result<Status>
+    ensures { IfOk result (RunsProgram F words stdin openers stdout) }
+{
+    let line = own_words(alloc, words)?;
+    let (words, names) = parted(&line);
+    let (first, second): (InputReader<'_, I, F, O>, InputReader<'_, I, F, O>) = named(
+        stdin, openers, names,
+    );
+    let mut first = first.source(alloc)?;
+    let mut second = second.source(alloc)?;
+    let mut out = BufferedSink::new(alloc, BUFFER, TURN, RecordingWriter::new(stdout))?;
+    match read_words(words) {
+        Some(command) => {
+            let heap = &mut Heap::new(alloc);
+            let status = perform(heap, command, &mut first, &mut second, &mut out);
+            Ok(flushed(status, &mut out))
+        }
+        None => Ok(flushed(Status::Usage, &mut out)),
+    }
+}
+
+// The words after the program's own name. If the machine says that they are no text, there are none.
+fn own_words(alloc: Global, answer: io::Result<Args>) -> io::Result<Vec<String>>
+    ensures words { IfOk result (λ words. AreOwnWords answer words.items) }
+    ensures no_text { (error : Error) → answer ≡ Err error → error_kind error ≡ ErrorKind.InvalidData
+        → IsOk result }
+    ensures failed { (error : Error) → answer ≡ Err error → error_kind error ≢ ErrorKind.InvalidData
+        → result ≡ Err error }
+{
+    match answer {
+        Ok(all) => Ok(after_first(alloc, all)?),
+        Err(error) if error.kind() == ErrorKind::InvalidData => Ok(Vec::new(alloc)),
+        Err(error) => Err(error),
+    }
+}
+
+// All words but the first.
+fn after_first(alloc: Global, all: Args) -> Result<Vec<String>, AllocError>
+    ensures { IfOk result (λ words. words.items ≡ drop 1 (into_iter_items all)) }
+{
+    all.skip(1).collect(alloc)
+}
+
+// The command's words of a line, and the names of its inputs.
+fn parted(line: &[String]) -> (&[String], &[String])
+    ensures words { result.0.now ≡ words_of_command line.now }
+    ensures names { result.1.now ≡ input_names line.now }
+{
+    let split = split(line);
+    (&line[..split.words], &line[line.len() - split.names..])
+}
+
+// The status of a run. Without memory for the words or the buffers nothing was run.
+fn ended(ran: io::Result<Status>) -> Status
+    ensures ran { IfOk ran (λ status. result ≡ status) }
+    ensures no_memory { OnErr ran (result ≡ Status.NoMemory) }
+{
+    ran.unwrap_or(Status::NoMemory)
+}
+
+// Writes the bytes in the buffer. If a write fails, the status is a write fault.
+fn flushed<W: Write>(status: Status, out: &mut BufferedSink<W>) -> Status
+    ensures { IsSettled W.contents (from_to out.old out.new) status result }
+{
+    match out.flush() {
+        Ok(()) => status,
+        Err(Failed) => Status::WriteFault,
+    }
+}
+
+// Prints the line of a status. A failed write changes nothing.
+fn print_status<E: MachineOutput + Drop>(stderr: E, status: Status)
+    ensures { TellsLine stderr status }
+{
+    let mut err = WriteSink::new(RecordingWriter::new(stderr));
+    let _told = tell(&mut err, status);
 }

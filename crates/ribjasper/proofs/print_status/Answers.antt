@@ -1,6 +1,6 @@
 use Rattle.std.proofs.Common.{ap, ◌∙◌, rules}
 use Rattle.cdg_io.specs.Change.{from_to}
-use Rattle.ribjasper.proofs.running.report.Goals as goal
+use Rattle.ribjasper.proofs.print_status.Goals as goal
 
 pub returns : goal.returns
 returns g c = record {

@@ -2,7 +2,7 @@ use Rattle.std.proofs.Common.{◌≡◌, ◌∙◌, List, ap, rules, length, vec
 use Rattle.std.specs.Global.{Vec, Global}
 use Rattle.std.specs.Vec.Iter.{into_iter_items, into_iter_len}
 use Rattle.std.proofs.lemmas.Iterator.Adapters.{YieldsList-from_skip, YieldsList-from_vec, fact_from_collect}
-use Rattle.ribjasper.proofs.running.after_first.Goals as goal
+use Rattle.ribjasper.proofs.after_first.Goals as goal
 
 pub returns : goal.returns
 returns c =
