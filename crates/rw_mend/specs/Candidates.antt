@@ -20,8 +20,8 @@ GivesNear word given =
 abbrev pub is_idle_pack : List ℕ → Bool
 is_idle_pack codeword = differences codeword idle_pack == 0
 
--- How many symbols stand against a codeword near a word: those in which they differ; but three, and so more than against
--- any other, where it is the idle pack and one of the blocks under the word is unread.
+-- The distance of a codeword near a word: the number of symbols in which they differ. The idle pack has the distance 3 if
+-- one of the blocks under the word is unread.
 abbrev pub doubts_of : Coverage → List ℕ → List ℕ → ℕ
 doubts_of Partly word codeword = if is_idle_pack codeword then 3 else differences word codeword
 doubts_of coverage word codeword = differences word codeword
@@ -59,8 +59,8 @@ abbrev pub is_graphics_pack : List ℕ → Bool
 is_graphics_pack codeword = (slice_index_or codeword 0 0 == 9)
     && list_any (λ known. slice_index_or codeword 1 0 == known) instructions
 
--- Whether a candidate shows that the word is not idle: it is another codeword than the idle pack, and either no symbol stands
--- against it or it is a graphics pack.
+-- Whether a candidate shows that the word is not idle: it is not the idle pack, and it is either a codeword without a
+-- wrong symbol or a graphics pack.
 abbrev pub is_graphics_candidate : Candidate → Bool
 is_graphics_candidate (Near pack doubts) = not (is_idle_pack pack) && ((doubts == 0) || is_graphics_pack pack)
 is_graphics_candidate candidate = false
@@ -73,8 +73,8 @@ used_modes = 8 ∷ 9 ∷ 10 ∷ 24 ∷ []
 abbrev pub has_used_mode : List ℕ → Bool
 has_used_mode codeword = list_any (λ mode. slice_index_or codeword 0 0 == mode) used_modes
 
--- whether a candidate is a doubtful codeword: not the idle pack, of a mode and item that no disc carries, and some symbol
--- stands against it
+-- whether a candidate is a doubtful codeword: not the idle pack, of a mode and item that no disc carries, and with a wrong
+-- symbol
 abbrev pub is_doubtful_candidate : Candidate → Bool
 is_doubtful_candidate (Near pack doubts) = not (is_idle_pack pack)
     && (not (doubts == 0) && not (has_used_mode pack))

@@ -23,15 +23,15 @@ is_of codeword candidate = false
 abbrev pub votes : List Candidate → List ℕ → ℕ
 votes candidates codeword = count_by (is_of codeword) candidates
 
--- Whether a codeword with so many symbols against it stands beside another candidate: that is no codeword; or more symbols
--- stand against it; or as many, and it is the same codeword, or one that fewer candidates are.
+-- Whether a codeword of this distance is at least as good as another candidate: that one is no codeword; or it has a
+-- greater distance; or it has the same distance, and is the same codeword or has fewer votes.
 abbrev pub stands : List Candidate → List ℕ → ℕ → Candidate → Bool
 stands candidates pack doubts (Near other more) = nat_lt doubts more
     || ((doubts == more)
     && ((differences pack other == 0) || nat_lt (votes candidates other) (votes candidates pack)))
 stands candidates pack doubts candidate = true
 
--- whether a candidate is a codeword that stands beside each of the candidates
+-- whether a candidate is a codeword that is at least as good as each of the candidates
 abbrev pub is_best : List Candidate → Candidate → Bool
 is_best candidates (Near pack doubts) = list_all (stands candidates pack doubts) candidates
 is_best candidates candidate = false

@@ -1,4 +1,4 @@
--- Which codewords of a reading count for nothing: idle packs where the reading lacks graphics that another reading has, and
+-- The codewords of a reading that do not count: idle packs where the reading lacks graphics that another reading has, and
 -- doubtful codewords where another reading is quiet.
 use Rattle.std.specs.Prelude.{◌≡◌, ◌⊎◌, ℕ, ◌<◌, ◌≤◌, Bool, true, false, MatchBool, List, length, count_by, slice_index_or}
 use Rattle.rw_mend.specs.Choice.{candidate_of_reading}
@@ -18,7 +18,7 @@ pub record Misses (programs : List (List ℕ)) (r m : ℕ) : Type 0 where
   pub idle : is_idle_candidate (given_at programs r m) ≡ true
   pub graphics : HasGraphics programs m
 
--- word k is one of two words, or stands between them
+-- word k is one of two words, or lies between them
 abbrev pub IsBetween : ℕ → ℕ → ℕ → Type 0
 IsBetween n m k = ((n ≤ k) × (k ≤ m)) ⊎ ((m ≤ k) × (k ≤ n))
 
@@ -41,22 +41,22 @@ pub record IsDoubted (programs : List (List ℕ)) (r n : ℕ) : Type 0 where
   pub within : reading < length programs
   pub quiet : is_quiet_candidate (given_at programs reading n) ≡ true
 
--- what reading r gives at word n counts for nothing
+-- the codeword of reading r at word n does not count
 abbrev pub IsDropped : ℕ → List (List ℕ) → ℕ → ℕ → Type 0
 IsDropped words programs r n = IsLacking words programs r n ⊎ IsDoubted programs r n
 
--- what reading r says at word n: nothing where what it gives counts for nothing, or else what it gives
+-- the candidate of reading r at word n: nothing if its codeword does not count, or else what it has there
 abbrev pub IsSaid : ℕ → List (List ℕ) → ℕ → ℕ → Candidate → Type 0
 IsSaid words programs n r candidate = (IsDropped words programs r n × (candidate ≡ Silent))
     ⊎ ((¬ IsDropped words programs r n) × (candidate ≡ given_at programs r n))
 
--- what all readings say at word n
+-- the candidates of all readings at word n
 pub record AreCandidates (words : ℕ) (programs : List (List ℕ)) (n : ℕ)
     (candidates : List Candidate) : Type 0 where
   pub count : length candidates ≡ length programs
   pub each : (r : ℕ) → r < length programs → IsSaid words programs n r (candidate_of_reading candidates r)
 
--- At so many of the first n words what reading r gives counts for nothing: there is a mark for each.
+-- At so many of the first n words the codeword of reading r does not count: there is a mark for each.
 pub record IsDropCount (words : ℕ) (programs : List (List ℕ)) (r n count : ℕ) : Type 0 where
   pub marks : List Bool
   pub size : length marks ≡ n

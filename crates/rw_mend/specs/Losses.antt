@@ -1,4 +1,4 @@
--- Which error-free words of readings did not come out.
+-- The error-free words of readings that are not in the output.
 use Rattle.std.specs.Prelude.{◌≡◌, ◌==◌, ◌&&◌, ℕ, ◌<◌, Bool, false, not, List, [], ◌∷◌, length, count_by, slice_index_or, Option, Some, None}
 use Rattle.rw_code.specs.Codeword.{differences}
 use Rattle.rw_mend.specs.Choice.{candidate_of_reading}

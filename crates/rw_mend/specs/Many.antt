@@ -20,8 +20,8 @@ programs_of count lead_in readings = map (program_of lead_in) (parts count (leng
 abbrev pub words_in_each : ℕ → ℕ → List ℕ → ℕ
 words_in_each count lead_in readings = whole_packs (length readings / count / block_bytes - lead_in)
 
--- The words of all readings are mended: their text stands at the front of a buffer, and where there is room for them
--- the bytes that name their sources at the front of another. What is behind them stays.
+-- The words of all readings are mended. Their text is at the front of a buffer. If there is room, the bytes that name their
+-- sources are at the front of another. What is behind them stays.
 pub record AreAllMendedInto (count lead_in : ℕ) (readings old new old_sources new_sources : List ℕ)
     (tallies : Tallies) : Type 0 where
   pub said : List (List Candidate)
@@ -37,8 +37,8 @@ pub record AreAllMendedInto (count lead_in : ℕ) (readings old new old_sources 
   pub sources : words_in_each count lead_in readings ≤ length old_sources
       → new_sources ≡ map source_byte found ++ drop (words_in_each count lead_in readings) old_sources
 
--- The same, and how many words of each reading are lost: it gives a codeword with no wrong symbol that counts, and another
--- one or none came out.
+-- The same, and how many words of each reading are lost: its codeword has no wrong symbol and counts, and the output has
+-- another one or none.
 pub record AreAllReported (count lead_in : ℕ) (readings old new old_sources new_sources : List ℕ)
     (tallies : Tallies) (lost : List ℕ) : Type 0 where
   pub into : AreAllMendedInto count lead_in readings old new old_sources new_sources tallies

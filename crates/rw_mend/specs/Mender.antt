@@ -1,4 +1,4 @@
--- What is known while the words of readings are come to in turn.
+-- The state of a mender at each word.
 use Rattle.std.specs.Prelude.{◌≡◌, ℕ, ◌+◌, ◌-◌, ◌/◌, ◌<◌, ◌≤◌, length}
 use Rattle.raw_subcode.specs.Sizes.{block_bytes}
 use Rattle.rw_interleave.specs.Interleave.{whole_packs}
@@ -26,7 +26,7 @@ pub record IsDecoding (readings : Readings) (n : ℕ) (mender : Mender) : Type 0
   pub calm : IsCalm (programs_in readings) n mender.calm
   pub dropped : AreDropCounts mender.words (programs_in readings) n mender.dropped
 
--- It has come to word n: the candidates of its readings are said, and it can go on to the next.
+-- It is at word n: it has the candidates of its readings, and it can advance to the next word.
 pub record HasComeTo (readings : Readings) (n : ℕ) (mender : Mender) : Type 0 where
   pub decoding : IsDecoding readings (n + 1) mender
   pub said : (r : ℕ) → r < readings.count

@@ -7,7 +7,7 @@ use Rattle.rw_mend.specs.declared.readings.Readings.{Readings}
 abbrev pub size_in : Readings → ℕ
 size_in readings = length readings.first.now - readings.start
 
--- there are some readings, but no more than can be told apart, and all are as long as the first
+-- there are some readings, no more than can be numbered, and all are as long as the first
 pub record AreHeldReadings (readings : Readings) : Type 0 where
   pub some : 0 < readings.count
   pub few : readings.count ≤ 254

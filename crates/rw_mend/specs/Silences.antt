@@ -1,4 +1,4 @@
--- What is known of the silence of a reading while its words are come to.
+-- Whether a reading is quiet, word after word.
 use Rattle.std.specs.Prelude.{◌≡◌, ℕ, ◌-◌, ◌<◌, ◌≤◌, ◌&&◌, ◌||◌, Bool, true, false, MatchBool, if◌then◌else◌, List, length, slice_index_or}
 use Rattle.rw_mend.specs.Drops.{HasGraphics, Lacks, Misses}
 use Rattle.rw_mend.specs.Candidates.{is_doubtful_candidate, is_idle_candidate, is_quiet_candidate}
@@ -36,12 +36,12 @@ pub record AreSilences (words : ℕ) (programs : List (List ℕ)) (n : ℕ) (sil
 pub record IsCalm (programs : List (List ℕ)) (n end : ℕ) : Type 0 where
   pub none : (m : ℕ) → n ≤ m → m < end → ¬ HasGraphics programs m
 
--- whether what a reading gives counts for nothing: the idle pack where it lacks graphics, or a doubtful codeword where some
+-- whether the codeword of a reading does not count: the idle pack if it lacks graphics, or a doubtful codeword if some
 -- reading is quiet
 abbrev pub is_left : Bool → Silence → Candidate → Bool
 is_left some_quiet silence given =
     (silence.lacks && is_idle_candidate given) || (some_quiet && is_doubtful_candidate given)
 
--- what it says then
+-- its candidate then
 abbrev pub said_after : Bool → Silence → Candidate → Candidate
 said_after some_quiet silence given = if is_left some_quiet silence given then Silent else given

@@ -13,7 +13,7 @@ use Rattle.rw_mend.specs.declared.readings.Readings.{Readings}
 use Rattle.rw_mend.specs.declared.streams.MendCounts.{MendCounts}
 use Rattle.rw_mend.specs.declared.candidates.Candidate.{Candidate}
 
--- Of so many words the first n are mended, and their packs are put; what is said and found of them has this property.
+-- The first n of so many words are mended, and their packs are written; their candidates and findings have this property.
 pub record IsMendedTo (readings : Readings) (words n : ℕ) (before packs : List ℕ)
     (has : List (List Candidate) → List (Option Mended) → Type 0) : Type 0 where
   pub said : List (List Candidate)
@@ -30,7 +30,7 @@ pub record IsMendedTo (readings : Readings) (words n : ℕ) (before packs : List
 abbrev pub AreCounted : MendCounts → List (List Candidate) → List (Option Mended) → Type 0
 AreCounted counts said found = AreCounts (ways_of said found) counts
 
--- What is told of them, and the bytes that name their sources, where there is room for all words.
+-- The counts of the words, and the bytes that name their sources, if there is room for all words.
 pub record AreTold (before : List ℕ) (words : ℕ) (sources : List ℕ) (tallies : Tallies)
     (said : List (List Candidate)) (found : List (Option Mended)) : Type 0 where
   pub tallies_are : AreTallies found tallies

@@ -1,4 +1,4 @@
--- What is told of readings that were mended, and where each codeword comes from.
+-- The counts of mended words, and the source of each codeword.
 use Rattle.std.specs.Prelude.{⊤, ◌≡◌, ◌==◌, ℕ, ◌<◌, List, length, count_by, slice_index_or, Option, Some, None}
 use Rattle.rw_mend.specs.declared.choice.Mended.{Mended}
 use Rattle.rw_mend.specs.declared.choice.WordSource.{WordSource}

@@ -33,7 +33,7 @@ pub struct WordReading {
 /// What a reading of a word gives.
 #[derive(Clone, Copy)]
 pub enum Candidate {
-    /// Nothing: it was not read, or its idle pack counts for nothing.
+    /// Nothing: it was not read, or its idle pack does not count.
     Silent,
     /// It was read, and no codeword is near it.
     Lost {
@@ -44,7 +44,7 @@ pub enum Candidate {
     Near {
         /// The codeword.
         pack: Pack,
-        /// How many symbols stand against it.
+        /// In how many symbols the word differs from it.
         doubts: u8,
     },
 }
@@ -52,7 +52,7 @@ pub enum Candidate {
 /// The most wrong symbols of a word that is near a codeword.
 pub(crate) const MOST_WRONG: u8 = 2;
 
-// More than stands against any other codeword.
+// More than for any other codeword near a word.
 const IDLE_DOUBTS: u8 = 3;
 
 /// What a reading of a word gives by itself.
@@ -94,7 +94,7 @@ fn near(candidate: &Candidate, word: &Word) -> Option<Fixed>
     ensures near { GivesNear word.now result }
     ensures word { IsWord word.now }
 {
-    // What is found for a word is known of words alone.
+    // Only a word has a finding.
     words_have_24_symbols(word);
     match candidate {
         Candidate::Near { pack, .. } => near_pack(pack, word),
@@ -133,7 +133,7 @@ pub(crate) fn decode_blank(coverage: Coverage) -> Candidate
     }
 }
 
-// How many symbols stand against a codeword.
+// The distance of a codeword: in how many symbols the word differs from it.
 fn doubts(coverage: Coverage, fixed: &Fixed) -> u8
     ensures { (word : List ℕ) → fixed.now.wrong ≡ differences word fixed.now.pack
         → result ≡ doubts_of coverage word fixed.now.pack }

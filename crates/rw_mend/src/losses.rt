@@ -1,4 +1,4 @@
-// Which error-free words of readings did not come out.
+// The error-free words of readings that are not in the output.
 ghost use Rattle.std.specs.Prelude.{◌≡◌, ◌≤◌, ◌<◌, ◌+◌, ℕ, if◌then◌else◌, length, slice_index_or};
 ghost use Rattle.rw_mend.specs.Choice.{candidate_of_reading};
 ghost use Rattle.rw_mend.specs.Losses.{is_found, is_lost};
@@ -7,7 +7,7 @@ use crate::choice::is_same;
 use crate::{Candidate, Mended};
 use rw_code::Pack;
 
-/// Counts for each reading that its word is lost, where it is.
+/// Counts a lost word of each reading that has one.
 pub(crate) fn count_lost(candidates: &[Candidate], found: &Option<Mended>, lost: &mut [u32])
     requires room { length candidates.now ≤ length lost.old }
     requires few { (r : ℕ) → r < length candidates.now → slice_index_or lost.old r 0 < 4000000 }

@@ -17,13 +17,13 @@ use crate::streams::put;
 use crate::tallies::{Tallies, put_source};
 use raw_subcode::BLOCK_BYTES;
 
-/// What is told of readings that were mended, and how many words of each are lost.
+/// The result of mending readings, and the number of lost words of each.
 #[repr(C)]
 #[derive(Clone, Copy)]
 pub struct MendReport {
-    /// How many words are mended in each way, and how often what a reading gives counts for nothing.
+    /// The number of words mended in each way, and of codewords that do not count.
     pub tallies: Tallies,
-    /// Words that each reading gives with no wrong symbol, and that did not come out.
+    /// Error-free words of each reading that are not in the output.
     pub lost: [u32; MOST_READINGS],
 }
 
@@ -76,7 +76,7 @@ pub fn mend_report(
     )
 }
 
-// The same where the first reading stands by itself.
+// The same for a first reading in a slice of its own.
 fn mend_split(
     first: &[u8],
     others: &[u8],

@@ -35,7 +35,7 @@ pub(crate) struct Mender {
     // From the word that follows up to this one no reading gives graphics.
     calm: usize,
     said: [Candidate; MOST_READINGS],
-    // At how many words what a reading gives counts for nothing.
+    // At how many words the codeword of a reading does not count.
     dropped: [u32; MOST_READINGS],
 }
 
@@ -94,7 +94,7 @@ impl Mender {
         );
     }
 
-    /// What the readings say at the word to which it has come.
+    /// The candidates of the readings at the current word.
     #[inline]
     pub(crate) fn candidates(&self, count: usize) -> &[Candidate]
         requires { count ≤ 254 }
@@ -104,7 +104,7 @@ impl Mender {
         &self.said[..count]
     }
 
-    /// At how many words before the one that follows the idle pack of each reading counts for nothing.
+    /// At how many words so far the codeword of each reading does not count.
     pub(crate) fn dropped(&self) -> [u32; MOST_READINGS]
         ensures { result ≡ self.now.dropped }
     {
@@ -112,7 +112,7 @@ impl Mender {
     }
 }
 
-// Says what the readings say at word n, and counts what counts for nothing.
+// Finds the candidates of the readings at word n, and counts the codewords that do not count.
 #[inline]
 fn say_next(
     readings: &Readings,

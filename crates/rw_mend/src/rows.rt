@@ -199,7 +199,7 @@ pub(crate) fn decoded(
     decode_likely(other, &reading(program, n, history))
 }
 
-/// What each reading says at a word, beside what all give.
+/// The candidate of each reading at a word, given what all readings have there.
 pub(crate) fn say_all(
     some_quiet: bool,
     row: &[Candidate],
@@ -230,7 +230,7 @@ fn say(some_quiet: bool, silence: Silence, given: Candidate) -> Candidate
     }
 }
 
-// Whether what a reading gives counts for nothing.
+// Whether the codeword of a reading does not count.
 #[inline]
 fn is_left(some_quiet: bool, silence: Silence, given: &Candidate) -> bool
     ensures { result ≡ is_left some_quiet silence given.now }
@@ -238,7 +238,7 @@ fn is_left(some_quiet: bool, silence: Silence, given: &Candidate) -> bool
     silence.lacks() && given.is_idle() || some_quiet && given.is_doubtful()
 }
 
-/// Counts for each reading that what it gives counts for nothing, where it does.
+/// Counts a word of each reading whose codeword does not count.
 pub(crate) fn count_left(
     some_quiet: bool,
     row: &[Candidate],

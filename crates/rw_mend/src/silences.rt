@@ -1,4 +1,4 @@
-// Where readings are quiet, and whether they lack graphics there.
+// The words at which readings are quiet, and whether they lack graphics there.
 ghost use Rattle.std.specs.Prelude.{◌≡◌, ◌<◌, ◌≤◌, ◌+◌, ◌^◌, List, ℕ, true, MatchBool, length, slice_index_or};
 ghost use Rattle.std.specs.List.{list_any};
 ghost use Rattle.rw_mend.specs.Drops.{HasGraphics, Misses};
@@ -15,7 +15,7 @@ use crate::readings::Readings;
 use crate::rows::word_at;
 use crate::{Candidate, Coverage, WordReading, decode};
 
-/// Whether a reading is quiet at the last word that was come to, and whether it then lacks graphics there.
+/// Whether a reading is quiet at the current word, and whether it then lacks graphics there.
 #[derive(Clone, Copy)]
 pub(crate) struct Silence {
     quiet: bool,
@@ -33,7 +33,7 @@ impl Silence {
         }
     }
 
-    /// Whether the idle pack of the reading counts for nothing.
+    /// Whether the idle pack of the reading does not count.
     #[inline]
     pub(crate) fn lacks(&self) -> bool
         ensures { result ≡ self.now.lacks }
@@ -41,8 +41,8 @@ impl Silence {
         self.lacks
     }
 
-    /// Comes to word n from the word before it. A reading that goes on to be quiet goes on to lack graphics, or to have
-    /// them; one that falls silent is looked at to the end of its silence.
+    /// Advances to word n from the word before it. A reading that stays quiet still lacks graphics, or still does not. If a
+    /// reading becomes quiet, its words are examined to the end of the quiet run.
     #[inline]
     fn advance(
         &mut self,

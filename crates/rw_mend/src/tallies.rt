@@ -1,4 +1,4 @@
-// What is told of readings that were mended.
+// The counts of mended words.
 ghost use Rattle.std.specs.Prelude.{◌≡◌, ◌<◌, ◌+◌, ◌++◌, [], ◌∷◌, List, ℕ, IfSome, slice_index_or, slice_set, length, take, drop};
 ghost use Rattle.std.specs.declared.option.Option.{Option};
 ghost use Rattle.rw_mend.specs.declared.choice.Mended.{Mended};
@@ -7,7 +7,7 @@ ghost use Rattle.rw_mend.specs.Tallies.{AreTallies, HasSource, source_byte};
 use crate::choice::MOST_READINGS;
 use crate::{Mended, WordSource};
 
-/// How many words of some readings are mended in each way, and how often an idle pack counts for nothing.
+/// The number of words mended in each way, and of codewords of each reading that do not count.
 #[repr(C)]
 #[derive(Clone, Copy)]
 pub struct Tallies {
@@ -19,7 +19,7 @@ pub struct Tallies {
     pub reserved: u32,
     /// Words whose codeword is that of each reading.
     pub of_reading: [u32; MOST_READINGS],
-    /// Words at which the idle pack of each reading counts for nothing.
+    /// Words at which the codeword of each reading does not count.
     pub dropped: [u32; MOST_READINGS],
 }
 
