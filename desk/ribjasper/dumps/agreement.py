@@ -17,18 +17,21 @@ class Packs(NamedTuple):
 
 # So many packs say whether readings agree, if at least this share of them does.
 LEAST_PACKS, LEAST_SHARE = 12, 0.9
-# In a part where each of two readings has so many packs, some are the same if it is one part of one disc.
-SOME = 8
+# In a part where each of two readings has so many packs, some are the same if it is one part of one disc; so many that are
+# the same are no chance.
+SOME, NO_CHANCE = 8, 4
 
 
 @dataclass
 class Shared:
-    """In how many words two readings have packs that are not idle, how many of these are the same, and in how many parts
-    both have packs and none is the same."""
+    """In how many words two readings have packs that are not idle, how many of these are the same, in how many parts both
+    have packs and none is the same, and in how many the first has packs and none is the same."""
 
     all: int = 0
     same: int = 0
     apart: int = 0
+    alone: int = 0
+    words: bytes = b""  # a byte for each word of the last part, 1 where the packs are the same
 
     @property
     def differing(self) -> int:
@@ -38,13 +41,15 @@ class Shared:
         """Counts the words of a part."""
         common = both(one.busy, other.busy)
         differing = both(common, busy(different(one.content, other.content), PACK))
-        same = sum(common) - sum(differing)
+        self.words = different(common, differing)
+        same = sum(self.words)
         self.all += sum(common)
         self.same += same
         self.apart += not same and min(sum(one.busy), sum(other.busy)) >= SOME
+        self.alone += not same and sum(one.busy) >= NO_CHANCE
 
     def plus(self, other: "Shared") -> "Shared":
-        return Shared(self.all + other.all, self.same + other.same, self.apart + other.apart)
+        return Shared(self.all + other.all, self.same + other.same, self.apart + other.apart, self.alone + other.alone)
 
     def agrees(self) -> bool:
         return self.same >= max(LEAST_PACKS, LEAST_SHARE * self.all) and not self.apart

@@ -32,6 +32,10 @@ class Piece(NamedTuple):
     def weight(self) -> int:
         return self.known + self.placed
 
+    def has(self, time: int) -> bool:
+        """Whether the block of a time is in it."""
+        return self.first <= time - self.shift < self.end
+
 
 def merged_pieces(pieces: Sequence[Piece]) -> list[Piece]:
     """Pieces in turn, those with the same shift as one."""

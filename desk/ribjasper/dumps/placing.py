@@ -9,8 +9,8 @@ from typing import Iterable, Iterator, NamedTuple, Sequence
 
 from ..common import library
 from ..common.failures import Refusal, shown
-from .agreement import LEAST_PACKS, SOME, Shared, packs_of_part
-from .columns import both
+from .agreement import LEAST_PACKS, NO_CHANCE, Shared, packs_of_part
+from .columns import Run, both, joined, touching
 from .pieces import Piece, chain_of, framed_pieces, layers_of, lead_in_of
 from .readings import Laid, Reading
 from .survey import Stretch, Survey
@@ -27,8 +27,10 @@ WINDOW, MOST_WINDOWS, MOST_PLACES, MOST_OTHERS = 75, 24, 12, 8
 HALVINGS, SHORTEST = 6, 40
 # Of so many parts of a reading most have frames, and those of one shift are in no fewer than these.
 PARTS, MOST_PARTS, FEW_PARTS = 16, 12, 5
-# A gap in a stale run is shorter than a second.
-APART = 75
+# The share of a reading in doubt, one in so many blocks, from which on nothing is mended.
+IN_DOUBT = 4
+# A gap in a stale run is shorter than a second, and no stale run is longer than twenty.
+APART, LONGEST_STALE = 75, 1500
 # The share of the frames of a reading that one shift has, where other readings go by it.
 MAIN_SHARE = 0.9
 _NOT_GOOD = bytes(kind > library.Q_OTHER for kind in range(256))
@@ -49,6 +51,7 @@ class FrameGap:
     shift: int | None = None  # the place that was found
     is_busy: bool = False  # it has packs that are not idle
     agrees: bool = False  # some of them agree with those of another reading somewhere
+    is_part: bool = False  # it is a part of a gap of which not all agrees at one place
 
     @property
     def length(self) -> int:
@@ -69,6 +72,8 @@ class Framed:
     gaps: list[FrameGap] = field(default_factory=list)
     frames: Counter[int] = field(default_factory=Counter)  # of each shift in the run of the file
     slack: dict[Piece, int] = field(default_factory=dict)  # the longest row of blocks without a frame in a piece
+    strays: list[Stretch] = field(default_factory=list)  # frames of too few blocks for a piece
+    stale: list[Run] = field(default_factory=list)  # such frames and the blocks around them that are left out
     homes: set[int] = field(default_factory=set)  # the shifts of readings that are as long
     guesses: list[int] = field(default_factory=list)  # shifts with which it begins or ends as another reading
     is_sure: bool = False
@@ -101,7 +106,7 @@ class Framed:
                 found[-1] = before._replace(end=part.end, known=known, placed=placed)
             else:
                 found.append(part)
-        return found
+        return [part for whole in found for part in without_runs(whole, self.stale)] if self.stale else found
 
     def run(self, gap: FrameGap) -> Piece | None:
         """The blocks of a gap that have a place. Next to a piece of another shift that has blocks without a frame, as many
@@ -144,13 +149,13 @@ def framed(reading: Reading) -> Framed:
     for piece in run:
         found.frames[piece.shift] += piece.known
     in_run: set[Piece] = set()
-    own, strays = stretches_of(merged, stretches)
+    own, found.strays = stretches_of(merged, stretches)
     for piece in merged:
         count = found.frames[piece.shift] if piece in run else piece.known
         parts = split(own[piece], column, count, found.slack)
         found.pieces += parts
         in_run.update(parts if piece in run else ())
-    found.gaps = gaps_of(found.pieces, in_run, strays, survey, column)
+    found.gaps = gaps_of(found.pieces, in_run, found.strays, survey, column)
     found.is_sure = is_sure(found, in_run)
     main = found.main() if found.is_sure else None
     for gap in found.gaps:
@@ -221,6 +226,43 @@ def next_in_run(pieces: Sequence[Piece], run: set[Piece]) -> list[Piece | None]:
     return found[::-1]
 
 
+def without_runs(piece: Piece, runs: Sequence[Run]) -> list[Piece]:
+    """What is left of a piece without some blocks; its frames are counted with the first part."""
+    found, first = [], piece.first
+    for run in runs:
+        if run.last < first or run.first >= piece.end:
+            continue
+        if run.first > first:
+            found.append(piece._replace(first=first, end=run.first))
+        first = run.last + 1
+    if first < piece.end:
+        found.append(piece._replace(first=first))
+    return [found[0], *(it._replace(known=0, placed=0) for it in found[1:])] if found else []
+
+
+def leave_out_strays(found: Sequence[Framed]) -> None:
+    """Single blocks whose good frames have the time of another place are stale if another reading has the frame of this
+    place. Blocks next to them without a frame may be stale too."""
+    surveys = [it.reading.loaded.survey for it in found]
+    parts = [it.parts() for it in found]
+    for number, it in enumerate(found):
+        column, runs = read_without_frame(surveys[number]), []
+        for stray in it.strays:
+            part = next((part for part in parts[number] if part.first <= stray.first < part.end), None)
+            if part is None or part.shift == stray.shift:
+                continue
+            time = stray.first + part.shift
+            others = [k for k in range(len(found)) if k != number]
+            if any(surveys[k].absolute(time - own.shift) == time for k in others for own in parts[k] if own.has(time)):
+                first, last = stray.first, stray.last
+                while first > part.first and column[first - 1]:
+                    first -= 1
+                while last + 1 < part.end and column[last + 1]:
+                    last += 1
+                runs.append(Run(first, last))
+        it.stale = joined(runs, touching)
+
+
 def only_shift(pieces: Iterable[Piece]) -> int | None:
     """The shift that all pieces have."""
     shifts = {piece.shift for piece in pieces}
@@ -230,15 +272,15 @@ def only_shift(pieces: Iterable[Piece]) -> int | None:
 def is_sure(found: Framed, run: set[Piece]) -> bool:
     """Whether the frames of a reading are enough for its place: they are most of it, or they are scattered over it, which
     those of a few stale runs are not."""
-    survey = found.reading.loaded.survey
-    if not run:
-        return False
-    if found.frames.total() >= ENOUGH * sum(gap.length for gap in found.gaps):
+    survey, total = found.reading.loaded.survey, found.frames.total()
+    # Without Q an idle block is all zeros, and seems to be unread.
+    first, end = (survey.first, survey.end) if total > LONGEST_STALE else (0, survey.blocks)
+    if total >= ENOUGH * sum(gap.length for gap in found.gaps) and 3 * total >= 2 * (end - first):
         return True
     parts: dict[int, set[int]] = {shift: set() for shift in found.frames}
     for piece in run:
-        first, last = (PARTS * (it - survey.first) // survey.read for it in (piece.first, piece.end - 1))
-        parts[piece.shift].update(range(first, last + 1))
+        begin, last = (PARTS * (it - first) // (end - first) for it in (piece.first, piece.end - 1))
+        parts[piece.shift].update(range(begin, last + 1))
     return sum(len(own) for own in parts.values() if len(own) >= FEW_PARTS) >= MOST_PARTS
 
 
@@ -261,10 +303,12 @@ def judgement(gap: FrameGap, own: Reading, shifts: Sequence[int], others: Sequen
     is_mixed = False
     for windows in agreement(gap, own, shifts, others):
         shared = {shift: functools.reduce(Shared.plus, (it[shift] for it in windows), Shared()) for shift in shifts}
-        fits = {shift for shift, it in shared.items() if it.agrees()}
+        fits = {shift for shift, it in shared.items() if it.agrees() and not (gap.is_part and it.alone)}
         against |= {shift for shift, it in shared.items() if it.contradicts()}
         gap.agrees = gap.agrees or any(it.same >= LEAST_PACKS for it in shared.values())
-        if len({best for it in windows if (best := clear_best(it)) is not None}) > 1:
+        best = max(shared.values(), key=lambda it: it.same)
+        is_partial = best.same >= LEAST_PACKS and best.contradicts()
+        if is_partial or len({place for it in windows for place in best_places(it)}) > 1:
             is_mixed = True
             continue
         fitting |= fits
@@ -276,11 +320,14 @@ def judgement(gap: FrameGap, own: Reading, shifts: Sequence[int], others: Sequen
     return Judgement(None, against - fitting, not votes and not is_mixed)
 
 
-def clear_best(window: dict[int, Shared]) -> int | None:
-    """The place at which clearly the most packs of a window are the same."""
-    order = sorted(window, key=lambda shift: window[shift].same, reverse=True)
-    best, second = window[order[0]].same, window[order[1]].same if len(order) > 1 else 0
-    return order[0] if best >= SOME and best > 2 * second else None
+def best_places(window: dict[int, Shared]) -> set[int]:
+    """The place at which the most packs of a window are the same; and others, if packs are the same only there."""
+    best = max(window, key=lambda shift: window[shift].same)
+    found = {best} if window[best].same >= NO_CHANCE else set()
+    for shift, it in window.items():
+        if it.same >= NO_CHANCE and it.same - sum(both(it.words, window[best].words)) >= NO_CHANCE:
+            found.add(shift)
+    return found
 
 
 def agreement(
@@ -361,6 +408,8 @@ def place_all(found: Sequence[Framed]) -> None:
 
 def place_round(found: Sequence[Framed], is_last: bool) -> None:
     readings = [it.as_reading() for it in found]
+    for number, it in enumerate(found):
+        it.guesses = [] if it.is_sure else guesses(it, [*readings[:number], *readings[number + 1 :]])
     order = sorted(range(len(found)), key=lambda number: -found[number].frames.total())
     placed = []
     for number, own in enumerate(found):
@@ -380,7 +429,7 @@ def halve(found: Framed) -> int:
             continue
         middle = (gap.first + gap.end) // 2
         for first, end in ((gap.first, middle), (middle, gap.end)):
-            gaps.append(FrameGap(first, end, column.count(1, first, end), gap.near, [], gap.strays))
+            gaps.append(FrameGap(first, end, column.count(1, first, end), gap.near, [], gap.strays, is_part=True))
     halved = len(gaps) - len(found.gaps)
     found.gaps = gaps
     return halved
@@ -403,22 +452,23 @@ def side_by_side(readings: Sequence[Reading]) -> Laid:
     for it in found:
         if not it.is_sure and sure:
             it.homes = {main for other in sure if other.blocks == it.blocks and (main := other.main()) is not None}
-        it.guesses = guesses(it, found)
     place_all(found)
+    leave_out_strays(found)
     for it in found:
         if not it.parts():
             raise Refusal(it.reading.path, "its Q frames have no time, and it is not as long as the others")
     return laid_of(found)
 
 
-def guesses(own: Framed, found: Sequence[Framed]) -> list[int]:
+def guesses(own: Framed, others: Sequence[Reading]) -> list[int]:
     """The shifts with which a reading begins or ends as others do."""
-    if own.is_sure:
-        return []
-    frames = sum((it.frames for it in found if it is not own), Counter[int]())
-    ends = [max(piece.end + piece.shift for piece in it.pieces) for it in found if it is not own and it.pieces]
-    starts = [shift for shift, _ in frames.most_common(MOST_PLACES // 3)]
-    return [*starts, *(end - own.reading.loaded.survey.end for end in sorted(set(ends))[-MOST_PLACES // 3 :])]
+    shifts = Counter[int]()
+    for part in (part for it in others for part in it.parts):
+        shifts[part.shift] += part.end - part.first
+    ends = {max(part.end + part.shift for part in it.parts) for it in others if it.parts}
+    most = MOST_PLACES // 3
+    starts = [shift for shift, _ in sorted(shifts.items(), key=lambda it: (-it[1], it[0]))[:most]]
+    return [*starts, *(end - own.reading.loaded.survey.end for end in sorted(ends)[-most:])]
 
 
 def laid_of(found: Sequence[Framed]) -> Laid:
@@ -431,7 +481,7 @@ def laid_of(found: Sequence[Framed]) -> Laid:
         left, doubt, total, path = it.left_out(), it.in_doubt(), it.total(), shown(it.reading.path)
         if left:
             out.notes.append(f"{path}: {left} blocks are left out: no Q frame or pack says where they belong")
-        if 2 * doubt > total:
+        if IN_DOUBT * doubt > total:
             out.doubts.append(f"no Q frame or pack says where {doubt} of the {total} blocks of {path} belong")
     return out
 
