@@ -2,7 +2,6 @@
 agree with those of another reading; or else where enough frames around them say, or where a reading of the same length
 has them. If nothing decides they are left out."""
 import functools
-import itertools
 from collections import Counter
 from dataclasses import dataclass, field, replace
 from typing import Iterable, Iterator, NamedTuple, Sequence
@@ -11,7 +10,7 @@ from ..common import library
 from ..common.failures import Refusal, shown
 from .agreement import LEAST_PACKS, NO_CHANCE, Shared, packs_of_part
 from .columns import Run, both, joined, touching
-from .pieces import Piece, chain_of, framed_pieces, layers_of, lead_in_of
+from .pieces import FEWEST, Piece, chain_of, framed_pieces, layers_of, lead_in_of
 from .readings import Laid, Reading
 from .survey import Stretch, Survey
 
@@ -29,6 +28,8 @@ HALVINGS, SHORTEST = 6, 40
 PARTS, MOST_PARTS, FEW_PARTS = 16, 12, 5
 # The share of a reading in doubt, one in so many blocks, from which on nothing is mended.
 IN_DOUBT = 4
+# Single frames in so many places that are a second apart from the one before are no stale runs.
+PLACES = 2
 # A gap in a stale run is shorter than a second, and no stale run is longer than twenty.
 APART, LONGEST_STALE = 75, 1500
 # The share of the frames of a reading that one shift has, where other readings go by it.
@@ -71,6 +72,7 @@ class Framed:
     pieces: list[Piece] = field(default_factory=list)
     gaps: list[FrameGap] = field(default_factory=list)
     frames: Counter[int] = field(default_factory=Counter)  # of each shift in the run of the file
+    ends: set[int] = field(default_factory=set)  # the shifts of the first and the last piece of this run
     slack: dict[Piece, int] = field(default_factory=dict)  # the longest row of blocks without a frame in a piece
     strays: list[Stretch] = field(default_factory=list)  # frames of too few blocks for a piece
     stale: list[Run] = field(default_factory=list)  # such frames and the blocks around them that are left out
@@ -83,9 +85,11 @@ class Framed:
         return self.reading.loaded.survey.blocks
 
     def main(self) -> int | None:
-        """The shift that nearly all frames have."""
-        found = self.frames.most_common(1)
-        return found[0][0] if found and found[0][1] >= MAIN_SHARE * self.frames.total() else None
+        """The shift that nearly all frames have, or that the most have and both ends of the file."""
+        if not self.frames:
+            return None
+        shift, count = self.frames.most_common(1)[0]
+        return shift if count >= MAIN_SHARE * self.frames.total() or self.ends == {shift} else None
 
     def as_reading(self) -> Reading:
         """The reading with what is placed so far."""
@@ -145,7 +149,8 @@ def framed(reading: Reading) -> Framed:
     survey, found = reading.loaded.survey, Framed(reading)
     column, stretches = read_without_frame(survey), survey.stretches()
     merged = framed_pieces(stretches)
-    run = set(chain_of(merged))
+    chain = chain_of(merged)
+    run, found.ends = set(chain), {piece.shift for piece in (*chain[:1], *chain[-1:])}
     for piece in run:
         found.frames[piece.shift] += piece.known
     in_run: set[Piece] = set()
@@ -272,16 +277,26 @@ def only_shift(pieces: Iterable[Piece]) -> int | None:
 def is_sure(found: Framed, run: set[Piece]) -> bool:
     """Whether the frames of a reading are enough for its place: they are most of it, or they are scattered over it, which
     those of a few stale runs are not."""
-    survey, total = found.reading.loaded.survey, found.frames.total()
+    survey, total = found.reading.loaded.survey, sum(piece.known for piece in found.pieces)
     # Without Q an idle block is all zeros, and seems to be unread.
     first, end = (survey.first, survey.end) if total > LONGEST_STALE else (0, survey.blocks)
     if total >= ENOUGH * sum(gap.length for gap in found.gaps) and 3 * total >= 2 * (end - first):
+        return True
+    main = found.main()
+    single = [piece for piece in run if piece.shift == main and piece.known < FEWEST]
+    if is_scattered(sorted(single), end - first):
         return True
     parts: dict[int, set[int]] = {shift: set() for shift in found.frames}
     for piece in run:
         begin, last = (PARTS * (it - first) // (end - first) for it in (piece.first, piece.end - 1))
         parts[piece.shift].update(range(begin, last + 1))
     return sum(len(own) for own in parts.values() if len(own) >= FEW_PARTS) >= MOST_PARTS
+
+
+def is_scattered(single: Sequence[Piece], blocks: int) -> bool:
+    """Whether single frames are in some places that are seconds apart, over half of a reading."""
+    places = [after for before, after in zip(single, single[1:]) if after.first - before.end >= APART]
+    return len(places) >= PLACES and 2 * (single[-1].end - single[0].first) >= blocks
 
 
 # ---- Words.
@@ -387,9 +402,14 @@ def by_frames(found: Framed, gap: FrameGap, shift: int | None) -> int | None:
     which are as long."""
     frames = found.frames[shift] if shift is not None else 0
     if not found.homes:
-        enough = ENOUGH if found.is_sure and shift == found.main() else PLENTY
-        is_enough = frames >= enough * gap.length or gap.is_between and (found.is_sure or frames >= gap.read)
-        return shift if is_enough else None
+        is_main = found.is_sure and shift == found.main()
+        enough = frames >= (ENOUGH if is_main else PLENTY) * gap.length
+        if gap.is_between:
+            enough = enough or found.is_sure or frames >= gap.read
+        elif is_main:
+            # Where frames are rare those before the first and behind the last are as rare.
+            enough = enough or gap.length <= max((it.length for it in found.gaps if it.is_between), default=0)
+        return shift if enough else None
     if len(found.homes) > 1 or frames >= ENOUGH * gap.length and shift not in found.homes:
         return None
     return min(found.homes)
