@@ -37,7 +37,7 @@ pub fn correct(received: &Word) -> Option<Fixed>
     correct_by_sums(received)
 }
 
-/// The same by the sums of the word alone, where the idle pack is seen not to be near.
+/// The codeword near a word, by the sums of the word only. It suits words that are not near the idle pack.
 pub fn correct_by_sums(received: &Word) -> Option<Fixed>
     ensures reads { GivesFixed received.now result }
     ensures word { IsWord received.now }
@@ -51,13 +51,13 @@ pub fn correct_by_sums(received: &Word) -> Option<Fixed>
     correct_by(received, syndromes)
 }
 
-// The same, for a word that is no codeword, by its syndromes.
+// The codeword near a word that is no codeword, by its syndromes.
 fn correct_by(received: &Word, syndromes: Syndromes) -> Option<Fixed>
     requires no_codeword { ¬ IsCodeword received.now }
     requires syndromes { AreSyndromes received.now syndromes.lanes }
     ensures { GivesFixed received.now result }
 {
-    // What is found for a word, or not, is known of words alone.
+    // The lemmas need the invariant of the word.
     words_have_24_symbols(received);
     if let Some(error) = one_error(syndromes) {
         return Some(without_one(received, syndromes, error));
@@ -68,7 +68,7 @@ fn correct_by(received: &Word, syndromes: Syndromes) -> Option<Fixed>
     None
 }
 
-// The codeword that a word is without its error.
+// Removes the error of a word.
 #[inline]
 fn without_one(received: &Word, syndromes: Syndromes, error: SymbolError) -> Fixed
     requires syndromes { AreSyndromes received.now syndromes.lanes }
@@ -86,7 +86,7 @@ fn without_one(received: &Word, syndromes: Syndromes, error: SymbolError) -> Fix
     }
 }
 
-// The codeword that a word is without its two errors.
+// Removes the two errors of a word.
 #[inline]
 fn without_two(received: &Word, syndromes: Syndromes, errors: TwoErrors) -> Fixed
     requires syndromes { AreSyndromes received.now syndromes.lanes }
@@ -121,7 +121,7 @@ struct TwoErrors {
 }
 
 impl SymbolError {
-    // Its part in the six sums.
+    // The part of the error in the six sums.
     #[inline]
     fn entry(&self) -> u64
         requires { self.now.position < word_symbols }
@@ -131,7 +131,7 @@ impl SymbolError {
     }
 }
 
-// The only wrong symbol of a word, if one alone is wrong.
+// The wrong symbol of a word, if exactly one symbol is wrong.
 #[inline]
 fn one_error(syndromes: Syndromes) -> Option<SymbolError>
     ensures { MatchOption result

@@ -28,14 +28,14 @@ impl Model for Pack {
 }
 
 impl Pack {
-    /// The word as a codeword, where it is one.
+    /// The word as a codeword, if it is one.
     pub fn check(word: &Word) -> Option<Pack>
         ensures { MatchOption result (¬ IsCodeword word.now) (λ p. IsCodeword word.now × (p ≡ word.now)) }
     {
         Pack::check_syndromes(word, Syndromes::of(word))
     }
 
-    /// The same, by the syndromes of the word.
+    /// The word as a codeword, if its syndromes are 0.
     #[inline]
     pub(crate) fn check_syndromes(word: &Word, syndromes: Syndromes) -> Option<Pack>
         requires { AreSyndromes word.now syndromes.lanes }

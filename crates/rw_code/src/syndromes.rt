@@ -24,7 +24,7 @@ pub(crate) struct Sums {
 }
 
 impl Syndromes {
-    /// Those of a word, in one pass.
+    /// The six sums of a word, in one pass.
     #[inline]
     pub(crate) fn of(word: &Word) -> Syndromes
         ensures { AreSyndromes word.now result.lanes }
@@ -37,7 +37,7 @@ impl Syndromes {
         Syndromes { lanes }
     }
 
-    /// The four over all symbols, each by itself.
+    /// The four sums over all symbols, separately.
     #[inline]
     pub(crate) fn sums(self) -> Sums
         ensures { AreLanes self.lanes result }
@@ -50,7 +50,7 @@ impl Syndromes {
         }
     }
 
-    // One of the six.
+    // One of the six sums.
     #[inline]
     fn lane(self, j: u32) -> Sym
         requires { j < 6 }

@@ -62,7 +62,7 @@ pub(crate) fn turned(
     by_twos(by_ones(zeroth, first), by_ones(second, third))
 }
 
-// Lanes of two vectors by turns.
+// Every second lane of two vectors, alternately.
 #[inline(always)]
 fn by_ones(even: u8x16, odd: u8x16) -> u8x16
     requires even { length even ≡ 16 }
@@ -76,7 +76,7 @@ fn by_ones(even: u8x16, odd: u8x16) -> u8x16
     )
 }
 
-// Lanes of two vectors, two by turns.
+// Two lanes of one vector, then two of the other, alternately.
 #[inline(always)]
 fn by_twos(even: u8x16, odd: u8x16) -> u8x16
     requires even { length even ≡ 16 }

@@ -21,18 +21,17 @@ use std::alloc::{AllocError, Global};
 use std::marker::Model;
 use std::simd::prelude::*;
 
-/// Gathers words from slots, one at a time, or from the four of a block at once. Seen as the last slots, at most seven.
-/// It takes no memory.
+/// Gathers words from slots, one at a time, or from the four slots of a block. Its model is the list of the last slots, at
+/// most seven. It allocates no memory.
 #[derive(Drop)]
 pub struct Gather {
-    /// The symbols of the first three of the last seven slots. Where fewer have come, the first of the seven stand for
-    /// none.
+    /// The symbols of the first three of the last seven slots. If fewer than seven were read, the first ones are unused.
     pub early: [u8; EARLY_BYTES],
     /// The symbols of the other four.
     pub late: [u8; BLOCK_BYTES],
-    /// How many of the seven have come.
+    /// How many of the seven were read.
     pub count: usize,
-    /// Only where all seven have come, with no symbol but 0.
+    /// `true` only if all seven were read and each symbol is 0.
     pub quiet: bool,
 }
 
@@ -49,7 +48,7 @@ impl Model for Gather {
 }
 
 impl Gather {
-    /// A gatherer of no slots yet.
+    /// A gatherer that has read no slot.
     pub fn new() -> Gather
         ensures { result ≡ [] }
     {
@@ -61,12 +60,12 @@ impl Gather {
         }
     }
 
-    /// The same, in the form that callers were promised: it always succeeds.
+    /// A gatherer that has read no slot. It always succeeds; callers rely on this signature.
     pub fn start(alloc: Global) -> Result<Gather, AllocError>
         ensures made { IsOk result }
         ensures empty { IfOk result (λ g. g ≡ []) }
     {
-        // Nothing is taken of it: the seven slots have their place in the gatherer.
+        // The allocator is not used: the gatherer holds the seven slots itself.
         Ok(Gather::new())
     }
 
@@ -78,7 +77,7 @@ impl Gather {
         self.quiet = false;
     }
 
-    /// Takes a slot, and gives the word whose last symbol came with it: none for the first seven slots.
+    /// Reads a slot, and returns the word that it completes: none for the first seven slots.
     pub fn push(&mut self, slot: &Slot) -> Option<Word>
         ensures next { self.new ≡ gather_next self.old slot.now }
         ensures gives { result ≡ gather_gives self.old slot.now }
@@ -93,7 +92,7 @@ impl Gather {
         word
     }
 
-    /// Whether the words that come with a block are four of zeros, and the slots stay as they are.
+    /// Whether a block completes four words of zeros and leaves the slots unchanged. `false` says nothing.
     #[inline(always)]
     pub fn stays_idle(&self, block: &[u8; BLOCK_BYTES]) -> bool
         ensures next { result ≡ true → self.now ≡ slots_after_block self.now block.now }
@@ -106,8 +105,7 @@ impl Gather {
         false
     }
 
-    /// Takes the four slots of a block, which are the low six bits of its bytes, and gives the words whose last symbol
-    /// came with them.
+    /// Reads the four slots of a block, the low six bits of its bytes, and returns the words that they complete.
     #[inline]
     pub fn push_block(&mut self, block: &[u8; BLOCK_BYTES]) -> ArrayVec<Word, SLOTS_A_BLOCK>
         ensures next { self.new ≡ slots_after_block self.old block.now }
@@ -119,7 +117,7 @@ impl Gather {
         self.gather_block(block)
     }
 
-    /// Gathers the words of a block that is not seen to be idle. Idle blocks do not pay for its variables.
+    /// Reads a block without the test for idle blocks, and returns the words that it completes.
     ///
     /// Position p of the slots is in slot p % 8. So four positions from a multiple of four on are in four slots, one
     /// after the other, each at the next place. The numbers are the places of positions 0, 4, 16 and 20 of each word, and of
