@@ -108,7 +108,8 @@ outputs (*sinks*). A clause `ensures name { .. }` is a statement that is true af
 The lines that begin with `--` use some words in a special sense. Bytes are *put* if they were written to an output, and *taken* if they were
 read from an input. A *text* may be any list of bytes that is written. *Told* means reported. A pack is *whole* if its last symbol was read;
 this symbol is seven slots after the slot in which the pack begins. A picture *stands* while the screen shows it. The *framing* of a stream is
-its P bits, its Q frames and its text packs. A stream is *cooked* if the 24 symbols of each word are next to each other.
+its P bits, its Q frames and its text packs. A stream is *cooked* if the 24 symbols of each word are next to each other. A word is *nearly
+zero* if at most two of its symbols are not 0. *So many* means the number in the argument.
 
 `slice_index xs n` is element n of a list, counted from 0. If the list has no such element, it is 0. `pixel_at` and `word_of` depend on this.
 """.strip()
