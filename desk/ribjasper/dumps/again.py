@@ -103,7 +103,7 @@ def table(of: Wanted) -> str:
 
 
 def ddrescue(of: Wanted) -> str:
-    """A map that `ddrescue -b 2048` goes on with: what is to be read again is a bad area, all else is finished."""
+    """A map for `ddrescue -b 2048`: sectors to read again are bad areas, all others are finished."""
     lines = ["# Mapfile. Sectors to read again, of 2048 bytes", "# current_pos  current_status  current_pass"]
     lines += ["0x00000000     ?               1", "#      pos        size  status"]
     place = 0
@@ -122,7 +122,7 @@ def area(first: int, end: int, status: str) -> str:
 
 
 def lines(of: Wanted, spell: Callable[[int, int], str]) -> str:
-    """A line for each part, of its first sector and the one behind its last."""
+    """A line for each part: its first sector, and the sector after its last."""
     return "".join(f"{spell(it.first, it.last + 1)}\n" for it in of.parts)
 
 

@@ -17,15 +17,15 @@ class Packs(NamedTuple):
 
 # So many packs say whether readings agree, if at least this share of them does.
 LEAST_PACKS, LEAST_SHARE = 12, 0.9
-# In a part where each of two readings has so many packs, some are the same if it is one part of one disc; so many that are
-# the same are no chance.
+# In a part where each of two readings has so many packs, some are the same if it is one part of one disc; so many that
+# are the same are no chance.
 SOME, NO_CHANCE = 8, 4
 
 
 @dataclass
 class Shared:
-    """In how many words two readings have packs that are not idle, how many of these are the same, in how many parts both
-    have packs and none is the same, and in how many the first has packs and none is the same."""
+    """In how many words two readings have packs that are not idle, how many of these are the same, in how many parts
+    both have packs and none is the same, and in how many the first has packs and none is the same."""
 
     all: int = 0
     same: int = 0

@@ -34,7 +34,7 @@ class Sums(NamedTuple):
 
 def sums_of(path: str) -> Sums:
     """The checksums of a file, which is read once."""
-    # What is no file, as a pipe, has no end.
+    # A pipe has no end.
     path = DumpFile(path).path
     crc = size = 0
     digests = [hashlib.new(name, usedforsecurity=False) for name in ("md5", "sha1", "sha256")]
@@ -76,7 +76,7 @@ def dat(title: str, files: Iterable[tuple[str, Sums]]) -> bytes:
 
 
 class Listed(NamedTuple):
-    """What a list says of a file: its name, and those of size and checksums that it has."""
+    """The entry of a list for a file: its name, and the size and checksums that the list has."""
 
     name: str
     values: dict[str, str]

@@ -52,7 +52,7 @@ def runs(column: bytes) -> list[Run]:
 
 
 def joined(parts: Iterable[Part], join: Callable[[Part, Part], Part | None]) -> list[Part]:
-    """Parts in turn, each joined with the one before it if `join` gives both as one."""
+    """Parts in order. A part is joined with the one before it if `join` returns both as one."""
     found: list[Part] = []
     for part in parts:
         both_as_one = join(found[-1], part) if found else None

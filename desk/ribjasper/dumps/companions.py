@@ -14,7 +14,7 @@ from ..common.times import PAUSE
 REDUMPER_START, SAMPLES = -45_000, 588
 # A .c2 file has a bit for each of the 2,352 bytes of a sector, and some tools two bytes more.
 C2_SIZES = (294, 296)
-# The most that is read of a file beside a dump.
+# At most so many bytes of a companion file are read.
 MOST = 1 << 22
 # The point of a table of contents that says where the lead-out begins.
 LEAD_OUT = 0xA2
@@ -106,7 +106,7 @@ READERS: dict[str, Callable[[bytes, Companions], None]] = {
 
 
 def beside_dump(path: str, blocks: int) -> Companions:
-    """What the files beside a dump of so many blocks say. A file that cannot be used is noted and ignored."""
+    """The contents of the companion files of a dump of so many blocks. An unusable file is noted and ignored."""
     found = Companions()
     for name in neighbours(path, (".state", ".c2", *READERS)):
         ending = os.path.splitext(name)[1].lower()
@@ -126,7 +126,7 @@ def beside_dump(path: str, blocks: int) -> Companions:
 
 
 def neighbours(path: str, endings: Sequence[str]) -> list[str]:
-    """The files beside a dump that have its name with another of these endings."""
+    """The files next to a dump that have its name with one of these endings."""
     stem = os.path.splitext(path)[0]
     names = (
         base + form for base in dict.fromkeys((stem, path)) for ending in endings for form in (ending, ending.upper())

@@ -1,4 +1,4 @@
-"""In what the table of contents, the Q channel and a cue sheet differ."""
+"""The differences between the table of contents, the Q channel and a cue sheet."""
 import enum
 import os
 import re
@@ -17,7 +17,7 @@ TIME = re.compile(r"(\d+):(\d\d):(\d\d)")
 
 
 class TimeBase(enum.Enum):
-    """What the times of a sheet count from."""
+    """The origin of the times of a sheet."""
 
     FILE = "file"  # where the audio of the dump begins; missing parts of the dump do not count
     DISC = "disc"  # the first sector of the disc, at the absolute time 00:02:00
@@ -68,7 +68,7 @@ def named_file(folder: Path, name: str) -> tuple[str, int, int] | None:
     try:
         size = path.stat().st_size
     except (OSError, ValueError):
-        # No file has such a name, one with a zero byte say.
+        # No file has this name, for example if it contains a zero byte.
         return None
     unit = AUDIO if size % AUDIO == 0 else SECTOR
     return os.fspath(path), unit, size // unit
@@ -127,7 +127,7 @@ def read_cue(path: str, content: bytes) -> Cue:
 
 
 class Difference(NamedTuple):
-    """In what the table of contents, Q and a sheet differ, and what their times count from."""
+    """The differences between the table of contents, Q and a sheet, and the origin of the times."""
 
     track: str
     what: str
@@ -138,7 +138,7 @@ class Difference(NamedTuple):
 
 
 def differences(source: Source, found: QDisc, cue: Cue, base: TimeBase) -> list[Difference]:
-    """What differs: of the album, and of each track its beginning, its indexes, its code and its session."""
+    """The differences of the album, and of each track in beginning, indexes, code and session."""
     result: list[Difference] = []
 
     def put(track: str, what: str, contents: str, q: str, sheet: str) -> None:
@@ -181,7 +181,7 @@ def differences(source: Source, found: QDisc, cue: Cue, base: TimeBase) -> list[
 
 
 def write_differences(table: Table, source: Source, found: QDisc, cue: Cue, base: TimeBase) -> bool:
-    """The table of what differs; whether anything does."""
+    """Prints the table of differences; returns whether there are any."""
     found_rows = differences(source, found, cue, base)
     for row in found_rows:
         table.row(row)

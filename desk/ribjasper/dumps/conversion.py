@@ -64,7 +64,7 @@ def coded(raw: bytes, target: Form) -> bytes:
 
 
 class Audio:
-    """The audio of sectors: that of the dump, of a file of samples, or silence; what is missing is silence."""
+    """The audio of sectors: from the dump, from a file of samples, or silence. Missing audio is silence."""
 
     def __init__(self, loaded: Loaded, sources: Sources, first: int) -> None:
         self.path = sources.audio or (loaded.path if loaded.form.is_in_sectors() else None)
@@ -94,7 +94,7 @@ def header_of(path: str) -> int:
 
 
 def with_audio(parts: Iterator[bytes], size: int, audio: Audio) -> Iterator[bytes]:
-    """The subcode of sectors behind their audio."""
+    """Sectors: the audio of each, followed by its subcode."""
     number = 0
     for part in parts:
         whole = len(part) // size

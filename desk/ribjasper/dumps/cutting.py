@@ -40,7 +40,7 @@ class FileSectors(NamedTuple):
 
 @dataclass
 class Image:
-    """Sectors of 2,352 bytes, in files one behind another."""
+    """Sectors of 2,352 bytes in one or more files, in order."""
 
     stretches: list[FileSectors]
 
@@ -88,7 +88,7 @@ class CutTrack(NamedTuple):
 
 @dataclass
 class CutDisc:
-    """An image with its tracks, and what is to be said of how it is cut."""
+    """An image with its tracks, and notes on how it is cut."""
 
     name: str
     image: Image
@@ -99,7 +99,7 @@ class CutDisc:
 
 
 class Hashed(NamedTuple):
-    """A track with its checksums, and of data what the error detection codes say."""
+    """A track with its checksums, and for a data track the result of its error detection codes."""
 
     track: CutTrack
     sums: Sums
@@ -163,7 +163,7 @@ def tracks_of_sheet(path: str) -> CutDisc:
 
 
 def sheet_beside(path: str) -> str | None:
-    """The cue sheet of an image: the file itself, or the one beside it that has its name."""
+    """The cue sheet of an image: the file itself, or the sheet of the same name next to it."""
     if path.lower().endswith(".cue"):
         return path
     stem = os.path.splitext(path)[0]
@@ -231,7 +231,7 @@ def hashed(cut: CutDisc, track: CutTrack, offset: int = 0) -> Hashed:
 
 
 def shift_tables(length: int) -> list[list[int]]:
-    """What CRC-32 becomes when so many zero bytes follow, of each of its four bytes."""
+    """For each of the four bytes of a CRC-32: its contribution after so many zero bytes."""
 
     def times(matrix: list[int], value: int) -> int:
         found, place = 0, 0

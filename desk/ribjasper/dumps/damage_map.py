@@ -1,9 +1,9 @@
-"""The map of a dump: what each of its seconds is, as a picture."""
+"""The map of a dump: a picture with a cell for each second."""
 from typing import Any, Sequence
 
 from ..common.output import package
 
-# What a second of a dump is, the worse the higher. Colours that colour-blind readers tell apart (Okabe and Ito).
+# The states of a second, the worst last. Colour-blind readers can distinguish these colours (Okabe and Ito).
 GOOD, CORRECTED, Q_BAD, BAD, EMPTY, UNREAD = range(6)
 STATES = {
     GOOD: ("whole", (222, 222, 222)),
@@ -21,7 +21,7 @@ INK, PAPER, FRAME = (0, 0, 0), (255, 255, 255), (200, 200, 200)
 
 
 def meanings() -> list[tuple[str, tuple[int, int, int]]]:
-    """What the colours of a map mean."""
+    """The legend of a map."""
     return [*STATES.values(), JUMP]
 
 

@@ -72,7 +72,7 @@ def damages(survey: Survey) -> list[Damage]:
 
 
 def unread_damages(survey: Survey) -> list[Damage]:
-    """The blocks before the first that was read, and behind the last, which are no damage."""
+    """The unread blocks at both ends, which are no damage."""
     clock = Clock(survey)
     return [
         Damage(UNREAD, run.first, run.last, spelled(clock.time(run.first)), spelled(clock.time(run.last)), "-")

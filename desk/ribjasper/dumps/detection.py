@@ -1,4 +1,4 @@
-"""Finds the form of a dump, by trying each: how much of what is not empty a form explains."""
+"""Finds the form of a dump: tries each form, and measures the share of the non-empty content that it explains."""
 import math
 import re
 from typing import Iterator, NamedTuple, Sequence
@@ -72,14 +72,14 @@ class Explained(NamedTuple):
 
 
 class Found(NamedTuple):
-    """A form, the bytes of the header in front of it, and what speaks for it."""
+    """A form, the length of the header before it, and the evidence for it."""
 
     form: Form
     skip: int
     signs: Signs
 
     def explained(self) -> Explained | None:
-        """What this form explains, or none where chance explains as much."""
+        """The content that this form explains, or none if chance explains as much."""
         it = self.signs
         if self.form.coding is Coding.PQ:
             # Without checks the fields decide.
@@ -156,7 +156,7 @@ def units_within(window: Window, form: Form, skip: int) -> bytes:
 
 
 def signs(windows: Sequence[Window], form: Form, skip: int) -> Signs:
-    """What speaks for a form in these windows."""
+    """The evidence for a form in these windows."""
     total = Signs()
     for window in windows:
         blocks = subcode(units_within(window, form, skip), form)
@@ -206,7 +206,7 @@ def may_have_header(form: Form) -> bool:
 def tried(
     dump: DumpFile, windows: Sequence[Window], forms: Sequence[Form], skips: Sequence[int] | None
 ) -> Iterator[Found]:
-    """What speaks for each form, with no header and with one whose length follows from that of the file."""
+    """The evidence for each form, without a header and with the header that the length of the file suggests."""
     for form in forms:
         lengths = {0, dump.size % form.unit} if may_have_header(form) else {0}
         for skip in sorted(lengths) if skips is None else skips:
@@ -313,7 +313,7 @@ def form_of(dump: DumpFile, skip: int | None = None) -> tuple[Found | None, list
 
 
 def reason(dump: DumpFile, form: Form, found: Found | None) -> str:
-    """What speaks against a form."""
+    """The evidence against a form."""
     if found is not None:
         return f"{form.name}: {found.signs.against()}"
     return (

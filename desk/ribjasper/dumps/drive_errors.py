@@ -49,7 +49,7 @@ def doubtful_units(path: str, unit: int, blocks: int, table: bytes | None) -> by
 
 
 def unit_of(path: str, blocks: int) -> int | None:
-    """The bytes that a file beside a dump has for each block, or none if it has another length."""
+    """The bytes of a companion file for each block, or none if the file has another length."""
     size, ending = os.path.getsize(path), os.path.splitext(path)[1].lower()
     if ending == ".state":
         # redumper's file may be longer than the subcode.

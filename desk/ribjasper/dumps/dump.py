@@ -13,7 +13,7 @@ READ_AT_ONCE = 1 << 23
 
 
 class DumpFile:
-    """A file that is read as units behind a header of so many bytes."""
+    """A file of units after a header of so many bytes."""
 
     def __init__(self, path: Name, skip: int = 0):
         self.path = os.fsdecode(path)
@@ -27,7 +27,7 @@ class DumpFile:
 
     @property
     def content(self) -> int:
-        """The bytes behind the header."""
+        """The number of bytes after the header."""
         return max(0, self.size - self.skip)
 
     def units(self, form: Form) -> int:
@@ -35,7 +35,7 @@ class DumpFile:
         return self.content // form.unit
 
     def rest(self, form: Form) -> int:
-        """The bytes behind the last whole unit."""
+        """The number of bytes after the last whole unit."""
         return self.content % form.unit
 
     def read(self, start: int, length: int) -> bytes:

@@ -20,7 +20,7 @@ COLUMNS = (
     "q-bad", "empty", "runs", "jumps", "damage", "size", "sha256", "why", "unread", "notes", "crc32", "md5", "sha1",
     "picture", "sessions", "drive-errors",
 )  # fmt: skip
-# What a row's status says.
+# The values of the column status.
 GOOD, DAMAGED, TORN, EMPTY, FOREIGN, UNREAD = "good", "damaged", "torn", "empty", "foreign", "unread"
 # A picture is complete when no pack of graphics comes for a second; else it is taken after ten.
 QUIET, LONGEST = 300, 3000

@@ -8,17 +8,17 @@ from typing import NamedTuple
 from ..common import library
 from ..common.library import AUDIO as AUDIO, BLOCK, PACK, PACKS_A_BLOCK
 
-# P and Q as drives give them: the frame, three bytes of zeros, and P in the highest bit of the last byte.
+# P and Q as drives return them: the frame, three bytes of zeros, and P in the highest bit of the last byte.
 PQ = 16
 FRAME, FRAME_WITHOUT_CHECK = 12, 10
 
 
 class Coding(enum.Enum):
-    """What the subcode of a unit is."""
+    """The encoding of the subcode of a unit."""
 
     RAW = "raw"  # 96 bytes, one for each symbol
     PLANAR = "planar"  # twelve bytes for each channel from P to W
-    PQ = "pq"  # sixteen bytes of P and Q alone
+    PQ = "pq"  # sixteen bytes of only P and Q
     COOKED = "cooked"  # four packs
     CDG = "cdg"  # a pack, whose parity may be missing
 
@@ -42,7 +42,7 @@ class Form(NamedTuple):
 
     @property
     def library(self) -> int:
-        """What the library calls the subcode."""
+        """The library's number for this subcode."""
         return library.PACKS if self.is_packs() else library.RAW
 
     def is_packs(self) -> bool:
@@ -53,11 +53,11 @@ class Form(NamedTuple):
         return self.coding is not Coding.PQ
 
     def blocks(self, units: int) -> int:
-        """How many blocks so many units are: of packs alone four are one."""
+        """The number of blocks in so many units. In a file of packs, four units are a block."""
         return -(-units // PACKS_A_BLOCK) if self.coding is Coding.CDG else units
 
     def is_plain(self) -> bool:
-        """Whether a file has the blocks as they are, one behind another."""
+        """Whether a file contains the blocks unchanged and nothing else."""
         return self.coding is Coding.RAW and self.order is Order.PLAIN and not self.is_in_sectors()
 
     def is_in_sectors(self) -> bool:
@@ -68,7 +68,7 @@ class Form(NamedTuple):
         return self._replace(name=name, order=order)
 
 
-# In the order in which they are tried: of P and Q alone each sixth unit looks like the Q of a planar block.
+# In the order of the trials: each sixth unit of the form pq looks like channel Q of a planar block.
 PLAIN_FORMS = (
     Form("raw", BLOCK, BLOCK, Coding.RAW),
     Form("pq", PQ, PQ, Coding.PQ),
@@ -82,7 +82,7 @@ PLAIN_FORMS = (
 )
 FORMS = {form.name: form for order in Order for form in (it.ordered(order) for it in PLAIN_FORMS)}
 _REVERSED = bytes(int(f"{byte:08b}"[::-1], 2) for byte in range(256))
-# What is left of a byte without the bit of P.
+# Each byte without the bit of P.
 _P_ALONE = bytes(byte & 0x7F for byte in range(256))
 _NO_FRAME, _NO_CHECK = bytes(FRAME_WITHOUT_CHECK), bytes(PQ - FRAME_WITHOUT_CHECK)
 _ALL_P, _NO_P = b"\xff" * FRAME, bytes(FRAME)
@@ -91,7 +91,7 @@ SYMBOLS = bytes(byte & 63 for byte in range(256))
 
 
 def swapped(content: bytes) -> bytes:
-    """The bytes of each pair exchanged; a last one alone stays."""
+    """Exchanges the bytes of each pair; an odd last byte stays."""
     pairs = bytearray(content)
     even = len(content) - len(content) % 2
     pairs[0:even:2], pairs[1:even:2] = content[1:even:2], content[0:even:2]
@@ -99,7 +99,8 @@ def swapped(content: bytes) -> bytes:
 
 
 def turned(blocks: bytes, call: str) -> bytes:
-    """Whole blocks, each turned by a call of the library that reads one and writes one; what is left is left out."""
+    """Converts each whole block by a call of the library that reads one block and writes one. Drops an incomplete last
+    block."""
     blocks = blocks[: len(blocks) - len(blocks) % BLOCK]
     room = ctypes.create_string_buffer(max(1, len(blocks)))
     source = library.address(blocks)
@@ -122,7 +123,7 @@ def to_planar(blocks: bytes) -> bytes:
 
 
 def from_pq(content: bytes) -> bytes:
-    """The raw blocks of P and Q alone; a frame whose check a drive left out has it again."""
+    """Raw blocks from units of only P and Q. Restores the check of frames if the drive left it out."""
     rest = bytes(BLOCK - 2 * FRAME)
     without_p = content.translate(_P_ALONE)
     parts = list[bytes]()
@@ -138,7 +139,7 @@ def from_pq(content: bytes) -> bytes:
 
 
 def to_pq(blocks: bytes) -> bytes:
-    """P and Q alone of raw blocks."""
+    """Units of only P and Q from raw blocks."""
     planar = to_planar(blocks)
     parts = []
     for start in range(0, len(planar), BLOCK):

@@ -1,4 +1,4 @@
-"""What a dump carries: graphics, texts and good Q frames."""
+"""The contents of a dump: graphics, texts and good Q frames."""
 from typing import Iterator, NamedTuple
 
 from ..common import library
@@ -12,7 +12,7 @@ NOT_READ = "not read"
 
 
 class Identity(NamedTuple):
-    """What a dump carries."""
+    """The contents of a dump."""
 
     graphics: str  # yes, no or not read
     texts: str  # the lines of the lead-in's texts

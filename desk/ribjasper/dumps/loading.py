@@ -21,7 +21,7 @@ NO_FORM = "no known form fits; give --form, --lead-in or --skip if you know them
 
 
 class DumpOptions(NamedTuple):
-    """What the words of a command say of a dump; none where it is to be found."""
+    """The options of a command for a dump; none if the desk has to detect the value."""
 
     form: str | None = None
     lead_in: int | None = None
@@ -29,14 +29,14 @@ class DumpOptions(NamedTuple):
 
 
 class Unknown(NamedTuple):
-    """A file without a known form: why, in a few words, and what speaks against each form."""
+    """A file of unknown form: a short reason, and the evidence against each form."""
 
     cause: str
     against: list[str]
 
 
 class Loaded(NamedTuple):
-    """A dump that was read: blocks of 96 bytes, and what is found of each."""
+    """A loaded dump: blocks of 96 bytes, and their survey."""
 
     dump: DumpFile
     form: Form
@@ -50,7 +50,7 @@ class Loaded(NamedTuple):
 
     @property
     def rest(self) -> int:
-        """The bytes behind the last whole unit, of a dump that is torn."""
+        """The number of bytes after the last whole unit of a torn dump."""
         return self.dump.rest(self.form)
 
     def has_graphics_bits(self) -> bool:
@@ -58,7 +58,7 @@ class Loaded(NamedTuple):
         return self.form.has_graphics() and has_graphics_bits(self.stream)
 
     def notes(self) -> Iterator[str]:
-        """What is unusual in a dump, in a few words each."""
+        """Short notes on unusual properties of a dump."""
         if self.rest:
             yield f"torn: {self.rest} bytes behind the last whole unit"
         if self.dump.skip:
@@ -76,7 +76,7 @@ class Loaded(NamedTuple):
 
 
 def add_options(parser: argparse.ArgumentParser) -> None:
-    """The options that say what a dump is."""
+    """Adds the options that describe a dump."""
     parser.add_argument(
         "--form",
         type=form_name,
@@ -106,7 +106,7 @@ def asked(arguments: argparse.Namespace) -> DumpOptions:
 
 
 def survey_of(stream: bytes, form: Form, given: int | None = None, companions: Companions | None = None) -> Survey:
-    """The survey of a stream, with the lead-in that is given, that its Q frames say, or that files beside it say."""
+    """The survey of a stream. Its lead-in is the given one, or follows from Q frames or from companion files."""
     survey = Survey(stream, form.library, given or 0)
     if given is not None or form.library != RAW:
         return survey
@@ -155,7 +155,7 @@ def read_dump(path: str, words: DumpOptions = DumpOptions()) -> Loaded:
 
 
 def load_raw(path: str, words: DumpOptions, wants: str) -> Loaded:
-    """A dump that has blocks and not packs alone."""
+    """A dump that has blocks, not only packs."""
     loaded = read_dump(path, words)
     if loaded.form.library != RAW:
         raise Refusal(path, f"is {loaded.form.name}, which has no {wants}")

@@ -1,5 +1,5 @@
-"""Mending of readings that are side by side: one call of the library decides and counts. This module has the input and
-the output of that call."""
+"""Mends aligned readings by one call of the library, which decides and counts. This module prepares the input and reads
+the output of this call."""
 import ctypes
 import functools
 import itertools
@@ -15,17 +15,16 @@ from .columns import Run, busy, different, joined, runs, touching
 from .readings import Laid, Reading
 from .survey import has_graphics_bits
 
-# So many blocks are looked at at a time.
+# The number of blocks that are compared at a time.
 AT_ONCE = 1_000
-# So many packs that two readings share are enough to decide whether they are of one disc.
+# So many packs in common decide whether two readings are of one disc.
 ENOUGH = 2_000
 _PQ = bytes(byte & 0xC0 for byte in range(256))
 _NO_WORD = re.compile(bytes([library.NO_READING]) + b"+")
 
 
 class Counts(NamedTuple):
-    """What the library counted of each reading, in words: those that came from it, those that were ignored, and
-    error-free ones that did not come out."""
+    """The counts of a reading, in words: those taken from it, those ignored, and error-free ones that were lost."""
 
     of_reading: int
     left_out: int
@@ -43,11 +42,11 @@ class Mended(NamedTuple):
     counts: list[Counts]
 
     def lost_words(self) -> list[Run]:
-        """The words that have no codeword."""
+        """The words without a codeword."""
         return [Run(found.start(), found.end() - 1) for found in _NO_WORD.finditer(self.sources)]
 
     def lost_blocks(self) -> list[Run]:
-        """The blocks that these words are spread over."""
+        """The blocks that contain symbols of these words."""
         blocks = (Run(run.first // PACKS_A_BLOCK, (run.last + SLOTS - 1) // PACKS_A_BLOCK) for run in self.lost_words())
         return joined(blocks, touching)
 
@@ -91,15 +90,15 @@ def best_first(laid: Laid) -> list[int]:
 
 
 def zeros(size: int) -> mmap.mmap:
-    """Memory of zeros, a byte at least. A page takes no room before something is written to it."""
+    """At least one byte of zeros. A page uses no memory before it is written to."""
     if sys.platform == "win32":
         return mmap.mmap(-1, max(1, size))
     return mmap.mmap(-1, max(1, size), flags=mmap.MAP_PRIVATE | mmap.MAP_ANONYMOUS)
 
 
 def programs_of(laid: Laid, order: Sequence[int]) -> mmap.mmap:
-    """The program of all readings, one behind another. What is known of their blocks, and the streams of files that no later
-    reading needs, are let go."""
+    """The programs of all readings, in order. Frees the surveys of the readings, and streams that no later reading
+    needs."""
     content = zeros(laid.size * len(order))
     for place, number in enumerate(order):
         reading = laid.readings[number]
@@ -133,7 +132,7 @@ def mend_laid(laid: Laid, as_stream: bool) -> Mended:
 
 
 def has_graphics(laid: Laid) -> bool:
-    """Whether a reading has a bit of R to W where its parts are."""
+    """Whether a part of any reading has a bit of R to W."""
     return any(
         has_graphics_bits(content)
         for reading in laid.readings
@@ -146,7 +145,7 @@ def has_graphics(laid: Laid) -> bool:
 
 
 def in_common(laid: Laid) -> dict[tuple[int, int], Shared]:
-    """What pairs of readings share, of parts that are spread over the disc, until it is enough."""
+    """The packs that pairs of readings have in common, counted in parts spread over the disc until they are enough."""
     found = {pair: Shared() for pair in itertools.combinations(range(len(laid.readings)), 2)}
     blocks = laid.blocks - laid.lead_in
     for part in far_apart(-(-blocks // AT_ONCE)):

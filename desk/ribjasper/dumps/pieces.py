@@ -1,22 +1,22 @@
-"""The parts of a dump whose absolute times go on by one, and where by these the dump begins."""
+"""Pieces of a dump whose absolute times increase by one per block, and the lead-in that follows from them."""
 import itertools
 from typing import NamedTuple, Sequence
 
 from ..common import library
 from .survey import Stretch, Survey
 
-# Fewer blocks than these with a time of their own are taken for frames that are wrong, where a longer piece is there.
+# If there is a longer piece, the frames of a piece with fewer timed blocks count as wrong.
 FEWEST = 3
-# A piece decides the lead-in where it has a second of frames, or one in so many of all.
+# A piece can decide the lead-in if it has a second of frames, or this share of all frames.
 DECIDES, SHARE = 75, 100
-# So many of the heaviest pieces are put in order.
+# Only so many of the heaviest pieces are ordered.
 MOST_PIECES = 300
 TABLE = (library.Q_TRACK, library.Q_FIRST, library.Q_LAST, library.Q_LEAD_OUT)
 
 
 class Piece(NamedTuple):
-    """Neighbouring blocks of a dump, from the first up to the end, what is added to their numbers for their times, how
-    many of them have a time of their own, and how many others have their place by other evidence."""
+    """Neighbouring blocks of a dump from `first` up to `end`. Block n has the time n + shift. `known` blocks have this
+    time in their own frame; `placed` others have their place by other evidence."""
 
     first: int
     end: int
@@ -38,7 +38,7 @@ class Piece(NamedTuple):
 
 
 def merged_pieces(pieces: Sequence[Piece]) -> list[Piece]:
-    """Pieces in turn, those with the same shift as one."""
+    """Pieces in order; neighbours of one shift are merged."""
     found = []
     for shift, group in itertools.groupby(pieces, key=lambda it: it.shift):
         own = list(group)
@@ -47,7 +47,7 @@ def merged_pieces(pieces: Sequence[Piece]) -> list[Piece]:
 
 
 def with_one_shift(stretches: Sequence[Stretch]) -> list[Piece]:
-    """Stretches in turn, those with the same shift as one piece."""
+    """Stretches in order; neighbours of one shift are one piece."""
     found = []
     for shift, group in itertools.groupby(stretches, key=lambda it: it.time - it.first):
         own = list(group)
@@ -57,8 +57,8 @@ def with_one_shift(stretches: Sequence[Stretch]) -> list[Piece]:
 
 
 def chain_of(pieces: Sequence[Piece]) -> list[Piece]:
-    """Of pieces in the order of the file those whose times go on too, from each to the next, and that weigh the most
-    together: what was read somewhere else, as stale subcode is, drops out."""
+    """The heaviest sequence of pieces whose times increase in the order of the file. Pieces of another place, for
+    example stale subcode, drop out."""
     heaviest = sorted(sorted(pieces, key=lambda it: it.weight, reverse=True)[:MOST_PIECES])
     chains: list[tuple[int, int]] = []  # the frames of the best chain up to a piece, and the piece before it
     for place, piece in enumerate(heaviest):
@@ -82,20 +82,19 @@ def chain_of(pieces: Sequence[Piece]) -> list[Piece]:
 
 
 def framed_pieces(stretches: Sequence[Stretch]) -> list[Piece]:
-    """The pieces of a dump in the order of the file, but for frames that are wrong."""
+    """The pieces of a dump in the order of the file, without wrong frames."""
     found = with_one_shift(stretches)
     return merged_pieces([it for it in found if it.known >= FEWEST]) or found
 
 
 def pieces_of(stretches: Sequence[Stretch]) -> list[Piece]:
-    """The pieces of a dump that go on from each to the next, but for frames that are wrong."""
+    """The pieces of a dump whose times increase, without wrong frames."""
     return merged_pieces(chain_of(framed_pieces(stretches)))
 
 
 def layers_of(pieces: Sequence[Piece]) -> list[list[Piece]]:
-    """The pieces of a dump in layers: no two pieces of a layer claim one place of the disc. The pieces that go on from each
-    to the next keep their places, in the first layer. Another piece, as stale subcode, is in the first layer where its
-    place is free; those that weigh the most come first."""
+    """The pieces of a dump in layers. The first layer has the pieces whose times increase. Any other piece, for example
+    stale subcode, is in the first layer in which no piece has the same times; the heaviest come first."""
     run = chain_of(pieces)
     layers = [list(run)]
     kept = set(run)
@@ -110,13 +109,13 @@ def layers_of(pieces: Sequence[Piece]) -> list[list[Piece]]:
 
 
 def meet(one: Piece, other: Piece) -> bool:
-    """Whether two pieces claim a place of the disc together."""
+    """Whether two pieces have a time in common."""
     return one.time < other.end + other.shift and other.time < one.end + one.shift
 
 
 def lead_in_of(survey: Survey) -> int | None:
-    """How many blocks come before the absolute time zero, or none if no frame has a time. Most frames decide: the first
-    piece of a second or more, in the order of the times. With a table of contents and no program all is lead-in."""
+    """The number of blocks before the absolute time zero, or none if no frame has a time. The first piece of a second
+    or more decides, in the order of the times. A dump with a table of contents and no program is all lead-in."""
     found = pieces_of(survey.stretches())
     if not found:
         kinds = survey.column("q")

@@ -1,6 +1,6 @@
-"""Where the blocks of readings belong on the disc. A good Q frame places its own block. Other blocks go where their words
-agree with those of another reading; or else where enough frames around them say, or where a reading of the same length
-has them. If nothing decides they are left out."""
+"""Where the blocks of readings belong on the disc. A good Q frame places its own block. Other blocks go where their
+words agree with those of another reading; or else where enough frames around them say, or where a reading of the same
+length has them. If nothing decides they are left out."""
 import functools
 from collections import Counter
 from dataclasses import dataclass, field, replace
@@ -21,7 +21,7 @@ ENOUGH, PLENTY = 2, 10
 # Of two places where words agree, the right one has so many times fewer packs that differ.
 CLEARLY = 10
 # Words are compared in so many windows of a gap, of so many blocks, at so many places, with so many readings.
-WINDOW, MOST_WINDOWS, MOST_PLACES, MOST_OTHERS = 75, 24, 12, 8
+WINDOW, MOST_WINDOWS, MOST_PLACES, MOST_OTHERS = 75, 24, 16, 8
 # A gap of which parts agree at different places is halved so often, down to so many blocks.
 HALVINGS, SHORTEST = 6, 40
 # Of so many parts of a reading most have frames, and those of one shift are in no fewer than these.
@@ -40,8 +40,8 @@ _ZERO = bytes(value == 0 for value in range(256))
 
 @dataclass(eq=False)
 class FrameGap:
-    """Blocks of a file that no frame places, from the first up to the end: how many of them were read; the pieces next to
-    it; those of the run of the file before and behind it; and the shifts of single frames in it."""
+    """Blocks of a file that no frame places, from the first up to the end: how many of them were read; the pieces next
+    to it; those of the run of the file before and behind it; and the shifts of single frames in it."""
 
     first: int
     end: int
@@ -96,8 +96,8 @@ class Framed:
         return replace(self.reading, parts=self.parts())
 
     def parts(self) -> list[Piece]:
-        """The pieces and the gaps that have a place, those that touch and have one shift as one. The lead-in, which has no
-        time, is no part."""
+        """The pieces and the gaps that have a place, those that touch and have one shift as one. The lead-in, which has
+        no time, is no part."""
         runs = [run for gap in self.gaps if (run := self.run(gap))]
         found: list[Piece] = []
         for part in sorted([*self.pieces, *runs]):
@@ -113,8 +113,8 @@ class Framed:
         return [part for whole in found for part in without_runs(whole, self.stale)] if self.stale else found
 
     def run(self, gap: FrameGap) -> Piece | None:
-        """The blocks of a gap that have a place. Next to a piece of another shift that has blocks without a frame, as many
-        blocks may belong to it."""
+        """The blocks of a gap that have a place. Next to a piece of another shift that has blocks without a frame, as
+        many blocks may belong to it."""
         if gap.shift is None:
             return None
         first, end = gap.first, gap.end
@@ -275,8 +275,8 @@ def only_shift(pieces: Iterable[Piece]) -> int | None:
 
 
 def is_sure(found: Framed, run: set[Piece]) -> bool:
-    """Whether the frames of a reading are enough for its place: they are most of it, or they are scattered over it, which
-    those of a few stale runs are not."""
+    """Whether the frames of a reading are enough for its place: they are most of it, or they are scattered over it,
+    which those of a few stale runs are not."""
     survey, total = found.reading.loaded.survey, sum(piece.known for piece in found.pieces)
     # Without Q an idle block is all zeros, and seems to be unread.
     first, end = (survey.first, survey.end) if total > LONGEST_STALE else (0, survey.blocks)
@@ -398,8 +398,8 @@ def places_of(found: Framed, gap: FrameGap) -> list[int]:
 
 
 def by_frames(found: Framed, gap: FrameGap, shift: int | None) -> int | None:
-    """The place of a gap of which the words say nothing: that of the frames around it, if they are many; or that of readings
-    which are as long."""
+    """The place of a gap of which the words say nothing: that of the frames around it, if they are many; or that of
+    readings which are as long."""
     frames = found.frames[shift] if shift is not None else 0
     if not found.homes:
         is_main = found.is_sure and shift == found.main()
@@ -416,8 +416,8 @@ def by_frames(found: Framed, gap: FrameGap, shift: int | None) -> int | None:
 
 
 def place_all(found: Sequence[Framed]) -> None:
-    """Finds the places of gaps. The first round goes by the frames of the other readings, the second by what the first has
-    placed too. Then gaps are halved whose parts agree at different places, as where sectors are missing."""
+    """Finds the places of gaps. The first round goes by the frames of the other readings, the second by what the first
+    has placed too. Then gaps are halved whose parts agree at different places, as where sectors are missing."""
     place_round(found, False)
     place_round(found, True)
     for _ in range(HALVINGS):
@@ -488,7 +488,9 @@ def guesses(own: Framed, others: Sequence[Reading]) -> list[int]:
     ends = {max(part.end + part.shift for part in it.parts) for it in others if it.parts}
     most = MOST_PLACES // 3
     starts = [shift for shift, _ in sorted(shifts.items(), key=lambda it: (-it[1], it[0]))[:most]]
-    return [*starts, *(end - own.reading.loaded.survey.end for end in sorted(ends)[-most:])]
+    survey = own.reading.loaded.survey
+    own_ends = sorted({survey.end, survey.blocks})
+    return [*starts, *(end - own_end for end in sorted(ends)[-most:] for own_end in own_ends)]
 
 
 def laid_of(found: Sequence[Framed]) -> Laid:
@@ -527,19 +529,20 @@ def where_they_are(found: Sequence[Framed]) -> Iterator[tuple[Framed, Piece, Jud
 
 
 def common_origin(found: Sequence[Framed]) -> int | None:
-    """The shift of readings of one length that no reading is sure of: that of the pieces whose words agree with the others
-    where they are in the file."""
+    """The shift of readings of one length that no reading is sure of: that of the pieces whose words agree with the
+    others where they are in the file."""
     shifts = {piece.shift for _, piece, words in where_they_are(found) if words.shift == 0}
     return shifts.pop() if len(shifts) == 1 else None
 
 
 def as_they_are(found: Sequence[Framed]) -> Laid:
-    """Readings of one length, block by block. Nothing says their times. Pieces that are stale, as their words say, are left
-    out."""
+    """Readings of one length, block by block; their times are unknown. Stale pieces are left out: those whose words
+    contradict the others, and those too short to compare."""
     blocks = found[0].blocks
     edges: dict[Framed, list[int]] = {it: [0] for it in found}
     for it, piece, words in where_they_are(found):
-        if 0 in words.against:
+        is_short = FEWEST <= piece.known <= FEW and words.shift is None
+        if is_short or 0 in words.against:
             edges[it] += piece.first, piece.end
     readings = []
     for it, own in edges.items():

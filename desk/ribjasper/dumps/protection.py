@@ -8,7 +8,7 @@ from typing import Collection, Iterable, Mapping, NamedTuple
 CHECK = 2
 # The bytes of a frame that hold its relative and its absolute time.
 RELATIVE, ABSOLUTE = slice(3, 6), slice(7, 10)
-# The second frame of a pair is so many blocks behind the first.
+# The second frame of a pair is so many blocks after the first.
 APART = 5
 # What LibCrypt turns in a check: most discs the first, some the second, in which one bit is wrong, as damage has it
 # too.
@@ -28,7 +28,7 @@ class BadFrame(NamedTuple):
 
 
 class Verdict(enum.Enum):
-    """What a bad frame is."""
+    """The kinds of bad frames."""
 
     DAMAGED = "damaged"
     DOUBTFUL = "doubtful"  # it may have been changed by design
@@ -44,7 +44,7 @@ class Likeness(enum.Enum):
 
 
 def check_of(content: bytes) -> int:
-    """The sixteen bits behind the ten bytes of a frame."""
+    """The sixteen check bits of a frame."""
     return binascii.crc_hqx(content, 0) ^ 0xFFFF
 
 

@@ -1,4 +1,4 @@
-"""What the Q channel and the lead-in of a dump say of its disc: tracks, indices, codes, texts and sessions."""
+"""The disc of a dump by its Q channel and lead-in: tracks, indices, codes, texts and sessions."""
 import collections
 import re
 from dataclasses import dataclass, field
@@ -20,7 +20,7 @@ ISRC, CATALOGUE = re.compile(rb"[A-Z]{2}[A-Z0-9]{3}[0-9]{7}"), re.compile(rb"[0-
 
 
 class Vote(NamedTuple):
-    """What most frames say, by how many of how many."""
+    """The value that most frames have, how many have it, and how many there are."""
 
     value: bytes
     by: int
@@ -38,7 +38,7 @@ class QDisc(Disc):
     listed: dict[int, QFrame] = field(default_factory=dict)  # the tables of contents
     end: int | None = None  # where the last lead-out begins, if a frame or a file says so
     by_frames: dict[int, int] = field(default_factory=dict)  # where index 01 of each track begins by its frames
-    votes: list[str] = field(default_factory=list)  # what was not said by all
+    votes: list[str] = field(default_factory=list)  # values on which not all frames agree
     sessions: list[Session] = field(default_factory=list)
     unsure: list[str] = field(default_factory=list)  # indexes that may begin before the first frame that names them
 
@@ -209,7 +209,7 @@ def listed_by(layout: Layout) -> dict[int, QFrame]:
 
 
 class Parts(NamedTuple):
-    """What is known of the tracks of a dump, by their numbers."""
+    """The tracks of a dump by their numbers."""
 
     met: dict[int, dict[int, tuple[int, int]]]  # the indexes that were met, each with its first block and time
     begins: dict[int, int]  # where index 01 begins

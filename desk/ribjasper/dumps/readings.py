@@ -1,4 +1,4 @@
-"""Readings of one disc, side by side by the times of their Q frames."""
+"""Readings of one disc, aligned by absolute times."""
 from dataclasses import dataclass, field
 from typing import Iterator
 
@@ -16,22 +16,22 @@ _NOTHING = bytes(BLOCK)
 
 @dataclass
 class Reading:
-    """A reading and its parts by their times. Blocks of the file that count as unread are left out. The stream of a plain
-    file is not kept: its blocks are read again."""
+    """A reading and its parts, which have absolute times. `unread` blocks of the file are left out. The stream of a
+    plain file is not kept; its blocks are read again."""
 
     loaded: Loaded
     parts: list[Piece]
     has_graphics: bool  # a bit of R to W is set
     unread: list[Run] = field(default_factory=list)
-    is_beside: bool = False  # its parts claim places that the same file has already
-    lead_in: int = 0  # so many blocks of the file come before the absolute time zero
+    is_beside: bool = False  # another reading of the same file has blocks of the same times
+    lead_in: int = 0  # the number of its blocks before the absolute time zero
 
     @property
     def path(self) -> str:
         return self.loaded.path
 
     def blocks(self, first: int, end: int) -> Iterator[tuple[int, bytes]]:
-        """The blocks of the file from one up to another, in pieces, and the first of each."""
+        """The blocks of the file from `first` up to `end`, in pieces, each with the number of its first block."""
         for begin in range(first, end, AT_ONCE):
             stop = min(end, begin + AT_ONCE)
             if self.loaded.stream:
@@ -43,8 +43,8 @@ class Reading:
             yield begin, content
 
     def window(self, first: int, end: int) -> bytearray:
-        """The blocks from one absolute time up to another; zeros where there is none; of two for one time the first that
-        was read."""
+        """The blocks from one absolute time up to another. A missing block is zeros. If a time has two blocks, the
+        first that was read counts."""
         stream = bytearray(BLOCK * (end - first))
         self.fill(first, end, memoryview(stream))
         return stream
@@ -67,8 +67,8 @@ class Reading:
 
 @dataclass
 class Laid:
-    """Readings side by side: the absolute time of the first block, if they have times, how many blocks there are, and
-    how many of these are lead-in. Notes say what was left out; doubts, why nothing should be mended."""
+    """Aligned readings: the absolute time of the first block (if `has_times`), the number of blocks, and how many of
+    these are lead-in. `notes` report blocks that are left out; `doubts` are reasons to refuse the readings."""
 
     readings: list[Reading]
     time: int
@@ -84,7 +84,7 @@ class Laid:
         return BLOCK * (self.blocks - self.lead_in)
 
     def window(self, reading: Reading, first: int, end: int) -> bytearray:
-        """The blocks of a reading; zeros where it has none; where it has one twice the first that was read."""
+        """The blocks of a reading, by their numbers from the first aligned block."""
         return reading.window(self.time + first, self.time + end)
 
     def fill(self, reading: Reading, first: int, end: int, stream: memoryview) -> None:
@@ -93,7 +93,7 @@ class Laid:
 
 
 def fill_gaps(stream: memoryview, content: bytes) -> None:
-    """Writes the blocks whose place is all zeros."""
+    """Writes blocks over blocks of zeros, and skips the others."""
     for start in range(0, len(content), BLOCK):
         place = slice(start, start + BLOCK)
         if stream[place] == _NOTHING:
@@ -101,7 +101,7 @@ def fill_gaps(stream: memoryview, content: bytes) -> None:
 
 
 def readable(reading: Reading, begin: int, stop: int) -> list[Run]:
-    """The blocks of the file from one up to another, without those that count as unread."""
+    """The blocks of the file from `begin` up to `stop`, without unread ones."""
     found: list[Run] = []
     for run in reading.unread:
         if run.last < begin or run.first >= stop:
@@ -115,7 +115,7 @@ def readable(reading: Reading, begin: int, stop: int) -> list[Run]:
 
 
 def read_reading(path: str, words: DumpOptions) -> Reading:
-    """A reading as raw blocks, not yet put anywhere."""
+    """A reading as raw blocks, not yet aligned."""
     loaded = load_raw(path, words, "blocks that could be mended: its packs are gathered already")
     has_graphics = has_graphics_bits(loaded.stream)
     return Reading(loaded._replace(stream=b"") if loaded.form.is_plain() else loaded, [], has_graphics)

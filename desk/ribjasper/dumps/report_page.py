@@ -115,7 +115,7 @@ def heads() -> str:
 
 
 def legend() -> str:
-    """What the colours of all maps mean."""
+    """The legend of all maps."""
     parts = (
         f'<span><i style="background: rgb{colour}"></i>{escaped(name)}</span>' for name, colour in damage_map.meanings()
     )

@@ -9,7 +9,7 @@ from .columns import Run, joined, touching
 NUMBER = r"(0[xX][0-9a-fA-F]+|[0-9]+)"
 AREA = re.compile(rf"{NUMBER}\s+{NUMBER}\s+([?*/+-])\s*")
 STATUS = re.compile(rf"{NUMBER}\s+([?*/FG+-])(?:\s+[0-9]+)?\s*")
-# What ddrescue says of bytes that it has read.
+# The status of bytes that ddrescue has read.
 READ = "+"
 
 
@@ -22,7 +22,7 @@ class Area(NamedTuple):
 
 
 def areas(path: str) -> list[Area]:
-    """The areas of a map, or a refusal of what is no map of ddrescue."""
+    """The areas of a map; refuses a file that is no map of ddrescue."""
     lines = [line.split("#")[0] for line in read_file(path).decode("utf-8", "replace").splitlines()]
     rows = [line.strip() for line in lines if line.strip()]
     if not rows or not STATUS.fullmatch(rows[0]):
@@ -44,14 +44,14 @@ def areas(path: str) -> list[Area]:
 
 
 def unread_units(found: Sequence[Area], skip: int, unit: int, units: int) -> list[Run]:
-    """The units of a file behind a header that were not read whole."""
+    """The units after the header of a file that were not completely read."""
     lost = unread_bytes(found, skip + unit * units)
     ends = ((max(0, first - skip) // unit, min(units, -(-max(0, end - skip) // unit))) for first, end in lost)
     return joined((Run(begin, stop - 1) for begin, stop in ends if begin < stop), touching)
 
 
 def unread_bytes(found: Sequence[Area], size: int) -> Iterator[tuple[int, int]]:
-    """The bytes of a file that were not read, those behind the map among them."""
+    """The bytes of a file that were not read, including those after the end of the map."""
     for area in found:
         if not area.is_read and area.first < size:
             yield area.first, min(area.end, size)

@@ -105,7 +105,7 @@ def is_lead_out(source: Source, block: int) -> bool:
 
 
 def contents_of(source: Source, blocks: range) -> Contents:
-    """What the table of contents in these blocks says, by most of its frames."""
+    """The table of contents in these blocks, as most of its frames have it."""
     counted: dict[int, collections.Counter[tuple[int, int]]] = {}
     frames: dict[tuple[int, int, int], QFrame] = {}
     for block in blocks[:MOST_OF_LEAD_IN]:
@@ -227,7 +227,7 @@ def lead_out_time(
 
 
 def notes(loaded: Loaded, sessions: Sequence[Session]) -> Iterator[str]:
-    """What is said of the sessions of a dump, if there are several."""
+    """The note on the sessions of a dump, if there are several."""
     if len(sessions) > 1:
         yield f"{len(sessions)} sessions: " + "; ".join(session.said() for session in sessions)
     elif loaded.companions.sessions is not None and loaded.companions.sessions > 1:

@@ -16,7 +16,7 @@ from .survey import Survey
 
 @dataclass
 class Stream:
-    """Raw blocks, or packs alone; the one with which the audio begins, and how many of the first are lead-in."""
+    """Raw blocks or packs, the unit at which the audio begins, and the number of lead-in units."""
 
     content: bytes
     unit: int

@@ -1,4 +1,4 @@
-"""What databases of discs ask for: all that a dump of one disc says of it."""
+"""The data for submissions to disc databases, from a dump of one disc."""
 import dataclasses
 from dataclasses import dataclass, field
 from typing import Any, Iterator, NamedTuple

@@ -39,7 +39,7 @@ class Stretch(NamedTuple):
 
     @property
     def shift(self) -> int:
-        """What is added to a block's number for its time."""
+        """The time of a block minus its number."""
         return self.time - self.first
 
 
@@ -59,7 +59,7 @@ def has_other(stream: bytes, those: bytes) -> bool:
 
 
 def read_part(stream: bytes) -> tuple[int, int]:
-    """The first block that is not all zeros, and the one behind the last."""
+    """The first block that is not all zeros, and the block after the last one."""
     parts = range(0, len(stream), AT_ONCE)
     begin = next(
         (start for start in parts if stream.count(0, start, start + AT_ONCE) < len(stream[start : start + AT_ONCE])), 0
@@ -96,7 +96,7 @@ class Survey:
         return ctypes.string_at(room, ROW * count)
 
     def forget(self) -> None:
-        """Lets go of what is known of single blocks, and keeps how many there are."""
+        """Frees the rows of the blocks, and keeps their number."""
         self.rows, self.columns = b"", {}
         for name in ("bad_frames", "empty", "_stretches"):
             self.__dict__.pop(name, None)
@@ -121,7 +121,7 @@ class Survey:
         return b"\1" * self.first + bytes(self.read) + b"\1" * (self.blocks - self.end)
 
     def unread(self) -> list[Run]:
-        """The blocks before the first that was read and behind the last."""
+        """The unread blocks at both ends."""
         edges = Run(0, self.first - 1), Run(self.end, self.blocks - 1)
         return [run for run in edges if run.last >= run.first]
 
@@ -213,7 +213,7 @@ class Clock:
         return self.survey.column("track")[known]
 
     def jumps(self) -> Iterator[tuple[int, int, Stretch]]:
-        """Where the time does not go on: the last known block before and its time, and what comes after."""
+        """The jumps of the time: the last known block before each and its time, and the stretch after it."""
         for before, after in zip(self.stretches, self.stretches[1:]):
             if before.shift != after.shift:
                 yield before.last, before.last + before.shift, after

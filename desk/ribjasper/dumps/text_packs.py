@@ -81,7 +81,7 @@ class Language:
 
     @property
     def name(self) -> str:
-        """What is spoken."""
+        """The spoken language."""
         language = self.sizes[LANGUAGES + self.number] if self.sizes else 0
         return LANGUAGE_NAMES.get(language, f"language {language:#04x}" if language else "unknown language")
 
@@ -161,7 +161,7 @@ def said(packs: Iterable[bytes]) -> Iterator[Said]:
 
 
 def beyond(packs: Iterable[bytes]) -> str:
-    """What packs say beside the texts of their first language, in a few words."""
+    """Short notes on the packs other than the texts of their first language."""
     found = languages_of(packs)
     kinds = {NAMES.get(pack[KIND], f"kind {pack[KIND]:02x}") for language in found for pack in language.packs}
     more = [f"{len(found)} languages"] if len(found) > 1 else []

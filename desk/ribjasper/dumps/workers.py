@@ -34,7 +34,7 @@ class FileTask(NamedTuple):
 
 
 class How(NamedTuple):
-    """How files are looked at: with pictures, and what the words of the command say of all of them."""
+    """The options for all files: whether pictures are made, and the options of the dumps."""
 
     with_pictures: bool
     words: DumpOptions = DumpOptions()
@@ -115,7 +115,7 @@ def look_alone(task: FileTask, how: How) -> Examined:
 
 
 def finder(distributed: Any, folder: str) -> Any:
-    """What a worker does first, also one that comes later: it learns where the desk is."""
+    """Prepares each worker: it learns where the desk is."""
 
     class Finder(distributed.WorkerPlugin):  # type: ignore[misc]
         def setup(self, worker: Any) -> None:
