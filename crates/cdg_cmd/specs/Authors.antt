@@ -83,7 +83,7 @@ IsStopped (ReadFault which) = ⊤
 IsStopped NoMemory = ⊤
 IsStopped status = ⊥
 
--- the authored stream with the planned changes was put
+-- The authored stream with the planned changes was written.
 abbrev pub PutsAuthored : Disc → Change Bytes → Type 0
 PutsAuthored disc out =
     (bytes : List ℕ) × (packs : List (List ℕ)) × IsWrittenStream disc bytes packs

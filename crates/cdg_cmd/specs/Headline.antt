@@ -24,8 +24,8 @@ pub record HavePlace (disc : Disc) : Type 0 where
   pub pictures : HoldsPictures disc.sheet disc.script disc.audio
   pub room : HasRoom disc.sheet disc.lead_in
 
--- an authored stream was put, or the first picture that cannot be ready is told and nothing was put; unless a read
--- or a write failed or no memory was found
+-- An authored stream was written; or nothing was written and the status is the first picture that cannot be ready; or a
+-- read or a write failed, or memory ran out.
 abbrev pub WritesOrIsLate : Disc → Change Bytes → Status → Type 0
 WritesOrIsLate disc out Done = AreReady disc.script × PutsAuthored disc out
 WritesOrIsLate disc out (Late picture need free) =
@@ -37,18 +37,18 @@ WritesOrIsLate disc out (Damaged n) = ⊥
 WritesOrIsLate disc out Usage = ⊥
 WritesOrIsLate disc out (Refused why) = ⊥
 
--- Whole units of a form, whose program symbols are those of a raw stream but for at most two in each word.
+-- A stream of whole units of a form. In each word, its program symbols differ from those of a raw stream in at most two.
 pub record IsDamagedCopy (form : Form) (lead_in : ℕ) (stream bytes : List ℕ) : Type 0 where
   pub few : length bytes ≤ most_units * unit_size form
   pub whole : length bytes % unit_size form ≡ 0
   pub damaged : IsDamaged (program_symbols Raw stream lead_in) form (program_symbols form bytes lead_in)
 
--- scheduled packs as a conversion writes them: in a cooked stream seven packs of zeros follow them
+-- the packs that `convert` writes for a schedule: from a cooked stream, seven idle packs follow
 abbrev pub written_packs : Form → List (List ℕ) → List (List ℕ)
 written_packs Cooked packs = packs ++ replicate packs_kept_back idle_pack
 written_packs _ packs = packs
 
--- the pixmap of a screen that shows picture k was put, unless a read or a write failed or no memory was found
+-- The pixmap of a screen that shows picture k was written, or a read or a write failed, or memory ran out.
 abbrev pub PutsPicture : List Drawing → ℕ → Change Bytes → Status → Type 0
 PutsPicture script k out status = OnDone ((text : List ℕ) × IsPictureText script k text
     × Appends out.before out.after text) status

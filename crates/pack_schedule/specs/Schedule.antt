@@ -27,8 +27,8 @@ free_packs script k = whole_packs (ready_time script k) - start_of script k
 abbrev pub CanBeReady : List Drawing → ℕ → Type 0
 CanBeReady script k = (need : ℕ) × IsNeed script k need × IsInTime script k need
 
--- the packs of a program contain a list of instructions of this kind for each picture, from its start on and in time;
--- all other packs are idle
+-- For each picture, the packs contain a list of instructions of this kind, after its start and complete at its ready time.
+-- All other packs are idle.
 pub record IsScheduleOf (IsOne : List Drawing → ℕ → List Instr → Type 0) (script : List Drawing) (blocks : ℕ)
     (packs : List (List ℕ)) : Type 0 where
   pub count : length packs ≡ whole_packs blocks

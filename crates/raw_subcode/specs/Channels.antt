@@ -18,7 +18,7 @@ p_bits block = map (channel_bit 0) block
 abbrev pub q_bits : List ℕ → List Bool
 q_bits block = map (channel_bit 1) block
 
--- the symbols of a block, which channels R to W make
+-- the symbols of a block: the low six bits of each byte, channels R to W
 abbrev pub symbols_of : List ℕ → List ℕ
 symbols_of block = map (λ byte. byte % 64) block
 

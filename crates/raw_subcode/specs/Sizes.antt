@@ -5,11 +5,11 @@ use Rattle.std.specs.Prelude.{ℕ}
 abbrev pub symbols_a_slot : ℕ
 symbols_a_slot = 24
 
--- the slots of a block: four packs stand in a block (IEC 60908)
+-- the number of slots in a block; each slot has room for the 24 symbols of a pack (IEC 60908)
 abbrev pub slots_a_block : ℕ
 slots_a_block = 4
 
--- the bytes of a block: one for each symbol of its slots; each channel so has 96 bits in a block
+-- the number of bytes in a block: one for each symbol of its slots. So each channel has 96 bits in a block.
 abbrev pub block_bytes : ℕ
 block_bytes = 96
 
@@ -21,7 +21,7 @@ audio_bytes = 2352
 abbrev pub sector_bytes : ℕ
 sector_bytes = 2448
 
--- the most units, blocks or sectors, of a stream: the longest lead-in, 450,000 blocks, and the longest program,
--- 449,999, fit, and the number of each unit has at most six digits
+-- the maximum number of units (blocks or sectors) of a stream: room for the longest lead-in (450,000 blocks) and the longest
+-- program (449,999 blocks), with at most six digits
 abbrev pub most_units : ℕ
 most_units = 1000000

@@ -21,13 +21,13 @@ pub record IsScheduledStream (form : Form) (lead_in : ℕ) (script : List Drawin
   pub schedule : IsSchedule script blocks packs
   pub order : AreTimesInOrder script
 
--- the time is one at which picture k stands: from its ready time to its hold time
+-- The time is between the ready time and the hold time of picture k.
 pub record IsHeldAt (script : List Drawing) (k time : ℕ) : Type 0 where
   pub picture : k < pictures script
   pub ready : ready_time script k ≤ time
   pub held : time ≤ hold_time script k
 
--- the text is the pixmap of a screen that shows picture k
+-- The text is the pixmap of a screen that shows picture k.
 abbrev pub IsPictureText : List Drawing → ℕ → List ℕ → Type 0
 IsPictureText script k text = (now : Standing) × ShowsPicture script k now × (text ≡ pixmap now)
 

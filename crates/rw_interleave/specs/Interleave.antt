@@ -9,7 +9,7 @@ use Rattle.rw_code.specs.Codeword.{IsCodeword}
 abbrev pub span : ℕ
 span = 8
 
--- the packs that are kept back: a pack is whole only with the seven slots that follow its own
+-- the delay of a pack in slots: the last symbol of a pack is seven slots after its first
 abbrev pub packs_kept_back : ℕ
 packs_kept_back = 7
 
@@ -17,7 +17,7 @@ packs_kept_back = 7
 abbrev pub exchanged : ℕ → ℕ → ℕ → ℕ
 exchanged a b i = if i == a then b else (if i == b then a else i)
 
--- the position in the slots at which symbol i of a pack goes
+-- the position within a slot at which symbol i of a pack is written
 unfoldable pub swapped : ℕ → ℕ
 swapped i = exchanged 1 18 (exchanged 2 5 (exchanged 3 23 i))
 
@@ -33,11 +33,11 @@ word_of symbols n = map (λ i. slice_index symbols (place n i)) (below word_symb
 abbrev pub whole_of_slots : ℕ → ℕ
 whole_of_slots slots = slots - packs_kept_back
 
--- how many packs of so many blocks are whole: each block has four slots
+-- the number of packs all of whose symbols are in the first `blocks` blocks; each block has four slots
 abbrev pub whole_packs : ℕ → ℕ
 whole_packs blocks = slots_a_block * blocks - packs_kept_back
 
--- the program symbols of so many blocks hold exactly these packs, and zeros at the other places
+-- The program symbols of `blocks` blocks contain exactly these packs; all other symbols are zeros.
 pub record Carries (blocks : ℕ) (symbols : List ℕ) (packs : List (List ℕ)) : Type 0 where
   pub size : length symbols ≡ block_bytes * blocks
   pub count : length packs ≡ whole_packs blocks

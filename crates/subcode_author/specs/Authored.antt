@@ -27,7 +27,8 @@ disc_of sheet script lead_in audio = record {
   audio = audio;
 }
 
--- An authored stream of a disc, by any author: it carries a schedule of the script in the framing of the sheet.
+-- An authored stream of a disc, made by any program: its packs are a schedule of the script, and its blocks have the
+-- frames of the sheet.
 pub record IsAuthored (disc : Disc) (bytes : List ℕ) (packs : List (List ℕ)) : Type 0 where
   pub schedule : IsSchedule disc.script (program_blocks disc.sheet disc.audio) packs
   pub framing : HasFraming (layout_of disc.sheet disc.audio) (text_packs disc.sheet) disc.lead_in bytes
