@@ -326,17 +326,22 @@ class MendedStreamTest(MendCase):
         self.assertEqual(planar, known.as_planar(stream))
 
     def test_packs_of_a_stream_are_the_mended_ones(self) -> None:
-        """Also where words have none: those are bad in the stream too."""
+        """A word without a codeword has symbols of several readings in the stream. Some of these words have a codeword there,
+        and nearly always the right one."""
         first, second = known.scratched(self.whole, 1, 12, 70), known.scratched(self.whole, 2, 13, 70)
         packs = self.mended(first, second, status=1)
+        none = int(re.search(r"(\d+) words have no codeword", self.ran.errors)[1])  # type: ignore[index]
         stream = self.mended(first, second, status=1, name="out.raw")
         again = program("convert", "--lead-in", 60, stdin=stream, statuses=(0, 1))
-        self.assertEqual(again, packs)
+        truth = program("convert", "--lead-in", 60, stdin=self.whole)
+        words = [slice(at, at + PACK) for at in range(0, len(packs), PACK)]
+        found = [word for word in words if again[word] != packs[word]]
+        self.assertFalse([word for word in found if any(packs[word])])
+        right = sum(again[word] == truth[word] for word in found)
+        self.assertGreater(right, 9 * len(found) // 10)
         checked = program("check", "--lead-in", 60, stdin=stream, statuses=(0, 1)).decode()
-        counts = dict(line.split() for line in checked.splitlines())
-        self.assertEqual((counts["one"], counts["two"]), ("0", "0"))
-        none = int(re.search(r"(\d+) words have no codeword", self.ran.errors)[1])  # type: ignore[index]
-        self.assertEqual(int(counts["bad"]), none)
+        counts = {name: int(count) for name, count in (line.split() for line in checked.splitlines())}
+        self.assertLessEqual(max(len(found), counts["one"] + counts["two"]), none - counts["bad"])
 
     def test_frames_are_good_ones(self) -> None:
         """P and Q of each block are those of a reading whose frame is good there, if one is."""
