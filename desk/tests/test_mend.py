@@ -653,6 +653,28 @@ class PlacingTest(MendCase):
             self.assertEqual(self.mended(gap, part), self.truth, self.ran.errors)
             self.assertEqual(self.mended(self.with_stale(part, 1000, 555, 40), gap), self.truth, self.ran.errors)
 
+    def test_a_single_stale_block(self) -> None:
+        """A drive returned a block twice: the second does not count where another reading has the right frame. If all
+        readings have the same frame of another time, it is on the disc, and its block counts."""
+        twice = self.whole[: BLOCK * 1000] + self.whole[BLOCK * 999 : BLOCK * 1000] + self.whole[BLOCK * 1001 :]
+        gap = with_zeros(self.whole, 3000, 3010)
+        for readings in ((twice, gap), (gap, twice)):
+            self.assertEqual(self.mended(*readings), self.truth, self.ran.errors)
+        q = bytes(one & 0x3F | other & 0xC0 for one, other in zip(self.block(1500), self.block(1400)))
+        strange = self.whole[: BLOCK * 1500] + q + self.whole[BLOCK * 1501 :]
+        self.assertEqual(self.mended(strange, strange), self.truth, self.ran.errors)
+
+    def block(self, number: int) -> bytes:
+        return self.whole[BLOCK * number : BLOCK * (number + 1)]
+
+    def test_a_missing_block_in_a_reading_without_q(self) -> None:
+        """What is before the missing block and what is after it have places of their own, but for some blocks."""
+        bare = self.bare[: BLOCK * 2222] + self.bare[BLOCK * 2223 :]
+        gap = with_zeros(with_zeros(self.whole, 1000, 1100), 3000, 3100)
+        for readings in ((bare, gap), (gap, bare)):
+            self.assertEqual(self.mended(*readings), self.truth, self.ran.errors)
+        self.assertRegex(self.ran.errors, r"\d\d blocks are left out")
+
     def test_stale_frames_alone_say_no_time(self) -> None:
         """Two readings without Q, stale blocks in one: they stay block beside block, and their time is not known."""
         worse = self.with_stale(self.bare, 2000, 1611, 100)

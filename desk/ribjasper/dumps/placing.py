@@ -1,6 +1,7 @@
 """Where the blocks of readings belong on the disc. A good Q frame places its own block. Other blocks go where their
 words agree with those of another reading; or else where enough frames around them say, or where a reading of the same
 length has them. If nothing decides they are left out."""
+import bisect
 import functools
 from collections import Counter
 from dataclasses import dataclass, field, replace
@@ -69,6 +70,7 @@ class Framed:
     """A reading, the pieces that its own frames place, in the order of the file, and the gaps between them."""
 
     reading: Reading
+    unframed: bytes  # a byte for each block, 1 where it was read and has no good frame
     pieces: list[Piece] = field(default_factory=list)
     gaps: list[FrameGap] = field(default_factory=list)
     frames: Counter[int] = field(default_factory=Counter)  # of each shift in the run of the file
@@ -146,8 +148,9 @@ def read_without_frame(survey: Survey) -> bytes:
 
 def framed(reading: Reading) -> Framed:
     """What the frames of a reading say."""
-    survey, found = reading.loaded.survey, Framed(reading)
+    survey = reading.loaded.survey
     column, stretches = read_without_frame(survey), survey.stretches()
+    found = Framed(reading, column)
     merged = framed_pieces(stretches)
     chain = chain_of(merged)
     run, found.ends = set(chain), {piece.shift for piece in (*chain[:1], *chain[-1:])}
@@ -157,7 +160,7 @@ def framed(reading: Reading) -> Framed:
     own, found.strays = stretches_of(merged, stretches)
     for piece in merged:
         count = found.frames[piece.shift] if piece in run else piece.known
-        parts = split(own[piece], column, count, found.slack)
+        parts = split(piece, own[piece], column, count, found.slack)
         found.pieces += parts
         in_run.update(parts if piece in run else ())
     found.gaps = gaps_of(found.pieces, in_run, found.strays, survey, column)
@@ -173,21 +176,26 @@ def stretches_of(
     pieces: Sequence[Piece], stretches: Sequence[Stretch]
 ) -> tuple[dict[Piece, list[Stretch]], list[Stretch]]:
     """The stretches of each piece, in the order of the file, and those of no piece."""
-    own: dict[Piece, list[Stretch]] = {piece: [] for piece in pieces}
-    strays, place = [], 0
-    for stretch in stretches:
-        while place < len(pieces) and pieces[place].end <= stretch.first:
-            place += 1
-        piece = pieces[place] if place < len(pieces) else None
-        if piece and piece.first <= stretch.first and piece.shift == stretch.shift:
-            own[piece].append(stretch)
-        else:
-            strays.append(stretch)
-    return own, strays
+    own, strays, done = dict[Piece, list[Stretch]](), list[Stretch](), 0
+    firsts = [stretch.first for stretch in stretches]
+    for piece in pieces:
+        begin, end = bisect.bisect_left(firsts, piece.first, done), bisect.bisect_left(firsts, piece.end, done)
+        own[piece] = [it for it in stretches[begin:end] if it.time - it.first == piece.shift]
+        strays += stretches[done:begin]
+        if len(own[piece]) < end - begin:
+            strays += [it for it in stretches[begin:end] if it.shift != piece.shift]
+        done = end
+    return own, [*strays, *stretches[done:]]
 
 
-def split(stretches: Sequence[Stretch], column: bytes, frames: int, slack: dict[Piece, int]) -> list[Piece]:
+def split(
+    piece: Piece, stretches: Sequence[Stretch], column: bytes, frames: int, slack: dict[Piece, int]
+) -> list[Piece]:
     """The parts of a piece between its longer gaps."""
+    widest = max((after.first - before.last - 1 for before, after in zip(stretches, stretches[1:])), default=0)
+    if PLENTY * widest <= frames:
+        slack[piece] = min(widest, APART)
+        return [piece]
     found: list[Piece] = []
     longest = 0
     for stretch in stretches:
@@ -211,14 +219,15 @@ def gaps_of(
     firsts = [survey.first, *(piece.end for piece in pieces)]
     ends = [*(piece.first for piece in pieces), survey.end]
     found, before = [], None
-    behind = next_in_run(pieces, run)
+    behind, places = next_in_run(pieces, run), [stray.first for stray in strays]
     for number, (first, end) in enumerate(zip(firsts, ends)):
         if number and pieces[number - 1] in run:
             before = pieces[number - 1]
         if first < end:
             near = [*pieces[max(0, number - 1) : number], *pieces[number : number + 1]]
             around = [it for it in (before, behind[number]) if it is not None]
-            shifts = [it.shift for it in strays if first <= it.first < end]
+            own = strays[bisect.bisect_left(places, first) : bisect.bisect_left(places, end)]
+            shifts = [stray.shift for stray in own]
             found.append(FrameGap(first, end, column.count(1, first, end), near, around, shifts))
     return found
 
@@ -251,7 +260,7 @@ def leave_out_strays(found: Sequence[Framed]) -> None:
     surveys = [it.reading.loaded.survey for it in found]
     parts = [it.parts() for it in found]
     for number, it in enumerate(found):
-        column, runs = read_without_frame(surveys[number]), []
+        column, runs = it.unframed, []
         for stray in it.strays:
             part = next((part for part in parts[number] if part.first <= stray.first < part.end), None)
             if part is None or part.shift == stray.shift:
@@ -442,14 +451,14 @@ def place_round(found: Sequence[Framed], is_last: bool) -> None:
 def halve(found: Framed) -> int:
     """Halves the gaps that agree with another reading in a part; returns how many."""
     gaps: list[FrameGap] = []
-    column = read_without_frame(found.reading.loaded.survey)
     for gap in found.gaps:
         if gap.shift is not None or not gap.agrees or gap.length < 2 * SHORTEST:
             gaps.append(gap)
             continue
         middle = (gap.first + gap.end) // 2
         for first, end in ((gap.first, middle), (middle, gap.end)):
-            gaps.append(FrameGap(first, end, column.count(1, first, end), gap.near, [], gap.strays, is_part=True))
+            read = found.unframed.count(1, first, end)
+            gaps.append(FrameGap(first, end, read, gap.near, [], gap.strays, is_part=True))
     halved = len(gaps) - len(found.gaps)
     found.gaps = gaps
     return halved
