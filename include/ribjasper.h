@@ -441,9 +441,10 @@ RIBJASPER_NODISCARD
 int32_t ribjasper_player_seek_packs(ribjasper_player *player, const uint8_t *packs, size_t count, uint64_t to,
                                     ribjasper_mark *marks, size_t marks_count, uint32_t every);
 
-/* These are the results of ribjasper_pack_touches for instructions that do not draw one tile. The memory of a player
-   consists of tiles: each row of tiles is twelve pixels high, and each column is six pixels wide. The screen shows each
-   tile moved left and up by the offsets. The outermost tiles of the screen are under the border. */
+/* ribjasper_pack_touches returns the number of a tile if the instruction draws this tile. For any other instruction, it
+   returns one of the following results. The memory of a player consists of tiles: each row of tiles is twelve pixels high,
+   and each column is six pixels wide. The screen shows each tile moved left and up by the offsets. The outermost tiles of
+   the screen are under the border. */
 #define RIBJASPER_TOUCHES_NOTHING 900
 #define RIBJASPER_TOUCHES_ALL 901     /* the whole memory, and the offsets */
 #define RIBJASPER_TOUCHES_BORDER 902
