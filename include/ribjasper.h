@@ -1,36 +1,36 @@
-/* This is the library of Ribjasper, the proved player of CD subcode graphics, for programs in C and C++. It is licensed
-   under MIT or Apache-2.0, at your option: (c) 2026 The Ribjasper authors.
+/* This header declares the library of Ribjasper for programs in C and C++. The library contains a proved player of CD
+   subcode graphics. It is licensed under MIT or Apache-2.0, at your option: (c) 2026 The Ribjasper authors.
 
    Link with -lribjasper. The command pkg-config --cflags --libs ribjasper prints all flags.
 
    Terms. Subcode is the data next to the audio of a Compact Disc, in eight channels P to W. A block is the 96 bytes of
-   subcode for 1/75 second. The low six bits of each byte, channels R to W, are a symbol. A pack is the 24 symbols that a
-   stream carries or a .cdg file contains: an instruction for the picture, and parity. Each block has room for four packs.
-   A word is 24 symbols as they were read: a pack, perhaps with wrong symbols. A codeword is 24 symbols with valid parity.
-   It is near a word if it differs from the word in at most two symbols. The idle pack is 24 zeros; it is a codeword. The
-   program of a disc is the part with the tracks. The lead-in is the part before the program.
+   subcode for 1/75 second. The low six bits of each byte, channels R to W, are a symbol. A pack is a group of 24
+   symbols in a stream or in a .cdg file: an instruction for the picture, and parity. Each block has room for four
+   packs. A word is 24 symbols as they were read: a pack, perhaps with wrong symbols. A codeword is 24 symbols with
+   valid parity. It is near a word if it differs from the word in at most two symbols. The idle pack is 24 zeros; it is
+   a codeword. The program of a disc is the part with the tracks. The lead-in is the part before the program.
 
    Players. A player is a value of the type ribjasper_player. It receives blocks or packs, and has the picture that they
    draw. The library has no global state, so players are independent. While no call uses a player, you may move its bytes
    to another place and use only the new place from then on. To get two players that show the same, use
    ribjasper_player_copy.
 
-   Threads. You may make calls from any thread. A call with a const player only reads the player, so any number of threads
-   may make such calls on one player at the same time. A call with a player that is not const must be the only call on
-   that player at that time. ribjasper_player_copy changes only its second player. Calls without a player have no data in
-   common. Do not make calls from a signal handler. A forked process has its own copies of all players. If the parent had
-   more than one thread, the child must not make calls that allocate or free memory.
+   Threads. You may make calls from any thread. A call with a const player only reads the player, so any number of
+   threads may make such calls on one player at the same time. A call with a player that is not const must be the only
+   call on that player at that time. ribjasper_player_copy changes only its second player. Calls without a player have
+   no data in common. Do not make calls from a signal handler. A forked process has its own copies of all players. If
+   the parent had more than one thread, the child must not make calls that allocate or free memory.
 
-   Pointers. A pointer must point to as many bytes or structs as its type or the comment of the call says. If a count or a
-   length is 0, its pointer may be null. No other pointer may be null, and the library does not check this. Two arguments
-   must not overlap, except where a comment allows it. While a call runs, the data behind its pointers to const must not
-   change. Numbers may have any value: a call refuses a number that is out of range.
+   Pointers. A pointer must point to as many bytes or structs as its type or the comment of the call says. If a count or
+   a length is 0, its pointer may be null. No other pointer may be null, and the library does not check this. Two
+   arguments must not overlap, except where a comment allows it. While a call runs, the data behind its pointers to
+   const must not change. Numbers may have any value: a call refuses a number that is out of range.
 
    Failure. A call that fails leaves its player unchanged. It also writes nothing, except where its comment says so.
 
-   Memory. If a player is closed, ribjasper_player_open allocates 65,080 bytes with malloc, in one request. Any other call
-   whose comment says that it allocates memory frees this memory before it returns. No other call allocates memory. A call
-   needs at most 16,384 bytes of stack; a call that mends needs at most 81,920. */
+   Memory. If a player is closed, ribjasper_player_open allocates 65,080 bytes with malloc, in one request. Some other
+   calls allocate memory, as their comments say. Each of them frees this memory before it returns. The calls
+   ribjasper_mend.. (see Mending, below) need at most 81,920 bytes of stack; all others need at most 16,384. */
 #ifndef RIBJASPER_H
 #define RIBJASPER_H
 
@@ -66,9 +66,9 @@ uint32_t ribjasper_version(void);
 /* These are the answers of calls. An answer is a return value that says whether a call succeeded. The same number means
    the same in every call that returns an answer. Some calls return something else, as their comments explain.
    ribjasper_player_take returns a count. ribjasper_correct, ribjasper_pack_touches, ribjasper_tile_weight and
-   ribjasper_text_pack_matches return a number. ribjasper_q_decode returns codes of its own. The comments of the calls use
-   other names for the same numbers, for example RIBJASPER_DONE for RIBJASPER_ANSWER_DONE. These names are older; you may
-   use both. */
+   ribjasper_text_pack_matches return a number. ribjasper_q_decode returns codes of its own. The comments of the calls
+   use other names for the same numbers, for example RIBJASPER_DONE for RIBJASPER_ANSWER_DONE. These names are older;
+   you may use both. */
 typedef enum ribjasper_answer {
     RIBJASPER_ANSWER_REFUSED = -1,       /* a player is closed or cannot be opened, or a number is out of range */
     RIBJASPER_ANSWER_DONE = 0,           /* done */
@@ -138,15 +138,15 @@ uint64_t ribjasper_time_of_blocks(uint32_t blocks);
      packs: the number of packs */
 uint64_t ribjasper_time_of_packs(uint32_t packs);
 
-/* These are the forms of a stream. A form says how the bytes of a stream are stored. RIBJASPER_RAW means raw blocks of 96
-   bytes. RIBJASPER_PACKS (the form `cooked` of the program) means packs of 24 bytes, four in each block of 96 bytes.
+/* These are the forms of a stream. A form says how the bytes of a stream are stored. RIBJASPER_RAW means raw blocks of
+   96 bytes. RIBJASPER_PACKS (the form `cooked` of the program) means packs of 24 bytes, four in each block of 96 bytes.
    Their symbols are already next to each other, and a player corrects them by their parity. RIBJASPER_SECTORS means
    sectors of 2,448 bytes, each with 2,352 bytes of audio and a raw block. Only calls on whole streams accept sectors.
 
    The packs of a .cdg file may have no valid parity. Do not feed such packs as RIBJASPER_PACKS: usually no codeword is
    near them, so they draw nothing and count as bad words. (The idle packs of such a file are codewords nevertheless.)
-   ribjasper_packs_parity detects such a file. Either draw its packs with ribjasper_player_draw_all, which ignores parity,
-   or first compute their parity with ribjasper_packs_seal. */
+   ribjasper_packs_parity detects such a file. Either draw its packs with ribjasper_player_draw_all, which ignores
+   parity, or first compute their parity with ribjasper_packs_seal. */
 #define RIBJASPER_RAW 0
 #define RIBJASPER_PACKS 1
 #define RIBJASPER_SECTORS 2
@@ -162,8 +162,8 @@ typedef struct ribjasper_player {
 
 /* RIBJASPER_CLOSED is a closed player. Use it to initialize a player or to assign to one: `ribjasper_player player =
    RIBJASPER_CLOSED;`. A static player needs no initializer, since it consists of zeros. Some compilers accept only
-   constants as initializers of a static player (gcc -pedantic); use RIBJASPER_CLOSED_STATIC there. In C89 and C++98, only
-   gcc and clang accept RIBJASPER_CLOSED in an assignment; other compilers accept it only as an initializer.
+   constants as initializers of a static player (gcc -pedantic); use RIBJASPER_CLOSED_STATIC there. In C89 and C++98,
+   only gcc and clang accept RIBJASPER_CLOSED in an assignment; other compilers accept it only as an initializer.
    RIBJASPER_CLOSED_PLAYER is an older name of RIBJASPER_CLOSED. */
 #define RIBJASPER_CLOSED_STATIC { { NULL }, false }
 #if defined __cplusplus && __cplusplus >= 201103L
@@ -229,10 +229,11 @@ int32_t ribjasper_player_take(ribjasper_player *player, const uint8_t block[RIBJ
    Returns RIBJASPER_DONE, or RIBJASPER_REFUSED if the player is closed. */
 int32_t ribjasper_player_draw(ribjasper_player *player, const uint8_t pack[24]);
 
-/* This struct is the part of the screen that a call may have changed. The part is a rectangle with the pixels from column
-   `left` to column `right` - 1, in the rows `top` to `bottom` - 1. If `left` is 300, the rectangle is empty. `colours` is
-   1 if the colour table may have changed, otherwise 0. `levels` is 1 if the levels may have changed, otherwise 0. If
-   colours or levels changed, any pixel may look different, although its number is the same. Nothing else changed. */
+/* This struct is the part of the screen that a call may have changed. The part is a rectangle with the pixels from
+   column `left` to column `right` - 1, in the rows `top` to `bottom` - 1. If `left` is 300, the rectangle is empty.
+   `colours` is 1 if the colour table may have changed, otherwise 0. `levels` is 1 if the levels may have changed,
+   otherwise 0. If colours or levels changed, any pixel may look different, although its number is the same. Nothing
+   else changed. */
 typedef struct ribjasper_change {
     uint32_t left;
     uint32_t top;
@@ -335,9 +336,9 @@ int32_t ribjasper_player_picture(const ribjasper_player *player, uint8_t bytes[R
      out, room: the output and its size in bytes
      stride: the bytes from the start of a row to the start of the next, at least the bytes of a row; bytes between rows
        stay unchanged
-   Returns RIBJASPER_DONE, or RIBJASPER_REFUSED if the player is closed, the format is unknown, or the rectangle does not
-   fit. It does not fit if x + width is above 300, if y + height is above 216, if `stride` is below the bytes of a row, or
-   if the last row ends beyond `room`. */
+   Returns RIBJASPER_DONE, or RIBJASPER_REFUSED if the player is closed, the format is unknown, or the rectangle does
+   not fit. It does not fit if x + width is above 300, if y + height is above 216, if `stride` is below the bytes of a
+   row, or if the last row ends beyond `room`. */
 RIBJASPER_NODISCARD
 int32_t ribjasper_player_pixels(const ribjasper_player *player, uint32_t format, uint32_t x, uint32_t y, uint32_t width,
                                 uint32_t height, uint8_t *out, size_t room, uint32_t stride);
@@ -414,10 +415,10 @@ typedef struct ribjasper_mark {
     uint64_t state[8135]; /* the state of the player */
 } ribjasper_mark;
 
-/* Seeks in a stream of blocks: the player gets the same state as after ribjasper_player_begin and feeding the first `to`
-   blocks. The call starts from the last mark before this place, or from the start of the stream. On the way, it sets the
-   marks. Mark k, from 0, is for the place (k + 1) * every. So if the marks up to a place are set, a seek to this place
-   feeds less than `every` blocks.
+/* Seeks in a stream of blocks: the player gets the same state as after ribjasper_player_begin and feeding the first
+   `to` blocks. The call starts from the last set mark that is not after block `to`, or from the start of the stream if
+   there is none. On the way, it sets the marks. Mark k, from 0, is for the place (k + 1) * every. So if the marks up to
+   a place are set, a seek to this place feeds less than `every` blocks.
      player: the player, which must be open
      form, lead_in: as in ribjasper_player_begin
      blocks, count: the blocks of the stream from its start, including the lead-in, 96 bytes each, and their number
@@ -442,9 +443,9 @@ int32_t ribjasper_player_seek_packs(ribjasper_player *player, const uint8_t *pac
                                     ribjasper_mark *marks, size_t marks_count, uint32_t every);
 
 /* ribjasper_pack_touches returns the number of a tile if the instruction draws this tile. For any other instruction, it
-   returns one of the following results. The memory of a player consists of tiles: each row of tiles is twelve pixels high,
-   and each column is six pixels wide. The screen shows each tile moved left and up by the offsets. The outermost tiles of
-   the screen are under the border. */
+   returns one of the following results. The memory of a player consists of tiles: each row of tiles is twelve pixels
+   high, and each column is six pixels wide. The screen shows each tile moved left and up by the offsets. The outermost
+   tiles of the screen are under the border. */
 #define RIBJASPER_TOUCHES_NOTHING 900
 #define RIBJASPER_TOUCHES_ALL 901     /* the whole memory, and the offsets */
 #define RIBJASPER_TOUCHES_BORDER 902
@@ -457,8 +458,8 @@ int32_t ribjasper_player_seek_packs(ribjasper_player *player, const uint8_t *pac
    RIBJASPER_TOUCHES_LEVELS. The result is not a ribjasper_answer. */
 int32_t ribjasper_pack_touches(const uint8_t pack[24]);
 
-/* Reports the part of the screen that may change if a pack is drawn. A tile at row r and column c has these pixels on the
-   screen:
+/* Reports the part of the screen that may change if a pack is drawn. A tile at row r and column c has these pixels on
+   the screen:
      x = max(6, 6 c - across) to min(293, 6 c + 5 - across);
      y = max(12, 12 r - down) to min(203, 12 r + 11 - down).
      pack: 24 bytes
@@ -481,8 +482,8 @@ int32_t ribjasper_tile_weight(const uint8_t pixels[72]);
    result is not a ribjasper_answer. */
 int32_t ribjasper_correct(const uint8_t word[24], uint8_t out[24]);
 
-/* This struct counts packs with valid and with invalid parity. A pack with even one wrong symbol counts as `invalid`. The
-   sum of the three numbers is the number of packs. */
+/* This struct counts packs with valid and with invalid parity. A pack with even one wrong symbol counts as `invalid`.
+   The sum of the three numbers is the number of packs. */
 typedef struct ribjasper_parity {
     uint64_t idle;    /* packs whose 24 symbols are 0; their parity is valid */
     uint64_t valid;   /* other packs whose parity is valid */
@@ -496,10 +497,10 @@ typedef struct ribjasper_parity {
      parity: the output */
 void ribjasper_packs_parity(const uint8_t *packs, size_t count, ribjasper_parity *parity);
 
-/* Computes the parity of packs and writes it into the packs, so that a player of RIBJASPER_PACKS draws them. Each pack
-   becomes the only codeword with its symbols 0, 1 and 4 to 19. The upper two bits of each byte become 0. A pack with
-   valid parity keeps its symbols. Do not use this call for packs that have parity and may be damaged: afterwards, a wrong
-   symbol would count as a right one.
+/* Computes the parity of packs and writes it into the packs, so that a player of RIBJASPER_PACKS draws them. For given
+   symbols 0, 1 and 4 to 19, there is exactly one codeword. Each pack becomes this codeword. The upper two bits of each
+   byte become 0. A pack with valid parity keeps its symbols. Do not use this call for packs that have parity and may be
+   damaged: afterwards, a wrong symbol would count as a right one.
      packs: the packs, 24 bytes each, one after another; the call writes all of them
      count: the number of packs */
 void ribjasper_packs_seal(uint8_t *packs, size_t count);
@@ -515,7 +516,7 @@ int32_t ribjasper_text_pack_matches(const uint8_t pack[18]);
      symbols: the output, 24 bytes */
 void ribjasper_text_pack_symbols(const uint8_t pack[18], uint8_t symbols[24]);
 
-/* These are the kinds of a frame of the Q channel. */
+/* These are the kinds of a frame of the Q channel. Names in parentheses are fields of ribjasper_q_frame. */
 #define RIBJASPER_Q_PROGRAM 0   /* the position in the program: track, index, time and absolute */
 #define RIBJASPER_Q_TRACK 1     /* table of contents: a track (track) and the start of its music (absolute) */
 #define RIBJASPER_Q_FIRST 2     /* the first track (track), the disc's type (disc): 0 CD-DA or CD-ROM, 16 CD-i, 32 XA */
@@ -558,8 +559,8 @@ RIBJASPER_NODISCARD int32_t ribjasper_q_decode(const uint8_t bytes[12], ribjaspe
    Returns RIBJASPER_DONE, or RIBJASPER_REFUSED if a field is out of range. */
 RIBJASPER_NODISCARD int32_t ribjasper_q_encode(const ribjasper_q_frame *frame, uint8_t bytes[12]);
 
-/* Converts a raw block to the planar form, which has twelve bytes for each channel from P to W. In each byte, the highest
-   bit comes first. Channel Q is bytes 12 to 23, as ribjasper_q_decode reads them.
+/* Converts a raw block to the planar form, which has twelve bytes for each channel from P to W. In each byte, the
+   highest bit comes first. Channel Q is bytes 12 to 23, as ribjasper_q_decode reads them.
      block: 96 bytes
      planar: the output, 96 bytes */
 void ribjasper_block_to_planar(const uint8_t block[RIBJASPER_BLOCK], uint8_t planar[RIBJASPER_BLOCK]);
@@ -575,8 +576,8 @@ void ribjasper_block_from_planar(const uint8_t planar[RIBJASPER_BLOCK], uint8_t 
      planar, room: the output, and the number of blocks that fit into it */
 void ribjasper_blocks_to_planar(const uint8_t *blocks, size_t count, uint8_t *planar, size_t room);
 
-/* Converts many blocks from the planar form to the raw form. It converts as many blocks as there are in the input and fit
-   into the output. The rest of the output stays unchanged.
+/* Converts many blocks from the planar form to the raw form. It converts as many blocks as there are in the input and
+   fit into the output. The rest of the output stays unchanged.
      planar, count: planar blocks of 96 bytes, and their number
      blocks, room: the output, and the number of blocks that fit into it */
 void ribjasper_blocks_from_planar(const uint8_t *planar, size_t count, uint8_t *blocks, size_t room);
@@ -605,8 +606,8 @@ typedef struct ribjasper_tally {
 int32_t ribjasper_player_feed_counted(ribjasper_player *player, const uint8_t block[RIBJASPER_BLOCK],
                                       ribjasper_tally *tally);
 
-/* This struct is the result of converting a stream. `bytes` is the number of bytes written, and `blocks` is the number of
-   program blocks. `bad` is the number of words with no codeword near; such words are written as 24 zeros. */
+/* This struct is the result of converting a stream. `bytes` is the number of bytes written, and `blocks` is the number
+   of program blocks. `bad` is the number of words with no codeword near; such words are written as 24 zeros. */
 typedef struct ribjasper_converted {
     uint64_t bytes;
     uint32_t blocks;
@@ -622,9 +623,9 @@ typedef struct ribjasper_converted {
 #define RIBJASPER_NO_ROOM 6   /* the output is too small */
 #define RIBJASPER_NO_MEMORY 7 /* out of memory, only from calls that allocate */
 
-/* Converts a stream to its packs, with damage corrected, and writes 24 bytes for each word. B program blocks have 4 B - 7
-   words (none if B is below 2). In the form RIBJASPER_PACKS they have 4 B words (the comment of RIBJASPER_PACKS explains
-   .cdg files without parity).
+/* Converts a stream to its packs, with damage corrected, and writes 24 bytes for each word. B program blocks have 4 B -
+   7 words (none if B is below 2). In the form RIBJASPER_PACKS they have 4 B words (the comment of RIBJASPER_PACKS
+   explains .cdg files without parity).
      stream, length: the stream, and its length in bytes
      form: RIBJASPER_RAW, RIBJASPER_PACKS or RIBJASPER_SECTORS
      lead_in: the number of blocks at the start that are ignored, at most 450,000
@@ -640,18 +641,19 @@ int32_t ribjasper_convert(const uint8_t *stream, size_t length, uint32_t form, u
    The symbols of word n are in the program blocks n / 4 to (n + 7) / 4, both rounded down. A block is unread if its 96
    bytes are 0. If you know that a block was not read, write zeros over it.
 
-   A reading has a codeword at a word if the codeword is near the word of this reading. The number of symbols in which
-   they differ is the distance of the codeword, 0 to 2. There are two exceptions. If a block of the word is unread and the
-   codeword is the idle pack, its distance is 3. If all blocks of the word are unread, the word is unread, and the reading
-   has no codeword there. A reading is quiet at a word if it has the idle pack there, or if the word is unread.
+   Each reading has its own symbols for word n. A reading has a codeword at word n if the codeword is near these
+   symbols. The number of symbols in which they differ is the distance of the codeword, 0 to 2. There are two
+   exceptions. If a block of the word is unread and the codeword is the idle pack, its distance is 3. If all blocks of
+   the word are unread, the word is unread, and the reading has no codeword there. A reading is quiet at a word if it
+   has the idle pack there, or if the word is unread.
 
    Sometimes a drive returns no graphics for a part of a disc, so its reading has idle packs there. A reading misses
    graphics at a word if it has the idle pack there and another reading shows that the word is not idle. For this, the
    other reading needs a graphics pack at any distance, or another codeword at distance 0 that is not the idle pack. A
-   graphics pack has mode and item 9 and a known instruction. A reading lacks graphics at every word of a quiet stretch in
-   which it misses graphics. (A quiet stretch is a row of words at which the reading is quiet.) A codeword is doubtful if
-   its distance is 1 or 2 and discs do not use its mode and item. Discs use 8, 9, 10 and 24. The idle pack is never
-   doubtful.
+   graphics pack has mode and item 9 and a known instruction. A quiet stretch is a row of words at which the reading is
+   quiet. If a reading misses graphics at one word of a quiet stretch, it lacks graphics at every word of this stretch.
+   A codeword is doubtful if its distance is 1 or 2 and discs do not use its mode and item. Discs use 8, 9, 10 and 24.
+   The idle pack is never doubtful.
 
    Two kinds of codewords do not count. The first kind is the idle pack of a reading that lacks graphics at the word. The
    second kind is a doubtful codeword at a word at which some reading is quiet.
@@ -664,10 +666,10 @@ int32_t ribjasper_convert(const uint8_t *stream, size_t length, uint32_t form, u
    plus the number of symbols in which they differ.
 
    Suppose that a reading has a codeword at distance 0 at every word. Then these codewords are the result, under two
-   conditions. First, if another reading has a codeword at distance 0 at a word, it is the same codeword or the idle pack.
-   Second, if this reading has the idle pack at a word, no other reading has a graphics pack there, at any distance.
-   Random symbols look like a graphics pack once in 28 million words. The Q frames of this reading do not matter. (But if
-   P and Q of an idle block are 0, the block is unread, and the distance of its idle packs is not 0.)
+   conditions. First, if another reading has a codeword at distance 0 at a word, it is the same codeword or the idle
+   pack. Second, if this reading has the idle pack at a word, no other reading has a graphics pack there, at any
+   distance. Random symbols look like a graphics pack once in 28 million words. The Q frames of this reading do not
+   matter. (But if P and Q of an idle block are 0, the block is unread, and the distance of its idle packs is not 0.)
 
    If each reading has at most two wrong symbols in each word, the result contains every pack. Suppose that only one
    reading has codewords that count. Then the result is what ribjasper_convert writes for this reading, with two
@@ -731,10 +733,11 @@ typedef struct ribjasper_mended_readings {
        whose codeword was chosen, RIBJASPER_AGREED or RIBJASPER_NO_READING. If you pass null and 0, the call does not
        write this output
      result: the counts
-   Returns RIBJASPER_CONVERTED, or RIBJASPER_DAMAGED if some word has no codeword. Otherwise the call writes nothing, and
-   returns the first of these answers that applies. RIBJASPER_USAGE: `lead_in` or `count` is out of range. RIBJASPER_TORN:
-   the readings are not whole blocks of equal length, or have more than 1,000,000 blocks each. RIBJASPER_NO_ROOM: `packs`
-   is too small, or `words` is above 0 and below the number of words. This call allocates nothing. */
+   Returns RIBJASPER_CONVERTED, or RIBJASPER_DAMAGED if some word has no codeword. Otherwise the call writes nothing,
+   and returns the first of these answers that applies. RIBJASPER_USAGE: `lead_in` or `count` is out of range.
+   RIBJASPER_TORN: the readings are not whole blocks of equal length, or have more than 1,000,000 blocks each.
+   RIBJASPER_NO_ROOM: `packs` is too small, or `words` is above 0 and below the number of words. This call allocates
+   nothing. */
 RIBJASPER_NODISCARD
 int32_t ribjasper_mend_readings(const uint8_t *readings, size_t length, uint32_t count, uint32_t lead_in,
                                 uint8_t *packs, size_t room, uint8_t *sources, size_t words,
@@ -743,18 +746,19 @@ int32_t ribjasper_mend_readings(const uint8_t *readings, size_t length, uint32_t
 /* Mends readings as ribjasper_mend_readings does, into a stream of blocks. The stream is as long as each reading,
    including the lead-in. The symbols of a mended word are those of its codeword.
 
-   All other symbols of a block come from one reading whose block is not unread; if all are unread, they are 0. The
-   reading is the one that has the most symbols of mended words right in this block. If several have as many, the symbols
-   are those that most readings have. If several are as frequent, they are the greatest in lexicographic order.
+   All other symbols of a block come from one reading whose block is not unread; if all are unread, they are 0. It is
+   the reading that agrees with the chosen codewords in the most symbols of this block. If several readings do, the list
+   of symbols that most readings have is used. If several lists are equally frequent, the greatest of them in
+   lexicographic order is used.
 
-   P and Q of a block come from a reading with a good Q frame there. If there is none, they come from a reading whose
-   block is not unread. They are the bits that most of these readings have. If several are as frequent, they are the
-   greatest in lexicographic order.
+   P and Q of a block come from one of the readings that have a good Q frame there. If there is none, they come from one
+   of those whose block is not unread. The list of the block's P and Q bits that most of these readings have is used. If
+   several lists are equally frequent, the greatest of them in lexicographic order is used.
 
    The order of the readings changes no byte of the stream. If you convert this stream with ribjasper_convert, the packs
    of all mended words are their codewords. If there is only one reading, the stream is that reading with its words
    corrected.
-     blocks, room: the output and its bytes, as many as a reading has; it must not overlap the readings
+     blocks, room: the output and its size in bytes, at least the size of one reading; it must not overlap the readings
      sources, words: as in ribjasper_mend_readings, but this output is always written
      result: the counts; result->bytes is the size of the stream
    Returns the same as ribjasper_mend_readings; RIBJASPER_NO_ROOM if `room` is smaller than a reading or `words` is below
@@ -783,8 +787,8 @@ int32_t ribjasper_mend_stream_report(const uint8_t *readings, size_t length, uin
                                      uint8_t *blocks, size_t room, uint8_t *sources, size_t words,
                                      ribjasper_mend_reported *report);
 
-/* This struct is a row of a plan. It describes one picture of a script. Times are numbers of program blocks, 75 a second,
-   from the absolute time 00:00:00. Packs are numbered from 0. */
+/* This struct is a row of a plan. It describes one picture of a script. Times are numbers of program blocks, 75 a
+   second, from the absolute time 00:00:00. Packs are numbered from 0. */
 typedef struct ribjasper_plan_row {
     uint32_t line;  /* the line of the script with its `show`, from 1 */
     uint32_t ready; /* the ready time of the picture */
@@ -834,8 +838,8 @@ typedef struct ribjasper_planned {
    Returns RIBJASPER_PLANNED or RIBJASPER_LATE if the rows were written. Otherwise no row is written.
    RIBJASPER_NOT_PLANNED: there is no plan, and `result` has the reason. RIBJASPER_NO_ROOM: there are more pictures than
    rows, and `result` has the numbers of pictures and blocks. RIBJASPER_USAGE: a number is out of range; `result` is not
-   written. RIBJASPER_NO_MEMORY: malloc failed; `result` is not written. The last answer comes only if neither text is too
-   long and no line is refused. This call allocates memory. */
+   written. RIBJASPER_NO_MEMORY: malloc failed; `result` is not written. The last answer comes only if neither text is
+   too long and no line is refused. This call allocates memory. */
 RIBJASPER_NODISCARD
 int32_t ribjasper_plan(const uint8_t *sheet, size_t sheet_length, const uint8_t *script, size_t script_length,
                        uint32_t lead_in, uint32_t audio, ribjasper_plan_row *rows, size_t room,
@@ -854,7 +858,8 @@ typedef struct ribjasper_sheet_row {
     uint8_t isrc[12]; /* the ISRC, or zeros */
 } ribjasper_sheet_row;
 
-/* This struct is the result of reading a cue sheet. If the sheet is refused, all fields except `line` and `why` are 0. */
+/* This struct is the result of reading a cue sheet. If the sheet is refused, all fields except `line` and `why` are 0.
+   */
 typedef struct ribjasper_sheet_told {
     uint32_t rows;         /* index lines, at most 9,900 */
     uint32_t tracks;       /* tracks, 1 to 99 */
@@ -868,10 +873,11 @@ typedef struct ribjasper_sheet_told {
      sheet, length: the text of the sheet, and its length in bytes
      rows, room: the output, and the number of rows that fit into it
      result: the counts, or the refused line
-   Returns RIBJASPER_CONVERTED if the rows were written. Otherwise no row is written. RIBJASPER_TORN: a line has an error,
-   and `result` has the number of this line. RIBJASPER_NO_ROOM: there are more index lines than rows, and `result` has all
-   counts. RIBJASPER_USAGE: the sheet has more than 67,108,864 bytes; `result` is not written. RIBJASPER_NO_MEMORY: malloc
-   failed; `result` is not written. The last answer comes only if no line has an error. This call allocates memory. */
+   Returns RIBJASPER_CONVERTED if the rows were written. Otherwise no row is written. RIBJASPER_TORN: a line has an
+   error, and `result` has the number of this line. RIBJASPER_NO_ROOM: there are more index lines than rows, and
+   `result` has all counts. RIBJASPER_USAGE: the sheet has more than 67,108,864 bytes; `result` is not written.
+   RIBJASPER_NO_MEMORY: malloc failed; `result` is not written. The last answer comes only if no line has an error. This
+   call allocates memory. */
 RIBJASPER_NODISCARD int32_t ribjasper_sheet(const uint8_t *sheet, size_t length, ribjasper_sheet_row *rows, size_t room,
                                             ribjasper_sheet_told *result);
 
@@ -903,10 +909,10 @@ RIBJASPER_NODISCARD int32_t ribjasper_sheet_text(const uint8_t *sheet, size_t le
 #define RIBJASPER_Q_BAD_FIELD 254 /* the CRC is right, but a field is out of its range */
 #define RIBJASPER_Q_BAD_CHECK 255 /* the CRC is wrong; this includes 96 zero bits */
 
-/* This struct is a row of a survey. It describes one block of a stream. The row counts the words whose last symbol is in
-   the block. In program block b these are the words 4 b - 7 to 4 b - 4 (none below 0). In a block of RIBJASPER_PACKS they
-   are its four words. In a lead-in block there are none. The sums over all rows are the numbers clean, one, two, bad,
-   q-good and q-bad of the program's command `check`. */
+/* This struct is a row of a survey. It describes one block of a stream. The row counts the words whose last symbol is
+   in the block. In program block b these are the words 4 b - 7 to 4 b - 4 (none below 0). In a block of RIBJASPER_PACKS
+   they are its four words. In a lead-in block there are none. The sums over all rows are the numbers clean, one, two,
+   bad, q-good and q-bad of the program's command `check`. */
 typedef struct ribjasper_row {
     uint32_t absolute; /* the absolute time in blocks, if the frame is of kind 0; otherwise RIBJASPER_NO_TIME */
     uint8_t clean;     /* words without a wrong symbol */
@@ -945,7 +951,7 @@ int32_t ribjasper_survey(const uint8_t *stream, size_t length, uint32_t form, ui
      packs: the output, 72 bytes */
 void ribjasper_block_text_packs(const uint8_t block[RIBJASPER_BLOCK], uint8_t packs[72]);
 
-/* This struct is the result of listing texts. A number that the answer of the call does not need is 0. */
+/* This struct is the result of listing texts. Each answer uses some of these numbers; the others are 0. */
 typedef struct ribjasper_listed {
     uint64_t bytes; /* bytes written, if the texts are not refused */
     uint32_t seq;   /* the number of the missing or invalid pack, 0 to 255 */
