@@ -21,6 +21,8 @@ UNLIKELY = 1e-8
 # A form that explains so much of what is not empty is taken at once; one that explains less than so much of what the
 # best one does is none; and from so much on it is as much.
 SURE, COMPARABLE, AS_MUCH = 0.9, 0.7, 0.95
+# A form that explains so many times less frames than another is none.
+FAR_LESS = 10
 # Where the best form explains so much, no stranger ones are tried.
 LIKELY_BY_Q, LIKELY_BY_WORDS = 0.2, 0.5
 # Q decides before words do, unless it explains less than so much and words are likely.
@@ -181,7 +183,9 @@ def best_form(candidates: Sequence[Found]) -> Found | None:
     by_q = [it for it in explaining if it[0].by_q]
     by_words = [it for it in explaining if not it[0].by_q]
     if by_q and (max(it[0].share for it in by_q) >= LITTLE or not any(found.is_likely() for _, found in by_words)):
-        explaining = by_q
+        # A form with longer units may meet some good frames of the right one, where most frames are bad.
+        most = max(it[0].size for it in by_q)
+        explaining = [it for it in by_q if FAR_LESS * it[0].size >= most]
     else:
         explaining = by_words
     share = max((explained.share for explained, _ in explaining), default=0)

@@ -54,6 +54,7 @@ class FrameGap:
     is_busy: bool = False  # it has packs that are not idle
     agrees: bool = False  # some of them agree with those of another reading somewhere
     is_part: bool = False  # it is a part of a gap of which not all agrees at one place
+    inner: Run | None = None  # of this part the blocks from the first that agree to the last
 
     @property
     def length(self) -> int:
@@ -74,6 +75,7 @@ class Framed:
     pieces: list[Piece] = field(default_factory=list)
     gaps: list[FrameGap] = field(default_factory=list)
     frames: Counter[int] = field(default_factory=Counter)  # of each shift in the run of the file
+    widths: Counter[int] = field(default_factory=Counter)  # blocks of each shift in it
     ends: set[int] = field(default_factory=set)  # the shifts of the first and the last piece of this run
     slack: dict[Piece, int] = field(default_factory=dict)  # the longest row of blocks without a frame in a piece
     strays: list[Stretch] = field(default_factory=list)  # frames of too few blocks for a piece
@@ -87,11 +89,11 @@ class Framed:
         return self.reading.loaded.survey.blocks
 
     def main(self) -> int | None:
-        """The shift that nearly all frames have, or that the most have and both ends of the file."""
+        """The shift of the widest pieces, if nearly all frames or both ends of the file have it."""
         if not self.frames:
             return None
-        shift, count = self.frames.most_common(1)[0]
-        return shift if count >= MAIN_SHARE * self.frames.total() or self.ends == {shift} else None
+        shift = max(self.widths, key=lambda it: (self.widths[it], it))
+        return shift if self.frames[shift] >= MAIN_SHARE * self.frames.total() or self.ends == {shift} else None
 
     def as_reading(self) -> Reading:
         """The reading with what is placed so far."""
@@ -119,7 +121,7 @@ class Framed:
         many blocks may belong to it."""
         if gap.shift is None:
             return None
-        first, end = gap.first, gap.end
+        first, end = (gap.inner.first, gap.inner.last + 1) if gap.inner else (gap.first, gap.end)
         for piece in gap.near:
             if piece.shift == gap.shift:
                 continue
@@ -131,7 +133,13 @@ class Framed:
 
     def left_out(self) -> int:
         """How many blocks that were read have no place."""
-        return sum(gap.read for gap in self.gaps if gap.shift is None)
+        edges = [
+            (gap.first, gap.inner.first, gap.inner.last + 1, gap.end)
+            for gap in self.gaps
+            if gap.shift is not None and gap.inner
+        ]
+        outside = sum(self.unframed.count(1, it[0], it[1]) + self.unframed.count(1, it[2], it[3]) for it in edges)
+        return outside + sum(gap.read for gap in self.gaps if gap.shift is None)
 
     def in_doubt(self) -> int:
         """How many of these are in gaps with graphics."""
@@ -152,10 +160,11 @@ def framed(reading: Reading) -> Framed:
     column, stretches = read_without_frame(survey), survey.stretches()
     found = Framed(reading, column)
     merged = framed_pieces(stretches)
-    chain = chain_of(merged)
+    chain = widest_chain(merged)
     run, found.ends = set(chain), {piece.shift for piece in (*chain[:1], *chain[-1:])}
     for piece in run:
         found.frames[piece.shift] += piece.known
+        found.widths[piece.shift] += piece.end - piece.first
     in_run: set[Piece] = set()
     own, found.strays = stretches_of(merged, stretches)
     for piece in merged:
@@ -170,6 +179,13 @@ def framed(reading: Reading) -> Framed:
         if gap.near == gap.around and only_shift(gap.near) == main and PLENTY * gap.length <= found.frames.total():
             gap.shift = main
     return found
+
+
+def widest_chain(pieces: Sequence[Piece]) -> list[Piece]:
+    """The pieces whose times increase, and that have the most blocks together: frames of a stale run may be closer than
+    those around it."""
+    wide = {piece._replace(placed=piece.end - piece.first - piece.known): piece for piece in pieces}
+    return [wide[piece] for piece in chain_of(list(wide))]
 
 
 def stretches_of(
@@ -325,14 +341,18 @@ def judgement(gap: FrameGap, own: Reading, shifts: Sequence[int], others: Sequen
     fitting: set[int] = set()
     against: set[int] = set()
     is_mixed = False
+    same: dict[int, list[Run]] = {shift: [] for shift in shifts}
     for windows in agreement(gap, own, shifts, others):
-        shared = {shift: functools.reduce(Shared.plus, (it[shift] for it in windows), Shared()) for shift in shifts}
+        at = {shift: [it.shared[shift] for it in windows] for shift in shifts}
+        shared = {shift: functools.reduce(Shared.plus, at[shift], Shared()) for shift in shifts}
+        for shift in shifts:
+            same[shift] += [it.run for it in windows if it.shared[shift].same]
         fits = {shift for shift, it in shared.items() if it.agrees() and not (gap.is_part and it.alone)}
         against |= {shift for shift, it in shared.items() if it.contradicts()}
         gap.agrees = gap.agrees or any(it.same >= LEAST_PACKS for it in shared.values())
         best = max(shared.values(), key=lambda it: it.same)
         is_partial = best.same >= LEAST_PACKS and best.contradicts()
-        if is_partial or len({place for it in windows for place in best_places(it)}) > 1:
+        if is_partial or len({place for it in windows for place in best_places(it.shared)}) > 1:
             is_mixed = True
             continue
         fitting |= fits
@@ -340,7 +360,10 @@ def judgement(gap: FrameGap, own: Reading, shifts: Sequence[int], others: Sequen
         if len(order) == 1 or order and CLEARLY * (1 + shared[order[0]].differing) <= shared[order[1]].differing:
             votes.add(order[0])
     if len(votes) == 1 and not is_mixed:
-        return Judgement(votes.pop(), set(), False)
+        shift = votes.pop()
+        if gap.is_part:
+            gap.inner = Run(min(same[shift]).first, max(same[shift]).last)
+        return Judgement(shift, set(), False)
     return Judgement(None, against - fitting, not votes and not is_mixed)
 
 
@@ -354,23 +377,28 @@ def best_places(window: dict[int, Shared]) -> set[int]:
     return found
 
 
-def agreement(
-    gap: FrameGap, own: Reading, shifts: Sequence[int], others: Sequence[Reading]
-) -> Iterable[list[dict[int, Shared]]]:
-    """What each reading shares with windows of a gap at each place."""
-    found: list[list[dict[int, Shared]]] = [[] for _ in others]
+class GapWindow(NamedTuple):
+    """Blocks of a gap, and the packs that they share with another reading at each place."""
+
+    run: Run
+    shared: dict[int, Shared]
+
+
+def agreement(gap: FrameGap, own: Reading, shifts: Sequence[int], others: Sequence[Reading]) -> Iterable[list[GapWindow]]:
+    """The windows of a gap for each other reading."""
+    found: list[list[GapWindow]] = [[] for _ in others]
     for first, end in windows_in(gap):
         packs = packs_of_part(b"".join(content for _, content in own.blocks(first, end)), end - first)
         if not any(packs.busy):
             continue
         gap.is_busy = True
         for other, windows in zip(others, found):
-            window = {shift: Shared() for shift in shifts}
+            window = GapWindow(Run(first, end - 1), {shift: Shared() for shift in shifts})
             windows.append(window)
             for shift in shifts:
                 if first + shift >= 0:
                     stream = bytes(other.window(first + shift, end + shift))
-                    window[shift].add(packs, packs_of_part(stream, end - first))
+                    window.shared[shift].add(packs, packs_of_part(stream, end - first))
     return found
 
 
