@@ -462,9 +462,9 @@ def compare_elsewhere(
 ) -> None:
     """Counts, of cases with blocks or R-W of another place or disc, those in which the best reading is better, and why."""
     if told.status not in (0, 1) or len(told.packs) != len(truth.words):
-        # Of a reading without Q the frames of stale blocks are all that tells where it belongs.
-        misled = any("no Q" in " ".join(done) and "stale" in " ".join(done) for done in names)
-        totals["elsewhere: the length that frames of stale blocks tell" if misled else "elsewhere: other length"] += 1
+        # The output is shorter if blocks at an end are left out, because no frame and no word says where they belong.
+        is_reported = "blocks are left out" in told.lines
+        totals["elsewhere: reported blocks left out" if is_reported else "elsewhere: other length"] += 1
         return
     totals["elsewhere: cases"] += 1
     whole = [(alone(own) == truth.words).all(axis=1) for own in heard]

@@ -384,7 +384,9 @@ class GapWindow(NamedTuple):
     shared: dict[int, Shared]
 
 
-def agreement(gap: FrameGap, own: Reading, shifts: Sequence[int], others: Sequence[Reading]) -> Iterable[list[GapWindow]]:
+def agreement(
+    gap: FrameGap, own: Reading, shifts: Sequence[int], others: Sequence[Reading]
+) -> Iterable[list[GapWindow]]:
     """The windows of a gap for each other reading."""
     found: list[list[GapWindow]] = [[] for _ in others]
     for first, end in windows_in(gap):

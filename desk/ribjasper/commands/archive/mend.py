@@ -1,11 +1,11 @@
-"""The packs or the stream of any number of readings of a disc, the best of each word."""
+"""The command `mend`: packs or a stream from several readings of a disc, with the best codeword of each word."""
 import argparse
 import os
 from typing import Callable, Iterator, NamedTuple, Sequence
 
 from ...common import kinds, library
 from ...common.failures import FOUND, Nothing, Refusal, shown
-from ...common.library import BLOCK, PACK
+from ...common.library import BLOCK, PACK, PACKS_A_BLOCK
 from ...common.output import Outputs, Table, add_json, tell
 from ...common.progress import progress
 from ...common.times import spelled
@@ -23,12 +23,12 @@ from ...dumps.text_packs import text_packs_in
 
 NAMES = ("reading", "words", "of-reading", "left-out", "lost")
 DIFFERENCES = ("first", "last", "from", "to")
-# What an output holds, by its ending; one without an ending, as standard output or a pipe, holds packs.
+# The content of an output follows from its ending. An output without an ending, for example a pipe, contains packs.
 PACKS, STREAMS, PLANAR = ".cdg", (".raw", ".subcode"), ".sub"
 ENDINGS = (PACKS, *STREAMS, PLANAR)
-# Readings of one disc agree in so much of what both give.
+# At least this share of the packs that two readings of one disc have in common is equal.
 LEAST_SHARE = 0.5
-# So many packs that both give are too few to say so, and blocks whose tracks are compared.
+# Fewer common packs decide nothing; tracks are compared at so many times.
 TOO_FEW, COMPARED = 12, 200
 PLANAR_AT_ONCE = 4096 * BLOCK
 
@@ -94,7 +94,7 @@ def at_time(laid: Laid, block: int) -> str:
 
 
 def odd_ones(laid: Laid) -> Iterator[str]:
-    """Pairs of readings that are not of one disc, and why."""
+    """Messages on pairs of readings that seem to be of different discs."""
     for (a, b), own in mending.in_common(laid).items():
         # Parts that claim a place twice are of the same file.
         if laid.readings[a].is_beside or laid.readings[b].is_beside:
@@ -108,7 +108,8 @@ def odd_ones(laid: Laid) -> Iterator[str]:
 
 
 def tracks_that_agree(laid: Laid, a: int, b: int) -> tuple[int, int]:
-    """At how many times, of so many that are spread over the disc, two readings are in the same track."""
+    """Compares the tracks of two readings at times spread over the disc: returns at how many times both have a track,
+    and at how many it is the same."""
     clocks = [Clock(laid.readings[number].loaded.survey) for number in (a, b)]
     if not all(clock.stretches for clock in clocks):
         return 0, 0
@@ -123,7 +124,7 @@ def tracks_that_agree(laid: Laid, a: int, b: int) -> tuple[int, int]:
 
 
 def track_at(laid: Laid, number: int, clock: Clock, time: int) -> int | None:
-    """The track that a reading is in at a time, as the nearest frame of the same part says."""
+    """The track of a reading at a time, by the nearest frame of the same part."""
     for part in laid.readings[number].parts:
         block = time - part.shift
         if part.first <= block < part.end:
@@ -133,7 +134,7 @@ def track_at(laid: Laid, number: int, clock: Clock, time: int) -> int | None:
 
 
 def twice(laid: Laid) -> Iterator[str]:
-    """The parts of files that claim places which other parts of the same file have."""
+    """Messages on parts of files whose times other parts of the same file have too."""
     for number, reading in enumerate(laid.readings, 1):
         for part in reading.parts if reading.is_beside else ():
             blocks = f"blocks {part.first} to {part.end - 1} of {shown(reading.path)}"
@@ -141,7 +142,7 @@ def twice(laid: Laid) -> Iterator[str]:
 
 
 def write_stream(content: memoryview, path: str, write: Callable[[bytes], object]) -> None:
-    """Writes packs or raw blocks as the output has them."""
+    """Writes packs or raw blocks in the form of the output."""
     if ending_of(path) != PLANAR:
         write(content)
         return
@@ -150,20 +151,19 @@ def write_stream(content: memoryview, path: str, write: Callable[[bytes], object
 
 
 class Units(NamedTuple):
-    """What maps of an output count: its blocks or its packs, the bytes of each, and how many come before the
-    program."""
+    """The units in maps of an output, blocks or packs: name, bytes, and how many come before the program."""
 
     name: str
     size: int
     before: int
 
     def lost(self, mended: mending.Mended) -> list[Run]:
-        """What no reading gives, by positions in the output."""
+        """The units without a codeword, by positions in the output."""
         found = mended.lost_blocks() if self.size == BLOCK else mended.lost_words()
         return [Run(self.before + run.first, self.before + run.last) for run in found]
 
     def block(self, place: int) -> int:
-        """The block of the program that a position is of."""
+        """The block of the program at a position."""
         return (place - self.before) * self.size // BLOCK
 
 
@@ -176,21 +176,21 @@ def loss_table(laid: Laid, units: Units, lost: list[Run]) -> bytes:
 
 
 def best_lead_in(laid: Laid) -> tuple[int, bytes]:
-    """The lead-in of the reading with the fewest words lost that has texts, or else of the one that has a lead-in that
-    was read: the number of the reading, and the blocks."""
-    found = []
-    for number in mending.best_first(laid):
-        reading = laid.readings[number]
+    """The lead-in of a reading with texts, or else of any reading; of several, from the reading with the fewest lost
+    words. Returns the number of the reading and the blocks."""
+    found: list[tuple[bool, int, bytes, int]] = []
+    for number, reading in enumerate(laid.readings, 1):
         survey = reading.loaded.survey
         if laid.time == 0 and survey.first < reading.lead_in and not reading.is_beside:
             blocks = b"".join(content for _, content in reading.blocks(survey.first, reading.lead_in))
-            found.append((number + 1, blocks))
-    with_texts = (it for it in found if text_packs_in(it[1]))
-    return next(with_texts, found[0] if found else (0, b""))
+            lost = PACKS_A_BLOCK * sum(survey.empty) + survey.total("bad")
+            found.append((bool(text_packs_in(blocks)), -lost, blocks, -number))
+    *_, blocks, number = max(found, default=(False, 0, b"", 0))
+    return -number, blocks
 
 
 def report_mended(laid: Laid, mended: mending.Mended, table: Table) -> int:
-    """Prints what came from each reading and what was lost; returns the exit status."""
+    """Prints the counts of each reading; returns the exit status."""
     for reading, counts in zip(laid.readings, mended.counts):
         table.row((reading.path, len(mended.sources), *counts))
     if mended.agreed:
@@ -241,7 +241,7 @@ def run(arguments: argparse.Namespace) -> int:
 
 
 def read_all(arguments: argparse.Namespace) -> list[Reading]:
-    """The readings of a call, and notes on them. Nothing but what is returned keeps their streams."""
+    """Loads the readings and prints notes on them. Only the returned readings keep their streams."""
     files = progress(arguments.files, len(arguments.files), "readings")
     readings = [read_reading(path, asked(arguments)) for path in files]
     for path in arguments.unread:
@@ -253,8 +253,8 @@ def read_all(arguments: argparse.Namespace) -> list[Reading]:
 
 
 def doubts(reading: Reading) -> Iterator[str]:
-    """How many sectors a drive was unsure of. Their words are not left out: a drive marks the main channel, and the subcode of
-    a marked sector is most often right."""
+    """A note on the sectors that a drive doubted. Their words count as usual: a drive marks the main channel, and the
+    subcode of a marked sector is usually right."""
     survey = reading.loaded.survey
     if errors := drive_errors(reading.path, survey.blocks):
         names = ", ".join(map(shown, errors.names))
@@ -263,7 +263,7 @@ def doubts(reading: Reading) -> Iterator[str]:
 
 
 def leave_unread(readings: Sequence[Reading], path: str) -> None:
-    """Takes a map of ddrescue for the reading beside which it lies."""
+    """Marks blocks as unread by a ddrescue map, in the reading next to it."""
     stem = os.path.splitext(path)[0]
     own = [it for it in readings if stem in (it.path, os.path.splitext(it.path)[0])]
     if not own:
@@ -305,8 +305,8 @@ def write_mended(arguments: argparse.Namespace, laid: Laid, outputs: Outputs) ->
 
 
 def compare(laid: Laid, odd: list[str], table: Table) -> int:
-    """Whether two dumps are of one disc, by how many blocks they are offset, and where they differ. Where one has no
-    graphics at all only P and Q are compared."""
+    """Prints whether two dumps are of one disc, their offset, and the blocks that differ. If one has no graphics, only
+    P and Q are compared."""
     tell(odd[0] if odd else "the dumps seem to be of one disc")
     has = [reading.has_graphics for reading in laid.readings[:2]]
     has_both = has[0] == has[1]
