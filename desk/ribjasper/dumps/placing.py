@@ -55,6 +55,7 @@ class FrameGap:
     agrees: bool = False  # some of them agree with those of another reading somewhere
     is_part: bool = False  # it is a part of a gap of which not all agrees at one place
     inner: Run | None = None  # of this part the blocks from the first that agree to the last
+    against: set[int] = field(default_factory=set)  # the places that its words contradict
 
     @property
     def length(self) -> int:
@@ -364,6 +365,7 @@ def judgement(gap: FrameGap, own: Reading, shifts: Sequence[int], others: Sequen
         if gap.is_part:
             gap.inner = Run(min(same[shift]).first, max(same[shift]).last)
         return Judgement(shift, set(), False)
+    gap.against = against
     return Judgement(None, against - fitting, not votes and not is_mixed)
 
 
@@ -461,8 +463,25 @@ def place_all(found: Sequence[Framed]) -> None:
     place_round(found, True)
     for _ in range(HALVINGS):
         if not sum(halve(it) for it in found):
-            return
+            break
         place_round(found, False)
+    for it in found:
+        fill_between(it)
+
+
+def fill_between(found: Framed) -> None:
+    """Places parts of halved gaps that are between parts of one place, unless their words contradict it."""
+    parts = found.parts()
+    firsts = [part.first for part in parts]
+    for gap in found.gaps:
+        if not gap.is_part:
+            continue
+        behind = bisect.bisect_left(firsts, gap.inner.last if gap.inner else gap.first)
+        before = bisect.bisect_right(firsts, gap.first) - 1
+        around = [parts[k] for k in (before, behind) if 0 <= k < len(parts)]
+        shift = only_shift(around) if len(around) == 2 and around[0] != around[1] else None
+        if shift is not None and gap.shift in (None, shift) and shift not in gap.against:
+            gap.shift, gap.inner = shift, None
 
 
 def place_round(found: Sequence[Framed], is_last: bool) -> None:
