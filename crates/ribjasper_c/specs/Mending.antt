@@ -1,5 +1,5 @@
 -- Mended readings in memory, and the refusals of a request.
-use Rattle.std.specs.Prelude.{◌≡◌, ◌==◌, ◌||◌, ◌*◌, ◌-◌, ◌/◌, ◌%◌, not, nat_lt, if◌then◌else◌, ℕ, List, length, Option, Some, None}
+use Rattle.std.specs.Prelude.{◌≡◌, ◌<◌, ◌≤◌, ◌==◌, ◌||◌, ◌*◌, ◌-◌, ◌/◌, ◌%◌, not, nat_lt, if◌then◌else◌, ℕ, List, length, Option, Some, None}
 use Rattle.disc_time.specs.Counts.{most_lead_in}
 use Rattle.raw_subcode.specs.Sizes.{block_bytes, most_units, symbols_a_slot}
 use Rattle.rw_interleave.specs.Interleave.{whole_packs}
@@ -10,6 +10,7 @@ use Rattle.mended_stream.specs.Stream.{AreMendedIntoStream, AreReportedIntoStrea
 use Rattle.ribjasper_c.specs.declared.mending.MendReported.{MendReported}
 use Rattle.ribjasper_c.specs.declared.mending.MendedReadings.{MendedReadings}
 use Rattle.ribjasper_c.specs.declared.mending.MendedStream.{MendedStream}
+use Rattle.ribjasper_c.specs.declared.mending.Shape.{Shape}
 
 -- The exit status with which two readings of these sizes are refused. It is 2 if the lead-in is too long; else 3 if the
 -- sizes differ, are not whole blocks or are too large; else 6 if the room is smaller than the packs.
@@ -70,3 +71,30 @@ pub record IsStreamReported (count lead_in : ℕ) (readings old new old_sources 
       report.lost
   pub bytes : report.told.bytes ≡ length readings / count
   pub blocks : report.told.blocks ≡ length readings / count / block_bytes - lead_in
+
+-- ---- The sizes of readings.
+
+-- The exit status with which readings of this total size are refused, whatever the room: 2 if the lead-in or the number of
+-- readings is out of range; else 3 if the readings are not whole blocks of equal length, or are too long.
+abbrev pub shape_refusal : ℕ → ℕ → ℕ → Option ℕ
+shape_refusal length_of_all count lead_in =
+    if nat_lt most_lead_in lead_in || (count == 0) || nat_lt 254 count then Some 2
+    else (if not (length_of_all % count == 0) || not (length_of_all / count % block_bytes == 0)
+    || nat_lt (block_bytes * most_units) (length_of_all / count) then Some 3
+    else None)
+
+-- the sizes of readings of this many bytes each: their blocks after the lead-in, and the words of those blocks
+abbrev pub shape_of : ℕ → ℕ → Shape
+shape_of size lead_in = record {
+  size = size;
+  blocks = size / block_bytes - lead_in;
+  words = whole_packs (size / block_bytes - lead_in);
+}
+
+-- So many readings are whole blocks of equal length, and no reading is too long.
+pub record AreWhole (length_of_all count : ℕ) : Type 0 where
+  pub some : 0 < count
+  pub few : count ≤ 254
+  pub equal : length_of_all ≡ count * (length_of_all / count)
+  pub whole : length_of_all / count % block_bytes ≡ 0
+  pub short : length_of_all / count ≤ block_bytes * most_units

@@ -1,14 +1,16 @@
 // The calls that mend readings of one stream in memory.
-ghost use Rattle.std.specs.Prelude.{◌≡◌, ◌==◌, if◌then◌else◌, IfSome, None, length, pos};
+ghost use Rattle.std.specs.Prelude.{◌≡◌, ◌≤◌, ◌-◌, ◌*◌, ◌/◌, ◌%◌, ◌==◌, if◌then◌else◌, Err, IfOk, IfSome, None, Ok, OnOk, length, pos};
+ghost use Rattle.raw_subcode.specs.Sizes.{block_bytes, most_units, symbols_a_slot};
+ghost use Rattle.rw_interleave.specs.Interleave.{whole_packs};
 ghost use Rattle.rw_mend.specs.Refusals.{readings_refusal};
-ghost use Rattle.ribjasper_c.specs.Mending.{refusal_of, stream_refusal, AreMendedInto, AreReadingsMended, AreReadingsReported, IsStreamMended, IsStreamReported};
+ghost use Rattle.ribjasper_c.specs.Mending.{refusal_of, shape_of, shape_refusal, stream_refusal, AreMendedInto, AreReadingsMended, AreReadingsReported, AreWhole, IsStreamMended, IsStreamReported};
 
 use crate::answers::{DAMAGED, DONE, REFUSED, USAGE, WRITE_FAULT};
 use disc_time::MOST_LEAD_IN;
 use mended_stream::{mend_stream, mend_stream_report};
-use raw_subcode::{BLOCK_BYTES, MOST_UNITS, SLOTS_A_BLOCK};
+use raw_subcode::{BLOCK_BYTES, MOST_UNITS};
 use rw_code::SYMBOLS;
-use rw_interleave::PACKS_KEPT_BACK;
+use rw_interleave::whole_packs;
 use rw_mend::{MOST_READINGS, MendCounts, Tallies, mend_readings, mend_report, mend_streams};
 
 /// The result of mending two readings.
@@ -38,27 +40,17 @@ pub extern "C" fn ribjasper_mend(
     ensures refused { IfSome (refusal_of (length first.now) (length second.now) lead_in (length packs.old))
         (λ number. (result ≡ pos number) × (packs.new ≡ packs.old) × (told.new ≡ told.old)) }
 {
-    if lead_in > MOST_LEAD_IN {
-        return USAGE;
-    }
-    if first.len() != second.len()
-        || first.len() % BLOCK_BYTES != 0
-        || first.len() > BLOCK_BYTES * MOST_UNITS as usize
-    {
-        return REFUSED;
-    }
-    let blocks = (first.len() / BLOCK_BYTES).saturating_sub(lead_in as usize);
-    let bytes = SYMBOLS * (SLOTS_A_BLOCK * blocks).saturating_sub(PACKS_KEPT_BACK);
-    if packs.len() < bytes {
-        return WRITE_FAULT;
-    }
+    let shape = match Shape::of_two(first.len(), second.len(), lead_in, packs.len()) {
+        Ok(shape) => shape,
+        Err(status) => return status,
+    };
     let words = mend_streams(first, second, lead_in, packs);
     *told = MendedStream {
-        bytes: bytes as u64,
-        blocks: blocks as u32,
+        bytes: shape.text() as u64,
+        blocks: shape.blocks,
         words,
     };
-    if words.none == 0 { DONE } else { DAMAGED }
+    outcome(words.none)
 }
 
 /// The result of mending any number of readings.
@@ -93,28 +85,13 @@ pub extern "C" fn ribjasper_mend_readings(
         (λ number. (result ≡ pos number) × (packs.new ≡ packs.old) × (sources.new ≡ sources.old)
         × (told.new ≡ told.old)) }
 {
-    if lead_in > MOST_LEAD_IN || count == 0 || count > MOST_READINGS as u32 {
-        return USAGE;
-    }
-    let size = readings.len() / count as usize;
-    if readings.len() % count as usize != 0
-        || size % BLOCK_BYTES != 0
-        || size > BLOCK_BYTES * MOST_UNITS as usize
-    {
-        return REFUSED;
-    }
-    let blocks = (size / BLOCK_BYTES).saturating_sub(lead_in as usize);
-    let words = (SLOTS_A_BLOCK * blocks).saturating_sub(PACKS_KEPT_BACK);
-    if packs.len() < SYMBOLS * words || 0 < sources.len() && sources.len() < words {
-        return WRITE_FAULT;
-    }
-    let tallies = mend_readings(readings, count as usize, lead_in, packs, sources);
-    *told = MendedReadings {
-        bytes: (SYMBOLS * words) as u64,
-        blocks: blocks as u32,
-        words: tallies,
+    let shape = match Shape::in_packs(readings.len(), count, lead_in, packs.len(), sources.len()) {
+        Ok(shape) => shape,
+        Err(status) => return status,
     };
-    if tallies.none == 0 { DONE } else { DAMAGED }
+    let words = mend_readings(readings, count as usize, lead_in, packs, sources);
+    *told = shape.packs(words);
+    outcome(words.none)
 }
 
 /// Mends readings of a stream of raw blocks, one behind another, into a stream of blocks at the front of a buffer. Names
@@ -137,28 +114,19 @@ pub extern "C" fn ribjasper_mend_stream(
         (λ number. (result ≡ pos number) × (blocks.new ≡ blocks.old) × (sources.new ≡ sources.old)
         × (told.new ≡ told.old)) }
 {
-    if lead_in > MOST_LEAD_IN || count == 0 || count > MOST_READINGS as u32 {
-        return USAGE;
-    }
-    let size = readings.len() / count as usize;
-    if readings.len() % count as usize != 0
-        || size % BLOCK_BYTES != 0
-        || size > BLOCK_BYTES * MOST_UNITS as usize
-    {
-        return REFUSED;
-    }
-    let program = (size / BLOCK_BYTES).saturating_sub(lead_in as usize);
-    let words = (SLOTS_A_BLOCK * program).saturating_sub(PACKS_KEPT_BACK);
-    if blocks.len() < size || sources.len() < words {
-        return WRITE_FAULT;
-    }
-    let tallies = mend_stream(readings, count as usize, lead_in, blocks, sources);
-    *told = MendedReadings {
-        bytes: size as u64,
-        blocks: program as u32,
-        words: tallies,
+    let shape = match Shape::in_stream(
+        readings.len(),
+        count,
+        lead_in,
+        blocks.len(),
+        sources.len(),
+    ) {
+        Ok(shape) => shape,
+        Err(status) => return status,
     };
-    if tallies.none == 0 { DONE } else { DAMAGED }
+    let words = mend_stream(readings, count as usize, lead_in, blocks, sources);
+    *told = shape.stream(words);
+    outcome(words.none)
 }
 
 /// The result of mending readings, and the number of lost words of each.
@@ -191,36 +159,17 @@ pub extern "C" fn ribjasper_mend_report(
         (λ number. (result ≡ pos number) × (packs.new ≡ packs.old) × (sources.new ≡ sources.old)
         × (report.new ≡ report.old)) }
 {
-    if lead_in > MOST_LEAD_IN || count == 0 || count > MOST_READINGS as u32 {
-        return USAGE;
-    }
-    let size = readings.len() / count as usize;
-    if readings.len() % count as usize != 0
-        || size % BLOCK_BYTES != 0
-        || size > BLOCK_BYTES * MOST_UNITS as usize
-    {
-        return REFUSED;
-    }
-    let blocks = (size / BLOCK_BYTES).saturating_sub(lead_in as usize);
-    let words = (SLOTS_A_BLOCK * blocks).saturating_sub(PACKS_KEPT_BACK);
-    if packs.len() < SYMBOLS * words || 0 < sources.len() && sources.len() < words {
-        return WRITE_FAULT;
-    }
+    let shape = match Shape::in_packs(readings.len(), count, lead_in, packs.len(), sources.len()) {
+        Ok(shape) => shape,
+        Err(status) => return status,
+    };
     let mended = mend_report(readings, count as usize, lead_in, packs, sources);
     let lost = mended.lost;
     *report = MendReported {
-        told: MendedReadings {
-            bytes: (SYMBOLS * words) as u64,
-            blocks: blocks as u32,
-            words: mended.tallies,
-        },
+        told: shape.packs(mended.tallies),
         lost,
     };
-    if mended.tallies.none == 0 {
-        DONE
-    } else {
-        DAMAGED
-    }
+    outcome(mended.tallies.none)
 }
 
 /// Mends readings into a stream as the call above, and reports which words are lost.
@@ -242,34 +191,180 @@ pub extern "C" fn ribjasper_mend_stream_report(
         (λ number. (result ≡ pos number) × (blocks.new ≡ blocks.old) × (sources.new ≡ sources.old)
         × (report.new ≡ report.old)) }
 {
-    if lead_in > MOST_LEAD_IN || count == 0 || count > MOST_READINGS as u32 {
-        return USAGE;
-    }
-    let size = readings.len() / count as usize;
-    if readings.len() % count as usize != 0
-        || size % BLOCK_BYTES != 0
-        || size > BLOCK_BYTES * MOST_UNITS as usize
-    {
-        return REFUSED;
-    }
-    let program = (size / BLOCK_BYTES).saturating_sub(lead_in as usize);
-    let words = (SLOTS_A_BLOCK * program).saturating_sub(PACKS_KEPT_BACK);
-    if blocks.len() < size || sources.len() < words {
-        return WRITE_FAULT;
-    }
+    let shape = match Shape::in_stream(
+        readings.len(),
+        count,
+        lead_in,
+        blocks.len(),
+        sources.len(),
+    ) {
+        Ok(shape) => shape,
+        Err(status) => return status,
+    };
     let mended = mend_stream_report(readings, count as usize, lead_in, blocks, sources);
     let lost = mended.lost;
     *report = MendReported {
-        told: MendedReadings {
-            bytes: size as u64,
-            blocks: program as u32,
-            words: mended.tallies,
-        },
+        told: shape.stream(mended.tallies),
         lost,
     };
-    if mended.tallies.none == 0 {
-        DONE
-    } else {
-        DAMAGED
+    outcome(mended.tallies.none)
+}
+
+// The sizes of the readings of a call.
+#[derive(Clone, Copy)]
+struct Shape {
+    // The bytes of each reading.
+    size: usize,
+    // The blocks of the program.
+    blocks: u32,
+    // The words of the program.
+    words: u32,
+}
+
+impl Shape {
+    // Of readings of this length together. Refuses numbers out of range, and readings that are not whole blocks.
+    fn of(length: usize, count: u32, lead_in: u32) -> Result<Shape, i32>
+        ensures accepted { shape_refusal length count lead_in ≡ None
+            → result ≡ Ok (shape_of (length / count) lead_in) }
+        ensures refused { IfSome (shape_refusal length count lead_in) (λ number. result ≡ Err (pos number)) }
+        ensures readings { OnOk result (AreWhole length count) }
+    {
+        if lead_in > MOST_LEAD_IN || count == 0 || count > MOST_READINGS as u32 {
+            return Err(USAGE);
+        }
+        let size = length / count as usize;
+        if length % count as usize != 0
+            || size % BLOCK_BYTES != 0
+            || size > BLOCK_BYTES * MOST_UNITS as usize
+        {
+            return Err(REFUSED);
+        }
+        Ok(Shape::of_each(size, lead_in))
     }
+
+    // Of readings of this size.
+    fn of_each(size: usize, lead_in: u32) -> Shape
+        requires { size ≤ block_bytes * most_units }
+        ensures { result ≡ shape_of size lead_in }
+    {
+        let blocks = ((size / BLOCK_BYTES) as u32).saturating_sub(lead_in);
+        Shape {
+            size,
+            blocks,
+            words: whole_packs(blocks),
+        }
+    }
+
+    // Of two readings, with room for their packs.
+    fn of_two(first: usize, second: usize, lead_in: u32, room: usize) -> Result<Shape, i32>
+        ensures shape { IfOk result (λ shape. shape ≡ shape_of first lead_in) }
+        ensures taken { OnOk result (refusal_of first second lead_in room ≡ None) }
+        ensures accepted { refusal_of first second lead_in room ≡ None
+            → result ≡ Ok (shape_of first lead_in) }
+        ensures refused { IfSome (refusal_of first second lead_in room)
+            (λ number. result ≡ Err (pos number)) }
+        ensures equal { OnOk result (first ≡ second) }
+        ensures whole { OnOk result (first % block_bytes ≡ 0) }
+        ensures short { OnOk result (first ≤ block_bytes * most_units) }
+        ensures room { OnOk result (symbols_a_slot * whole_packs (first / block_bytes - lead_in) ≤ room) }
+    {
+        let shape = Shape::of(first, 1, lead_in)?;
+        if first != second {
+            return Err(REFUSED);
+        }
+        if room < shape.text() {
+            return Err(WRITE_FAULT);
+        }
+        Ok(shape)
+    }
+
+    // Of readings with room for their packs and, if there is any, for sources.
+    fn in_packs(
+        length: usize,
+        count: u32,
+        lead_in: u32,
+        room: usize,
+        sources: usize,
+    ) -> Result<Shape, i32>
+        ensures shape { IfOk result (λ shape. shape ≡ shape_of (length / count) lead_in) }
+        ensures taken { OnOk result (readings_refusal length count lead_in room sources ≡ None) }
+        ensures accepted { readings_refusal length count lead_in room sources ≡ None
+            → result ≡ Ok (shape_of (length / count) lead_in) }
+        ensures refused { IfSome (readings_refusal length count lead_in room sources)
+            (λ number. result ≡ Err (pos number)) }
+        ensures readings { OnOk result (AreWhole length count) }
+        ensures room { OnOk result
+            (symbols_a_slot * whole_packs (length / count / block_bytes - lead_in) ≤ room) }
+    {
+        let shape = Shape::of(length, count, lead_in)?;
+        if room < shape.text() || 0 < sources && sources < shape.words as usize {
+            return Err(WRITE_FAULT);
+        }
+        Ok(shape)
+    }
+
+    // Of readings with room for their stream and for sources.
+    fn in_stream(
+        length: usize,
+        count: u32,
+        lead_in: u32,
+        room: usize,
+        sources: usize,
+    ) -> Result<Shape, i32>
+        ensures shape { IfOk result (λ shape. shape ≡ shape_of (length / count) lead_in) }
+        ensures taken { OnOk result (stream_refusal length count lead_in room sources ≡ None) }
+        ensures accepted { stream_refusal length count lead_in room sources ≡ None
+            → result ≡ Ok (shape_of (length / count) lead_in) }
+        ensures refused { IfSome (stream_refusal length count lead_in room sources)
+            (λ number. result ≡ Err (pos number)) }
+        ensures readings { OnOk result (AreWhole length count) }
+        ensures room { OnOk result (length / count ≤ room) }
+        ensures sources { OnOk result (whole_packs (length / count / block_bytes - lead_in) ≤ sources) }
+    {
+        let shape = Shape::of(length, count, lead_in)?;
+        if room < shape.size || sources < shape.words as usize {
+            return Err(WRITE_FAULT);
+        }
+        Ok(shape)
+    }
+
+    // The bytes of the packs.
+    fn text(&self) -> usize
+        ensures { result ≡ symbols_a_slot * self.now.words }
+    {
+        SYMBOLS * self.words as usize
+    }
+
+    // The result of a call that writes packs.
+    fn packs(&self, words: Tallies) -> MendedReadings
+        ensures bytes { result.bytes ≡ symbols_a_slot * self.now.words }
+        ensures blocks { result.blocks ≡ self.now.blocks }
+        ensures words { result.words ≡ words }
+    {
+        MendedReadings {
+            bytes: self.text() as u64,
+            blocks: self.blocks,
+            words,
+        }
+    }
+
+    // The result of a call that writes a stream.
+    fn stream(&self, words: Tallies) -> MendedReadings
+        ensures bytes { result.bytes ≡ self.now.size }
+        ensures blocks { result.blocks ≡ self.now.blocks }
+        ensures words { result.words ≡ words }
+    {
+        MendedReadings {
+            bytes: self.size as u64,
+            blocks: self.blocks,
+            words,
+        }
+    }
+}
+
+// The exit status of a call with this number of words without a codeword.
+fn outcome(none: u32) -> i32
+    ensures { result ≡ (if none == 0 then pos 0 else pos 1) }
+{
+    if none == 0 { DONE } else { DAMAGED }
 }

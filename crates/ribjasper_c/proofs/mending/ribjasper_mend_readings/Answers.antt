@@ -1,8 +1,0 @@
-use Rattle.std.proofs.Common.{length, arith}
-use Rattle.std.proofs.Math.Nat.{div-add-mod}
-use Rattle.ribjasper_c.proofs.mending.ribjasper_mend_readings.Goals as goal
-
-pub mend_readings-tallies-requires-clause-equal : goal.mend_readings-tallies-requires-clause-equal
-mend_readings-tallies-requires-clause-equal c =
-    let long = div-add-mod (length c.args.readings.now) c.args.count in
-    omega (arith, long)
