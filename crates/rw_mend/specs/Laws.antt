@@ -1,4 +1,5 @@
--- What readings have to be for the laws of mending.
+-- The conditions of the laws of mending. `given_at programs r n` is what reading r has at word n: `Near` a codeword at some
+-- distance, `Lost` if no codeword is near, or `Silent` if the word is unread.
 use Rattle.std.specs.Prelude.{⊤, true, false, ◌≡◌, ◌≢◌, ◌⊎◌, ℕ, ◌+◌, ◌*◌, ◌<◌, List, [], All, length, slice_index_or, Option, Some, None}
 use Rattle.std.specs.List.{flat_map}
 use Rattle.bit_lists.specs.Counting.{below}
@@ -19,18 +20,18 @@ use Rattle.rw_mend.specs.declared.streams.MendCounts.{MendCounts}
 use Rattle.rw_mend.specs.declared.candidates.Candidate.{Candidate}
 use Rattle.rw_mend.specs.declared.candidates.Candidate.TheVariants.{Near, Silent}
 
--- the symbols of the codeword that is given, or zeros
+-- the symbols of the codeword of a candidate, or zeros if it is no codeword
 abbrev pub candidate_bytes : Candidate → List ℕ
 candidate_bytes (Near pack doubts) = pack
 candidate_bytes candidate = idle_pack
 
--- what reading r gives by itself for each word, as text
+-- the codewords of reading r as text, with zeros for a word without a codeword
 abbrev pub given_text : ℕ → List (List ℕ) → ℕ → List ℕ
 given_text words programs r = flat_map (λ n. candidate_bytes (given_at programs r n)) (below words)
 
--- Reading r is without a wrong symbol. Whatever another gives without a wrong symbol is the same codeword or the idle pack;
--- and where reading r gives the idle pack no other gives a graphics pack, also with one or two wrong symbols. So it is with
--- noise, with scratches, and with readings without channels R to W.
+-- Reading r has a codeword at distance 0 at every word. Every codeword at distance 0 of another reading is the same codeword
+-- or the idle pack. Where reading r has the idle pack, no other reading has a graphics pack, at any distance. Readings
+-- without channels R to W meet these conditions; readings with noise or scratches usually do.
 pub record IsCleanBeside (words : ℕ) (programs : List (List ℕ)) (r : ℕ) : Type 0 where
   pub within : r < length programs
   pub codeword : ℕ → List ℕ
@@ -40,8 +41,9 @@ pub record IsCleanBeside (words : ℕ) (programs : List (List ℕ)) (r : ℕ) : 
   pub quiet : (n s : ℕ) → n < words → s < length programs → is_idle_pack (codeword n) ≡ true
       → is_graphics_candidate (given_at programs s n) ≡ false
 
--- The same of a reading whose idle stretches may count as unread, as those of a dump without Q do. There no other gives a
--- codeword that counts and is not idle, and no two agree on one.
+-- Reading r meets the conditions of `IsCleanBeside`, but is quiet at some idle words, as in a dump without P and Q. Where it
+-- is quiet, every codeword of another reading that counts is the idle pack. Where it is unread, no two readings agree on a
+-- codeword.
 pub record IsErrorFreeBeside (words : ℕ) (programs : List (List ℕ)) (r : ℕ) : Type 0 where
   pub within : r < length programs
   pub codeword : ℕ → List ℕ
@@ -57,7 +59,7 @@ pub record IsErrorFreeBeside (words : ℕ) (programs : List (List ℕ)) (r : ℕ
   pub alone : (n s t : ℕ) (codeword : List ℕ) → n < words → given_at programs r n ≡ Silent
       → ¬ AreAgreed (given_at programs s n) (given_at programs t n) codeword
 
--- For each word one reading gives its pack, and that counts, and no reading gives another codeword that counts.
+-- At each word, some reading has the pack of the stream, and this pack counts. No reading has another codeword that counts.
 pub record AreEnough (words : ℕ) (programs packs : List (List ℕ)) : Type 0 where
   pub reading : ℕ → ℕ
   pub doubts : ℕ → ℕ
@@ -70,7 +72,7 @@ pub record AreEnough (words : ℕ) (programs packs : List (List ℕ)) : Type 0 w
       → ¬ IsDropped words programs s n → given_at programs s n ≡ Near other more
       → other ≡ slice_index_or packs n []
 
--- Each reading gives the pack of each word, whichever of its symbols are wrong: it is damaged in two at most.
+-- Each reading has the pack of the stream at each word, at any distance.
 pub record AllGive (words : ℕ) (programs packs : List (List ℕ)) : Type 0 where
   pub some : 0 < length programs
   pub count : length packs ≡ words
@@ -78,8 +80,8 @@ pub record AllGive (words : ℕ) (programs packs : List (List ℕ)) : Type 0 whe
   pub gives : (n r : ℕ) → n < words → r < length programs
       → given_at programs r n ≡ Near (slice_index_or packs n []) (doubts n r)
 
--- Of program symbols that carry these packs there are readings, one or more, each of so many whole blocks and damaged
--- in at most two symbols of each word, wherever these are.
+-- These are one or more readings of program symbols that carry the packs. Each reading has this many blocks, and at most two
+-- wrong symbols in each word, in any places.
 pub record AreDamagedReadings (lead_in blocks : ℕ) (packs readings : List (List ℕ)) : Type 0 where
   pub some : 0 < length readings
   pub sizes : All (λ bytes. length bytes ≡ (lead_in + blocks) * block_bytes) readings
@@ -87,8 +89,8 @@ pub record AreDamagedReadings (lead_in blocks : ℕ) (packs readings : List (Lis
   pub carries : Carries blocks symbols packs
   pub damage : All (λ bytes. IsDamaged symbols Raw (program_symbols Raw bytes lead_in)) readings
 
--- Whatever codeword another reading than r gives counts for nothing, or is what is written of reading r: the codeword
--- that it gives, or zeros. And no doubtful codeword of reading r counts for nothing.
+-- Every codeword of another reading that counts is what the conversion of reading r has at this word: its codeword, or
+-- zeros. No reading is quiet at a word where reading r has a doubtful codeword.
 pub record CountsAlone (words : ℕ) (programs : List (List ℕ)) (r : ℕ) : Type 0 where
   pub within : r < length programs
   pub others : (n s : ℕ) (codeword : List ℕ) (doubts : ℕ) → n < words → s < length programs → s ≢ r
@@ -96,25 +98,26 @@ pub record CountsAlone (words : ℕ) (programs : List (List ℕ)) (r : ℕ) : Ty
       → codeword ≡ candidate_bytes (given_at programs r n)
   pub sure : (n : ℕ) → n < words → ¬ IsDoubted programs r n
 
--- it is a codeword on which two readings agree
+-- the result for a word is a codeword on which two readings agree
 abbrev pub IsAgreedWord : Option Mended → Type 0
 IsAgreedWord (Some mended) = mended.source ≡ Agreed
 IsAgreedWord None = ⊥
 
--- Two orders of some readings name the same at word n: two readings that give the same there, or an agreement of two.
+-- Two orders of the same readings name the same source at word n: readings with equal candidates there, or an agreement of
+-- two readings.
 abbrev pub IsSameSource : List (List ℕ) → List (List ℕ) → ℕ → WordSource → WordSource → Type 0
 IsSameSource programs others n (Reading r) (Reading k) = given_at programs r n ≡ given_at others k n
 IsSameSource programs others n Agreed Agreed = ⊤
 IsSameSource programs others n one other = ⊥
 
--- the same codeword is found, and the same is named; or nothing in both
+-- two orders have the same codeword and the same source at word n, or no codeword in both
 abbrev pub IsSameFind : List (List ℕ) → List (List ℕ) → ℕ → Option Mended → Option Mended → Type 0
 IsSameFind programs others n (Some one) (Some other) = (one.pack ≡ other.pack)
     × IsSameSource programs others n one.source other.source
 IsSameFind programs others n None None = ⊤
 IsSameFind programs others n one other = ⊥
 
--- What is counted of the first reading is counted of the second, and the other way round; all else is as it was.
+-- The counts of the first and the second reading are exchanged. All other counts are equal.
 pub record AreExchanged (counts others : MendCounts) : Type 0 where
   pub both : others.both ≡ counts.both
   pub of_first : others.of_first ≡ counts.of_second

@@ -1,4 +1,5 @@
-// What follows from the definitions.
+// The laws of mending, which follow from the definitions. ribjasper.h (Mending) explains the terms: the distance of a
+// codeword, quiet and unread words, doubtful codewords, and codewords that do not count.
 ghost use Rattle.std.specs.Prelude.{◌≡◌, ◌<◌, ◌≤◌, ◌-◌, ◌/◌, ◌%◌, ◌++◌, [], ◌∷◌, IsPermutation, List, None, ℕ, drop, length, map, slice_index_or};
 ghost use Rattle.bit_lists.specs.Counting.{parts};
 ghost use Rattle.std.specs.List.{concat};
@@ -22,8 +23,7 @@ ghost use Rattle.rw_mend.specs.declared.tallies.Tallies.{Tallies};
 ghost use Rattle.rw_mend.specs.declared.candidates.Candidate.{Candidate};
 ghost use Rattle.rw_mend.specs.declared.candidates.Candidate.TheVariants;
 
-/// A law: a codeword that counts and against which no symbol stands is what is mended, unless another such codeword
-/// counts.
+/// A law: if exactly one codeword at distance 0 counts at a word, this codeword is the result.
 pub fn a_clean_codeword_is_mended()
     ensures { (candidates : List Candidate) (r : ℕ) (codeword : List ℕ) (found : Option Mended)
         → r < length candidates
@@ -34,9 +34,10 @@ pub fn a_clean_codeword_is_mended()
         → IsMending candidates found → mended_bytes found ≡ codeword }
 {}
 
-/// A law: a reading without a wrong symbol comes out whole, as if it were alone, beside any readings which, where no
-/// symbol of a word of theirs is wrong, give the same codeword or the idle pack: noise, scratches, no channels R to W. So
-/// the calls write what a conversion writes of it.
+/// A law: a reading with a codeword at distance 0 at every word is the result, under two conditions. First, every codeword
+/// at distance 0 of another reading is the same codeword or the idle pack. Second, where this reading has the idle pack, no
+/// other reading has a graphics pack, at any distance. Readings without channels R to W meet both; readings with noise or
+/// scratches usually do. The calls then write the conversion of this reading.
 pub fn a_clean_reading_comes_out()
     ensures words { (words r : ℕ) (programs : List (List ℕ)) (said : List (List Candidate))
         (found : List (Option Mended))
@@ -58,8 +59,9 @@ pub fn a_clean_reading_comes_out()
         → new ≡ cdg_bytes found ++ drop (length (cdg_bytes found)) old }
 {}
 
-/// A law: the same of a reading in which every word is error-free and idle stretches may count as unread, as in a dump
-/// without Q: there no other reading gives a codeword that counts and is not idle, and no two agree on one.
+/// A law: a reading is the result even if some of its idle blocks count as unread, as in a dump without P and Q. The law
+/// above has two conditions, and this law has two more. First, where this reading is quiet, every codeword of another
+/// reading that counts is the idle pack. Second, where this reading is unread, no two readings agree on a codeword.
 pub fn an_error_free_reading_comes_out()
     ensures { (words r : ℕ) (programs : List (List ℕ)) (said : List (List Candidate))
         (found : List (Option Mended))
@@ -67,7 +69,8 @@ pub fn an_error_free_reading_comes_out()
         → mended_text found ≡ given_text words programs r }
 {}
 
-/// A law: for the candidates of a word one codeword at most is mended, of one source; so it is for each word of readings.
+/// A law: the result for a word is unique. It is one codeword with one source, or there is none. The readings determine
+/// the results for all words.
 pub fn one_codeword_is_mended()
     ensures word { (candidates : List Candidate) (found other : Option Mended) → IsMending candidates found
         → IsMending candidates other → found ≡ other }
@@ -76,7 +79,7 @@ pub fn one_codeword_is_mended()
         → AreMended words programs others other → found ≡ other }
 {}
 
-/// A law: a codeword that counts is mended where no other counts, however many symbols stand against it.
+/// A law: if only one codeword counts at a word, it is the result, whatever its distance.
 pub fn a_codeword_that_counts_alone_is_mended()
     ensures { (candidates : List Candidate) (codeword : List ℕ) (r doubts : ℕ) (found : Option Mended)
         → r < length candidates
@@ -86,8 +89,8 @@ pub fn a_codeword_that_counts_alone_is_mended()
         → IsMending candidates found → mended_bytes found ≡ codeword }
 {}
 
-/// A law: the packs of a stream come back from readings of which, for each word, one gives the pack, and none gives
-/// another codeword that counts. So it is where each reading gives each pack, in whichever two symbols it is damaged.
+/// A law: packs are recovered if, at each word, a reading has the pack, it counts, and no other codeword counts. It is
+/// enough that every reading has the pack at each word, at any distance.
 pub fn packs_come_back()
     ensures enough { (words : ℕ) (programs packs : List (List ℕ)) (said : List (List Candidate))
         (found : List (Option Mended)) → AreEnough words programs packs → AreMended words programs said found
@@ -96,9 +99,9 @@ pub fn packs_come_back()
         → AreEnough words programs packs }
 {}
 
-/// A law: readings of which each is damaged in at most two symbols of each word, whichever these are, give back every
-/// pack of their stream, however many readings they are: these are what both calls write. Two readings that are damaged
-/// as a merge bears it are such readings.
+/// A law: if each reading has at most two wrong symbols in each word, every pack of the stream is recovered. The number
+/// of readings and the places of the wrong symbols do not matter. Both calls write these packs. The two readings of the
+/// same law of `rw_merge` meet the condition of this one.
 pub fn damaged_readings_give_back_the_packs()
     ensures words { (lead_in blocks : ℕ) (packs readings : List (List ℕ)) (said : List (List Candidate))
         (found : List (Option Mended)) → AreDamagedReadings lead_in blocks packs readings
@@ -118,7 +121,7 @@ pub fn damaged_readings_give_back_the_packs()
         → AreDamagedReadings lead_in blocks packs (first ∷ second ∷ []) }
 {}
 
-/// A law: what a reading gives by itself is what a conversion writes of it.
+/// A law: the codewords of a reading, with zeros where it has none, are the conversion of this reading.
 pub fn a_reading_gives_its_conversion()
     ensures { (lead_in r : ℕ) (programs : List (List ℕ)) (bytes : List ℕ) (found : List (Option (List ℕ)))
         → length bytes % block_bytes ≡ 0 → slice_index_or programs r [] ≡ program_of lead_in bytes
@@ -126,8 +129,9 @@ pub fn a_reading_gives_its_conversion()
         → given_text (whole_packs (length bytes / block_bytes - lead_in)) programs r ≡ cdg_bytes found }
 {}
 
-/// A law: where whatever another reading gives counts for nothing, or is what is written of one reading, that comes out,
-/// but for the words on which two readings agree. Where none are agreed the calls write what a conversion writes of it.
+/// A law: the conversion of one reading is the result, except at words on which two readings agree. There are two
+/// conditions. First, every codeword of another reading that counts is what the conversion has at this word. Second, no
+/// reading is quiet where this reading has a doubtful codeword. If no word is agreed, the calls write the conversion.
 pub fn a_reading_that_counts_alone_is_converted()
     ensures words { (words r : ℕ) (programs : List (List ℕ)) (said : List (List Candidate))
         (found : List (Option Mended)) → CountsAlone words programs r → AreMended words programs said found
@@ -150,10 +154,10 @@ pub fn a_reading_that_counts_alone_is_converted()
         → new ≡ cdg_bytes found ++ drop (length (cdg_bytes found)) old }
 {}
 
-/// A law: another order of the readings changes nothing but which of them is named where several give the same. So the
-/// calls write the same, and count as many words that are agreed, and that have no codeword; and what each reading gives
-/// counts for nothing as often. Where two readings change places, so do the counts of what each gives alone, and as many
-/// words are given by both.
+/// A law: the order of the readings decides only which reading is named as the source, where several have the same
+/// codeword at the same distance. In any order, the calls write the same packs. The numbers of agreed words and of words
+/// without a codeword are the same, and so is the number of codewords of each reading that do not count. If two readings
+/// are exchanged, the numbers of words that only one of them has are exchanged.
 pub fn the_order_of_readings_changes_names_alone()
     ensures words { (words : ℕ) (programs others : List (List ℕ)) (said saying : List (List Candidate))
         (found other : List (Option Mended)) → IsPermutation programs others
