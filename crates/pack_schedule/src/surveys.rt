@@ -52,12 +52,28 @@ impl Survey {
     ghost use Rattle.std.specs.Prelude.{◌≡◌, ◌<◌, length, slice_index_or};
     ghost use Rattle.pack_schedule.specs.Survey.{nothing_planned};
 
+    /// The number of the pack with which the change of picture `k` begins.
+    pub fn start(&self, k: u32) -> u32
+        requires { k < length self.now }
+        ensures { result ≡ (slice_index_or self.now k nothing_planned).start }
+    {
+        self.planned[k as usize].start
+    }
+
     /// The number of packs of the change of picture `k`.
     pub fn need(&self, k: u32) -> u32
         requires { k < length self.now }
         ensures { result ≡ (slice_index_or self.now k nothing_planned).need }
     {
         self.planned[k as usize].need
+    }
+
+    /// The colour of the preset with which the change of picture `k` begins, or `None` if it begins without one.
+    pub fn preset(&self, k: u32) -> Option<u8>
+        requires { k < length self.now }
+        ensures { result ≡ (slice_index_or self.now k nothing_planned).preset }
+    {
+        self.planned[k as usize].preset
     }
 
     /// The planned change of picture `k`.
