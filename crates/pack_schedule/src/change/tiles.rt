@@ -67,6 +67,14 @@ fn tell_row(
         return true;
     }
     *columns = before.shared_columns(now, r as u8 + 1);
+    are_all(columns)
+}
+
+// Whether all columns are marked. The loop has no early end, so the compiler can vectorize it.
+fn are_all(columns: &[bool; WINDOW_COLUMNS]) -> bool
+    ensures { result ≡ true
+        → (i : ℕ) → i < window_columns → slice_index_or columns.now i false ≡ true }
+{
     let mut all = true;
     for i in 0..WINDOW_COLUMNS {
         all &= columns[i];
