@@ -364,11 +364,17 @@ class MendedStreamTest(MendCase):
             self.assertEqual(self.mended(*order, name="out.raw"), stream)
 
     def test_the_order_of_readings_changes_nothing(self) -> None:
-        """Noise beside a whole reading: also the words that both ends cut are those of the whole one."""
+        """Noise and a whole reading: the words that both ends cut are those of the whole one too. Three damaged readings of
+        which one begins later and one has no lead-in: each order writes the same bytes."""
         chance = random.Random(12)
         noise = bytes(byte & 0xC0 | chance.randrange(64) for byte in self.whole)
         for readings in ((self.whole, noise), (noise, self.whole)):
             self.assertEqual(self.mended(*readings, name="out.raw"), self.whole)
+        later = known.scratched(self.whole[BLOCK * 2000 :], 13, 8, 90)
+        damaged = known.scratched(self.whole, 11, 9, 90), known.scratched(self.whole[BLOCK * 60 :], 12, 7, 90), later
+        for name in ("out.raw", "out.cdg"):
+            orders = [self.mended(*order, status=1, name=name) for order in itertools.permutations(damaged)]
+            self.assertEqual(len(set(orders)), 1, name)
 
     def test_packs_of_all_forms(self) -> None:
         """The program finds the packs of the .cdg file in a stream of each form, and no wrong symbol."""

@@ -1,18 +1,17 @@
 """Mends aligned readings by one call of the library, which decides and counts. This module prepares the input and reads
 the output of this call."""
 import ctypes
-import functools
 import itertools
 import mmap
 import re
 import sys
-from typing import Iterator, NamedTuple, Sequence
+from typing import NamedTuple
 
 from ..common import library
 from ..common.library import BLOCK, PACK, PACKS_A_BLOCK, SLOTS, MendReported
 from .agreement import Packs, Shared, far_apart, packs_of_part, whole_words
 from .columns import Run, busy, different, joined, runs, touching
-from .readings import Laid, Reading
+from .readings import Laid
 from .survey import has_graphics_bits
 
 # The number of blocks that are compared at a time.
@@ -51,44 +50,6 @@ class Mended(NamedTuple):
         return joined(blocks, touching)
 
 
-@functools.total_ordering
-class Content:
-    """The blocks of a reading, which put those in order that are alike in all else."""
-
-    def __init__(self, reading: Reading):
-        self.reading = reading
-
-    def pieces(self) -> Iterator[bytes]:
-        return (content for _, content in self.reading.blocks(0, self.reading.loaded.survey.blocks))
-
-    def pairs(self, other: "Content") -> Iterator[tuple[bytes, bytes]]:
-        """The pieces in which both differ."""
-        return (
-            pair for pair in itertools.zip_longest(self.pieces(), other.pieces(), fillvalue=b"") if pair[0] != pair[1]
-        )
-
-    def __eq__(self, other: object) -> bool:
-        return isinstance(other, Content) and next(self.pairs(other), None) is None
-
-    def __lt__(self, other: "Content") -> bool:
-        return any(own < its for own, its in itertools.islice(self.pairs(other), 1))
-
-
-def best_first(laid: Laid) -> list[int]:
-    """The readings in the order in which the library takes them: those with the fewest words lost first. Where no rule
-    decides, as of words that both ends cut, the first reading does; so the order of the command line changes nothing.
-    """
-
-    def rank(number: int) -> tuple[object, ...]:
-        reading = laid.readings[number]
-        survey = reading.loaded.survey
-        unread = PACKS_A_BLOCK * sum(survey.empty) + survey.total("bad")
-        corrected = survey.total("one") + survey.total("two")
-        return reading.is_beside, not reading.has_graphics, unread, corrected, Content(reading), reading.parts
-
-    return sorted(range(len(laid.readings)), key=rank)
-
-
 def zeros(size: int) -> mmap.mmap:
     """At least one byte of zeros. A page uses no memory before it is written to."""
     if sys.platform == "win32":
@@ -96,14 +57,14 @@ def zeros(size: int) -> mmap.mmap:
     return mmap.mmap(-1, max(1, size), flags=mmap.MAP_PRIVATE | mmap.MAP_ANONYMOUS)
 
 
-def programs_of(laid: Laid, order: Sequence[int]) -> mmap.mmap:
+def programs_of(laid: Laid) -> mmap.mmap:
     """The programs of all readings, in order. Frees the surveys of the readings, and streams that no later reading
     needs."""
-    content = zeros(laid.size * len(order))
-    for place, number in enumerate(order):
-        reading = laid.readings[number]
-        laid.fill(reading, laid.lead_in, laid.blocks, memoryview(content)[laid.size * place : laid.size * (place + 1)])
-        if all(laid.readings[other].loaded.dump is not reading.loaded.dump for other in order[place + 1 :]):
+    content = zeros(laid.size * len(laid.readings))
+    for number, reading in enumerate(laid.readings):
+        place = memoryview(content)[laid.size * number : laid.size * (number + 1)]
+        laid.fill(reading, laid.lead_in, laid.blocks, place)
+        if all(other.loaded.dump is not reading.loaded.dump for other in laid.readings[number + 1 :]):
             reading.loaded.survey.forget()
             reading.loaded = reading.loaded._replace(stream=b"")
     return content
@@ -111,21 +72,19 @@ def programs_of(laid: Laid, order: Sequence[int]) -> mmap.mmap:
 
 def mend_laid(laid: Laid, as_stream: bool) -> Mended:
     """The packs of readings, or their stream without a lead-in."""
-    order = best_first(laid)
-    content = programs_of(laid, order)
+    content, count = programs_of(laid), len(laid.readings)
     words = whole_words(laid.blocks - laid.lead_in)
     name = "ribjasper_mend_stream_report" if as_stream else "ribjasper_mend_report"
-    size, room = laid.size * len(order), laid.size if as_stream else PACK * words
+    size, room = laid.size * count, laid.size if as_stream else PACK * words
     out, sources, report = zeros(room), zeros(words), MendReported()
     byte = ctypes.c_uint8
     readings = (byte * len(content)).from_buffer(content)
     target, names = (byte * len(out)).from_buffer(out), (byte * len(sources)).from_buffer(sources)
-    status = library.call(name)(readings, size, len(order), 0, target, room, names, words, report)
+    status = library.call(name)(readings, size, count, 0, target, room, names, words, report)
     if status not in (library.DONE, library.DAMAGED):
         raise ValueError(f"{name} answers {status}")
     totals = report.counts
-    places = [order.index(number) for number in range(len(order))]
-    counts = [Counts(totals.of_reading[k], totals.dropped[k], report.lost[k]) for k in places]
+    counts = [Counts(totals.of_reading[k], totals.dropped[k], report.lost[k]) for k in range(count)]
     return Mended(
         memoryview(out)[: totals.bytes], bytes(memoryview(sources)[:words]), totals.agreed, totals.none, counts
     )
