@@ -7,7 +7,9 @@ ghost use Rattle.pack_schedule.specs.Change.{most_change, most_tile_steps, setti
 ghost use Rattle.pack_schedule.specs.PlannedChange.{tile_steps, planned_length, preferred, chosen_start};
 
 use crate::change::count_settings;
-use crate::change::tiles::{TileCounts, Weighed, count_tiles, is_same_picture, same_tiles};
+use crate::change::tiles::{
+    TileCounts, Weighed, are_undrawn, count_tiles, is_same_picture, same_tiles,
+};
 use cdg_instructions::{COLOURS, WINDOW_TILES};
 use picture_script::{Canvas, Script};
 
@@ -111,6 +113,12 @@ pub(crate) fn choose_start(
 {
     let beside = count_settings(script, k, before, now);
     let drawn = script.drawn_rows(k);
+    if k > 0 && are_undrawn(&drawn) {
+        return Choice {
+            preset: None,
+            need: beside,
+        };
+    }
     let same = same_tiles(script, k, &drawn, before, now);
     if k > 0 && is_same_picture(&same, before, now) {
         return Choice {

@@ -27,6 +27,18 @@ pub(crate) struct ToldTiles {
     pub(crate) columns: [[bool; WINDOW_COLUMNS]; WINDOW_ROWS],
 }
 
+/// Whether no line drew on any row, so that the picture equals the previous one.
+pub(crate) fn are_undrawn(drawn: &[bool; WINDOW_ROWS]) -> bool
+    ensures { IsTrue result ↔ ((r : ℕ) → r < window_rows → slice_index_or drawn.now r false ≡ false) }
+{
+    for r in 0..WINDOW_ROWS {
+        if drawn[r] {
+            return false;
+        }
+    }
+    true
+}
+
 /// The equal tiles of picture `k` on `now` and the previous picture on `before`. Rows on which no line drew are not
 /// compared.
 pub(crate) fn same_tiles(
