@@ -669,7 +669,8 @@ int32_t ribjasper_convert(const uint8_t *stream, size_t length, uint32_t form, u
    conditions. First, if another reading has a codeword at distance 0 at a word, it is the same codeword or the idle
    pack. Second, if this reading has the idle pack at a word, no other reading has a graphics pack there, at any
    distance. Random symbols look like a graphics pack once in 28 million words. The Q frames of this reading do not
-   matter. (But if P and Q of an idle block are 0, the block is unread, and the distance of its idle packs is not 0.)
+   matter. There is one exception: a block in which all 96 bytes are 0 counts as unread, so its idle packs do not have
+   distance 0.
 
    If each reading has at most two wrong symbols in each word, the result contains every pack. Suppose that only one
    reading has codewords that count. Then the result is what ribjasper_convert writes for this reading, with two
