@@ -588,7 +588,7 @@ class FaultsTest(MendCase):
 @needs_library
 @needs_mending
 class PlacingTest(MendCase):
-    """Readings of which no Q frame, or only frames of stale blocks, say where they belong."""
+    """Readings in which no Q frame is good, or only frames of stale blocks are."""
 
     def setUp(self) -> None:
         super().setUp()

@@ -93,7 +93,7 @@ outputs (*sinks*). A clause `ensures name { .. }` is a statement that is true af
 | `λ x. e` | This is the function that maps x to e. |
 | `ℕ`, `a - b` | ℕ is the type of natural numbers. If a - b would be negative, it is 0. |
 | `[]`, `x ∷ xs`, `xs ++ ys` | These are the empty list, the list with x in front of xs, and two lists joined. |
-| `record`, `pub name : A` | A record is one name for several statements, all of which are true; or it is a value of several parts. |
+| `record`, `pub name : A` | A record has named fields. If the fields are statements, the record states all of them together; otherwise it is a value with several parts. |
 | `record { name = e; .. }` | This is the value whose parts are these. |
 | `abbrev`, `unfoldable` | Both define a name for the right side of the definition. They differ only for the checker. |
 | `data`, `name : A → B ..` | This defines a statement that is true in one of these ways and in no other; or a value of one of these kinds. |

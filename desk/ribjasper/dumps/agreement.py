@@ -15,10 +15,10 @@ class Packs(NamedTuple):
     busy: bytes
 
 
-# So many packs say whether readings agree, if at least this share of them does.
+# Readings agree if at least LEAST_PACKS packs are the same, and at least this share of the packs that both have.
 LEAST_PACKS, LEAST_SHARE = 12, 0.9
-# In a part where each of two readings has so many packs, some are the same if it is one part of one disc; so many that
-# are the same are no chance.
+# If two readings of one disc both have SOME packs in a part, some of these packs are the same. NO_CHANCE equal packs
+# are no coincidence.
 SOME, NO_CHANCE = 8, 4
 
 
@@ -73,7 +73,7 @@ def packs_of_part(stream: bytes, blocks: int) -> Packs:
 
 
 def far_apart(parts: int) -> Iterator[int]:
-    """Numbers of parts, those that lie far from each other first."""
+    """The numbers of parts, in an order in which neighbours in this order are far from each other."""
     bits = max(1, (parts - 1).bit_length())
     for number in range(1 << bits):
         place = int(f"{number:0{bits}b}"[::-1], 2)

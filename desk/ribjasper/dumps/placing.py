@@ -15,25 +15,29 @@ from .pieces import FEWEST, Piece, chain_of, framed_pieces, layers_of, lead_in_o
 from .readings import Laid, Reading
 from .survey import Stretch, Survey
 
-# A gap of no more blocks has too few words to compare.
+# A gap of at most FEW blocks has too few words for a comparison.
 FEW = 8
-# Frames decide if they are so many times the blocks of a gap; with no look at words if they are far more.
+# Frames decide the place of a gap if their number is at least ENOUGH times its number of blocks. If it is at least
+# PLENTY times this number, the words of the gap are not compared.
 ENOUGH, PLENTY = 2, 10
-# Of two places where words agree, the right one has so many times fewer packs that differ.
+# If words agree at two places, the right place has CLEARLY times fewer packs that differ.
 CLEARLY = 10
-# Words are compared in so many windows of a gap, of so many blocks, at so many places, with so many readings.
+# A comparison uses at most MOST_WINDOWS windows of a gap, each WINDOW blocks long, at MOST_PLACES places, with
+# MOST_OTHERS readings.
 WINDOW, MOST_WINDOWS, MOST_PLACES, MOST_OTHERS = 75, 24, 16, 8
-# A gap of which parts agree at different places is halved so often, down to so many blocks.
+# If parts of a gap agree at different places, the gap is halved up to HALVINGS times. No half is shorter than SHORTEST
+# blocks.
 HALVINGS, SHORTEST = 6, 40
-# Of so many parts of a reading most have frames, and those of one shift are in no fewer than these.
+# A reading is divided into PARTS equal parts. Its frames are sure if at least MOST_PARTS parts have frames; a shift
+# counts only if its frames are in at least FEW_PARTS parts.
 PARTS, MOST_PARTS, FEW_PARTS = 16, 12, 5
-# The share of a reading in doubt, one in so many blocks, from which on nothing is mended.
+# If more than one in IN_DOUBT blocks of a reading is in doubt, nothing is mended.
 IN_DOUBT = 4
-# Single frames in so many places that are a second apart from the one before are no stale runs.
+# Single frames are no stale runs if PLACES of them are each a second after the one before.
 PLACES = 2
-# A gap in a stale run is shorter than a second, and no stale run is longer than twenty.
+# In blocks: a gap in a stale run is shorter than a second, and a stale run has at most twenty seconds.
 APART, LONGEST_STALE = 75, 1500
-# The share of the frames of a reading that one shift has, where other readings go by it.
+# Other readings rely on a shift of a reading if at least this share of its frames has it.
 MAIN_SHARE = 0.9
 _NOT_GOOD = bytes(kind > library.Q_OTHER for kind in range(256))
 _ZERO = bytes(value == 0 for value in range(256))
@@ -41,8 +45,9 @@ _ZERO = bytes(value == 0 for value in range(256))
 
 @dataclass(eq=False)
 class FrameGap:
-    """Blocks of a file that no frame places, from the first up to the end: how many of them were read; the pieces next
-    to it; those of the run of the file before and behind it; and the shifts of single frames in it."""
+    """A gap: blocks of a file, from `first` up to `end`, whose place no frame says. `read` is how many of them were
+    read, `near` are the pieces next to the gap, `around` are the pieces of the file's main run before and after it, and
+    `strays` are the shifts of single frames in it."""
 
     first: int
     end: int
@@ -52,14 +57,14 @@ class FrameGap:
     strays: list[int]
     shift: int | None = None  # the place that was found
     is_busy: bool = False  # it has packs that are not idle
-    agrees: bool = False  # some of them agree with those of another reading somewhere
-    is_part: bool = False  # it is a part of a gap of which not all agrees at one place
-    inner: Run | None = None  # of this part the blocks from the first that agree to the last
+    agrees: bool = False  # some packs agree with those of another reading at some place
+    is_part: bool = False  # it is one half of a gap whose words agreed at several places
+    inner: Run | None = None  # in such a half: from the first block that agrees to the last one
     against: set[int] = field(default_factory=set)  # the places that its words contradict
 
     @property
     def length(self) -> int:
-        """Its blocks; none if nothing of it was read."""
+        """The number of its blocks, or 0 if none was read."""
         return self.end - self.first if self.read else 0
 
     @property
@@ -69,7 +74,7 @@ class FrameGap:
 
 @dataclass(eq=False)
 class Framed:
-    """A reading, the pieces that its own frames place, in the order of the file, and the gaps between them."""
+    """A reading with the pieces whose place its own frames say, in the order of the file, and the gaps between them."""
 
     reading: Reading
     unframed: bytes  # a byte for each block, 1 where it was read and has no good frame
@@ -78,11 +83,11 @@ class Framed:
     frames: Counter[int] = field(default_factory=Counter)  # of each shift in the run of the file
     widths: Counter[int] = field(default_factory=Counter)  # blocks of each shift in it
     ends: set[int] = field(default_factory=set)  # the shifts of the first and the last piece of this run
-    slack: dict[Piece, int] = field(default_factory=dict)  # the longest row of blocks without a frame in a piece
+    slack: dict[Piece, int] = field(default_factory=dict)  # for each piece, its longest row of blocks without a frame
     strays: list[Stretch] = field(default_factory=list)  # frames of too few blocks for a piece
-    stale: list[Run] = field(default_factory=list)  # such frames and the blocks around them that are left out
-    homes: set[int] = field(default_factory=set)  # the shifts of readings that are as long
-    guesses: list[int] = field(default_factory=list)  # shifts with which it begins or ends as another reading
+    stale: list[Run] = field(default_factory=list)  # blocks that are left out, because such frames are wrong
+    homes: set[int] = field(default_factory=set)  # the shifts of other readings with the same length
+    guesses: list[int] = field(default_factory=list)  # shifts at which it begins or ends where another reading does
     is_sure: bool = False
 
     @property
@@ -90,7 +95,7 @@ class Framed:
         return self.reading.loaded.survey.blocks
 
     def main(self) -> int | None:
-        """The shift of the widest pieces, if nearly all frames or both ends of the file have it."""
+        """The shift of the widest pieces. There is none unless nearly all frames, or both ends of the file, have it."""
         if not self.frames:
             return None
         shift = max(self.widths, key=lambda it: (self.widths[it], it))
@@ -101,8 +106,8 @@ class Framed:
         return replace(self.reading, parts=self.parts())
 
     def parts(self) -> list[Piece]:
-        """The pieces and the gaps that have a place, those that touch and have one shift as one. The lead-in, which has
-        no time, is no part."""
+        """The pieces, and the gaps whose place was found. Neighbours with the same shift are one part. The lead-in has
+        no time, so it belongs to no part."""
         runs = [run for gap in self.gaps if (run := self.run(gap))]
         found: list[Piece] = []
         for part in sorted([*self.pieces, *runs]):
@@ -118,8 +123,8 @@ class Framed:
         return [part for whole in found for part in without_runs(whole, self.stale)] if self.stale else found
 
     def run(self, gap: FrameGap) -> Piece | None:
-        """The blocks of a gap that have a place. Next to a piece of another shift that has blocks without a frame, as
-        many blocks may belong to it."""
+        """The blocks of a gap, if its place was found. Some blocks at its edge may belong to a neighbour with another
+        shift: at most as many as this neighbour has in a row without a frame. These blocks are left out."""
         if gap.shift is None:
             return None
         first, end = (gap.inner.first, gap.inner.last + 1) if gap.inner else (gap.first, gap.end)
@@ -183,8 +188,8 @@ def framed(reading: Reading) -> Framed:
 
 
 def widest_chain(pieces: Sequence[Piece]) -> list[Piece]:
-    """The pieces whose times increase, and that have the most blocks together: frames of a stale run may be closer than
-    those around it."""
+    """The pieces with increasing times that have the most blocks together. Blocks count, not frames, because a stale
+    run may have more frames for each block than the pieces around it."""
     wide = {piece._replace(placed=piece.end - piece.first - piece.known): piece for piece in pieces}
     return [wide[piece] for piece in chain_of(list(wide))]
 
@@ -258,7 +263,7 @@ def next_in_run(pieces: Sequence[Piece], run: set[Piece]) -> list[Piece | None]:
 
 
 def without_runs(piece: Piece, runs: Sequence[Run]) -> list[Piece]:
-    """What is left of a piece without some blocks; its frames are counted with the first part."""
+    """The parts of a piece that remain without some runs of blocks. The first part keeps the count of frames."""
     found, first = [], piece.first
     for run in runs:
         if run.last < first or run.first >= piece.end:
@@ -272,8 +277,8 @@ def without_runs(piece: Piece, runs: Sequence[Run]) -> list[Piece]:
 
 
 def leave_out_strays(found: Sequence[Framed]) -> None:
-    """Single blocks whose good frames have the time of another place are stale if another reading has the frame of this
-    place. Blocks next to them without a frame may be stale too."""
+    """Leaves out single blocks whose good frame has the time of another place, if another reading has the frame of this
+    place: such a block is stale. Its neighbours without a frame may be stale too, so they are also left out."""
     surveys = [it.reading.loaded.survey for it in found]
     parts = [it.parts() for it in found]
     for number, it in enumerate(found):
@@ -301,8 +306,8 @@ def only_shift(pieces: Iterable[Piece]) -> int | None:
 
 
 def is_sure(found: Framed, run: set[Piece]) -> bool:
-    """Whether the frames of a reading are enough for its place: they are most of it, or they are scattered over it,
-    which those of a few stale runs are not."""
+    """Whether the frames of a reading are enough to say its place: most blocks have one, or the frames are scattered
+    over the whole reading. Frames of a few stale runs are neither."""
     survey, total = found.reading.loaded.survey, sum(piece.known for piece in found.pieces)
     # Without Q an idle block is all zeros, and seems to be unread.
     first, end = (survey.first, survey.end) if total > LONGEST_STALE else (0, survey.blocks)
@@ -320,7 +325,7 @@ def is_sure(found: Framed, run: set[Piece]) -> bool:
 
 
 def is_scattered(single: Sequence[Piece], blocks: int) -> bool:
-    """Whether single frames are in some places that are seconds apart, over half of a reading."""
+    """Whether single frames are at several places that are seconds apart, and span at least half of a reading."""
     places = [after for before, after in zip(single, single[1:]) if after.first - before.end >= APART]
     return len(places) >= PLACES and 2 * (single[-1].end - single[0].first) >= blocks
 
@@ -329,7 +334,8 @@ def is_scattered(single: Sequence[Piece], blocks: int) -> bool:
 
 
 class Judgement(NamedTuple):
-    """What words say of a gap: the place where they agree; those where they do not; and whether several seem right."""
+    """What the words of a gap say: the place at which they agree with another reading, if there is one; the places that
+    they contradict; and whether they say nothing, so that frames may decide."""
 
     shift: int | None
     against: set[int]
@@ -370,7 +376,7 @@ def judgement(gap: FrameGap, own: Reading, shifts: Sequence[int], others: Sequen
 
 
 def best_places(window: dict[int, Shared]) -> set[int]:
-    """The place at which the most packs of a window are the same; and others, if packs are the same only there."""
+    """The place at which the most packs of a window are the same, and each place at which other packs are the same."""
     best = max(window, key=lambda shift: window[shift].same)
     found = {best} if window[best].same >= NO_CHANCE else set()
     for shift, it in window.items():
@@ -418,7 +424,7 @@ def windows_in(gap: FrameGap) -> list[tuple[int, int]]:
 
 
 def decide(found: Framed, gap: FrameGap, others: Sequence[Reading], is_last: bool) -> int | None:
-    """The place of a gap, if something decides. Before the last round only words do."""
+    """The place of a gap, if it can be found. Before the last round, only words decide it."""
     shift = only_shift(gap.around)
     if gap.read <= FEW:
         return by_frames(found, gap, shift) if shift is not None and gap.near == gap.around else None
@@ -439,8 +445,8 @@ def places_of(found: Framed, gap: FrameGap) -> list[int]:
 
 
 def by_frames(found: Framed, gap: FrameGap, shift: int | None) -> int | None:
-    """The place of a gap of which the words say nothing: that of the frames around it, if they are many; or that of
-    readings which are as long."""
+    """The place of a gap whose words say nothing. It is the place of the frames around the gap if there are enough of
+    them, or else that of other readings with the same length."""
     frames = found.frames[shift] if shift is not None else 0
     if not found.homes:
         is_main = found.is_sure and shift == found.main()
@@ -448,7 +454,7 @@ def by_frames(found: Framed, gap: FrameGap, shift: int | None) -> int | None:
         if gap.is_between:
             enough = enough or found.is_sure or frames >= gap.read
         elif is_main:
-            # Where frames are rare those before the first and behind the last are as rare.
+            # If frames are rare, the gaps at both ends are as long as those between frames.
             enough = enough or gap.length <= max((it.length for it in found.gaps if it.is_between), default=0)
         return shift if enough else None
     if len(found.homes) > 1 or frames >= ENOUGH * gap.length and shift not in found.homes:
@@ -457,8 +463,9 @@ def by_frames(found: Framed, gap: FrameGap, shift: int | None) -> int | None:
 
 
 def place_all(found: Sequence[Framed]) -> None:
-    """Finds the places of gaps. The first round goes by the frames of the other readings, the second by what the first
-    has placed too. Then gaps are halved whose parts agree at different places, as where sectors are missing."""
+    """Finds the places of gaps. The first round compares words only with pieces that frames placed; the second also
+    uses the result of the first. Then gaps whose parts agree at different places are halved: sectors may be missing
+    there."""
     place_round(found, False)
     place_round(found, True)
     for _ in range(HALVINGS):
@@ -470,7 +477,7 @@ def place_all(found: Sequence[Framed]) -> None:
 
 
 def fill_between(found: Framed) -> None:
-    """Places parts of halved gaps that are between parts of one place, unless their words contradict it."""
+    """Places a half of a gap if the parts before and after it have one shift, and if its words do not contradict it."""
     parts = found.parts()
     firsts = [part.first for part in parts]
     for gap in found.gaps:
@@ -498,7 +505,7 @@ def place_round(found: Sequence[Framed], is_last: bool) -> None:
 
 
 def halve(found: Framed) -> int:
-    """Halves the gaps that agree with another reading in a part; returns how many."""
+    """Halves the gaps that agree with another reading only in part. Returns the number of these gaps."""
     gaps: list[FrameGap] = []
     for gap in found.gaps:
         if gap.shift is not None or not gap.agrees or gap.length < 2 * SHORTEST:
@@ -517,7 +524,8 @@ def halve(found: Framed) -> int:
 
 
 def side_by_side(readings: Sequence[Reading]) -> Laid:
-    """Readings by their times; if none has any, as they are if they are equally long."""
+    """Lays readings side by side by their times. If no reading has a time that can be believed and all have the same
+    length, their blocks are taken in the order of the files."""
     found = [framed(reading) for reading in readings]
     lengths = {it.blocks for it in found}
     sure = [it for it in found if it.is_sure]
@@ -539,7 +547,7 @@ def side_by_side(readings: Sequence[Reading]) -> Laid:
 
 
 def guesses(own: Framed, others: Sequence[Reading]) -> list[int]:
-    """The shifts with which a reading begins or ends as others do."""
+    """The shifts at which a reading would begin or end where other readings do."""
     shifts = Counter[int]()
     for part in (part for it in others for part in it.parts):
         shifts[part.shift] += part.end - part.first
@@ -567,7 +575,7 @@ def laid_of(found: Sequence[Framed]) -> Laid:
 
 
 def layers(found: Framed) -> list[Reading]:
-    """A reading with its parts in their places. Parts that claim a place twice are readings of their own."""
+    """A reading with its parts in their places. If two parts have the same place, one becomes a separate reading."""
     own = layers_of(found.parts())
     lead_in = max(0, -own[0][0].shift) if own[0] else 0
     return [
@@ -576,7 +584,8 @@ def layers(found: Framed) -> list[Reading]:
 
 
 def where_they_are(found: Sequence[Framed]) -> Iterator[tuple[Framed, Piece, Judgement]]:
-    """What the words of each piece say of its place in the file, if all readings begin at one block."""
+    """For each piece, whether its words agree with the other readings if all files begin at the same block of the
+    disc."""
     whole = [replace(it.reading, parts=[Piece(0, it.blocks, 0, 0)]) for it in found]
     for number, it in enumerate(found):
         others = [*whole[:number], *whole[number + 1 :]][:MOST_OTHERS]
@@ -587,15 +596,15 @@ def where_they_are(found: Sequence[Framed]) -> Iterator[tuple[Framed, Piece, Jud
 
 
 def common_origin(found: Sequence[Framed]) -> int | None:
-    """The shift of readings of one length that no reading is sure of: that of the pieces whose words agree with the
-    others where they are in the file."""
+    """The shift of readings of one length if no reading has enough frames. It is the shift of the pieces whose words
+    agree with the other readings at the same block of the file."""
     shifts = {piece.shift for _, piece, words in where_they_are(found) if words.shift == 0}
     return shifts.pop() if len(shifts) == 1 else None
 
 
 def as_they_are(found: Sequence[Framed]) -> Laid:
-    """Readings of one length, block by block; their times are unknown. Stale pieces are left out: those whose words
-    contradict the others, and those too short to compare."""
+    """Readings of one length in the order of their files; their times are unknown. Stale pieces are left out: those
+    whose words contradict the other readings, and those too short for a comparison."""
     blocks = found[0].blocks
     edges: dict[Framed, list[int]] = {it: [0] for it in found}
     for it, piece, words in where_they_are(found):
@@ -611,6 +620,6 @@ def as_they_are(found: Sequence[Framed]) -> Laid:
 
 
 def lead_in_without_times(found: Framed) -> int:
-    """The lead-in of a reading, where it is not its frames that say it: these are not believed."""
+    """The lead-in of a reading whose frames are not believed: 0 if only these frames say it."""
     survey = found.reading.loaded.survey
     return 0 if found.pieces and survey.lead_in == lead_in_of(survey) else survey.lead_in
