@@ -181,16 +181,20 @@ class MendTest(MendCase):
         self.assertFalse((self.folder / "out.cdg").exists())
 
 
-@needs_library
-@needs_mending
-class KnownReadingsTest(MendCase):
-    """Readings of a disc whose packs are known."""
+class DiscCase(MendCase):
+    """Tests with a disc whose packs are known."""
 
     def setUp(self) -> None:
         super().setUp()
         self.disc = known.album(1, 2)
         self.whole = known.program(self.disc, 0, self.disc.end)
         self.truth = program("convert", "--lead-in", 0, stdin=self.whole)
+
+
+@needs_library
+@needs_mending
+class KnownReadingsTest(DiscCase):
+    """Readings of such a disc."""
 
     def test_a_reading_without_graphics(self) -> None:
         bare = known.without_rw(self.whole)
@@ -587,15 +591,12 @@ class FaultsTest(MendCase):
 
 @needs_library
 @needs_mending
-class PlacingTest(MendCase):
+class PlacingTest(DiscCase):
     """Readings in which no Q frame is good, or only frames of stale blocks are."""
 
     def setUp(self) -> None:
         super().setUp()
-        self.disc = known.album(1, 2)
-        self.whole = known.program(self.disc, 0, self.disc.end)
         self.bare = without_q(self.whole)
-        self.truth = program("convert", "--lead-in", 0, stdin=self.whole)
 
     def with_stale(self, stream: bytes, first: int, other: int, count: int) -> bytes:
         """A stream in which some blocks are those of another moment."""
