@@ -3,7 +3,7 @@ use Rattle.std.specs.Prelude.{◌≡◌, ℕ, Bool, true, false, not, List, [], 
 use Rattle.cdtext_packs.specs.Packs.{check_matches}
 use Rattle.cdtext_packs.specs.Copies.{StandsIn}
 
--- a slot that is whole holds what was written, and each other one a pack whose check does not match
+-- An undamaged slot has the pack that was written, and each other slot has a pack with a wrong CRC.
 abbrev pub AreFound : List Bool → List (List ℕ) → List (List ℕ) → Type 0
 AreFound [] [] [] = Unit {0}
 AreFound (true ∷ whole) (pack ∷ written) (found ∷ rest) = (found ≡ pack) × AreFound whole written rest
@@ -11,15 +11,15 @@ AreFound (false ∷ whole) (pack ∷ written) (found ∷ rest) = (check_matches 
     × AreFound whole written rest
 AreFound whole written rest = ⊥
 
--- how many slots are whole
+-- the number of undamaged slots
 abbrev pub count_whole : List Bool → ℕ
 count_whole whole = count_by (λ (is : Bool). is) whole
 
--- how many slots are not whole
+-- the number of damaged slots
 abbrev pub count_hurt : List Bool → ℕ
 count_hurt whole = count_by (λ (is : Bool). not is) whole
 
--- the slots are found in this state, and each of the packs still stands in some slot
+-- The slots have this damage, and some slot has each pack undamaged.
 pub record HasHurtSlots (packs : List (List ℕ)) (whole : List Bool)
     (written found : List (List ℕ)) : Type 0 where
   pub slots : AreFound whole written found

@@ -1,4 +1,4 @@
--- What may be left of a pressed stream, and what is shown of it.
+-- A pressed stream with damage, and its screens.
 use Rattle.std.specs.Prelude.{◌≡◌, ℕ, ◌*◌, ◌%◌, ◌≤◌, List, length, take}
 use Rattle.bit_lists.specs.Counting.{whole_parts}
 use Rattle.raw_subcode.specs.Channels.{unit_size, program_symbols}
@@ -13,8 +13,8 @@ use Rattle.raw_subcode.specs.Sizes.{most_units, symbols_a_slot}
 use Rattle.cdg_press.specs.Thin.{AreInstructionsOf}
 use Rattle.cdg_press.specs.Pressed.{IsPressed, press_of}
 
--- What was pressed, where these are whole units of a form whose program differs from that of a pressed stream in at
--- most two symbols of each word.
+-- The inputs of a press, if these whole units of a form differ from the program of the pressed stream in at most two
+-- symbols of each word.
 pub record DamagedPress (form : Form) (lead_in : ℕ) (others : List ℕ) : Type 0 where
   pub sheet : CueSheet
   pub file : List ℕ
@@ -26,8 +26,7 @@ pub record DamagedPress (form : Form) (lead_in : ℕ) (others : List ℕ) : Type
   pub whole : length others % unit_size form ≡ 0
   pub damaged : IsDamaged (program_symbols Raw bytes lead_in) form (program_symbols form others lead_in)
 
--- The text is the pixmap of what stands after the instructions of the first packs of a file, so many or all of
--- them.
+-- The text is the pixmap of the screen after the first `many` packs of a file, or after all its packs if it has fewer.
 pub record IsFileText (file : List ℕ) (many : ℕ) (text : List ℕ) : Type 0 where
   pub instrs : List Instr
   pub read : AreInstructionsOf (take many (whole_parts symbols_a_slot file)) instrs

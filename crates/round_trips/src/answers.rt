@@ -1,4 +1,4 @@
-// What is listed of the Q channel of an authored stream, and what a player answers to one.
+// The lists of the Q channel and of the texts of an authored stream.
 ghost use Rattle.std.specs.Prelude.{◌≡◌, ◌*◌, ◌<◌, ◌≤◌, ℕ, List, Bool, true, Some, Result, length};
 ghost use Rattle.cdg_io.specs.Change.{Bytes, Change, from_to};
 ghost use Rattle.cdg_io.specs.Streams.{Streams};
@@ -28,7 +28,7 @@ use crate::texts::{
 };
 use q_channel::bits_have_one_reading;
 
-/// A law: of an authored stream the frame of each block is listed, and none is refused.
+/// A law: the list of an authored stream has the frame of each block, and no frame is bad.
 pub fn authored_frames_are_listed()
     ensures { (sheet : CueSheet) (script : List Drawing) (lead_in audio : ℕ) (bytes : List ℕ)
         (packs : List (List ℕ)) (text : List ℕ) (bad : ℕ)
@@ -38,7 +38,7 @@ pub fn authored_frames_are_listed()
     bits_have_one_reading();
 }
 
-/// A law: a list of the Q channel of an authored stream puts the line of each frame, unless a read or a write fails.
+/// A law: listing the Q channel of an authored stream writes a line for each frame, unless a read or a write fails.
 pub fn frame_lists_are_answered()
     ensures { (sheet : CueSheet) (script : List Drawing) (lead_in audio : ℕ) (bytes : List ℕ)
         (packs : List (List ℕ))
@@ -52,8 +52,8 @@ pub fn frame_lists_are_answered()
     authored_frames_are_listed();
 }
 
-/// A law: a list of the texts of an authored stream puts the lines of the sheet's strings, or none where it has no
-/// text, unless a read or a write fails or memory is short.
+/// A law: listing the texts of an authored stream writes the lines of the strings of the sheet, or none if the sheet
+/// has no text, unless a read, a write or an allocation fails.
 pub fn text_lists_are_answered()
     ensures texts { (sheet : CueSheet) (script : List Drawing) (lead_in audio : ℕ) (bytes : List ℕ)
         (packs : List (List ℕ))
@@ -76,7 +76,7 @@ pub fn text_lists_are_answered()
     streams_without_texts_are_listed();
 }
 
-/// A law: the same of units of any form, in whose lead-in the text packs of an authored stream stand.
+/// A law: `text_lists_are_answered` for units of any form with the lead-in of an authored stream.
 pub fn copied_text_lists_are_answered()
     ensures texts { (sheet : CueSheet) (script : List Drawing) (lead_in audio : ℕ) (bytes : List ℕ)
         (packs : List (List ℕ)) (form : Form) (copy : List ℕ)
@@ -100,7 +100,8 @@ pub fn copied_text_lists_are_answered()
     streams_without_texts_are_listed();
 }
 
-/// A law: the same of units of any form whose lead-in is damaged, where each text pack is left whole in some slot.
+/// A law: `text_lists_are_answered` for units of any form with a damaged lead-in, if some slot has each text pack
+/// undamaged.
 pub fn damaged_text_lists_are_answered()
     ensures { (sheet : CueSheet) (script : List Drawing) (lead_in audio : ℕ) (bytes : List ℕ)
         (packs : List (List ℕ)) (whole : List Bool) (form : Form) (changed : List ℕ)

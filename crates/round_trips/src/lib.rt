@@ -1,5 +1,5 @@
-//! Laws of authored and of pressed streams: what is listed of their Q channel and of the texts in their lead-in, and
-//! which packs and screens come back of them.
+//! Laws of authored and of pressed streams: the lists of their Q channel and of the texts in their lead-in, and the
+//! packs and screens that a player recovers from them.
 #![tactic(auto)]
 
 mod answers;

@@ -1,4 +1,4 @@
-// Laws on pressed streams: what comes back of them, and what is shown.
+// Laws of pressed streams: the packs that are recovered, and the screens that are shown.
 ghost use Rattle.std.specs.Prelude.{◌≡◌, ◌≤◌, ◌+◌, ◌*◌, List, Option, Some, ℕ, map};
 ghost use Rattle.disc_time.specs.Counts.{pause_blocks};
 ghost use Rattle.raw_subcode.specs.Channels.{program_symbols};
@@ -13,8 +13,8 @@ use cdg_instructions::each_pack_has_a_meaning;
 use cdg_screen::instructions_in_turn;
 use rw_interleave::{found_packs_are_the_text, packs_are_recovered};
 
-/// A law: whole units, of any form, that differ from a pressed stream in at most two symbols of a word are damaged
-/// from its packs, and these are recovered.
+/// A law: if whole units of any form differ from a pressed stream in at most two symbols of each word, the packs of the
+/// stream are recovered.
 pub fn pressed_packs_come_back()
     ensures stream { (form : Form) (lead_in : ℕ) (others : List ℕ) (press : DamagedPress form lead_in others)
         → IsDamagedStream form lead_in (program_blocks press.sheet press.audio) press.packs others }
@@ -27,8 +27,8 @@ pub fn pressed_packs_come_back()
     packs_are_recovered();
 }
 
-/// A law: so many blocks after the audio has begun, the screen of such a stream is what stands after four packs a
-/// block of the file, or all of them, and no word is bad.
+/// A law: `time` blocks after the start of the audio, the screen of such a stream is the screen after 4 * `time`
+/// packs of the file, or after all of them, and no word is bad.
 pub fn pressed_files_are_shown()
     ensures text { (form : Form) (lead_in time : ℕ) (others : List ℕ)
         (press : DamagedPress form lead_in others)

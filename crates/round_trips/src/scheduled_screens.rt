@@ -13,8 +13,8 @@ ghost use Rattle.round_trips.specs.Pictured.{GivesPicture, IsHeldAt, IsPictureTe
 use pack_schedule::scheduled_pictures_are_shown;
 use rw_interleave::{found_packs_are_the_text, packs_are_recovered};
 
-/// A law: the screen of a stream that damage keeps within two symbols a word is, from the ready time of a picture to
-/// its hold time, that picture.
+/// A law: if damage changed at most two symbols of each word of a stream, its screen is each picture from the ready
+/// time to the hold time of the picture.
 pub fn screens_show_pictures()
     ensures text { (form : Form) (lead_in time : ℕ) (script : List Drawing) (k : ℕ) (bytes text : List ℕ)
         (bad : ℕ)
@@ -32,7 +32,7 @@ pub fn screens_show_pictures()
     scheduled_pictures_are_shown();
 }
 
-/// A law: a call that shows a moment of such a stream, from the ready time of a picture to its hold time, gives that
+/// A law: a call that shows such a stream at a moment from the ready time to the hold time of a picture writes this
 /// picture, unless a read or a write fails.
 pub fn shown_moments_give_pictures()
     ensures { (form : Form) (lead_in time : ℕ) (all : List ℕ) (left : Bytes) (out : Change Bytes)

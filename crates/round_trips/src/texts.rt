@@ -18,7 +18,7 @@ ghost use Rattle.round_trips.specs.Slots.{packs_in_slots};
 use cdtext_packs::texts_come_back;
 use cue_sheet::accepted_sheets_are_in_order;
 
-/// A law: the texts of every sheet that is accepted can be packed, where they fill no more packs than there may be.
+/// A law: the texts of each accepted sheet can be packed, if they do not fill too many packs.
 pub fn accepted_sheets_have_text_packs()
     ensures { (text : List ℕ) (sheet : CueSheet) → All (λ byte. byte < 256) text
         → length text ≤ most_text_bytes → read_cue text ≡ Ok sheet
@@ -27,7 +27,7 @@ pub fn accepted_sheets_have_text_packs()
     accepted_sheets_are_in_order();
 }
 
-/// A law: the slots of an authored lead-in hold the text packs of the sheet, over and over.
+/// A law: the slots of an authored lead-in repeat the text packs of the sheet.
 pub fn authored_lead_ins_hold_the_packs()
     ensures { (sheet : CueSheet) (script : List Drawing) (lead_in audio : ℕ) (bytes : List ℕ)
         (packs : List (List ℕ))
@@ -35,7 +35,7 @@ pub fn authored_lead_ins_hold_the_packs()
         → packs_in Raw lead_in bytes ≡ packs_in_slots (text_packs sheet) (4 * lead_in) }
 {}
 
-/// A law: where a sheet has text, its strings are listed of an authored stream with a lead-in, and all packs are good.
+/// A law: if a sheet has text, the list of an authored stream with a lead-in has its strings, and all packs are good.
 pub fn authored_texts_are_listed()
     ensures texts { (sheet : CueSheet) (script : List Drawing) (lead_in audio : ℕ) (bytes : List ℕ)
         (packs : List (List ℕ))
@@ -51,7 +51,7 @@ pub fn authored_texts_are_listed()
     texts_come_back();
 }
 
-/// A law: where a sheet has no text, nothing but the count of packs is listed, all of them bad.
+/// A law: if a sheet has no text, the list has only the line with the count of packs, and all packs are bad.
 pub fn streams_without_texts_are_listed()
     ensures texts { (sheet : CueSheet) (script : List Drawing) (lead_in audio : ℕ) (bytes : List ℕ)
         (packs : List (List ℕ))
@@ -63,9 +63,9 @@ pub fn streams_without_texts_are_listed()
         → IsTextListed Raw lead_in bytes text bad → text ≡ offers_line 0 (4 * lead_in) 0 }
 {}
 
-/// A law: where slots of an authored lead-in are damaged, and each text pack is left whole in some slot, the strings
-/// of the sheet are listed all the same, and the count of good packs is that of the whole slots. The damaged blocks
-/// may stand in units of another form.
+/// A law: if slots of an authored lead-in are damaged, and some slot has each text pack undamaged, the list still has
+/// the strings of the sheet, and the count of good packs is the number of undamaged slots. The units may have another
+/// form.
 pub fn damaged_lead_ins_give_the_texts()
     ensures texts { (sheet : CueSheet) (script : List Drawing) (lead_in audio : ℕ) (bytes : List ℕ)
         (packs : List (List ℕ)) (whole : List Bool) (form : Form) (changed : List ℕ)

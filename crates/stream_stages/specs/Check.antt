@@ -12,12 +12,12 @@ use Rattle.q_channel.specs.declared.frame.QFrame.{QFrame}
 use Rattle.q_channel.specs.declared.frame.QFault.{QFault}
 use Rattle.q_channel.specs.QList.{q_blocks, AreQReadings}
 
--- whether so many symbols of a word are wrong
+-- whether n symbols of a word are wrong
 abbrev pub has_wrong : ℕ → List ℕ × Option (List ℕ) → Bool
 has_wrong n (word, Some codeword) = differences word codeword == n
 has_wrong n (word, None) = false
 
--- whether a found codeword passes a test of its first two symbols
+-- whether the first two symbols of a codeword pass a test
 abbrev pub found_passes : (ℕ → ℕ → Bool) → Option (List ℕ) → Bool
 found_passes test (Some codeword) = test (slice_index codeword 0) (slice_index codeword 1)
 found_passes test None = false
@@ -26,7 +26,7 @@ found_passes test None = false
 abbrev pub is_known : ℕ → Bool
 is_known code = list_any (λ c. c == code) known_codes
 
--- the kinds of a pack by its first two symbols: nothing is to be drawn
+-- the kind of a pack follows from its first two symbols: an idle pack draws nothing
 abbrev pub is_idle : ℕ → ℕ → Bool
 is_idle mode code = mode == 0
 
@@ -38,37 +38,37 @@ is_graphics mode code = mode == 9 && is_known code
 abbrev pub is_unknown : ℕ → ℕ → Bool
 is_unknown mode code = mode == 9 && not (is_known code)
 
--- of another mode
+-- a pack of another mode
 abbrev pub is_foreign : ℕ → ℕ → Bool
 is_foreign mode code = not (mode == 0 || mode == 9)
 
--- a name, a blank and a count
+-- a name, a space, a count and a line feed
 unfoldable pub count_line : List ℕ → ℕ → List ℕ
 count_line name n = name ++ codes " " ++ decimal n ++ line_feed
 
--- the lines on the blocks and the packs
+-- the lines for blocks and packs
 abbrev pub stream_lines : ℕ → ℕ → ℕ → List ℕ
 stream_lines lead_in program packs =
     count_line (codes "lead-in") lead_in
     ++ (count_line (codes "program") program ++ count_line (codes "packs") packs)
 
--- the lines on wrong symbols
+-- the lines for wrong symbols
 abbrev pub wrong_lines : ℕ → ℕ → ℕ → ℕ → List ℕ
 wrong_lines clean one two bad = count_line (codes "clean") clean
     ++ (count_line (codes "one") one ++ (count_line (codes "two") two ++ count_line (codes "bad") bad))
 
--- the lines on what packs hold
+-- the lines for the kinds of packs
 abbrev pub pack_count_lines : ℕ → ℕ → ℕ → ℕ → List ℕ
 pack_count_lines idle graphics unknown foreign =
     count_line (codes "idle") idle
     ++ (count_line (codes "graphics") graphics
     ++ (count_line (codes "unknown") unknown ++ count_line (codes "foreign") foreign))
 
--- the lines on frames
+-- the lines for Q frames
 abbrev pub frame_count_lines : ℕ → ℕ → List ℕ
 frame_count_lines good bad = count_line (codes "q-good") good ++ count_line (codes "q-bad") bad
 
--- the words of a stream, what is found for them, and what the Q channel of all its blocks is read as
+-- the lines for the words of a stream, their corrections, and the readings of the Q channel of all its blocks
 unfoldable pub check_text : ℕ → ℕ → List (List ℕ) → List (Option (List ℕ)) → List (Result QFrame QFault)
     → List ℕ
 check_text lead_in program words found readings =
@@ -79,7 +79,7 @@ check_text lead_in program words found readings =
     (count_by (found_passes is_unknown) found) (count_by (found_passes is_foreign) found)
     ++ frame_count_lines (count_by is_ok readings) (count_by is_err readings)))
 
--- the counts of some bytes
+-- The text is the counts of these bytes.
 pub record IsCheckListed (form : Form) (lead_in : ℕ) (bytes text : List ℕ) (bad : ℕ) : Type 0 where
   pub found : List (Option (List ℕ))
   pub recovered : IsRecovered form (program_symbols form bytes lead_in) found

@@ -16,11 +16,11 @@ use Rattle.stream_stages.specs.declared.counting.WordCounts.{WordCounts}
 use Rattle.stream_stages.specs.declared.counting.FrameCounts.{FrameCounts}
 use Rattle.stream_stages.specs.declared.counting.Counting.{Counting}
 
--- a count of 32 bits, which stays at its last value
+-- a count of 32 bits, which saturates
 unfoldable pub tick : Bool → ℕ → ℕ
 tick hit n = if hit then min (n + 1) (2 ^ 32 - 1) else n
 
--- after a word with so many wrong symbols
+-- the counts after a word with this number of wrong symbols
 abbrev pub wrong_counted : WordCounts → ℕ → WordCounts
 wrong_counted s wrong = record s {
   clean = tick (wrong == 0) s.clean;
@@ -28,7 +28,7 @@ wrong_counted s wrong = record s {
   two = tick (wrong == 2) s.two;
 }
 
--- after a pack of this mode and code
+-- the counts after a pack of this mode and code
 abbrev pub kind_counted : WordCounts → ℕ → ℕ → WordCounts
 kind_counted s mode code = record s {
   idle = tick (is_idle mode code) s.idle;
@@ -37,7 +37,7 @@ kind_counted s mode code = record s {
   foreign = tick (is_foreign mode code) s.foreign;
 }
 
--- one more of the words for which the idle pack is found
+-- one more word that is corrected to the idle pack
 abbrev pub near_counted : NearIdle → ℕ → NearIdle
 near_counted near wrong = record {
   clean = near.clean + (if wrong == 0 then 1 else 0);
@@ -45,7 +45,7 @@ near_counted near wrong = record {
   two = near.two + (if wrong == 2 then 1 else 0);
 }
 
--- after such words
+-- the counts after words that are corrected to the idle pack
 abbrev pub with_near : WordCounts → NearIdle → WordCounts
 with_near s near = record s {
   clean = min (s.clean + near.clean) (2 ^ 32 - 1);
@@ -54,7 +54,7 @@ with_near s near = record s {
   idle = min (s.idle + (near.clean + near.one + near.two)) (2 ^ 32 - 1);
 }
 
--- after a word for which this is found
+-- the counts after a word and its correction
 unfoldable pub count_found : WordCounts → List ℕ → Option (List ℕ) → WordCounts
 count_found s word found = record {
   clean = tick (has_wrong 0 (word, found)) s.clean;
@@ -67,24 +67,24 @@ count_found s word found = record {
   foreign = tick (found_passes is_foreign found) s.foreign;
 }
 
--- after a word
+-- the counts after a word
 abbrev pub count_next : WordCounts → List ℕ → WordCounts
 count_next s word = count_found s word (finding word)
 
--- after some words
+-- the counts after some words
 unfoldable pub count_after : WordCounts → List (List ℕ) → WordCounts
 count_after s [] = s
 count_after s (word ∷ words) = count_after (count_next s word) words
 
--- after the words of a block
+-- the counts after the words of a block
 unfoldable pub counts_next : WordCounts → ArrayVec (List ℕ) → WordCounts
 counts_next s words = count_after s words.items
 
--- nothing is given
+-- the stage has no output for words
 unfoldable pub counts_give : WordCounts → ArrayVec (List ℕ) → Option (List ℕ)
 counts_give s words = None
 
--- the frame of a block, where frames are read
+-- the counts after the frame of a block, if frames are read
 unfoldable pub frames_next : FrameCounts → List ℕ → FrameCounts
 frames_next s block =
     if s.read then record s {
@@ -92,7 +92,7 @@ frames_next s block =
       bad = tick (is_err (reading_of (q_bits block))) s.bad;
     } else s
 
--- after a block
+-- the counts after a block
 unfoldable pub counting_next : Counting → List ℕ → Counting
 counting_next s block = record {
   frames = frames_next s.frames block;
@@ -102,11 +102,11 @@ counting_next s block = record {
   };
 }
 
--- nothing is given for a block
+-- the stage has no output for a block
 unfoldable pub counting_gives : Counting → List ℕ → Option (List ℕ)
 counting_gives s block = then_gives counts_give s.words.second (words_give s.words.first block)
 
--- the lines of counts after so many blocks
+-- the lines of the counts after this number of blocks
 unfoldable pub lines_of_counts : Form → ℕ → ℕ → Counting → List ℕ
 lines_of_counts form lead_in blocks s =
     let counts : WordCounts = counts_of s.words in
@@ -115,13 +115,13 @@ lines_of_counts form lead_in blocks s =
     ++ (pack_count_lines counts.idle counts.graphics counts.unknown counts.foreign
     ++ frame_count_lines s.frames.good s.frames.bad))
 
--- whether the Q channel of its blocks is read
+-- whether streams of this form have a Q channel
 abbrev pub has_frames : Form → Bool
 has_frames Raw = true
 has_frames Sector = true
 has_frames Cooked = false
 
--- no word is counted yet
+-- the counts before the first word
 abbrev pub nothing_counted : WordCounts
 nothing_counted = record {
   clean = 0;
@@ -134,7 +134,7 @@ nothing_counted = record {
   foreign = 0;
 }
 
--- nothing is counted yet of a stream of this form, whose frames are read unless its packs are cooked
+-- The counts are those before the first block of a stream. Frames are read unless the form is cooked.
 pub record IsFresh (form : Form) (lead_in : ℕ) (s : Counting) : Type 0 where
   pub words : words_of s.words ≡ fresh_words form lead_in
   pub counts : counts_of s.words ≡ nothing_counted

@@ -7,12 +7,12 @@ use Rattle.cdg_screen.specs.Standing.{Standing, standing_after}
 use Rattle.stream_stages.specs.Steps.{bad_next}
 use Rattle.stream_stages.specs.declared.painting.Painting.{Painting}
 
--- after what is found for a word, if anything
+-- the screen after the correction of a word; without a codeword it stays the same
 abbrev pub entry_drawn : Standing → Option (List ℕ) → Standing
 entry_drawn standing (Some codeword) = standing_after standing (meaning codeword ∷ [])
 entry_drawn standing None = standing
 
--- after a word: only the packs that are left are drawn
+-- the stage after a word; it draws only the number of packs in `left`
 unfoldable pub draw_next : Painting → List ℕ → Painting
 draw_next s word = if s.left == 0 then s else record {
   screen = entry_drawn s.screen (finding word);
@@ -20,15 +20,15 @@ draw_next s word = if s.left == 0 then s else record {
   bad = bad_next s.bad word;
 }
 
--- after some words
+-- the stage after some words
 unfoldable pub draw_after : Painting → List (List ℕ) → Painting
 draw_after s [] = s
 draw_after s (word ∷ words) = draw_after (draw_next s word) words
 
--- after the words of a block
+-- the stage after the words of a block
 unfoldable pub painting_next : Painting → ArrayVec (List ℕ) → Painting
 painting_next s words = draw_after s words.items
 
--- nothing is given
+-- the stage has no output
 unfoldable pub painting_gives : Painting → ArrayVec (List ℕ) → Option (List ℕ)
 painting_gives s words = None

@@ -1,11 +1,11 @@
--- What a call of a player tells of faults.
+-- The faults that a call of a player reports.
 use Rattle.std.specs.Prelude.{ℕ, Result}
 use Rattle.cdg_io.specs.Causes.{TellsFault}
 use Rattle.stream_stages.specs.declared.played.Played.{Played}
 use Rattle.stream_stages.specs.declared.played.PlayStop.{PlayStop}
 use Rattle.stream_stages.specs.declared.played.PlayStop.TheVariants.{ReadFault, WriteFault}
 
--- The count of an input and that of an output, each before the call and after it.
+-- The fault counts of an input and of an output, each before and after the call.
 pub record TellsStops (source source' out out' : ℕ) (answer : Result Played PlayStop) : Type 0 where
   pub read : TellsFault ReadFault source source' answer
   pub write : TellsFault WriteFault out out' answer

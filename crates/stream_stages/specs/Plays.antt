@@ -1,4 +1,4 @@
--- What each call that plays a whole stream does, with its input, its output and its answer.
+-- What a call that plays a whole stream does with its input and its output, and what it returns.
 use Rattle.std.specs.Prelude.{◌≡◌, ◌≢◌, ℕ, Bool, List, length, Result, IfErr, IfSome}
 use Rattle.cdg_io.specs.Change.{Passed, passed}
 use Rattle.cdg_io.specs.Reads.{ToldUnless}
@@ -19,15 +19,15 @@ use Rattle.stream_stages.specs.declared.played.Played.{Played}
 use Rattle.stream_stages.specs.declared.played.PlayStop.{PlayStop}
 use Rattle.stream_stages.specs.declared.played.PlayStop.TheVariants.{WriteFault}
 
--- What a call has of its own: what it puts for the bytes that it takes, at which stops it may stop, which of them come
--- before the end of the input, and its answer to a whole input where nothing failed.
+-- What differs between calls: the output for the consumed bytes, the possible stops, the stops that come before the end
+-- of the input, and the result for a whole input if nothing fails.
 pub record StreamCall : Type 1 where
   pub puts : Passed → Result Played PlayStop → List ℕ → Type 0
   pub may_stop : PlayStop → Type 0
   pub is_early : PlayStop → Bool
   pub answers : Result Played PlayStop → List ℕ → Type 0
 
--- a call that is asked for no moment and for no texts, which answers by the length of its input
+-- a call that shows no moment and lists no texts: the length of its input decides its result
 abbrev pub call_by_length : Form → (PlayStop → Bool) → (Passed → Result Played PlayStop → List ℕ → Type 0)
     → StreamCall
 call_by_length form is_early puts = record {
@@ -37,21 +37,21 @@ call_by_length form is_early puts = record {
   answers = λ result all. IsAnsweredBy result (unit_size form) (length all);
 }
 
--- the packs of a stream, while it is read
+-- writes the packs of a stream while it reads
 abbrev pub conversion : Form → ℕ → StreamCall
 conversion form lead_in = call_by_length form is_early_in_turn (Converts form lead_in)
 
--- the lines of its Q channel, while it is read
+-- writes the lines of the Q channel while it reads
 abbrev pub frame_listing : Form → ℕ → StreamCall
 frame_listing form lead_in =
     call_by_length form is_early_in_turn (Streams (in_turn (IsQListed form) form lead_in))
 
--- its counts, once it is read
+-- writes the counts after it read everything
 abbrev pub checking : Form → ℕ → StreamCall
 checking form lead_in =
     call_by_length form is_early (WritesAtEnd (at_end (IsCheckListed form lead_in) form lead_in))
 
--- what stands at a moment, written in some way, once the stream is read
+-- writes the screen at a moment, in the way `write`, after it read everything
 abbrev pub showing : (Standing → List ℕ) → Moment → StreamCall
 showing write at = record {
   puts = Shows write at;
@@ -60,7 +60,7 @@ showing write at = record {
   answers = λ result all. IsShownBy result at.lead_in at.time (unit_size at.form) (length all);
 }
 
--- the texts of its lead-in, once it is read
+-- writes the texts of the lead-in after it read everything
 abbrev pub text_listing : Form → ℕ → StreamCall
 text_listing form lead_in = record {
   puts = ListsTexts form lead_in;
@@ -69,25 +69,25 @@ text_listing form lead_in = record {
   answers = λ result all. IsListedBy result form lead_in all;
 }
 
--- A call played a stream from an input to an output, of which `before` and `after` are the values.
+-- A call played a stream from an input to an output. `before` and `after` are their values.
 pub record Plays {S K : Type 0} (call : StreamCall) (source : Source S) (sink : Sink K)
     (before after : S × K) (result : Result Played PlayStop) : Type 0 where
   pub taken : List ℕ
   pub puts : call.puts (passed source.left sink.held before after) result taken
-  -- it never answers another stop, whatever the input
+  -- for each input, it stops only with these stops
   pub stops : IfErr result call.may_stop
-  -- where nothing failed, the answer is that of the whole input
+  -- if nothing failed, the result is that of the whole input
   pub answer : IfSome (source.left before.0) (λ all. call.answers result all)
   pub faults : TellsStops (source.faults before.0) (source.faults after.0) (sink.faults before.1)
       (sink.faults after.1) result
-  -- the end of the input was told once, unless the stop comes before it
+  -- the end of the input was recorded once, unless the call stopped before it
   pub ended : ToldUnless call.is_early result (source.ends before.0) (source.ends after.0)
 
--- where a call answers another stop than a failed write, the output is as it was
+-- If a call stops for any reason other than a failed write, the output is unchanged.
 abbrev pub LeavesUnwritten : {K : Type 0} → K → K → Result Played PlayStop → Type 0
 LeavesUnwritten before after result = IfErr result (λ stop. stop ≢ WriteFault → after ≡ before)
 
--- The same of a call that writes nothing before it read all: where the output is not written it is as it was.
+-- Such a call that writes only after it read everything: if nothing is written, the output is unchanged.
 pub record PlaysThenWrites {S K : Type 0} (call : StreamCall) (source : Source S) (sink : Sink K)
     (before after : S × K) (result : Result Played PlayStop) : Type 0 where
   pub plays : Plays call source sink before after result

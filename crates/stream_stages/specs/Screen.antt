@@ -16,28 +16,28 @@ use Rattle.stream_stages.specs.declared.played.Played.{Played}
 use Rattle.stream_stages.specs.declared.played.PlayStop.{PlayStop}
 use Rattle.stream_stages.specs.declared.played.PlayStop.TheVariants.{ReadFault, WriteFault, Torn, TooLong, PastEnd, Text}
 
--- the instructions that the found codewords mean, in order; where nothing is found there is none
+-- The instructions are the meanings of the codewords, in order. A word without a codeword has none.
 abbrev pub AreMeant : List (Option (List ℕ)) → List Instr → Type 0
 AreMeant [] instrs = instrs ≡ []
 AreMeant (None ∷ rest) instrs = AreMeant rest instrs
 AreMeant (Some word ∷ rest) [] = ⊥
 AreMeant (Some word ∷ rest) (instr ∷ instrs) = Means word instr × AreMeant rest instrs
 
--- these are the instructions of the packs that are whole at the time
+-- These are the instructions of the packs that are complete at the time.
 abbrev pub AreShown : List (Option (List ℕ)) → ℕ → List Instr → Type 0
 AreShown found time instrs = AreMeant (take (whole_packs time) found) instrs
 
--- a moment of a stream: its form and the blocks of its lead-in, and a time of its program
+-- a moment of a stream: the form, the number of lead-in blocks, and the number of program blocks before the moment
 pub record Moment : Type 0 where
   pub form : Form
   pub lead_in : ℕ
   pub time : ℕ
 
--- a form, the blocks of a lead-in and a time, as one
+-- makes a moment
 abbrev pub moment : Form → ℕ → ℕ → Moment
 moment form lead_in time = record { form = form; lead_in = lead_in; time = time }
 
--- what stands at a moment, written in some way
+-- The text is the screen at a moment, in the way `write`.
 pub record IsWrittenAt (write : Standing → List ℕ) (at : Moment) (bytes text : List ℕ)
     (bad : ℕ) : Type 0 where
   pub found : List (Option (List ℕ))
@@ -47,27 +47,27 @@ pub record IsWrittenAt (write : Standing → List ℕ) (at : Moment) (bytes text
   pub text_is : text ≡ write (standing_after blank instrs)
   pub bad_is : bad ≡ bad_count (take (whole_packs at.time) found)
 
--- the pixmap of what stands
+-- The text is the pixmap of the screen at a moment.
 abbrev pub IsScreenAt : Moment → List ℕ → List ℕ → ℕ → Type 0
 IsScreenAt at bytes text bad = IsWrittenAt pixmap at bytes text bad
 
--- the lines of its state
+-- The text has the lines of the state at a moment.
 abbrev pub IsStateAt : Moment → List ℕ → List ℕ → ℕ → Type 0
 IsStateAt at bytes text bad = IsWrittenAt state_text at bytes text bad
 
--- the program of some bytes ends, with so many blocks, before a moment
+-- The program in these bytes ends before the moment, after this number of blocks.
 abbrev pub EndsBefore : Moment → List ℕ → ℕ → Type 0
 EndsBefore at bytes blocks = (length bytes % unit_size at.form ≡ 0)
     × (blocks ≡ blocks_played at.form at.lead_in bytes) × (blocks < at.time)
 
--- A call that shows a moment took these bytes: it writes what stands at the end, where the program reaches the moment.
+-- A call that shows a moment consumed these bytes. It writes at the end, if the program reaches the moment.
 pub record Shows (write : Standing → List ℕ) (at : Moment) (passed : Passed)
     (result : Result Played PlayStop) (taken : List ℕ) : Type 0 where
   pub plays : WritesAtEnd (at_end (IsWrittenAt write at) at.form at.lead_in) passed result taken
   pub reached : IfOk result (λ played. at.time ≤ played.blocks)
   pub past_end : (blocks : ℕ) → result ≡ Err (PastEnd blocks) → EndsBefore at taken blocks
 
--- the answer to an input of so many bytes that is read and written without a fault
+-- the result for an input of `len` bytes if no read and no write fails
 abbrev pub IsShownBy : Result Played PlayStop → ℕ → ℕ → ℕ → ℕ → Type 0
 IsShownBy (Ok played) lead_in time size len = (len ≤ most_units * size) × (len % size ≡ 0)
     × (time ≤ len / size - lead_in)

@@ -22,13 +22,13 @@ slot_of block i = symbols_of (take symbols_a_slot (drop (symbols_a_slot * i) blo
 unfoldable pub slots_of : List ℕ → List (List ℕ)
 slots_of block = map (slot_of block) (below slots_a_block)
 
--- the window after a slot: a cooked stream keeps none
+-- the window of slots after a slot; a cooked stream needs no window
 unfoldable pub window_next : Form → List (List ℕ) → List ℕ → List (List ℕ)
 window_next Raw window slot = gather_next window slot
 window_next Sector window slot = gather_next window slot
 window_next Cooked window slot = window
 
--- the word that comes with a slot, if any: in a cooked stream each slot is a word
+-- the word that a slot completes, if any; in a cooked stream each slot is a word
 unfoldable pub window_gives : Form → List (List ℕ) → List ℕ → Option (List ℕ)
 window_gives Raw window slot = gather_gives window slot
 window_gives Sector window slot = gather_gives window slot
@@ -39,7 +39,7 @@ abbrev pub words_or_idle : Option (ArrayVec (List ℕ)) → ArrayVec (List ℕ)
 words_or_idle (Some words) = words
 words_or_idle None = record { items = replicate slots_a_block idle_pack }
 
--- these words, or none at all
+-- these words, or no words
 abbrev pub words_or_none : Option (ArrayVec (List ℕ)) → List (List ℕ)
 words_or_none (Some words) = words.items
 words_or_none None = []
@@ -48,13 +48,13 @@ words_or_none None = []
 abbrev pub fresh_words : Form → ℕ → BlockWords
 fresh_words form lead_in = record { form = form; lead_in = lead_in; gather = [] }
 
--- a block of the lead-in is passed over, and one of the program is taken slot by slot
+-- A block of the lead-in is skipped, and a block of the program is gathered slot by slot.
 unfoldable pub words_next : BlockWords → List ℕ → BlockWords
 words_next s block =
     if s.lead_in == 0 then record s { gather = run_state (window_next s.form) s.gather (slots_of block) }
     else record s { lead_in = s.lead_in - 1 }
 
--- the words that come with a block of the program
+-- the words that a block of the program completes
 unfoldable pub words_give : BlockWords → List ℕ → Option (ArrayVec (List ℕ))
 words_give s block =
     if s.lead_in == 0 then Some (record {
@@ -62,37 +62,37 @@ words_give s block =
           s.gather (slots_of block);
     }) else None
 
--- A block changes nothing, and four idle packs come with it.
+-- The block changes no state, and completes four idle packs.
 abbrev pub IdlesOn : BlockWords → List ℕ → Type 0
 IdlesOn s block = (s ≡ words_next s block)
     × (Some (record { items = replicate slots_a_block idle_pack }) ≡ words_give s block)
 
--- the count of bad words after a word: a u32 that stays at its last value
+-- the count of bad words after a word; it saturates at 32 bits
 unfoldable pub bad_next : ℕ → List ℕ → ℕ
 bad_next bad word = if is_none (finding word) then min (bad + 1) (2 ^ 32 - 1) else bad
 
--- the count after some words
+-- the count of bad words after some words
 unfoldable pub bad_after : ℕ → List (List ℕ) → ℕ
 bad_after bad [] = bad
 bad_after bad (word ∷ words) = bad_after (bad_next bad word) words
 
--- after the words of a block
+-- the count of bad words after the words of a block
 abbrev pub bad_with : ℕ → Option (ArrayVec (List ℕ)) → ℕ
 bad_with bad None = bad
 bad_with bad (Some words) = bad_after bad words.items
 
--- the bytes of what is found for them
+-- the bytes of the corrected words
 abbrev pub text_of_words : Option (ArrayVec (List ℕ)) → List ℕ
 text_of_words None = []
 text_of_words (Some words) = cdg_bytes (map finding words.items)
 
--- the words that come with a block are corrected, and the bad ones counted
+-- the stage after a block: it gathers the words and counts the bad ones
 unfoldable pub packs_next : BlockPacks → List ℕ → BlockPacks
 packs_next s block = record {
   words = words_next s.words block;
   bad = bad_with s.bad (words_give s.words block);
 }
 
--- the bytes of their packs
+-- its output for a block: the bytes of the packs
 unfoldable pub packs_give : BlockPacks → List ℕ → Option (List ℕ)
 packs_give s block = Some (text_of_words (words_give s.words block))

@@ -1,4 +1,4 @@
--- A stage at work on the blocks of a whole input, and what it leaves for the call to write.
+-- A stage on the blocks of a whole input, and the text that the call then writes.
 use Rattle.std.specs.Prelude.{◌≡◌, ◌≢◌, ℕ, ◌+◌, ◌-◌, ◌*◌, ◌≤◌, nat_lt, if◌then◌else◌, List, [], length, map, take, Option, Result, Ok, Err, IfOk}
 use Rattle.std.specs.Io.KnownBytes.{Appends, Consumes, IsAtEnd}
 use Rattle.cdg_io.specs.Change.{Bytes, Change, Fed}
@@ -26,12 +26,12 @@ use Rattle.stream_stages.specs.declared.played.Played.{Played}
 use Rattle.stream_stages.specs.declared.played.PlayStop.{PlayStop}
 use Rattle.stream_stages.specs.declared.played.PlayStop.TheVariants.{ReadFault, WriteFault, Torn, TooLong, PastEnd, Text}
 
--- a step of a stage on blocks as one on units
+-- a step for blocks as a step for units
 abbrev pub on_units : {S A : Type 0} → Form → (S → List ℕ → A) → S → List ℕ → A
 on_units form step s unit = step s (block_of form unit)
 
--- These bytes were taken, and the stage is in the last state of its run over the blocks of their whole units.
--- Where nothing failed, they are whole units to the end.
+-- These bytes were consumed, and the stage is in its state after the blocks of their whole units. If nothing failed,
+-- the bytes are the whole input, in whole units.
 pub record Watches {S : Type 0} (form : Form) (next : S → List ℕ → S) (fed : Fed S)
     (result : Result Pumped PumpStop) (taken : List ℕ) : Type 0 where
   pub taken_from : Consumes fed.left.before fed.left.after taken
@@ -43,19 +43,19 @@ pub record Watches {S : Type 0} (form : Form) (next : S → List ℕ → S) (fed
   pub torn : (unit : ℕ) → result ≡ Err (pump_stop.Torn unit) → IsAtEnd fed.left.after
   pub no_write : result ≢ Err pump_stop.WriteFault
 
--- the stop of a pump as that of a player
+-- the stop of a player for the stop of a pump
 abbrev pub play_stop : PumpStop → PlayStop
 play_stop pump_stop.ReadFault = ReadFault
 play_stop pump_stop.WriteFault = WriteFault
 play_stop (pump_stop.Torn unit) = Torn unit
 play_stop pump_stop.TooLong = TooLong
 
--- the answer of a pump as that of a player, after so many bad words
+-- the result of a player for the result of a pump, after `bad` bad words
 abbrev pub played_of : ℕ → ℕ → Result Pumped PumpStop → Result Played PlayStop
 played_of lead_in bad (Ok pumped) = Ok (record { blocks = pumped.units - lead_in; bad = bad })
 played_of lead_in bad (Err stop) = Err (play_stop stop)
 
--- what the drawing of some bytes up to a moment leaves: what stands, and how many packs are bad
+-- Drawing these bytes up to a moment results in this screen, with this number of bad packs.
 pub record IsViewed (at : Moment) (bytes : List ℕ) (now : Standing) (bad : ℕ) : Type 0 where
   pub found : List (Option (List ℕ))
   pub recovered : IsRecovered at.form (program_symbols at.form bytes at.lead_in) found
@@ -64,7 +64,7 @@ pub record IsViewed (at : Moment) (bytes : List ℕ) (now : Standing) (bad : ℕ
   pub stands : now ≡ standing_after blank instrs
   pub bad_is : bad ≡ bad_count (take (whole_packs at.time) found)
 
--- a whole input was drawn up to a moment, and nothing was written
+-- A whole input was drawn up to a moment, and nothing was written.
 pub record Views (at : Moment) (left : Change Bytes) (now : Standing) (result : Result Played PlayStop)
     (taken : List ℕ) : Type 0 where
   pub taken_from : Consumes left.before left.after taken
@@ -76,14 +76,14 @@ pub record Views (at : Moment) (left : Change Bytes) (now : Standing) (result : 
   pub past_end : (blocks : ℕ) → result ≡ Err (PastEnd blocks) → EndsBefore at taken blocks
   pub no_write : result ≢ Err WriteFault
 
--- what is answered after so many program blocks
+-- the result after this number of program blocks
 abbrev pub viewed : ℕ → ℕ → ℕ → Result Played PlayStop
 viewed blocks time bad = if nat_lt blocks time then Err (PastEnd blocks) else Ok (record {
   blocks = blocks;
   bad = bad;
 })
 
--- what the packs that were read give, and what is written of it
+-- the text packs that were read, and the text that is written
 abbrev pub WritesTexts : LeadInTexts → ℕ → Option (List ℕ) → Option (List ℕ) → Result Played PlayStop → Type 0
 WritesTexts s blocks held held' (Ok played) =
     (played.blocks ≡ blocks) × (played.bad ≡ 0)

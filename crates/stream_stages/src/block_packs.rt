@@ -16,7 +16,7 @@ use cdg_io::{PassedUnits, Piece, UnitStage};
 use raw_subcode::{BLOCK_BYTES, SECTOR_BYTES, SLOTS_A_BLOCK, SYMBOLS_A_SLOT};
 use rw_code::{Word, correct_by_sums};
 
-/// Gives the bytes of the corrected packs of each block, and counts the words with no codeword near.
+/// Outputs the bytes of the corrected packs of each block, and counts the bad words.
 #[derive(Drop)]
 pub struct BlockPacks {
     pub words: BlockWords,
@@ -24,7 +24,7 @@ pub struct BlockPacks {
 }
 
 impl BlockPacks {
-    // Puts what is found for words to the front of a place.
+    // Writes the corrected words to the front of a buffer.
     #[inline]
     fn put_packs(&mut self, words: &ArrayVec<Word, SLOTS_A_BLOCK>, place: &mut [u8]) -> usize
         requires { block_bytes ≤ length place.old }
@@ -47,8 +47,8 @@ impl BlockPacks {
         at
     }
 
-    // Passes the blocks that a row begins with and that are quickly seen to be idle. Only their bytes are looked at, and
-    // their zeros are put at once.
+    // Skips the blocks at the front of a row that a quick test finds idle. It reads only their bytes, and writes their
+    // zeros in one step.
     #[inline]
     fn pass_idle(&self, row: &mut &[u8], buffer: &mut [u8], start: usize, most: u32) -> PassedUnits
         requires start { start ≤ length buffer.old }
@@ -71,7 +71,7 @@ impl BlockPacks {
         }
     }
 
-    // The same. It is a function of its own so that busy blocks do not pay for its variables.
+    // The loop of `pass_idle`. It is a separate function so that busy blocks do not pay for its variables.
     #[inline(never)]
     fn pass_run(&self, row: &mut &[u8], buffer: &mut [u8], start: usize, most: u32) -> PassedUnits
         requires start { start ≤ length buffer.old }
@@ -114,7 +114,7 @@ impl UnitStage for BlockPacks {
 
     const SIZE: usize = BLOCK_BYTES;
 
-    // It stands apart, so that blocks that come many at a time do not pay for one that comes in parts.
+    // It is not inlined, so that rows of blocks do not pay for a block that arrives in parts.
     #[cold]
     #[inline(never)]
     fn take_unit(&mut self, unit: &[u8], given: &mut Option<Piece>) {
@@ -133,7 +133,7 @@ impl UnitStage for BlockPacks {
         *given = Some(piece);
     }
 
-    /// Each block is looked at once: a run of idle blocks by its bytes, any other as it is gathered.
+    /// Each block is tested once: a run of idle blocks by its bytes, any other block when its words are gathered.
     #[inline]
     fn take_row(
         &mut self,
@@ -175,7 +175,7 @@ impl UnitStage for SectorBlocks<BlockPacks> {
     }
 }
 
-// The block that bytes begin with.
+// The block at the front of these bytes.
 #[inline]
 fn block_of(bytes: &[u8]) -> &[u8; BLOCK_BYTES]
     requires { block_bytes ≤ length bytes.now }
@@ -187,7 +187,7 @@ fn block_of(bytes: &[u8]) -> &[u8; BLOCK_BYTES]
     }
 }
 
-// The bytes of the codeword near a word, or zeros, and then one bad word more.
+// The bytes of the corrected word; or zeros, and the word counts as bad.
 fn recovered(word: &Word, bad: &mut u32) -> [u8; SYMBOLS_A_SLOT]
     ensures bytes { result ≡ entry_bytes (finding word.now) }
     ensures size { length result ≡ symbols_a_slot }
@@ -202,7 +202,7 @@ fn recovered(word: &Word, bad: &mut u32) -> [u8; SYMBOLS_A_SLOT]
     }
 }
 
-// Whether it is quickly seen that the idle pack is found for each word.
+// A quick test whether each word is corrected to the idle pack.
 #[inline]
 fn are_near_idle(words: &ArrayVec<Word, SLOTS_A_BLOCK>) -> bool
     requires { IsCodeword idle_pack }
@@ -217,7 +217,7 @@ fn are_near_idle(words: &ArrayVec<Word, SLOTS_A_BLOCK>) -> bool
     true
 }
 
-// Puts so many zeros to the front of a place. Those of a whole block take a few steps.
+// Writes zeros to the front of a buffer. The zeros of a whole block take a few steps.
 #[inline]
 fn put_zeros(place: &mut [u8], count: usize) -> usize
     requires { count ≤ length place.old }
@@ -228,7 +228,7 @@ fn put_zeros(place: &mut [u8], count: usize) -> usize
     count
 }
 
-// Makes zeros of bytes.
+// Overwrites bytes with zeros.
 #[inline]
 fn clear(bytes: &mut [u8])
     ensures { bytes.new ≡ replicate (length bytes.old) 0 }

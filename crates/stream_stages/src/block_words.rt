@@ -17,10 +17,10 @@ use rw_code::{Pack, Word};
 use rw_interleave::Gather;
 use std::marker::Model;
 
-/// The words that come with a block, at most one with each slot.
+/// The words that a block completes: at most one for each slot.
 #[derive(Drop)]
 pub struct BlockOfWords {
-    /// None where they are four idle packs.
+    /// None if they are four idle packs.
     words: Option<ArrayVec<Word, SLOTS_A_BLOCK>>,
 }
 
@@ -44,7 +44,7 @@ impl BlockOfWords {
         BlockOfWords { words: Some(words) }
     }
 
-    /// The words. None says that they are four idle packs.
+    /// The words, or None if they are four idle packs.
     #[inline]
     pub fn unless_idle(&self) -> Option<&ArrayVec<Word, SLOTS_A_BLOCK>>
         ensures { MatchOption result (self.now.items ≡ replicate slots_a_block idle_pack)
@@ -63,19 +63,19 @@ impl BlockOfWords {
     }
 }
 
-/// Passes over the lead-in blocks, and gives the words that come with each block of the program.
+/// Skips the blocks of the lead-in, and outputs the words that each block of the program completes.
 #[derive(Drop)]
 pub struct BlockWords {
     /// The form of the stream.
     pub form: Form,
-    /// The blocks of the lead-in that are still to come.
+    /// The number of lead-in blocks that are still to come.
     pub lead_in: u32,
-    /// The last slots, from which words are gathered.
+    /// The most recent slots, from which words are gathered.
     pub gather: Gather,
 }
 
 impl BlockWords {
-    /// The words of no stream yet.
+    /// The state before any stream.
     pub fn new() -> BlockWords
         ensures { result ≡ fresh_words Form.Raw 0 }
     {
@@ -86,7 +86,7 @@ impl BlockWords {
         }
     }
 
-    /// Begins with a stream of this form.
+    /// Starts a stream of this form.
     pub fn begin(&mut self, lead_in: u32, form: Form)
         ensures { self.new ≡ fresh_words form lead_in }
     {
@@ -95,13 +95,13 @@ impl BlockWords {
         self.gather.reset();
     }
 
-    /// Whether a block is quickly seen to change nothing, so that four idle words come with it. It stands in line, so that
-    /// of a run of blocks only the bytes are looked at one by one.
+    /// A quick test whether a block changes nothing and completes four idle words. It is inlined, so that a run of
+    /// blocks costs only one look at each byte.
     #[inline(always)]
     pub fn stays_idle(&self, block: &[u8; BLOCK_BYTES]) -> bool
         ensures { result ≡ true → IdlesOn self.now block.now }
     {
-        // Of most blocks that are not idle the gatherer says so at once.
+        // The test of the gatherer refuses most busy blocks at once.
         if !self.gather.stays_idle(block) || self.lead_in > 0 {
             return false;
         }
@@ -111,7 +111,7 @@ impl BlockWords {
         }
     }
 
-    /// The words that come with a block, none in the lead-in. It does not look whether the block is idle.
+    /// The words that a block completes; none in the lead-in. It does not test whether the block is idle.
     #[inline]
     #[tactic(auto, unfolding(crate::specs::Steps::words_next, crate::specs::Steps::words_give))]
     pub(crate) fn gathered(&mut self, block: &[u8; BLOCK_BYTES]) -> ArrayVec<Word, SLOTS_A_BLOCK>
@@ -140,7 +140,7 @@ impl Stage for BlockWords {
 
     ghost idle = { Some (record { items = replicate slots_a_block idle_pack }) };
 
-    // The words are gathered where they are given: `gathered` would have them copied.
+    // The words are gathered in the output itself: `gathered` would copy them.
     #[inline]
     #[tactic(auto, unfolding(crate::specs::Steps::words_next, crate::specs::Steps::words_give))]
     fn feed(&mut self, block: &[u8; BLOCK_BYTES]) -> Option<BlockOfWords> {
@@ -169,7 +169,7 @@ impl Stage for BlockWords {
     }
 }
 
-// The slots of a block, each as a word.
+// The slots of a block, as words.
 fn slots(block: &[u8; BLOCK_BYTES]) -> ArrayVec<Word, SLOTS_A_BLOCK>
     ensures { result.items ≡ slots_of block.now }
 {
@@ -205,10 +205,10 @@ pub(crate) fn idle_is_codeword()
     Pack::idle().word();
 }
 
-/// A stage on blocks as one on sectors: it is fed the block of each.
+/// Makes a stage for sectors from a stage for blocks, which gets the block of each sector.
 #[derive(Drop)]
 pub struct SectorBlocks<G> {
-    /// The stage on blocks.
+    /// The stage for blocks.
     pub blocks: G,
 }
 

@@ -21,8 +21,8 @@ use raw_subcode::Form;
 
 type Lines = ArrayString<320>;
 
-/// Counts what streams hold, one at a time: each call begins anew, whatever stopped the one before. It takes no
-/// memory.
+/// Counts the contents of streams, one stream in each call. A call never depends on an earlier call. It allocates
+/// nothing.
 #[derive(Drop)]
 pub struct Checker {
     /// The counts of a stream.
@@ -30,7 +30,7 @@ pub struct Checker {
 }
 
 impl Checker {
-    /// A checker that has read nothing.
+    /// A checker before its first stream.
     pub fn new() -> Checker
         ensures words { words_of result.checks.blocks.words ≡ fresh_words Form.Raw 0 }
         ensures counts { counts_of result.checks.blocks.words ≡ nothing_counted }
@@ -43,16 +43,16 @@ impl Checker {
         }
     }
 
-    /// Writes the counts of a stream, after all of it is read: of its blocks, of its words by their wrong symbols and
-    /// by what they hold, and of the frames of its Q channel. The packs of a cooked stream have no frames.
+    /// Reads a whole stream, and then writes its counts: of its blocks, of its words by their wrong symbols and by
+    /// their kind, and of the frames of its Q channel. A cooked stream has no frames.
     ///
-    /// `lead_in` is at most 450,000 blocks. `Played::bad` counts the words with no codeword within two symbols; a frame
-    /// that is refused counts in the lines alone.
+    /// `lead_in` is at most 450,000 blocks. `Played::bad` is the number of words with no codeword within two symbols;
+    /// a bad frame counts only in the text.
     ///
     /// # Errors
     ///
-    /// `Torn`, `TooLong` and `ReadFault` as the input says: then nothing is written. After `WriteFault` the sink
-    /// holds a prefix.
+    /// `Torn`, `TooLong` and `ReadFault`, as the input causes them; nothing is written then. After `WriteFault` the
+    /// sink has a prefix of the text.
     pub fn check<S: Source, K: Sink>(
         &mut self,
         lead_in: u32,
@@ -100,7 +100,7 @@ impl Checker {
         }
     }
 
-    // Brings back the state after the start, for a stream of this form.
+    // Sets the state before the first block of a stream of this form.
     fn begin_check(&mut self, lead_in: u32, form: Form)
         ensures { IsFresh form lead_in self.new.checks.blocks }
     {
@@ -158,7 +158,7 @@ fn push_count(text: &mut Lines, name: &str, count: u32)
     text.push_str("\n");
 }
 
-// The lines on the blocks and the packs.
+// The lines for blocks and packs.
 fn push_stream(text: &mut Lines, lead_in: u32, program: u32, packs: u32)
     requires { length text.old.bytes ≤ 0 }
     ensures text { text.new.bytes ≡ text.old.bytes ++ stream_lines lead_in program packs }
@@ -181,7 +181,7 @@ fn push_wrong(text: &mut Lines, counts: &WordCounts)
     push_count(text, "bad", counts.bad);
 }
 
-// The lines on what packs hold.
+// The lines for the kinds of packs.
 fn push_kinds(text: &mut Lines, counts: &WordCounts)
     requires { length text.old.bytes ≤ 140 }
     ensures text { text.new.bytes ≡ text.old.bytes

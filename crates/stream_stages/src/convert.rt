@@ -14,7 +14,7 @@ use cdg_io::{PumpStop, Pumped, Sink, Source, pump_units};
 use raw_subcode::{Form, MOST_UNITS};
 use rw_interleave::{found_packs_are_the_text, packs_are_recovered};
 
-/// A law: the conversion of a stream that damage keeps within two symbols a word is its packs.
+/// A law: if damage changed at most two symbols of each word of a stream, its conversion has the original packs.
 pub fn damaged_streams_give_packs()
     ensures text { (form : Form) (lead_in blocks : ℕ) (packs : List (List ℕ)) (bytes text : List ℕ) (bad : ℕ)
         → IsDamagedStream form lead_in blocks packs bytes → IsConverted form lead_in bytes text bad
@@ -27,15 +27,15 @@ pub fn damaged_streams_give_packs()
     found_packs_are_the_text();
 }
 
-/// Converts streams, one at a time: each call begins anew, whatever stopped the one before. It takes no memory.
+/// Converts streams, one stream in each call. A call never depends on an earlier call. It allocates nothing.
 #[derive(Drop)]
 pub struct Converter {
-    /// The words of a stream, and their packs.
+    /// The stage that makes packs from blocks.
     pub stages: SectorBlocks<BlockPacks>,
 }
 
 impl Converter {
-    /// A converter that has read nothing.
+    /// A converter before its first stream.
     pub fn new() -> Converter
         ensures words { result.stages.blocks.words ≡ fresh_words Form.Raw 0 }
         ensures bad { result.stages.blocks.bad ≡ 0 }
@@ -50,16 +50,16 @@ impl Converter {
         }
     }
 
-    /// Writes the packs of a stream as its blocks are read: 24 bytes each, every byte below 64.
+    /// Writes the packs of a stream while it reads the blocks: 24 bytes for each pack, every byte below 64.
     ///
-    /// `lead_in` is at most 450,000 blocks, which are passed over. A word with no codeword within two symbols is
-    /// written as 24 zeros, and counted in `Played::bad`. Of B blocks of the program 4B - 7 packs are written, and 4B
-    /// where they are cooked.
+    /// `lead_in` is at most 450,000 blocks, which are skipped. A word with no codeword within two symbols is written
+    /// as 24 zeros, and counted in `Played::bad`. For B program blocks, 4B - 7 packs are written, or 4B packs if the
+    /// form is cooked.
     ///
     /// # Errors
     ///
-    /// `Torn` and `TooLong` come after the packs of all whole blocks are written, `ReadFault` after those of the blocks
-    /// that were read. After `WriteFault` the sink holds a prefix, and no later block was read.
+    /// `Torn` and `TooLong` come after the packs of all whole blocks were written, and `ReadFault` after those of the
+    /// blocks that were read. After `WriteFault` the sink has a prefix of the packs, and no later block was read.
     pub fn convert<S: Source, K: Sink>(
         &mut self,
         lead_in: u32,
@@ -70,7 +70,7 @@ impl Converter {
         requires { lead_in ≤ most_lead_in }
         ensures plays { Plays (conversion form lead_in) S.Source K.Sink
             (source.old, out.old) (source.new, out.new) result }
-        // Every pack comes back from damage of at most two symbols a word.
+        // Damage of at most two symbols in each word changes no pack.
         ensures restores { IfSome (S.left source.old) (λ all. (blocks : ℕ) (packs : List (List ℕ))
             → IsDamagedStream form lead_in blocks packs all
             → Restores result (K.held out.old) (K.held out.new) (concat (all_packs form blocks packs))) }
@@ -89,7 +89,7 @@ impl Converter {
         }
     }
 
-    // Brings back the state after the start, for a stream of this form.
+    // Sets the state before the first block of a stream of this form.
     fn begin(&mut self, lead_in: u32, form: Form)
         ensures words { self.new.stages.blocks.words ≡ fresh_words form lead_in }
         ensures bad { self.new.stages.blocks.bad ≡ 0 }
@@ -99,7 +99,7 @@ impl Converter {
     }
 }
 
-// The answer of a player to that of the pump under it.
+// The result of a player for the result of the pump.
 fn played(lead_in: u32, bad: u32, answer: Result<Pumped, PumpStop>) -> Result<Played, PlayStop>
     ensures { result ≡ played_of lead_in bad answer }
 {

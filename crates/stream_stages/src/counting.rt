@@ -16,50 +16,51 @@ use q_channel::is_frame;
 use raw_subcode::{BLOCK_BYTES, Block, Form, SLOTS_A_BLOCK};
 use rw_code::{Fixed, Word, correct_by_sums};
 
-// The most wrong symbols of a word that are corrected.
+// The maximum number of wrong symbols in a word that is corrected.
 const MOST_WRONG: u8 = 2;
 
-/// The words of a stream by their wrong symbols, and those that are not bad by their kind: each word counts in one of
-/// the first four, and each that is not bad in one of the last four. A count stays at its last value.
+/// Counts of words. Each word counts in one of the first four fields, by its wrong symbols. Each word that is not bad
+/// also counts in one of the last four fields, by the kind of its pack. The counts saturate.
 #[derive(Clone, Copy, Default)]
 pub struct WordCounts {
     /// Codewords.
     pub clean: u32,
-    /// One symbol from a codeword.
+    /// Words that differ from a codeword in one symbol.
     pub one: u32,
-    /// Two symbols from a codeword.
+    /// Words that differ from a codeword in two symbols.
     pub two: u32,
-    /// No codeword within two symbols.
+    /// Words with no codeword within two symbols.
     pub bad: u32,
-    /// Mode 0.
+    /// Packs of mode 0.
     pub idle: u32,
-    /// Mode 9, with the number of an instruction.
+    /// Packs of mode 9 with the number of an instruction.
     pub graphics: u32,
-    /// Mode 9, with another number.
+    /// Packs of mode 9 with another number.
     pub unknown: u32,
-    /// Any other mode.
+    /// Packs of any other mode.
     pub foreign: u32,
 }
 
-/// The frames of the Q channel, where they are read.
+/// Counts of Q frames, for streams with a Q channel.
 #[derive(Clone, Copy, Default)]
 pub struct FrameCounts {
     /// Whether the blocks have a Q channel.
     pub read: bool,
-    /// Frames that are read.
+    /// Good frames.
     pub good: u32,
-    /// Frames that are refused.
+    /// Bad frames.
     pub bad: u32,
 }
 
-/// Counts the frames of all blocks, and the words of those of the program.
+/// Counts the frames of all blocks, and the words of the program blocks.
 #[derive(Drop)]
 pub struct Counting {
     pub frames: FrameCounts,
     pub words: Then<BlockWords, WordCounts>,
 }
 
-// Counts one more, up to the last value. It does not branch: which words of a scratched disc are hit is not foreseen.
+// Adds one to a count if `hit`; the count saturates. It does not branch, because hits on a scratched disc are not
+// predictable.
 #[inline]
 #[tactic(auto, unfolding(crate::specs::CheckSteps::tick))]
 fn tick(count: &mut u32, hit: bool)
@@ -68,7 +69,7 @@ fn tick(count: &mut u32, hit: bool)
     *count = count.saturating_add(u32::from(hit));
 }
 
-// Leaves nothing where something was. It is a function of its own so that blocks do not pay for its variables.
+// Clears an output. It is a separate function so that blocks do not pay for its variables.
 #[inline(never)]
 fn clear(out: &mut Option<Piece>)
     ensures { out.new ≡ None }
@@ -91,7 +92,7 @@ fn counts_fit(count: u32)
     let _ = count;
 }
 
-// Words for which the idle pack is found, by the number of their wrong symbols.
+// Counts of the words that are corrected to the idle pack, by their wrong symbols.
 #[derive(Clone, Copy)]
 struct NearIdle {
     clean: u32,
@@ -111,7 +112,7 @@ impl NearIdle {
         }
     }
 
-    // One more, with so many wrong symbols.
+    // Counts one more word with this number of wrong symbols.
     #[inline]
     fn count(&mut self, wrong: u8)
         requires { self.old.clean + self.old.one + self.old.two < 2 ^ 32 - 1 }
@@ -124,14 +125,14 @@ impl NearIdle {
 }
 
 impl WordCounts {
-    // Counts the words of a block, one by one. Those for which the idle pack is found are many: they are counted apart,
-    // and at the end together.
+    // Counts the words of a block one by one. The many words that are corrected to the idle pack are counted
+    // separately and added at the end.
     #[inline(never)]
     fn count_each(&mut self, words: &ArrayVec<Word, SLOTS_A_BLOCK>)
         requires { IsCodeword idle_pack }
         ensures { self.new ≡ counts_next self.old words.now }
     {
-        // Where none is counted together, each count is as it was.
+        // If no such word was counted, adding changes nothing.
         counts_fit(self.idle);
         let mut near = NearIdle::none();
         for word in words.as_slice() {
@@ -167,7 +168,7 @@ impl WordCounts {
         }
     }
 
-    // Counts a word by what its correction finds, where the idle pack is not near.
+    // Corrects a word and counts it. The idle pack is not near.
     fn count_corrected(&mut self, word: &Word)
         ensures { self.new ≡ count_next self.old word.now }
     {
@@ -215,7 +216,7 @@ impl WordCounts {
         tick(&mut self.two, wrong == 2);
     }
 
-    // Counts a pack by its first two symbols.
+    // Counts a pack by its kind.
     #[inline]
     fn count_kind(&mut self, mode: u8, code: u8)
         ensures { self.new ≡ kind_counted self.old mode code }
@@ -261,7 +262,7 @@ impl Stage for WordCounts {
 }
 
 impl FrameCounts {
-    // Counts the frame of a block, where frames are read.
+    // Counts the frame of a block, if the stream has frames.
     #[tactic(auto, unfolding(crate::specs::CheckSteps::frames_next))]
     fn count(&mut self, block: &[u8; BLOCK_BYTES])
         ensures { self.new ≡ frames_next self.old block.now }
@@ -275,7 +276,7 @@ impl FrameCounts {
 }
 
 impl Counting {
-    /// Counts of no stream yet.
+    /// The state before any stream.
     pub fn new() -> Counting
         ensures words { words_of result.words ≡ fresh_words Form.Raw 0 }
         ensures counts { counts_of result.words ≡ nothing_counted }

@@ -1,5 +1,5 @@
-//! Stages that play a subcode stream: blocks become words, and words packs, pictures and counts. And what a call that
-//! plays a stream says of it.
+//! Stages that play a subcode stream: they make words from blocks, and packs, pictures and counts from words; and the
+//! calls that play a whole stream.
 #![tactic(auto)]
 
 mod block_packs;

@@ -1,4 +1,4 @@
-// The lines of the Q channel of a stream, and those of the texts of its lead-in.
+// The lines of the Q channel of a stream, and the lines of the texts of its lead-in.
 ghost use Rattle.std.specs.Prelude.{◌≡◌, ◌≢◌, ◌≤◌, IfOk, IsOk, Ok, Err};
 ghost use Rattle.disc_time.specs.Counts.{most_lead_in};
 ghost use Rattle.raw_subcode.specs.declared.form.Form.{Form};
@@ -15,15 +15,15 @@ use q_channel::QLines;
 use raw_subcode::Form;
 use std::alloc::{AllocError, Global};
 
-/// Writes the line of the Q channel of each block, lead-in included, as the blocks are read. It takes no memory.
+/// Writes a line for the Q frame of each block, also in the lead-in, while it reads the blocks. It allocates nothing.
 ///
-/// `lead_in` is at most 450,000 blocks, and the form is raw or sector: cooked packs have no Q channel. `Played::bad`
-/// counts the frames that are refused.
+/// `lead_in` is at most 450,000 blocks. The form is raw or sector: a cooked stream has no Q channel. `Played::bad` is
+/// the number of bad frames.
 ///
 /// # Errors
 ///
-/// `Torn` and `TooLong` come after the lines of all whole blocks are written, `ReadFault` after those of the blocks
-/// that were read. After `WriteFault` the sink holds a prefix, and no later block was read.
+/// `Torn` and `TooLong` come after the lines of all whole blocks were written, and `ReadFault` after those of the
+/// blocks that were read. After `WriteFault` the sink has a prefix of the lines, and no later block was read.
 pub fn list_frames<S: Source, K: Sink>(
     lead_in: u32,
     form: Form,
@@ -47,8 +47,8 @@ pub fn list_frames<S: Source, K: Sink>(
     }
 }
 
-/// Lists the texts of lead-ins, one at a time: each call begins anew, whatever stopped the one before. It holds
-/// a table of text packs.
+/// Lists the texts of lead-ins, one stream in each call. A call never depends on an earlier call. The lister contains a
+/// table of text packs.
 #[derive(Drop)]
 pub struct TextLister {
     /// The text packs of a lead-in.
@@ -56,7 +56,7 @@ pub struct TextLister {
 }
 
 impl TextLister {
-    /// A lister with an empty table, which stands in it: no memory is asked for, and none can be wanted.
+    /// A lister with an empty table. The lister contains the table, so nothing is allocated and no allocation can fail.
     pub fn start(alloc: Global) -> Result<TextLister, AllocError>
         ensures fresh { IfOk result (λ lister. lister.texts.blocks ≡ fresh_texts 0) }
         ensures memory { IsOk result }
@@ -68,16 +68,16 @@ impl TextLister {
         })
     }
 
-    /// Writes the texts of a stream's lead-in, after all of it is read: a line for each string that is not empty, and
-    /// one on the packs. Memory is taken for the texts alone, once all is read.
+    /// Reads a whole stream, and then writes the texts of its lead-in: a line for each string that is not empty, and
+    /// a line for the packs. It allocates only the texts, after it read everything.
     ///
-    /// `lead_in` is at most 450,000 blocks, and the form is raw or sector: cooked packs have no lead-in.
-    /// `Played::bad` is 0.
+    /// `lead_in` is at most 450,000 blocks. The form is raw or sector: a cooked stream has no lead-in. `Played::bad`
+    /// is 0.
     ///
     /// # Errors
     ///
-    /// `Text` where the packs are no texts, or they are and no memory is found for them, and `Torn`, `TooLong` and
-    /// `ReadFault` as the input says: then nothing is written. After `WriteFault` the sink holds a prefix.
+    /// `Text` if the packs hold no texts or no memory is available for the texts; `Torn`, `TooLong` and `ReadFault`,
+    /// as the input causes them; nothing is written then. After `WriteFault` the sink has a prefix of the lines.
     pub fn text_list<S: Source, K: Sink>(
         &mut self,
         alloc: Global,
@@ -119,7 +119,7 @@ impl TextLister {
         written
     }
 
-    // Writes the lines of these texts, which are those of the packs that were read.
+    // Writes the lines of these texts, which are the texts of the packs that were read.
     fn write_map<K: Sink>(
         &self,
         map: &TextMap,

@@ -1,4 +1,4 @@
-// From words to what stands on a screen.
+// From words to a screen.
 ghost use Rattle.std.specs.Prelude.{◌≡◌, ◌∷◌, [], replicate};
 ghost use Rattle.cdg_instructions.specs.Meaning.{meaning};
 ghost use Rattle.cdg_screen.specs.Memory.{seen};
@@ -18,11 +18,11 @@ use cdg_screen::{PlainScreen, Screen};
 use raw_subcode::SLOTS_A_BLOCK;
 use rw_code::{Pack, Word, correct};
 
-/// Draws the corrected packs up to a number of them, and counts the words with no codeword near among these.
+/// Corrects and draws the first words of a stream, and counts the bad ones among them.
 #[derive(Drop)]
 pub struct Painting {
     pub screen: Screen,
-    /// The packs that are still to be drawn.
+    /// The number of packs that are still to be drawn.
     pub left: u32,
     pub bad: u32,
 }
@@ -49,17 +49,17 @@ impl Painting {
         }
     }
 
-    // Draws four idle words: the screen stays.
+    // Draws four idle words, which change no screen.
     fn draw_four_idle(&mut self)
         requires { IsCodeword idle_pack }
         ensures { self.new ≡ draw_after self.old (replicate slots_a_block idle_pack) }
     {
         self.left = self.left.saturating_sub(SLOTS_A_BLOCK as u32);
-        // A law: they draw nothing on what stands.
+        // A law: these words draw nothing.
         self.screen.what_stands_is_whole();
     }
 
-    // Draws what is found for a word, if a pack is left to be drawn.
+    // Corrects and draws a word, if the number of packs allows it.
     #[tactic(auto, unfolding(crate::specs::Drawn::draw_next))]
     fn draw(&mut self, word: &Word)
         ensures { self.new ≡ draw_next self.old word.now }
@@ -71,12 +71,12 @@ impl Painting {
     }
 }
 
-/// Draws the codeword near a word on a screen, or counts the word.
+/// Draws the corrected word on a screen, or counts the word as bad.
 pub fn draw_word(screen: &mut PlainScreen, bad: &mut u32, word: &Word)
     ensures screen { seen screen.new ≡ entry_drawn (seen screen.old) (finding word.now) }
     ensures bad { bad.new ≡ bad_next bad.old word.now }
 {
-    // Most words of a disc are idle, and draw nothing. Few others begin with 0.
+    // Most words of a disc are idle and draw nothing. Few other words begin with 0.
     if word.get(0).value() == 0 && is_idle(word) {
         idle_packs_draw_nothing(screen);
     } else {
@@ -84,7 +84,7 @@ pub fn draw_word(screen: &mut PlainScreen, bad: &mut u32, word: &Word)
     }
 }
 
-// Draws what the correction of a word finds, or counts the word.
+// Corrects a word and draws it, or counts it as bad.
 fn draw_corrected(screen: &mut PlainScreen, bad: &mut u32, word: &Word)
     ensures screen { seen screen.new ≡ entry_drawn (seen screen.old) (finding word.now) }
     ensures bad { bad.new ≡ bad_next bad.old word.now }
@@ -101,7 +101,7 @@ fn carry_out(pack: &Pack, screen: &mut PlainScreen)
     screen.obey(&read(pack));
 }
 
-// A law: an idle pack leaves a screen as it is.
+// A law: an idle pack changes no screen.
 fn idle_packs_draw_nothing(screen: &PlainScreen)
     ensures { seen screen.now ≡ standing_after (seen screen.now) (meaning idle_pack ∷ []) }
 {
@@ -127,7 +127,7 @@ impl Stage for Painting {
     #[tactic(auto, unfolding(crate::specs::Drawn::painting_gives))]
     fn emit(&mut self, words: &BlockOfWords, out: &mut Option<Piece>) {
         self.draw_block(words);
-        // Nothing is given. Where nothing stands there, nothing is written.
+        // The stage has no output. An output that is already empty is not written.
         if out.is_some() {
             *out = None;
         }

@@ -1,4 +1,4 @@
-// Pumping a whole input through a stage, and what a call that plays it answers.
+// A whole input through a stage, and the result of the call that plays it.
 ghost use Rattle.std.specs.Prelude.{◌≡◌, List, ℕ};
 ghost use Rattle.stream_stages.specs.Watch.{play_stop, Watches, on_units};
 ghost use Rattle.cdg_io.specs.Causes.{TellsFault};
@@ -22,12 +22,12 @@ use q_channel::readings_are_functions;
 use raw_subcode::{BLOCK_BYTES, Form, MOST_UNITS};
 use rw_code::each_word_has_one_finding;
 
-/// What was played of a whole input.
+/// The result for a whole input.
 #[derive(Clone, Copy, Debug, PartialEq, Eq)]
 pub struct Played {
-    /// The blocks of the program, which are those after the lead-in.
+    /// The number of program blocks: all blocks after the lead-in.
     pub blocks: u32,
-    /// The words with no codeword within two symbols, or what a call says that it counts in their place.
+    /// The number of words with no codeword within two symbols; some calls count something else, as they state.
     pub bad: u32,
 }
 
@@ -36,19 +36,19 @@ pub struct Played {
 pub enum PlayStop {
     /// A read failed.
     ReadFault,
-    /// A write failed: the sink took a prefix of the text.
+    /// A write failed; the sink has a prefix of the text.
     WriteFault,
     /// The input ended within the block of this number, counted from 0.
     Torn { block: u32 },
     /// The input has more than 1,000,000 blocks or sectors.
     TooLong,
-    /// The moment is later than the end of this many program blocks.
+    /// The moment is after the end of the program, which has this number of blocks.
     PastEnd { blocks: u32 },
-    /// The text packs of the lead-in give no texts, or give some and no memory is found for them.
+    /// The text packs of the lead-in hold no texts, or no memory is available for the texts.
     Text(TextFault),
 }
 
-/// The stop of a pump as that of a player.
+/// The stop of a player for the stop of a pump.
 pub fn play_stop(stop: PumpStop) -> PlayStop
     ensures { result ≡ play_stop stop }
 {
@@ -60,7 +60,7 @@ pub fn play_stop(stop: PumpStop) -> PlayStop
     }
 }
 
-/// Feeds the blocks of an input to a stage, and writes what it gives for each.
+/// Feeds the blocks of an input to a stage, and writes the output of the stage for each block.
 pub fn pump_blocks<S: Source, G: Stage<Item = [u8; BLOCK_BYTES], Out = Piece>, K: Sink>(
     form: Form,
     source: &mut S,
@@ -81,7 +81,7 @@ pub fn pump_blocks<S: Source, G: Stage<Item = [u8; BLOCK_BYTES], Out = Piece>, K
     }
 }
 
-/// Feeds the blocks of an input to a stage, which keeps what it learns of them.
+/// Feeds the blocks of an input to a stage that writes nothing.
 pub fn watch<S: Source, G: Stage<Item = [u8; BLOCK_BYTES], Out = Piece>>(
     form: Form,
     source: &mut S,
@@ -95,8 +95,8 @@ pub fn watch<S: Source, G: Stage<Item = [u8; BLOCK_BYTES], Out = Piece>>(
     pump_blocks(form, source, stages, &mut SteadySink::new())
 }
 
-/// A law: for the bytes of a stream each call has one text and one number of bad entries, however a source cuts the
-/// bytes.
+/// A law: the bytes of a stream determine the text of each call and the number of bad entries, regardless of the
+/// pieces in which a source delivers the bytes.
 pub fn one_text_is_written()
     ensures converted { (form : Form) (lead_in : ℕ) (bytes one other : List ℕ) (bad another : ℕ)
         → IsConverted form lead_in bytes one bad → IsConverted form lead_in bytes other another

@@ -21,16 +21,16 @@ use raw_subcode::Form;
 use rw_interleave::whole_packs;
 use std::alloc::{AllocError, Global};
 
-/// Shows moments of streams, one at a time: each call begins anew, whatever stopped the one before. It holds one
+/// Shows moments of streams, one stream in each call. A call never depends on an earlier call. The viewer has one
 /// screen.
 #[derive(Drop)]
 pub struct Viewer {
-    /// The picture at a moment of a stream.
+    /// The stage that draws a stream up to a moment.
     pub views: SectorBlocks<Then<BlockWords, Painting>>,
 }
 
 impl Viewer {
-    /// Takes the memory of the screen.
+    /// Allocates the screen.
     pub fn start(alloc: Global) -> Result<Viewer, AllocError>
         ensures words { IfOk result (λ viewer. words_of viewer.views.blocks ≡ fresh_words Form.Raw 0) }
         ensures painting { IfOk result (λ viewer. ((painting_of viewer.views.blocks).screen ≡ blank)
@@ -48,16 +48,16 @@ impl Viewer {
         })
     }
 
-    /// Writes the picture at a moment, after all of the stream is read: a pixmap of what stands after the packs that
-    /// are whole at program block `at`, the first 4 * at - 7.
+    /// Reads a whole stream, and then writes the picture at a moment: a pixmap of the screen after the packs that are
+    /// complete at program block `at`, which are the first 4 * at - 7 packs.
     ///
-    /// `lead_in` is at most 450,000 blocks, and `at` at most 449,999. A word with no codeword within two symbols
-    /// changes nothing; `Played::bad` counts those among the packs that are drawn.
+    /// `lead_in` is at most 450,000 blocks, and `at` is at most 449,999. A word with no codeword within two symbols
+    /// draws nothing; `Played::bad` is the number of such words among the packs up to the moment.
     ///
     /// # Errors
     ///
-    /// `PastEnd` where the program has fewer than `at` blocks, and `Torn`, `TooLong` and `ReadFault` as the input says:
-    /// then nothing is written. After `WriteFault` the sink holds a prefix.
+    /// `PastEnd` if the program has fewer than `at` blocks; `Torn`, `TooLong` and `ReadFault`, as the input causes
+    /// them; nothing is written then. After `WriteFault` the sink has a prefix of the picture.
     pub fn screen_at<S: Source, K: Sink>(
         &mut self,
         lead_in: u32,
@@ -83,8 +83,8 @@ impl Viewer {
         }
     }
 
-    /// Writes the state at a moment: border, offsets, colours and levels of what `screen_at` shows, under the same
-    /// conditions.
+    /// Writes the state at a moment: the border, offsets, colours and levels of the screen that `screen_at` shows.
+    /// Units and errors are those of `screen_at`.
     pub fn state_at<S: Source, K: Sink>(
         &mut self,
         lead_in: u32,
@@ -110,7 +110,7 @@ impl Viewer {
         }
     }
 
-    // Draws the packs of a whole stream that are whole at a moment.
+    // Draws the packs of a whole stream that are complete at a moment.
     fn view<S: Source>(
         &mut self,
         lead_in: u32,
@@ -137,7 +137,7 @@ impl Viewer {
         }
     }
 
-    // What was played, where the program reaches the moment.
+    // The result, if the program reaches the moment.
     fn viewed(&self, pumped: Pumped, lead_in: u32, at: u32) -> Result<Played, PlayStop>
         ensures { result ≡ viewed (pumped.units - lead_in) at (painting_of self.now.views.blocks).bad }
     {
@@ -152,7 +152,7 @@ impl Viewer {
         })
     }
 
-    // Brings back the state after the start, for a stream of this form and a moment.
+    // Sets the state before the first block of a stream of this form, for a moment.
     fn begin_view(&mut self, lead_in: u32, form: Form, at: u32)
         requires { at ≤ last_block }
         ensures words { words_of self.new.views.blocks ≡ fresh_words form lead_in }

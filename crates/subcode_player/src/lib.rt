@@ -1,4 +1,4 @@
-//! The face of player and author: a player of subcode streams, whose parts stand below, and the call that authors one.
+//! The interface for other programs: a player of subcode streams, and the call that authors a stream.
 #![tactic(auto)]
 
 mod player;

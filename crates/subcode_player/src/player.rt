@@ -1,4 +1,4 @@
-// A player: its parts, and a call of each.
+// The parts of a player, and a call for each.
 ghost use Rattle.std.specs.Prelude.{◌≡◌, ◌≢◌, ◌≤◌, List, ℕ, IfSome, IfOk};
 ghost use Rattle.std.specs.List.{concat};
 ghost use Rattle.disc_time.specs.Counts.{last_block, most_lead_in};
@@ -14,25 +14,25 @@ use raw_subcode::Form;
 use std::alloc::{AllocError, Global};
 use stream_stages::{Checker, Converter, PlayStop, Played, TextLister, Viewer, list_frames};
 
-/// Plays streams, one at a time. All its memory is taken at the start; each call begins anew, whatever stopped the
-/// one before.
+/// Plays streams, one stream in each call. A call never depends on an earlier call. All memory is allocated at the
+/// start.
 ///
-/// A call takes the blocks of a lead-in, at most 450,000, and the form of the units that it reads: blocks of 96
-/// bytes, or sectors of 2,448. It reads at most one byte past 1,000,000 units.
+/// A call has two parameters for its input: the number of lead-in blocks, at most 450,000, and the form of the units
+/// (blocks of 96 bytes, or sectors of 2,448 bytes). It reads at most one byte after 1,000,000 units.
 #[derive(Drop)]
 pub struct Player {
-    /// What converts: it takes no memory.
+    /// Converts streams; it allocates nothing.
     pub converter: Converter,
-    /// What shows a moment: it holds one screen.
+    /// Shows moments; it has one screen.
     pub viewer: Viewer,
-    /// What counts: it takes no memory.
+    /// Counts; it allocates nothing.
     pub checker: Checker,
-    /// What lists texts: it holds a table of text packs.
+    /// Lists texts; it contains a table of text packs.
     pub lister: TextLister,
 }
 
 impl Player {
-    /// Takes the memory of the screen and of the texts.
+    /// Allocates the screen.
     pub fn start(alloc: Global) -> Result<Player, AllocError>
         ensures { IfOk result (λ p. (p.converter.stages.blocks.words ≡ fresh_words Form.Raw 0)
             × (p.converter.stages.blocks.bad ≡ 0)) }
@@ -47,16 +47,16 @@ impl Player {
         })
     }
 
-    /// Writes the packs of a stream as its blocks are read: 24 bytes each, every byte below 64.
+    /// Writes the packs of a stream while it reads the blocks: 24 bytes for each pack, every byte below 64.
     ///
-    /// `lead_in` is at most 450,000 blocks, which are passed over. A word with no codeword within two symbols is
-    /// written as 24 zeros, and counted in `Played::bad`. Of B blocks of the program 4B - 7 packs are written, and 4B
-    /// where they are cooked.
+    /// `lead_in` is at most 450,000 blocks, which are skipped. A word with no codeword within two symbols is written
+    /// as 24 zeros, and counted in `Played::bad`. For B program blocks, 4B - 7 packs are written, or 4B packs if the
+    /// form is cooked.
     ///
     /// # Errors
     ///
-    /// `Torn` and `TooLong` come after the packs of all whole blocks are written, `ReadFault` after those of the blocks
-    /// that were read. After `WriteFault` the sink holds a prefix, and no later block was read.
+    /// `Torn` and `TooLong` come after the packs of all whole blocks were written, and `ReadFault` after those of the
+    /// blocks that were read. After `WriteFault` the sink has a prefix of the packs, and no later block was read.
     pub fn convert<S: Source, K: Sink>(
         &mut self,
         lead_in: u32,
@@ -67,7 +67,7 @@ impl Player {
         requires { lead_in ≤ most_lead_in }
         ensures plays { Plays (conversion form lead_in) S.Source K.Sink
             (source.old, out.old) (source.new, out.new) result }
-        // Every pack comes back from damage of at most two symbols a word.
+        // Damage of at most two symbols in each word changes no pack.
         ensures restores { IfSome (S.left source.old) (λ all. (blocks : ℕ) (packs : List (List ℕ))
             → IsDamagedStream form lead_in blocks packs all
             → Restores result (K.held out.old) (K.held out.new) (concat (all_packs form blocks packs))) }
@@ -75,16 +75,16 @@ impl Player {
         self.converter.convert(lead_in, form, source, out)
     }
 
-    /// Writes the picture at a moment, after all of the stream is read: a pixmap of what stands after the packs that
-    /// are whole at program block `at`, the first 4 * at - 7.
+    /// Reads a whole stream, and then writes the picture at a moment: a pixmap of the screen after the packs that are
+    /// complete at program block `at`, which are the first 4 * at - 7 packs.
     ///
-    /// `lead_in` is at most 450,000 blocks, and `at` at most 449,999. A word with no codeword within two symbols
-    /// changes nothing; `Played::bad` counts those among the packs that are drawn.
+    /// `lead_in` is at most 450,000 blocks, and `at` is at most 449,999. A word with no codeword within two symbols
+    /// draws nothing; `Played::bad` is the number of such words among the packs up to the moment.
     ///
     /// # Errors
     ///
-    /// `PastEnd` where the program has fewer than `at` blocks, and `Torn`, `TooLong` and `ReadFault` as the input says:
-    /// then nothing is written. After `WriteFault` the sink holds a prefix.
+    /// `PastEnd` if the program has fewer than `at` blocks; `Torn`, `TooLong` and `ReadFault`, as the input causes
+    /// them; nothing is written then. After `WriteFault` the sink has a prefix of the picture.
     pub fn screen_at<S: Source, K: Sink>(
         &mut self,
         lead_in: u32,
@@ -101,8 +101,8 @@ impl Player {
         self.viewer.screen_at(lead_in, form, at, source, out)
     }
 
-    /// Writes the state at a moment: border, offsets, colours and levels of what `screen_at` shows, under the same
-    /// conditions.
+    /// Writes the state at a moment: the border, offsets, colours and levels of the screen that `screen_at` shows.
+    /// Units and errors are those of `screen_at`.
     pub fn state_at<S: Source, K: Sink>(
         &mut self,
         lead_in: u32,
@@ -119,16 +119,16 @@ impl Player {
         self.viewer.state_at(lead_in, form, at, source, out)
     }
 
-    /// Writes the counts of a stream, after all of it is read: of its blocks, of its words by their wrong symbols and
-    /// by what they hold, and of the frames of its Q channel. The packs of a cooked stream have no frames.
+    /// Reads a whole stream, and then writes its counts: of its blocks, of its words by their wrong symbols and by
+    /// their kind, and of the frames of its Q channel. A cooked stream has no frames.
     ///
-    /// `lead_in` is at most 450,000 blocks. `Played::bad` counts the words with no codeword within two symbols; a frame
-    /// that is refused counts in the lines alone.
+    /// `lead_in` is at most 450,000 blocks. `Played::bad` is the number of words with no codeword within two symbols;
+    /// a bad frame counts only in the text.
     ///
     /// # Errors
     ///
-    /// `Torn`, `TooLong` and `ReadFault` as the input says: then nothing is written. After `WriteFault` the sink
-    /// holds a prefix.
+    /// `Torn`, `TooLong` and `ReadFault`, as the input causes them; nothing is written then. After `WriteFault` the
+    /// sink has a prefix of the text.
     pub fn check<S: Source, K: Sink>(
         &mut self,
         lead_in: u32,
@@ -143,7 +143,7 @@ impl Player {
         self.checker.check(lead_in, form, source, out)
     }
 
-    /// Writes the lines of the Q channel as `list_frames` does, for a caller who has a player: none of it is used.
+    /// Calls `list_frames`. It uses no part of the player.
     pub fn q_list<S: Source, K: Sink>(
         &mut self,
         lead_in: u32,
@@ -160,16 +160,16 @@ impl Player {
         list_frames(lead_in, form, source, out)
     }
 
-    /// Writes the texts of a stream's lead-in, after all of it is read: a line for each string that is not empty, and
-    /// one on the packs. Memory is taken for the texts alone, once all is read.
+    /// Reads a whole stream, and then writes the texts of its lead-in: a line for each string that is not empty, and
+    /// a line for the packs. It allocates only the texts, after it read everything.
     ///
-    /// `lead_in` is at most 450,000 blocks, and the form is raw or sector: cooked packs have no lead-in.
-    /// `Played::bad` is 0.
+    /// `lead_in` is at most 450,000 blocks. The form is raw or sector: a cooked stream has no lead-in. `Played::bad`
+    /// is 0.
     ///
     /// # Errors
     ///
-    /// `Text` where the packs are no texts, or they are and no memory is found for them, and `Torn`, `TooLong` and
-    /// `ReadFault` as the input says: then nothing is written. After `WriteFault` the sink holds a prefix.
+    /// `Text` if the packs hold no texts or no memory is available for the texts; `Torn`, `TooLong` and `ReadFault`,
+    /// as the input causes them; nothing is written then. After `WriteFault` the sink has a prefix of the lines.
     pub fn text_list<S: Source, K: Sink>(
         &mut self,
         alloc: Global,
