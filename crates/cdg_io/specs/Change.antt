@@ -19,7 +19,7 @@ change see before after = record { before = see before; after = see after }
 abbrev pub from_to : {A : Type 0} → A → A → Change A
 from_to before after = record { before = before; after = after }
 
--- the bytes of an input and the count of its told ends, before and after a call
+-- the bytes of an input and the count of its ends, before and after a call
 pub record Input : Type 0 where
   pub left : Change Bytes
   pub ends : Change Count

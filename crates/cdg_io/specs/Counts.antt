@@ -1,4 +1,4 @@
--- How a source counts the ends that it told and its full answers.
+-- How a source counts its ends and its full reads.
 use Rattle.std.specs.Prelude.{◌≡◌, ℕ, Some, Result}
 use Rattle.cdg_io.specs.Causes.{Count, FillsRoom, TellsEnd}
 use Rattle.cdg_io.specs.Change.{Change, change}
@@ -18,12 +18,12 @@ counts ends fills before after = record { ends = change ends before after; fills
 abbrev pub kept_counts : Tally → Tally → Counts
 kept_counts = counts (λ tally. Some tally.ends) (λ tally. Some tally.fills)
 
--- A read told the end where it gave fewer bytes than `least`, and was full where it gave as many as `most`.
+-- A read reported the end if it read fewer than `least` bytes, and was full if it read `most` bytes.
 pub record TellsRead {E : Type 0} (least most : ℕ) (counts : Counts) (result : Result ℕ E) : Type 0 where
   pub end : TellsEnd least counts.ends.before counts.ends.after result
   pub room : FillsRoom most counts.fills.before counts.fills.after result
 
--- So many reads were full, and no end was told.
+-- This number of reads was full, and no end was reported.
 pub record GivesFull (reads : ℕ) (counts : Counts) : Type 0 where
   pub full : RoseBy reads counts.fills.before counts.fills.after
   pub untold : counts.ends.after ≡ counts.ends.before

@@ -1,4 +1,4 @@
--- What a pump takes, puts and answers.
+-- The input, the output and the result of a pump.
 use Rattle.bit_lists.specs.Counting.{parts}
 use Rattle.std.specs.Prelude.{◌≡◌, ◌≢◌, ◌<◌, ◌≤◌, ◌+◌, ◌*◌, ◌/◌, ◌%◌, ◌==◌, nat_lt, ℕ, ⊤, Some, None, min, List, [], length, Result, Ok, Err, IfOk, if◌then◌else◌}
 use Rattle.std.specs.List.{concat}
@@ -16,41 +16,41 @@ use Rattle.cdg_io.specs.declared.pumping.PumpStop.TheVariants.{ReadFault, WriteF
 abbrev pub units_of : ℕ → ℕ → List ℕ → List (List ℕ)
 units_of size count bytes = parts count size bytes
 
--- how many whole units there are in so many bytes, at most the limit
+-- the number of whole units in `len` bytes, at most the limit
 abbrev pub whole : ℕ → ℕ → ℕ → ℕ
 whole size limit len = min (len / size) limit
 
--- the steps of a stage on units of bytes: from a state and a unit to the next state, and to what is given, if anything
+-- the steps of a stage on units of bytes: from a state and a unit to the next state, and to an optional output
 pub record Machine (S : Type 0) : Type 0 where
   pub next : S → List ℕ → S
   pub gives : S → List ℕ → Option (List ℕ)
 
--- how an input is cut: into units of so many bytes, at most so many of them
+-- the size in bytes of the units of an input, and their maximum number
 pub record Cut : Type 0 where
   pub size : ℕ
   pub limit : ℕ
 
--- the bytes that the stage gives for the first n units
+-- the output of the stage for the first n units
 abbrev pub given : {S : Type 0} → ℕ → Machine S → S → List ℕ → ℕ → List ℕ
 given size machine s bytes n = concat (run_gives machine.next machine.gives s (units_of size n bytes))
 
--- the bytes that were given, if any
+-- the bytes of an output, if any
 abbrev pub given_bytes : Option (List ℕ) → List ℕ
 given_bytes None = []
 given_bytes (Some bytes) = bytes
 
--- the answer to an input of so many bytes that is read without a fault
+-- the result for an input of `len` bytes if no read fails
 abbrev pub answer_of : ℕ → ℕ → ℕ → Result Pumped PumpStop
 answer_of size limit len = if nat_lt (limit * size) len then Err TooLong
     else if len % size == 0 then Ok (record { units = len / size }) else Err (Torn (len / size))
 
--- the answer is this one, or tells a fault
+-- The result is this one, or it is a fault.
 abbrev pub IsUnlessFault : Result Pumped PumpStop → Result Pumped PumpStop → Type 0
 IsUnlessFault (Err ReadFault) answer = ⊤
 IsUnlessFault (Err WriteFault) answer = ⊤
 IsUnlessFault result answer = result ≡ answer
 
--- The count of told ends rose where the input was read to its end, and nowhere else.
+-- The count of ends rose if and only if the input was read to its end.
 abbrev pub TellsEndOf : Result Pumped PumpStop → Count → Count → Type 0
 TellsEndOf (Ok pumped) before now = RoseOnce before now
 TellsEndOf (Err (Torn unit)) before now = RoseOnce before now
@@ -58,7 +58,7 @@ TellsEndOf (Err TooLong) before now = now ≡ before
 TellsEndOf (Err ReadFault) before now = now ≡ before
 TellsEndOf (Err WriteFault) before now = now ≡ before
 
--- A count is so many more than before, where it is kept.
+-- A count is n more than before, if it is counted.
 abbrev pub RoseBy : ℕ → Count → Count → Type 0
 RoseBy n before now = (n ≡ 0 → now ≡ before) × (0 < n → now ≡ counted_up n before)
 
@@ -70,7 +70,8 @@ FillsUnits limit (Err TooLong) before now = RoseBy (limit + 1) before now
 FillsUnits limit (Err ReadFault) before now = (n : ℕ) × (n ≤ limit) × RoseBy n before now
 FillsUnits limit (Err WriteFault) before now = (n : ℕ) × (n ≤ limit) × RoseBy n before now
 
--- These bytes were taken. A stage was fed them where they are a whole unit, and nothing where the input ended before.
+-- These bytes were consumed. If they are a whole unit, the stage was fed them; if the input ended before, it was fed
+-- nothing.
 pub record FeedsUnit {S : Type 0} (size : ℕ) (machine : Machine S) (fed : Fed S) (given : Option (List ℕ))
     (taken : List ℕ) : Type 0 where
   pub taken_from : Consumes fed.left.before fed.left.after taken
@@ -79,7 +80,7 @@ pub record FeedsUnit {S : Type 0} (size : ℕ) (machine : Machine S) (fed : Fed 
   pub stays : length taken < size → fed.state.after ≡ fed.state.before
   pub ended : length taken < size → IsAtEnd fed.left.after
 
--- The pump is at work: these bytes were taken, they are n whole units, and what the stage gave for them was put.
+-- The pump consumed these bytes, they are n whole units, and the output of the stage for them was written.
 pub record Works {S : Type 0} (size : ℕ) (machine : Machine S) (moved : Moved S) (n : ℕ)
     (taken : List ℕ) : Type 0 where
   pub taken_from : Consumes moved.left.before moved.left.after taken
@@ -90,17 +91,17 @@ pub record Works {S : Type 0} (size : ℕ) (machine : Machine S) (moved : Moved 
 -- A write failed within what the unit after n whole ones gave.
 pub record StopsInTurn {S : Type 0} (size : ℕ) (machine : Machine S) (moved : Moved S) (taken : List ℕ)
     (n : ℕ) : Type 0 where
-  -- no byte after that unit was taken
+  -- no byte after that unit was consumed
   pub units : length taken ≡ (n + 1) * size
-  -- all that the earlier units gave was put, and a prefix of what this one gave
+  -- the output for the earlier units was written, and a prefix of the output for this unit
   pub put : AppendsBetween moved.held.before moved.held.after (given size machine moved.state.before taken n)
       (given size machine moved.state.before taken (n + 1))
 
--- how many whole units were taken
+-- the number of whole units that were consumed
 abbrev pub units_taken : Cut → List ℕ → ℕ
 units_taken cut taken = whole cut.size cut.limit (length taken)
 
--- These bytes were taken, the stage ran over their whole units, and what it gave was put.
+-- These bytes were consumed, the stage ran over their whole units, and its output was written.
 pub record Pumps {S : Type 0} (cut : Cut) (machine : Machine S) (moved : Moved S)
     (result : Result Pumped PumpStop) (taken : List ℕ) : Type 0 where
   pub taken_from : Consumes moved.left.before moved.left.after taken

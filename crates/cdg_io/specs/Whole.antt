@@ -1,4 +1,4 @@
--- What the reading of a whole input took of it where it stopped, and what the writing of a whole piece put.
+-- The bytes that reading a whole input consumed if it stopped, and the bytes that writing a whole piece appended.
 use Rattle.std.specs.Prelude.{◌≡◌, ℕ, ◌≤◌, IfOk, List, OnErr, Result, length}
 use Rattle.cdg_io.specs.Causes.{HasCause}
 use Rattle.cdg_io.specs.Counts.{TellsRead, counts}
@@ -11,8 +11,8 @@ use Rattle.cdg_io.specs.declared.ends.Source.{Ghosts as Source}
 abbrev pub ConsumesExactly : Option (List ℕ) → Option (List ℕ) → ℕ → Type 0
 ConsumesExactly old new n = (bs : List ℕ) × (length bs ≡ n) × Consumes old new bs
 
--- All that was taken, at most so many bytes, was taken before a read failed: no fault was counted until then, and
--- nothing was taken by the failed read or after it.
+-- At most `most` bytes were consumed, all before a read failed: no fault was counted until then, and the failed read
+-- was the last one.
 pub record StopsAtFault {S : Type 0} (left : S → Option (List ℕ)) (faults : S → ℕ) (most : ℕ)
     (before after : S) : Type 0 where
   -- the source as the failed read found it
@@ -23,8 +23,8 @@ pub record StopsAtFault {S : Type 0} (left : S → Option (List ℕ)) (faults : 
   pub quiet : faults last ≡ faults before
   pub nothing : Keeps (left last) (left after)
 
--- All that was put, less than all of these bytes, was put before a write failed: no fault was counted until then, and
--- nothing was put by the failed write or after it.
+-- Only a part of these bytes was appended, all before a write failed: no fault was counted until then, and the failed
+-- write was the last one.
 pub record PutsUntilFault {K : Type 0} (held : K → Option (List ℕ)) (faults : K → ℕ) (bytes : List ℕ)
     (before after : K) : Type 0 where
   -- the sink as the failed write found it
@@ -33,14 +33,14 @@ pub record PutsUntilFault {K : Type 0} (held : K → Option (List ℕ)) (faults 
   pub quiet : faults last ≡ faults before
   pub nothing : Keeps (held last) (held after)
 
--- The input was read to its end, which came within so many bytes.
+-- The input was read to its end, which came within `most` bytes.
 pub record ReadsWithin {S : Type 0} (left : S → Option (List ℕ)) (most : ℕ) (before after : S) : Type 0 where
   pub taken : List ℕ
   pub within : length taken ≤ most
   pub took : Consumes (left before) (left after) taken
   pub end : IsAtEnd (left after)
 
--- A call reads up to so many bytes and answers how many there were: fewer are the last of the input, or a read failed.
+-- A call reads up to `most` bytes and returns their number. If it read fewer, the input ended or a read failed.
 pub record ReadsUpTo {S E : Type 0} (tells : Source S) (most : ℕ) (before after : S)
     (result : Result ℕ E) : Type 0 where
   pub within : IfOk result (λ n. n ≤ most)

@@ -19,7 +19,7 @@ use std::alloc::{AllocError, Global};
 use std::io::{BufRead, BufReader, Read, Write};
 use std::marker::Model;
 
-/// A buffered reader as a source, as `ReadSource`. What its buffer holds is at hand, and fed from there.
+/// A buffered reader as a source. It works like `ReadSource`, but feeds units directly from its buffer.
 #[derive(Drop)]
 pub struct BufferedSource<R: Read> {
     reader: BufReader<R>,
@@ -66,7 +66,7 @@ impl<R: Read> Source for BufferedSource<R> {
         read_counted(&mut self.reader, &mut self.faults, &mut self.tally, buf)
     }
 
-    /// Feeds the unit from where it stands in the buffer. Nothing is read for it.
+    /// Feeds a unit from the buffer, without a read.
     #[inline]
     fn feed_at_hand<G: UnitStage>(&mut self, stage: &mut G, given: &mut Option<Piece>) -> bool
         requires { 0 < G.SIZE }
@@ -90,7 +90,7 @@ impl<R: Read> Source for BufferedSource<R> {
         true
     }
 
-    /// Feeds the units from where they stand in the buffer. Nothing is read for them.
+    /// Feeds units from the buffer, without a read.
     #[inline]
     fn feed_all_at_hand<G: UnitStage>(
         &mut self,
@@ -125,16 +125,16 @@ impl<R: Read> Source for BufferedSource<R> {
     }
 }
 
-/// A writer as a sink. What is put waits until more than a turn would wait, or until it is asked for. The sink tells the
-/// bytes that the writer tells, and then those that wait. An error of the writer is a failure, and so is a write of
-/// nothing; what was not written still waits. A write that was interrupted is made again.
+/// A writer as a sink. Bytes wait in a buffer until more than `turn` bytes would wait, or until a call asks for them.
+/// The sink's content is the content of the writer and then the waiting bytes. An error of the writer is a failure,
+/// and so is a write of no bytes; bytes that were not written still wait. An interrupted write is repeated.
 #[derive(Drop)]
 pub struct BufferedSink<W: Write> {
     writer: CountedWriter<W>,
     buffer: Vec<u8>,
     /// What waits is the front of the buffer, up to here.
     end: usize,
-    /// The most that waits after a piece is put. What units at hand give may wait in all of the buffer.
+    /// The maximum number of bytes that wait after `put`. The output of units from a buffer may fill the whole buffer.
     turn: usize,
     faults: u64,
 }
@@ -155,7 +155,7 @@ impl<W: Write> Model for BufferedSink<W> {
 }
 
 impl<W: Write + Drop> BufferedSink<W> {
-    /// A sink with memory for `room` bytes that wait, `turn` of them after a piece is put.
+    /// A sink with memory for `room` waiting bytes; after `put`, at most `turn` bytes wait.
     pub fn new(
         alloc: Global,
         room: usize,
@@ -184,11 +184,11 @@ impl<W: Write + Drop> BufferedSink<W> {
 }
 
 impl<W: Write> BufferedSink<W> {
-    /// Writes what waits.
+    /// Writes the waiting bytes.
     ///
     /// # Errors
-    /// `Failed` if a write failed, which is not made again. The count of faults stays: the next piece for which there is no
-    /// room says so.
+    /// `Failed` if a write failed; the write is not repeated. The count of faults does not change: the next `put`
+    /// without enough room reports the failure.
     pub fn flush(&mut self) -> Result<(), Failed>
         ensures empty { OnOk result (self.new.waiting ≡ []) }
         // Where nothing waits there is nothing to fail, and where a write failed something still waits.
@@ -210,8 +210,8 @@ impl<W: Write> BufferedSink<W> {
         Ok(())
     }
 
-    // Puts a piece for which there is no room before what waits is written. It stands apart, so that pieces for which
-    // there is room do not pay for it.
+    // Puts a piece that needs a write of the waiting bytes first. It is not inlined, so that other pieces do not pay
+    // for it.
     #[cold]
     #[inline(never)]
     fn put_full(&mut self, piece: &[u8]) -> Result<usize, Failed>
@@ -275,7 +275,7 @@ impl<W: Write> Sink for BufferedSink<W> {
         Ok(piece.len())
     }
 
-    /// Writes what waits. What cannot be written still waits, and a later call says so.
+    /// Writes the waiting bytes. Bytes that cannot be written still wait, and a later call reports the failure.
     fn pass_waiting(&mut self)
         ensures bytes { Keeps (bytes_with_waiting W.contents self.old)
             (bytes_with_waiting W.contents self.new) }
@@ -288,7 +288,7 @@ impl<W: Write> Sink for BufferedSink<W> {
         let _later = self.flush();
     }
 
-    /// What the stage gives is written behind what waits.
+    /// The output of the stage is appended to the waiting bytes.
     #[inline]
     fn pass_at_hand<S: Source, G: UnitStage>(
         &mut self,
@@ -303,7 +303,7 @@ impl<W: Write> Sink for BufferedSink<W> {
     }
 }
 
-// Writes bytes until all are written or a write fails, and answers how many were written.
+// Writes bytes until all are written or a write fails. Returns the number of written bytes.
 fn write_front<W: Write>(writer: &mut CountedWriter<W>, bytes: &[u8]) -> usize
     ensures within { result ≤ length bytes.now }
     ensures bytes { Appends (W.contents writer.old.inner) (W.contents writer.new.inner)

@@ -21,28 +21,27 @@ use std::marker::Model;
 #[derive(Clone, Copy, Debug, PartialEq, Eq)]
 pub struct Failed;
 
-/// Bytes that are taken one call after another. A call that failed may be made again: what it did not take is
-/// still there.
+/// An input that calls read one after another. A failed call may be repeated: it consumed no byte.
 ///
-/// `take` is all that a source has to have. One that counts its ends and its full answers says so, and then each call
-/// that reads says of both counts how they rose; one that has bytes at hand may feed a stage straight from them.
+/// A source must have only `take`. A source may also count the ends and the full reads; then the clauses of each
+/// reading call state both counts. A source with a buffer may feed a stage directly from the buffer.
 pub trait Source {
-    /// The bytes that are still given, where the source tells them.
+    /// The bytes that are still to be read, if the source reveals them.
     ghost left: { Self → Option (List ℕ) };
 
     /// How often a read has failed.
     ghost faults: { Self → ℕ };
 
-    /// How often its end was told, where the source counts that.
+    /// The number of reads that reported the end, if the source counts them.
     ghost ends: { Self → Option ℕ } = { λ _. None };
 
     /// How often a read gave all that it had room for, where the source counts that.
     ghost fills: { Self → Option ℕ } = { λ _. None };
 
-    /// Takes bytes into the front of `buf`, which is not empty, and answers how many; none only at the end.
+    /// Reads bytes into the front of `buf`, which is not empty, and returns their number. It is 0 only at the end.
     ///
     /// # Errors
-    /// `Failed` where the read failed: no byte is taken and the count of faults rises.
+    /// `Failed` if the read failed: no byte is consumed, and the count of faults rises.
     fn take(&mut self, buf: &mut [u8]) -> Result<usize, Failed>
         requires { 0 < length buf.old }
         ensures bound { ReadsAtMost result buf.new }
@@ -50,9 +49,9 @@ pub trait Source {
         ensures cause { HasCause (faults self.old) (faults self.new) result }
         ensures counts { TellsRead 1 (length buf.old) (counts ends fills self.old self.new) result };
 
-    /// Feeds a whole unit to a stage from where it is at hand, which is one read that gives all that it had room for.
-    /// What the stage gives is left in `given`. Where no unit is at hand, which says nothing of the end, it answers
-    /// false and nothing is done.
+    /// Feeds a whole unit from the buffer of the source to a stage, and leaves the output of the stage in `given`.
+    /// This counts as one full read. If the buffer has no whole unit, it returns false and does nothing; this says
+    /// nothing about the end.
     fn feed_at_hand<G: UnitStage>(&mut self, stage: &mut G, given: &mut Option<Piece>) -> bool
         requires { 0 < G.SIZE }
         ensures fed { result ≡ true → (unit : List ℕ) × (length unit ≡ G.SIZE)
@@ -66,9 +65,9 @@ pub trait Source {
         false
     }
 
-    /// Feeds units to a stage from where they are at hand, one after another and at most so many, and puts what the
-    /// stage gives into `buffer`, from `start` on. It goes on for as long as a whole unit is at hand and there is room
-    /// for a whole piece. Each unit is one read that gives all that it had room for.
+    /// Feeds at most `most` units from the buffer of the source to a stage, and writes the output of the stage into
+    /// `buffer`, from `start` on. It stops if the buffer has no further whole unit or `buffer` has no room for a
+    /// whole piece. Each unit counts as one full read.
     #[inline]
     fn feed_all_at_hand<G: UnitStage>(
         &mut self,
@@ -98,35 +97,34 @@ pub trait Source {
     }
 }
 
-/// Bytes are put to it one call after another. After a call that failed, another one may be made.
+/// An output that calls append to one after another. A call may follow a failed call.
 pub trait Sink {
-    /// The bytes taken so far, where the sink tells them.
+    /// The bytes that were appended, if the sink reveals them.
     ghost held: { Self → Option (List ℕ) };
 
     /// How often a write has failed.
     ghost faults: { Self → ℕ };
 
-    /// Appends bytes of the front of `piece`, which is not empty, and answers how many, at least one.
+    /// Appends bytes from the front of `piece`, which is not empty, and returns their number, at least 1.
     ///
     /// # Errors
-    /// `Failed` where the write failed: no byte is appended and the count of faults rises.
+    /// `Failed` if the write failed: no byte is appended, and the count of faults rises.
     fn put(&mut self, piece: &[u8]) -> Result<usize, Failed>
         requires { 0 < length piece.now }
         ensures bound { TakesSome result piece.now }
         ensures bytes { WriteAppends (held self.old) (held self.new) result piece.now }
         ensures cause { HasCause (faults self.old) (faults self.new) result };
 
-    /// Passes on what waits in the sink, if anything does. `pump` calls it before it reads, so that a live stream is not
-    /// held back. A write that fails here is left to a later call to tell. A sink in which nothing waits leaves this as it
-    /// is.
+    /// Writes the bytes that wait in the sink, if any. `pump` calls it before it reads, so that a live stream is not
+    /// delayed. If this write fails, a later call reports it. A sink without a buffer keeps this default.
     fn pass_waiting(&mut self)
         ensures bytes { Keeps (held self.old) (held self.new) }
         ensures no_fault { faults self.new ≡ faults self.old }
     {}
 
-    /// Feeds units of a source to a stage from where they are at hand, at most so many, and appends what the stage
-    /// gives, for as long as there is surely room for it: no write can fail. It answers how many units there were. A
-    /// sink that shows no room leaves this as it is.
+    /// Feeds at most `most` units from the buffer of a source to a stage, and appends the output of the stage as long
+    /// as there is room for it, so no write can fail. Returns the number of units. A sink without a buffer keeps this
+    /// default.
     #[inline]
     fn pass_at_hand<S: Source, G: UnitStage>(
         &mut self,
@@ -148,7 +146,7 @@ pub trait Sink {
     }
 }
 
-/// How often a source told its end, and how often it gave all that it was offered room for.
+/// The number of reads of a source that reported the end, and the number of its full reads.
 #[derive(Clone, Copy)]
 pub struct Tally {
     pub ends: u64,
@@ -162,7 +160,7 @@ impl Tally {
         Tally { ends: 0, fills: 0 }
     }
 
-    /// Counts an answer of so many bytes, of the most that there was room for.
+    /// Counts a read of `count` bytes with room for `room` bytes.
     pub fn add(&mut self, count: usize, room: usize)
         requires { 0 < room }
         ensures { TellsRead {E = Failed} 1 room (kept_counts self.old self.new) (Ok count) }
@@ -174,7 +172,7 @@ impl Tally {
         }
     }
 
-    /// Counts so many answers that gave all that there was room for.
+    /// Counts full reads.
     #[inline]
     pub fn add_full(&mut self, answers: u32)
         ensures { GivesFull answers (kept_counts self.old self.new) }
@@ -210,7 +208,7 @@ pub(crate) fn read_counted<R: Read>(
     }
 }
 
-/// A reader as a source. It tells the bytes that the reader tells. An error of the reader is a failure.
+/// A reader as a source. It reveals the bytes that the reader reveals. An error of the reader is a failure.
 #[derive(Drop)]
 pub struct ReadSource<R: Read> {
     reader: R,
@@ -258,8 +256,8 @@ impl<R: Read> Source for ReadSource<R> {
     }
 }
 
-/// A writer as a sink. It tells the bytes that the writer tells. An error of the writer is a failure, and so is a write
-/// of nothing.
+/// A writer as a sink. It reveals the bytes that the writer reveals. An error of the writer is a failure, and so is a
+/// write of no bytes.
 #[derive(Drop)]
 pub struct WriteSink<W: Write> {
     writer: W,
@@ -316,7 +314,7 @@ pub(crate) enum Outcome {
 }
 
 impl Outcome {
-    // What a writer's answer comes to.
+    // The outcome of a write.
     fn of(answer: io::Result<usize>) -> Outcome
         ensures wrote { (n : ℕ) → (result ≡ Wrote n ↔ (answer ≡ Ok n) × (0 < n)) }
         ensures interrupted { result ≡ Interrupted

@@ -1,10 +1,10 @@
-// The bytes that passed a call, kept for proofs alone.
+// The bytes that a call received: only proofs use them.
 ghost use Rattle.std.specs.Prelude.{◌≡◌, ◌++◌, ℕ, List, []};
 ghost use Rattle.std.specs.Borrow.{ftrue};
 
 use std::marker::{Model, PhantomData};
 
-/// The bytes that were noted so far. It takes no memory, and its calls do nothing when they run: clauses read `bytes`.
+/// The bytes that were noted so far. Clauses read `bytes`. At run time it has no size, and its calls do nothing.
 #[derive(Drop)]
 pub struct History {
     marker: PhantomData<u8>,

@@ -1,4 +1,4 @@
-// Stages that change units where they stand.
+// Stages that change units in place.
 ghost use Rattle.std.specs.Prelude.{◌≡◌, ◌<◌, ◌≤◌, ◌*◌, List, ℕ, Some, length, take, drop};
 ghost use Rattle.std.specs.List.{concat};
 ghost use Rattle.std.specs.declared.option.Option.{Option};
@@ -9,7 +9,7 @@ ghost use Rattle.cdg_io.specs.Run.{run_state, run_gives};
 use crate::piece::CAPACITY;
 use crate::{PassedUnits, Piece};
 
-/// Changes units of so many bytes where they stand. Such a stage is a `UnitStage` by `take_in_place` and `take_row_in_place`.
+/// Changes units of SIZE bytes in place. `take_in_place` and `take_row_in_place` make a `UnitStage` of it.
 pub trait InPlace {
     ghost SIZE: { ℕ };
 
@@ -28,15 +28,15 @@ pub trait InPlace {
         ensures next { self.new ≡ next self.old unit.old }
         ensures gives { Some unit.new ≡ gives self.old unit.old };
 
-    /// Changes so many units that stand one behind another.
+    /// Changes `count` adjacent units.
     fn change_row(&mut self, units: &mut [u8], count: usize)
         requires { length units.old ≡ SIZE * count }
         ensures next { self.new ≡ run_state next self.old (units_of SIZE count units.old) }
         ensures gives { units.new ≡ concat (run_gives next gives self.old (units_of SIZE count units.old)) };
 }
 
-/// Takes a unit, and leaves what becomes of it in `given`. It stands apart, so that units that come many at a time do not
-/// pay for one that comes in parts.
+/// Changes a copy of a unit, and leaves it in `given`. It is not inlined, so that rows of units do not pay for a unit
+/// that arrives in parts.
 #[cold]
 #[inline(never)]
 pub fn take_in_place<G: InPlace>(stage: &mut G, unit: &[u8], given: &mut Option<Piece>)
