@@ -1,4 +1,4 @@
--- What a command answers and writes.
+-- The status and the output of a command.
 use Rattle.std.specs.Prelude.{IfErr, IfSome, ℕ, ◌≡◌, ◌⊎◌, ⊤, List, length, Result}
 use Rattle.std.specs.Io.KnownBytes.{Appends, IsAtEnd}
 use Rattle.cdg_io.specs.Moves.{AppendsPrefix}
@@ -34,8 +34,8 @@ use Rattle.cdg_cmd.specs.declared.command.Command.TheVariants.{Convert, Screen, 
 use Rattle.cdg_cmd.specs.declared.status.Status.{Status}
 use Rattle.cdg_cmd.specs.declared.status.Status.TheVariants.{Done, ReadFault, WriteFault, NoMemory}
 
--- whatever the input, a stream that is played is never told to be past its end, nor to have faulty texts; where the
--- input tells its bytes, the answer is the exact one, unless a fault is told
+-- For each input, playing a stream never results in a moment after the end or in faulty texts. If the input reveals its
+-- bytes, the result is the exact one, or a fault.
 abbrev pub IsPlayAnswer : Form → Bytes → Result Played PlayStop → Type 0
 IsPlayAnswer form input answer = IfErr answer IsStreamStop
     × IfSome input (λ all. IsAnsweredBy answer (unit_size form) (length all))
@@ -52,18 +52,18 @@ PlaysWhole writes form lead_in call status =
     EndsWith play_status (WritesAtEnd (at_end writes form lead_in) (through call))
     (IsPlayAnswer form call.first.before) status
 
--- the same of the answer to a moment, which can be past the end
+-- The same for a call that shows a moment; a moment can be after the end.
 abbrev pub IsMomentAnswer : Moment → Bytes → Result Played PlayStop → Type 0
 IsMomentAnswer at input answer =
     IfErr answer IsMomentStop
     × IfSome input (λ all. IsShownBy answer at.lead_in at.time (unit_size at.form) (length all))
 
--- what stands at a moment of a stream was written in some way
+-- The screen at a moment of a stream was written, in the way `write`.
 abbrev pub ShowsMoment : (Standing → List ℕ) → Moment → Call Bytes → Status → Type 0
 ShowsMoment write at call status =
     EndsWith play_status (Shows write at (through call)) (IsMomentAnswer at call.first.before) status
 
--- the same of the answer to a list of texts
+-- The same for a call that lists texts.
 abbrev pub IsListAnswer : Form → ℕ → Bytes → Result Played PlayStop → Type 0
 IsListAnswer form lead_in input answer = IfErr answer IsListStop
     × IfSome input (λ all. IsListedBy answer form lead_in all)
@@ -104,9 +104,9 @@ Does (Press lead_in length) call status = PressesWith lead_in length call status
 Does (Save lead_in) call status = SavesWith lead_in call status
 Does (Resume at) call status = ResumesWith at call status
 
--- What is known where no memory was found. `author` and `press` are said like any other end of theirs, and `text` has
--- read nothing, or all of an input of whole blocks, not too many, whose lead-in gives texts; the others take their
--- memory before they read.
+-- The facts if an allocation failed. For `author` and `press` they are part of the ends of these commands. `text`
+-- read nothing, or it read a whole input of not too many whole blocks, whose lead-in holds texts. The other commands
+-- allocate before they read.
 abbrev pub LacksMemory : Command → Call Bytes → Type 0
 LacksMemory (Text lead_in form) call = (call.first.after ≡ call.first.before)
     ⊎ (IsAtEnd call.first.after × IfSome call.first.before (GivesTexts form lead_in))
@@ -114,7 +114,8 @@ LacksMemory (Author lead_in length) call = AuthorsWith lead_in length call NoMem
 LacksMemory (Press lead_in length) call = PressesWith lead_in length call NoMemory
 LacksMemory command call = ⊤
 
--- The status is `Done` and this holds, or a read or a write failed, or memory ran out. Nothing is stated about those three.
+-- The status is `Done` and this holds, or a read or a write failed, or memory ran out. Nothing is stated about those
+-- three.
 abbrev pub OnDone : Type 0 → Status → Type 0
 OnDone holds Done = holds
 OnDone holds (ReadFault which) = ⊤
@@ -129,6 +130,6 @@ GivesBack text out (ReadFault which) = ⊤
 GivesBack text out WriteFault = ⊤
 GivesBack text out _ = ⊥
 
--- the same of a command that takes memory: this text was put, unless a read or a write failed or no memory was found
+-- The same for a command that allocates: this text was written, unless a read, a write or an allocation failed.
 abbrev pub GivesIfFound : List ℕ → Change Bytes → Status → Type 0
 GivesIfFound text out status = OnDone (Appends out.before out.after text) status

@@ -1,4 +1,4 @@
--- What `author` answers to a cue sheet and a picture script, and what it writes.
+-- The status and the output of `author` for a cue sheet and a picture script.
 use Rattle.std.specs.Prelude.{◌≡◌, ◌≢◌, ℕ, ◌+◌, ◌<◌, ◌≤◌, ⊤, List, [], length, Result, Ok, Err, IfErr, IfSome, OnOk}
 use Rattle.std.specs.Io.KnownBytes.{Appends, IsAtEnd}
 use Rattle.cdg_io.specs.Moves.{AppendsPrefix, ConsumesBelow}
@@ -43,14 +43,14 @@ ReadsScript input script = IsAtEnd input.after × IfSome input.before (λ text. 
 abbrev pub NeedsMemory : List ℕ → Type 0
 NeedsMemory text = (0 < length text) × (length text ≤ most_text_bytes)
 
--- why an input gives no text or file: memory is lacking only for one that needs it
+-- The status explains why an input has no text or file. An allocation fails only for an input that needs memory.
 abbrev pub IsInputStop : Which → Bytes → Status → Type 0
 IsInputStop which left (ReadFault failed) = failed ≡ which
 IsInputStop which left (Refused TooLong) = IfSome left (λ text. most_text_bytes < length text)
 IsInputStop which left NoMemory = IfSome left NeedsMemory
 IsInputStop which left status = ⊥
 
--- why the first input gives no sheet: memory is lacking only for one that needs it
+-- The status explains why the first input has no sheet. An allocation fails only for an input that needs memory.
 abbrev pub IsSheetStop : Bytes → Status → Type 0
 IsSheetStop left (ReadFault First) = ⊤
 IsSheetStop left (Refused TooLong) = IfSome left (λ text. most_text_bytes < length text)
@@ -59,7 +59,7 @@ IsSheetStop left (Refused (Cue line why)) =
 IsSheetStop left NoMemory = IfSome left NeedsMemory
 IsSheetStop left status = ⊥
 
--- why the second input gives no script: memory may be lacking for an empty one too
+-- The status explains why the second input has no script. An allocation may fail even for an empty input.
 abbrev pub IsScriptStop : Bytes → Status → Type 0
 IsScriptStop left (ReadFault Second) = ⊤
 IsScriptStop left (Refused TooLong) = IfSome left (λ text. most_text_bytes < length text)
@@ -68,8 +68,9 @@ IsScriptStop left (Refused (Script line why)) =
 IsScriptStop left NoMemory = IfSome left (λ text. length text ≤ most_text_bytes)
 IsScriptStop left status = ⊥
 
--- What was taken of an input whose text was not accepted: the most that a text has and one byte where it is too
--- long, no more than the most where a read failed, and all of it where its grammar refuses it or memory is lacking.
+-- The bytes that were consumed from an input whose text was not accepted: the maximum length of a text and one byte
+-- if it is too long; at most the maximum length if a read failed; and the whole input if its grammar is wrong or an
+-- allocation failed.
 abbrev pub TakesAtStop : Change Bytes → Status → Type 0
 TakesAtStop input (ReadFault which) = ConsumesBelow input.before input.after (most_text_bytes + 1)
 TakesAtStop input (Refused TooLong) = ConsumesExactly input.before input.after (most_text_bytes + 1)
@@ -89,13 +90,13 @@ PutsAuthored disc out =
     (bytes : List ℕ) × (packs : List (List ℕ)) × IsWrittenStream disc bytes packs
     × Appends out.before out.after bytes
 
--- a prefix of that stream was put
+-- A prefix of that stream was written.
 abbrev pub PutsPrefix : Disc → Change Bytes → Type 0
 PutsPrefix disc out =
     (bytes : List ℕ) × (packs : List (List ℕ)) × IsWrittenStream disc bytes packs
     × AppendsPrefix out.before out.after bytes
 
--- what is put for a disc, and why it is this answer
+-- The output for a disc, and the reason for the result.
 pub record IsPutFor (disc : Disc) (out : Change Bytes) (answer : Result (Unit {0}) AuthorStop) : Type 0 where
   pub done : OnOk answer (IsAccepted disc.sheet disc.script disc.lead_in disc.audio × PutsAuthored disc out)
   pub why : IfErr answer (IsAuthorStop disc.sheet disc.script disc.lead_in disc.audio)
@@ -103,8 +104,8 @@ pub record IsPutFor (disc : Disc) (out : Change Bytes) (answer : Result (Unit {0
   pub cut : answer ≡ Err stop.WriteFault → PutsPrefix disc out
   pub nothing : IfErr answer (λ why. why ≢ stop.WriteFault → Appends out.before out.after [])
 
--- `author` ended with this status: at the first input, at the second, or with the answer to the sheet and the script
--- that they say.
+-- `author` ended with this status: at the first input, at the second input, or with the result for the sheet and the
+-- script in these inputs.
 pub data AuthorsWith (lead_in audio : ℕ) (call : Call Bytes) (status : Status) : Type 0 where
   StopsAtSheet : IsSheetStop call.first.before status → TakesAtStop call.first status
       → Appends call.out.before call.out.after [] → AuthorsWith lead_in audio call status

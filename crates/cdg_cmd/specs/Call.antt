@@ -17,7 +17,7 @@ call first second out before after =
       out = change out before.2 after.2;
     }
 
--- what is seen of one input and of the output; the second input is not looked at
+-- the bytes of one input and of the output; the second input is ignored
 abbrev pub one_input : {S K : Type 0} → (S → Bytes) → (K → Bytes) → S × K → S × K → Call Bytes
 one_input first out before after =
     record {

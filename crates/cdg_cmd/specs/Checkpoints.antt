@@ -1,4 +1,4 @@
--- What `save` and `resume` answer, and what they write.
+-- The statuses and the outputs of `save` and `resume`.
 use Rattle.std.specs.Prelude.{◌≡◌, ◌≢◌, ◌≤◌, ◌+◌, ℕ, List, length, Result, Err, IsOk, IfSome}
 use Rattle.raw_subcode.specs.Sizes.{block_bytes, most_units}
 use Rattle.std.specs.Io.KnownBytes.{Consumes, IsAtEnd}
@@ -32,8 +32,7 @@ pub record ReadsCheckpoint (at : ℕ) (input : Change Bytes) (file : List ℕ) :
   pub taken : Consumes input.before input.after file
   pub end : IsAtEnd input.after
 
--- A stream was resumed: the answer, the file that was read, what was put after it, and the exact answer where no
--- fault is told.
+-- A stream was resumed: the result, the file that was read, the output, and the exact result if there was no fault.
 pub record ResumesWith (at : ℕ) (call : Call Bytes) (status : Status) : Type 0 where
   pub answer : Result Resumed ResumeStop
   pub status_is : status ≡ resume_status answer

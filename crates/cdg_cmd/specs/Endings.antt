@@ -2,8 +2,8 @@
 use Rattle.std.specs.Prelude.{◌≡◌, ℕ, List}
 use Rattle.cdg_cmd.specs.declared.status.Status.{Status}
 
--- A call ended with this status: what it answered, the bytes that it took, what it did, and the exact answer where no
--- fault is told.
+-- A call ended with this status: its result, the bytes that it consumed, its effect, and the exact result if there was
+-- no fault.
 pub record EndsWith {A : Type 0} (status_of : A → Status) (does : A → List ℕ → Type 0) (is_exact : A → Type 0)
     (status : Status) : Type 0 where
   pub answer : A

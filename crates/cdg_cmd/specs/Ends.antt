@@ -1,5 +1,5 @@
--- How often a command comes to the end of an input: the count of told ends rises once, where the input is read to its
--- end, and nowhere else. Where a command makes one call, it is what the answer of this call says.
+-- How often a command reaches the end of an input: the count of ends rises by one if and only if the input is read to
+-- its end. For a command that makes one call, the result of this call decides it.
 use Rattle.std.specs.Prelude.{◌≡◌, ◌⊎◌, ℕ, List, IsErr, IsOk, Result, Ok, Err, length}
 use Rattle.std.specs.Io.KnownBytes.{Consumes, IsAtEnd}
 use Rattle.cdg_io.specs.Causes.{Count}
@@ -18,7 +18,7 @@ use Rattle.cdg_cmd.specs.declared.status.Refusal.TheVariants.{TooLong}
 use Rattle.cdg_cmd.specs.declared.status.Status.{Status}
 use Rattle.cdg_cmd.specs.declared.status.Status.TheVariants.{Refused, ReadFault, NoMemory}
 
--- The status is that of an answer, and the end of an input was told as this answer says.
+-- The status is that of a result, and the end of an input was recorded as this result requires.
 pub record EndsAs {A : Type 0} (status_of : A → Status) (told : A → Count → Count → Type 0) (input : Input)
     (status : Status) : Type 0 where
   pub answer : A
@@ -31,20 +31,19 @@ EndsAsListed input status =
     ((status ≡ NoMemory) × (input.left.after ≡ input.left.before) × Untold input.ends)
     ⊎ (EndsAs play_status EndFirst input status × (status ≡ NoMemory → IsAtEnd input.left.after))
 
--- Of an input that gives no text or file, or one that is refused: its end was told but where it is too long or a read
--- failed.
+-- An input has no text or file, or is refused: its end was recorded unless the input is too long or a read failed.
 abbrev pub StopEnds : Input → Status → Type 0
 StopEnds input (Refused TooLong) = Untold input.ends
 StopEnds input (ReadFault which) = Untold input.ends
 StopEnds input status = Told input.ends
 
--- the same of one that gives it, where its end was told
+-- The same for any input; if it has a text, its end was recorded.
 abbrev pub TellsText : {T : Type 0} → Input → Result T Status → Type 0
 TellsText input (Ok text) = Told input.ends
 TellsText input (Err status) = StopEnds input status
 
--- The cue sheet of `author` or `press` and then their second input, which may be why they stop, as may the answer to
--- both.
+-- The ends of the two inputs of `author` or `press`. The command may stop at the cue sheet, at the second input, or
+-- with the result for both.
 pub data TextsEnd {A : Type 0} (is_second_stop : Bytes → Status → Type 0) (status_of : A → Status)
     (sheet second : Input) (status : Status) : Type 0 where
   AtSheet : IsSheetStop sheet.left.before status → StopEnds sheet status
@@ -80,6 +79,6 @@ pub record ResumeEnds (at : ℕ) (saved rest : Input) (status : Status) : Type 0
 abbrev pub NeverEnds : Input → Status → Type 0
 NeverEnds input status = Untold input.ends
 
--- Of a command that reads no second input: the end of its first is told so.
+-- The ends for a command that does not read the second input.
 abbrev pub FirstEnds : (Input → Status → Type 0) → Input → Input → Status → Type 0
 FirstEnds ends one other status = ends one status × Untold other.ends

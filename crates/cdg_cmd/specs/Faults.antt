@@ -1,4 +1,4 @@
--- When a fault is told: where a count of faults rose, and nowhere else.
+-- When a status is a fault: if and only if a count of faults rose.
 use Rattle.std.specs.Prelude.{◌≡◌, ◌≢◌, ◌≤◌, ⊤, ℕ}
 use Rattle.cdg_io.specs.Causes.{Rose}
 use Rattle.cdg_io.specs.Change.{Change, from_to}
@@ -7,14 +7,13 @@ use Rattle.cdg_cmd.specs.declared.status.Status.{Status}
 use Rattle.cdg_cmd.specs.declared.status.Status.TheVariants.{Done, Damaged, Usage, Refused, Late, ReadFault, WriteFault, NoMemory}
 use Rattle.cdg_cmd.specs.declared.status.Which.TheVariants.{First, Second}
 
--- A count of faults did not fall; it rose where this fault is told, and else is unchanged.
+-- A count of faults did not fall: if the status is this fault the count rose, otherwise it is unchanged.
 pub record IsTold (fault : Status) (count : Change ℕ) (status : Status) : Type 0 where
   pub later : count.before ≤ count.after
   pub rose : status ≡ fault → Rose count.before count.after
   pub same : status ≢ fault → count.after ≡ count.before
 
--- Want of memory is told where a call that asks for it said that none was found, and nowhere else: this count of such answers
--- rose.
+-- The status is `NoMemory` if and only if an allocation failed: the count of failed allocations rose.
 abbrev pub TellsWant : ℕ → ℕ → Status → Type 0
 TellsWant before after status = IsTold NoMemory (from_to before after) status
 
@@ -24,7 +23,7 @@ pub record TellsFaults (counts : Call ℕ) (status : Status) : Type 0 where
   pub second : IsTold (ReadFault Second) counts.second status
   pub out : IsTold WriteFault counts.out status
 
--- The same of a command with one input: the words were a form, and of another input no fault is told.
+-- The same for a command with one input: the words were a command, and the status is no fault of another input.
 pub record TellsOne (source out : Change ℕ) (status : Status) : Type 0 where
   pub read : IsTold (ReadFault First) source status
   pub write : IsTold WriteFault out status
@@ -36,7 +35,7 @@ pub record NoneRose (counts : Call ℕ) : Type 0 where
   pub second : ¬ (Rose counts.second.before counts.second.after)
   pub out : ¬ (Rose counts.out.before counts.out.after)
 
--- no fault is told, and the words were a form
+-- The words were a command, and the status is no fault.
 abbrev pub IsAnswered : Status → Type 0
 IsAnswered Done = ⊤
 IsAnswered (Damaged n) = ⊤

@@ -18,7 +18,7 @@ ReachesSecond InTurn first = ⊤
 ReachesSecond (SecondAfter holds) first = holds first
 ReachesSecond order first = ⊥
 
--- it may be read: in turn with the first, or only after the end of the first was told
+-- The second input may be read: in turn with the first, or only after the end of the first.
 abbrev pub MayReachSecond : ReadingOrder → Input → Type 0
 MayReachSecond InTurn first = ⊤
 MayReachSecond (SecondAfter holds) first = RoseOnce first.ends.before first.ends.after × holds first.left
@@ -52,32 +52,33 @@ MayWrite (Damaged n) = ⊤
 MayWrite WriteFault = ⊤
 MayWrite status = ⊥
 
--- no memory is taken
+-- The command allocates nothing.
 abbrev pub IsWithoutMemory : MemoryUse → Type 0
 IsWithoutMemory TakesNothing = ⊤
 IsWithoutMemory memory = ⊥
 
--- no memory is taken once the inputs are read
+-- The command allocates nothing after it starts to read.
 abbrev pub IsMemoryFirst : MemoryUse → Type 0
 IsMemoryFirst TakesLater = ⊥
 IsMemoryFirst memory = ⊤
 
--- it takes no memory
+-- The command allocates nothing.
 abbrev pub TakesNone : Command → Type 0
 TakesNone command = IsWithoutMemory (profile command).memory
 
--- it takes all memory before it reads
+-- The command allocates all memory before it reads.
 abbrev pub TakesFirst : Command → Type 0
 TakesFirst command = IsMemoryFirst (profile command).memory
 
--- Of the two inputs and the output, in this order: what is not read and what is not written is as it was.
+-- For the two inputs and the output, in this order: an input that is not read and an output that is not written are
+-- unchanged.
 pub record Keeps {S T K : Type 0} (command : Command) (read : Input) (before after : S × T × K)
     (status : Status) : Type 0 where
   pub first : ReadsNone command → after.0 ≡ before.0
   pub second : (after.1 ≡ before.1) ⊎ MayReadSecond command read
   pub out : WritesLast command → ¬ (MayWrite status) → after.2 ≡ before.2
 
--- Where no memory was found nothing was written, nor read where all memory is taken first.
+-- If an allocation failed, nothing was written; and if the command allocates first, nothing was read.
 pub record WantsMemory {S T K : Type 0} (command : Command) (before after : S × T × K)
     (status : Status) : Type 0 where
   pub out : status ≡ NoMemory → after.2 ≡ before.2

@@ -1,4 +1,4 @@
--- Streams in whose lead-in the text packs of an authored stream stand, and what is listed of them.
+-- Streams with the text packs of an authored stream in their lead-in, and the lists of their texts.
 use Rattle.std.specs.Prelude.{◌≡◌, ◌⊎◌, ℕ, ◌*◌, Bool, true, List}
 use Rattle.raw_subcode.specs.Sizes.{slots_a_block}
 use Rattle.raw_subcode.specs.declared.form.Form.{Form}
@@ -33,7 +33,7 @@ pub record HasNoStrings (disc : Disc) (form : Form) (stream bytes lines : List �
   pub copy : HasTextsOf form disc.lead_in stream bytes
   pub lines_are : lines ≡ offers_line 0 (slots_a_block * disc.lead_in) 0
 
--- the lines that stand for the texts of a disc in a stream
+-- The lines are the list of the texts of a disc in a stream.
 abbrev pub AreLinesOf : Disc → Form → List ℕ → List ℕ → List ℕ → Type 0
 AreLinesOf disc form stream bytes lines =
     HasStrings disc form stream bytes lines ⊎ HasNoStrings disc form stream bytes lines

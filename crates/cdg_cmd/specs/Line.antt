@@ -1,4 +1,4 @@
--- What a status ends the process with, and the line on standard error that says it.
+-- The exit status of the process and the line on standard error for each status.
 use Rattle.std.specs.Prelude.{ℕ, List, [], ◌++◌, codes, decimal}
 use Rattle.bit_lists.specs.Digits.{line_feed}
 use Rattle.cdg_cmd.specs.declared.status.Which.{Which}
@@ -54,7 +54,7 @@ script_words script.TooMany = codes "too-many"
 abbrev pub line_words : List ℕ → ℕ → List ℕ → List ℕ
 line_words name line why = words_and_count name line ++ codes " " ++ why
 
--- what is said of a refusal
+-- the words for a refusal
 abbrev pub refusal_words : Refusal → List ℕ
 refusal_words (Torn block) = words_and_count (codes "torn") block
 refusal_words TooLong = codes "too-long"

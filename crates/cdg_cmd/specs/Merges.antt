@@ -1,4 +1,4 @@
--- What `merge` answers to two readings of a stream, and what it writes.
+-- The status and the output of `merge` for two readings of a stream.
 use Rattle.std.specs.Prelude.{◌≡◌, ℕ, List, length, Result, IfSome}
 use Rattle.std.specs.Io.KnownBytes.{Consumes}
 use Rattle.rw_merge.specs.Merging.{FirstIsAtEnd, EndsSecond, IsAnswer, Merges}
@@ -9,8 +9,8 @@ use Rattle.cdg_cmd.specs.Call.{Call}
 use Rattle.cdg_cmd.specs.Stops.{merge_status}
 use Rattle.cdg_cmd.specs.declared.status.Status.{Status}
 
--- Two readings were merged: the answer, the bytes that were taken of each, what was put for them, and the exact
--- answer where no fault is told.
+-- Two readings were merged: the result, the bytes that were consumed from each, the output for them, and the exact
+-- result if there was no fault.
 pub record MergesWith (lead_in : ℕ) (call : Call Bytes) (status : Status) : Type 0 where
   pub answer : Result Merged MergeStop
   pub status_is : status ≡ merge_status answer

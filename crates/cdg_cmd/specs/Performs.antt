@@ -1,4 +1,4 @@
--- What is said of a command that was performed.
+-- The contract of a performed command.
 use Rattle.std.specs.Prelude.{◌≡◌, ◌≢◌}
 use Rattle.cdg_io.specs.Change.{Bytes, Change, Input}
 use Rattle.cdg_cmd.specs.Answer.{Does, LacksMemory}
@@ -13,22 +13,22 @@ use Rattle.cdg_cmd.specs.declared.status.Status.TheVariants.{NoMemory}
 abbrev pub seen_bytes : Input → Input → Change Bytes → Call Bytes
 seen_bytes first second out = record { first = first.left; second = second.left; out = out }
 
--- A command was performed on two inputs and an output, of which `before` and `after` are the values.
+-- A command was performed on two inputs and an output. `before` and `after` are their values.
 pub record Performs {S T K : Type 0} (command : Command) (first second : Input) (out : Change Bytes)
     (before after : S × T × K) (status : Status) : Type 0 where
-  -- what it does not read, and what it does not write, is left as it was
+  -- an input that it does not read and an output that it does not write are unchanged
   pub keeps : Keeps command first before after status
-  -- where no memory is found nothing was written, nor read where all memory is taken first
+  -- if an allocation failed, nothing was written; and if the command allocates first, nothing was read
   pub memory : WantsMemory command before after status
-  -- what it answers and writes
+  -- the status and the output
   pub does : status ≢ NoMemory → Does command (seen_bytes first second out) status
   -- what is known of the inputs where no memory was found
   pub lacks : status ≡ NoMemory → LacksMemory command (seen_bytes first second out)
-  -- the end of an input is told once where it was read to its end, and else not; an input is as it was where memory
-  -- that is taken first was not found (`memory`)
+  -- the end of an input is recorded once if it was read to its end, otherwise never; if the first allocation failed, an
+  -- input is unchanged (`memory`)
   pub ends : (TakesFirst command → status ≢ NoMemory) → TellsEnds command first second status
 
--- What a command did where memory was found; one that takes no memory wants none.
+-- The effect of a command if no allocation failed. A command that allocates nothing never has the status `NoMemory`.
 pub record Did (command : Command) (call : Call Bytes) (status : Status) : Type 0 where
   pub does : status ≢ NoMemory → Does command call status
   pub never : TakesNone command → status ≢ NoMemory

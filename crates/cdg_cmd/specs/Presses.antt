@@ -1,4 +1,4 @@
--- What `press` answers to a cue sheet and a file of packs, and what it writes.
+-- The status and the output of `press` for a cue sheet and a file of packs.
 use Rattle.std.specs.Prelude.{◌≡◌, ◌≢◌, ℕ, ◌<◌, ◌≤◌, ⊤, List, [], length, Result, Err, IfErr, IfSome, OnOk}
 use Rattle.std.specs.Io.KnownBytes.{Appends, IsAtEnd}
 use Rattle.text_lines.specs.Text.{most_text_bytes}
@@ -23,26 +23,26 @@ pub record ReadsFile (input : Change Bytes) (file : List ℕ) : Type 0 where
   pub within : length file ≤ most_text_bytes
   pub held : IfSome input.before (λ bytes. file ≡ bytes)
 
--- why the second input gives no file: memory is lacking only for one that needs it
+-- The status explains why the second input has no file. An allocation fails only for an input that needs memory.
 abbrev pub IsFileStop : Bytes → Status → Type 0
 IsFileStop left (ReadFault Second) = ⊤
 IsFileStop left (Refused TooLong) = IfSome left (λ file. most_text_bytes < length file)
 IsFileStop left NoMemory = IfSome left NeedsMemory
 IsFileStop left status = ⊥
 
--- a pressed stream was put
+-- A pressed stream was written.
 abbrev pub PutsPressed : Press → Change Bytes → Type 0
 PutsPressed press out =
     (bytes : List ℕ) × (packs : List (List ℕ)) × IsPressed press bytes packs
     × Appends out.before out.after bytes
 
--- a prefix of a pressed stream was put
+-- A prefix of a pressed stream was written.
 abbrev pub PutsPressedPrefix : Press → Change Bytes → Type 0
 PutsPressedPrefix press out =
     (bytes : List ℕ) × (packs : List (List ℕ)) × IsPressed press bytes packs
     × AppendsPrefix out.before out.after bytes
 
--- what is put for a sheet and a file, and why it is this answer
+-- The output for a sheet and a file, and the reason for the result.
 pub record IsPressedFor (press : Press) (out : Change Bytes)
     (answer : Result (Unit {0}) PressStop) : Type 0 where
   pub done : OnOk answer
@@ -52,7 +52,7 @@ pub record IsPressedFor (press : Press) (out : Change Bytes)
   pub cut : answer ≡ Err stop.WriteFault → PutsPressedPrefix press out
   pub nothing : IfErr answer (λ why. why ≢ stop.WriteFault → Appends out.before out.after [])
 
--- `press` ended with this status: at the sheet, at the file, or with the answer to both.
+-- `press` ended with this status: at the sheet, at the file, or with the result for both.
 pub data PressesWith (lead_in audio : ℕ) (call : Call Bytes) (status : Status) : Type 0 where
   RefusesSheet : IsSheetStop call.first.before status → TakesAtStop call.first status
       → Appends call.out.before call.out.after [] → PressesWith lead_in audio call status

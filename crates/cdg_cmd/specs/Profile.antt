@@ -1,5 +1,5 @@
--- A row for each command: its name and its words, what it reads, when it takes memory, when it writes, and how the
--- ends of its inputs are told. What it does stands in `Does`.
+-- A row for each command: its name and its words, its inputs, when it allocates and writes, and how the ends of its
+-- inputs are recorded. `Does` states the effect of each command.
 use Rattle.std.specs.Prelude.{◌≡◌, ◌≢◌, ◌≤◌, ◌<◌, ◌^◌, ℕ, List, [], codes, ⊤}
 use Rattle.cdg_checkpoint.specs.Saved.{EndsAsSaved}
 use Rattle.cdg_io.specs.Change.{Bytes, Change, Input}
@@ -27,7 +27,7 @@ pub data ReadingOrder : Type 1 where
   InTurn : ReadingOrder
   SecondAfter : (Change Bytes → Type 0) → ReadingOrder
 
--- when it takes memory: never, before it reads, or also later
+-- when a command allocates: never, only before it reads, or also later
 pub data MemoryUse : Type 0 where
   TakesNothing : MemoryUse
   TakesBefore : MemoryUse
@@ -38,7 +38,7 @@ pub data WritingTime : Type 0 where
   AsItGoes : WritingTime
   AtTheEnd : WritingTime
 
--- what is said of a command
+-- the row of a command
 pub record Profile : Type 1 where
   pub name : List ℕ
   -- which numbers and forms it may have
@@ -48,7 +48,7 @@ pub record Profile : Type 1 where
   pub reads : ReadingOrder
   pub memory : MemoryUse
   pub writes : WritingTime
-  -- how the ends of both inputs are told
+  -- how the ends of both inputs are recorded
   pub ends : Input → Input → Status → Type 0
 
 -- a row of the table below: name, what is allowed, options, what is read, memory, when it writes, ends
@@ -130,7 +130,7 @@ profile (Resume at) = profile_row (codes "resume")
     (at < time_count) (IsMoment at)
     (AfterCheckpoint at) TakesBefore AtTheEnd (ResumeEnds at)
 
--- Of both inputs, where memory that is taken before they are read was found: the end is told once where the input was
--- read to its end, and else not at all.
+-- If no allocation before reading failed, the end of each input is recorded once if it was read to its end, otherwise
+-- never.
 abbrev pub TellsEnds : Command → Input → Input → Status → Type 0
 TellsEnds command = (profile command).ends

@@ -36,13 +36,13 @@ pub record IsSaveOf (lead_in : ℕ) (bytes file : List ℕ) : Type 0 where
     after = Some file;
   })) Done
 
--- what is put with an answer: the pixmap of what stands at the time, or nothing
+-- The output for a result: the pixmap of the screen at the time, or nothing.
 abbrev pub PutsMoment : Result Resumed ResumeStop → List ℕ → ℕ → List ℕ → Change Bytes → Type 0
 PutsMoment (Ok resumed) file at rest out = (text : List ℕ) × IsResumed file at rest resumed text
     × Appends out.before out.after text
 PutsMoment (Err stop) file at rest out = Appends out.before out.after []
 
--- the answer to the checkpoint in a file and to the rest of a stream by its length, and what was put with it
+-- The status for the checkpoint in a file and for the length of the rest of a stream, and its output.
 pub record GoesOnFrom (file : List ℕ) (at : ℕ) (rest : List ℕ) (out : Change Bytes)
     (status : Status) : Type 0 where
   pub answer : Result Resumed ResumeStop
@@ -50,19 +50,19 @@ pub record GoesOnFrom (file : List ℕ) (at : ℕ) (rest : List ℕ) (out : Chan
   pub exactly : IsResumedBy answer (checkpoint_in file) at (length rest)
   pub put : PutsMoment answer file at rest out
 
--- two calls put the same
+-- Two calls wrote the same output.
 abbrev pub PutSame : Change Bytes → Change Bytes → Type 0
 PutSame out other = (text : List ℕ) × Appends out.before out.after text
     × Appends other.before other.after text
 
--- The answer and what was put are those of `screen` at a time with a stream.
+-- The status and the output are those of `screen` at a time of a stream.
 pub record IsAsScreen (lead_in at : ℕ) (stream : List ℕ) (out : Change Bytes) (status : Status) : Type 0 where
-  -- it is what `screen` does with it
+  -- `screen` allows this status and output
   pub left : Bytes
   pub second : Change Bytes
   pub does : Does (Screen lead_in Raw at) (reading stream left second out) status
-  -- and nothing else is: each call of `screen` with it, where no read or write fails, answers the same and puts the
-  -- same
+  -- and no others: each call of `screen` with this stream in which no read and no write fails has the same status and
+  -- output
   pub same : (other_left : Bytes) (other_second other_out : Change Bytes) (other : Status)
       → Does (Screen lead_in Raw at) (reading stream other_left other_second other_out) other
       → IsAnswered other
@@ -71,8 +71,7 @@ pub record IsAsScreen (lead_in at : ℕ) (stream : List ℕ) (out : Change Bytes
 -- What `resume` does at a time with a file and the rest of a stream, where no read or write fails and memory is found.
 pub record ResumesFrom (file : List ℕ) (at : ℕ) (rest : List ℕ) (out : Change Bytes)
     (status : Status) : Type 0 where
-  -- whoever made the file: where it is that of a checkpoint not later than the time, what stands at the time after it
-  -- is put
+  -- for a file from any origin: if it has a checkpoint not later than the time, the screen at the time is written
   pub goes_on : IsCheckpointFile file → (checkpoint_in file).program ≤ at → GoesOnFrom file at rest out status
   -- where `save` wrote it of the first part of a stream, not later than the time, `screen` does the same with the
   -- whole stream

@@ -6,7 +6,7 @@ use Rattle.cdg_cmd.specs.declared.command.Split.{Split}
 abbrev pub unsplit : ℕ → Split
 unsplit count = record { words = count; names = 0 }
 
--- at a `--` after so many of the words, where at most two words follow it
+-- at a `--` after `count` words, if at most two words follow it
 abbrev pub split_at : ℕ → Option ℕ → Split
 split_at count None = unsplit count
 split_at count (Some before) = if nat_le (count - before) 3 then record {

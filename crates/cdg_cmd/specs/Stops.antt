@@ -1,4 +1,4 @@
--- What is told of each stop: the one place where the stops of all calls become statuses.
+-- The status for each stop of each call: the only place that defines them.
 use Rattle.std.specs.Prelude.{◌==◌, Result, Ok, Err, if◌then◌else◌}
 use Rattle.cdg_io.specs.declared.whole.ReadStop.{ReadStop}
 use Rattle.cdg_io.specs.declared.whole.ReadStop.TheVariants as read
@@ -46,14 +46,14 @@ abbrev pub script_status : ScriptStop → Status
 script_status (script.Fault line why) = Refused (Script line why)
 script_status script.NoMemory = NoMemory
 
--- the status where the text packs of a lead-in give no texts
+-- the status if the text packs of a lead-in hold no texts
 abbrev pub text_fault_status : TextFault → Status
 text_fault_status (fault.Missing seq) = Refused (TextMissing seq)
 text_fault_status fault.NoSize = Refused TextNoSize
 text_fault_status (fault.Malformed seq byte) = Refused (TextMalformed seq byte)
 text_fault_status fault.NoMemory = NoMemory
 
--- the status of what a player answers
+-- the status for the result of a player
 abbrev pub play_status : Result Played PlayStop → Status
 play_status (Ok played) = if played.bad == 0 then Done else Damaged played.bad
 play_status (Err play.ReadFault) = ReadFault First
@@ -63,7 +63,7 @@ play_status (Err play.TooLong) = Refused TooLong
 play_status (Err (play.PastEnd blocks)) = Refused (PastEnd blocks)
 play_status (Err (play.Text why)) = text_fault_status why
 
--- the status of what a pump answers
+-- the status for the result of a pump
 abbrev pub pump_status : Result Pumped PumpStop → Status
 pump_status (Ok pumped) = Done
 pump_status (Err pump.ReadFault) = ReadFault First
@@ -71,7 +71,7 @@ pump_status (Err pump.WriteFault) = WriteFault
 pump_status (Err (pump.Torn unit)) = Refused (Torn unit)
 pump_status (Err pump.TooLong) = Refused TooLong
 
--- the status of what a thinner answers
+-- the status for the result of a thinner
 abbrev pub thin_status : Result Pumped PumpStop → Status
 thin_status (Ok pumped) = Done
 thin_status (Err pump.ReadFault) = ReadFault First
@@ -79,7 +79,7 @@ thin_status (Err pump.WriteFault) = WriteFault
 thin_status (Err (pump.Torn unit)) = Refused (PackTorn unit)
 thin_status (Err pump.TooLong) = Refused TooLong
 
--- the status of what a merger answers
+-- the status for the result of a merger
 abbrev pub merge_status : Result Merged MergeStop → Status
 merge_status (Ok merged) = if merged.bad == 0 then Done else Damaged merged.bad
 merge_status (Err merge.FirstFault) = ReadFault First
@@ -90,7 +90,7 @@ merge_status (Err (merge.Torn block)) = Refused (Torn block)
 merge_status (Err (merge.SecondTorn block)) = Refused (SecondTorn block)
 merge_status (Err (merge.Unequal blocks)) = Refused (Unequal blocks)
 
--- the status of what a resumed call answers
+-- the status for the result of a resumed call
 abbrev pub resume_status : Result Resumed ResumeStop → Status
 resume_status (Ok resumed) = if resumed.bad == 0 then Done else Damaged resumed.bad
 resume_status (Err resume.FirstFault) = ReadFault First
@@ -102,7 +102,7 @@ resume_status (Err (resume.Torn block)) = Refused (Torn block)
 resume_status (Err resume.TooLong) = Refused TooLong
 resume_status (Err (resume.PastEnd blocks)) = Refused (PastEnd blocks)
 
--- the status of the answer to a sheet and a script
+-- the status for the result of `author`
 abbrev pub author_status : Result (Unit {0}) AuthorStop → Status
 author_status (Ok done) = Done
 author_status (Err (author.LengthShort need)) = Refused (LengthShort need)
@@ -114,7 +114,7 @@ author_status (Err (author.Late picture need free)) = Late picture need free
 author_status (Err author.WriteFault) = WriteFault
 author_status (Err author.NoMemory) = NoMemory
 
--- the status of the answer to a sheet and a file
+-- the status for the result of `press`
 abbrev pub press_status : Result (Unit {0}) PressStop → Status
 press_status (Ok done) = Done
 press_status (Err (press.PackTorn pack)) = Refused (PackTorn pack)

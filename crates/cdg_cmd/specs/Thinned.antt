@@ -1,4 +1,4 @@
--- What `thin` answers to a file of packs, and what it writes.
+-- The status and the output of `thin` for a file of packs.
 use Rattle.std.specs.Prelude.{length, IfSome}
 use Rattle.raw_subcode.specs.Sizes.{symbols_a_slot}
 use Rattle.cdg_io.specs.Pump.{IsUnlessFault, answer_of}

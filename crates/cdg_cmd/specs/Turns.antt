@@ -1,4 +1,4 @@
--- What a command that turns each block of a stream takes, writes and answers.
+-- The input, the output and the status of a command that transforms each block of a stream.
 use Rattle.std.specs.Prelude.{◌≡◌, ℕ, ◌/◌, List, length, Result, IfSome}
 use Rattle.raw_subcode.specs.Sizes.{block_bytes, most_units}
 use Rattle.cdg_io.specs.Pump.{IsUnlessFault, answer_of}

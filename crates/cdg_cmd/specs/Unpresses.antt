@@ -1,4 +1,4 @@
--- What comes back of a pressed stream.
+-- The packs and pictures that are recovered from a pressed stream.
 use Rattle.std.specs.Prelude.{◌≡◌, ℕ, ◌+◌, ◌*◌, ◌≤◌, ⊤, List}
 use Rattle.std.specs.List.{concat}
 use Rattle.std.specs.Io.KnownBytes.{Appends}
@@ -12,14 +12,13 @@ use Rattle.cdg_cmd.specs.declared.command.Command.{Command}
 use Rattle.cdg_cmd.specs.declared.command.Command.TheVariants.{Convert, Screen}
 use Rattle.cdg_cmd.specs.declared.status.Status.{Status}
 
--- the pixmap after so many packs of a file, or all, was put, unless a read or a write failed or no memory was found
+-- The pixmap after `many` packs of a file, or after all, was written, unless a read, a write or an allocation failed.
 abbrev pub PutsFilePicture : List ℕ → ℕ → Change Bytes → Status → Type 0
 PutsFilePicture file many out status =
     OnDone ((text : List ℕ) × IsFileText file many text × Appends out.before out.after text) status
 
--- What a command puts of bytes that are a pressed stream but for two symbols of each word: a conversion every
--- pack, and a screen, so many blocks after the audio has begun, what stands after four packs of the file for each
--- block, or after all.
+-- The output of a command for a pressed stream with at most two wrong symbols in each word. A conversion writes every
+-- pack. A screen n blocks after the start of the audio shows the screen after 4n packs of the file, or after all.
 abbrev pub Unpresses : Command → List ℕ → Change Bytes → Status → Type 0
 Unpresses (Convert lead_in form) bytes out status =
     (press : DamagedPress form lead_in bytes) → GivesBack (concat (written_packs form press.packs)) out status

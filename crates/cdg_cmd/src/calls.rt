@@ -66,7 +66,7 @@ fn list_from<S: Source, K: Sink>(
     wrap(lister.text_list(alloc, lead_in, form, source, out))
 }
 
-/// The text or the file of an input, or the status that says why there is none.
+/// The text or the file of an input, or the status that explains why there is none.
 pub(crate) fn read_text<S: Source>(
     heap: &mut Heap,
     which: Which,

@@ -37,7 +37,7 @@ pub enum Command {
     Scratch { lead_in: u32, seed: u64 },
     /// Writes the script of a seed.
     Gen { seed: u64, pictures: u32 },
-    /// Writes what a trial of a seed gives.
+    /// Writes the results of a trial with a seed.
     Trial { seed: u64, pictures: u32 },
     /// Writes the packs on which two readings of a stream agree.
     Merge { lead_in: u32 },
@@ -47,7 +47,7 @@ pub enum Command {
     Press { lead_in: u32, length: u32 },
     /// Writes a checkpoint after a stream.
     Save { lead_in: u32 },
-    /// Writes the picture at a moment of a stream of which a checkpoint and the rest are given.
+    /// Writes the picture at a moment of a stream. The inputs are a checkpoint and the rest of the stream.
     Resume { at: u32 },
 }
 
@@ -121,7 +121,7 @@ pub fn read_words(words: &[String]) -> Option<Command>
     }
 }
 
-// How a stream stands in the input: the blocks of its lead-in, and its form.
+// The number of lead-in blocks of a stream, and its form.
 #[derive(Clone, Copy)]
 struct StreamOptions {
     pub lead_in: u32,

@@ -1,4 +1,4 @@
-//! The commands of the workshop over sources and sinks: their words, what they answer, and the line that says it.
+//! The commands of the workshop over sources and sinks: their words, their statuses, and the lines for these statuses.
 #![tactic(auto)]
 
 mod calls;

@@ -24,7 +24,7 @@ use picture_script::Script;
 use stream_trial::{TrialStop, trial};
 use subcode_author::Heap;
 
-// The cue sheet of the first input, or the status that says why there is none.
+// The cue sheet of the first input, or the status that explains why there is none.
 #[tactic(auto, using(crate::proofs::TextReads::refused_sheet))]
 fn read_sheet<S: Source>(heap: &mut Heap, first: &mut S) -> Result<Sheet, Status>
     ensures ok { IfOk result (ReadsSheet (change S.left first.old first.new)) }
@@ -45,7 +45,7 @@ fn read_sheet<S: Source>(heap: &mut Heap, first: &mut S) -> Result<Sheet, Status
     }
 }
 
-// The picture script of the second input, or the status that says why there is none.
+// The picture script of the second input, or the status that explains why there is none.
 fn read_script<S: Source>(heap: &mut Heap, second: &mut S) -> Result<Script, Status>
     ensures ok { IfOk result (ReadsScript (change S.left second.old second.new)) }
     ensures err { IfErr result (IsScriptStop (S.left second.old)) }

@@ -33,7 +33,7 @@ pub(crate) fn run_merge<S: Source, T: Source, K: Sink>(
     requires { lead_in ≤ most_lead_in }
     ensures does { Does (Command.Merge lead_in)
         (call S.left T.left K.held (first.old, second.old, out.old) (first.new, second.new, out.new)) result }
-    // A merger takes no memory.
+    // A merger allocates nothing.
     ensures memory { result ≢ Status.NoMemory }
     ensures never { result ≢ Status.Usage }
     ensures faults { TellsFaults (call S.faults T.faults K.faults (first.old, second.old, out.old)
@@ -87,7 +87,7 @@ pub(crate) fn run_save<S: Source, K: Sink>(
     }
 }
 
-/// Writes the picture at a moment of a stream of which a checkpoint, which is the first input, and the rest are given.
+/// Writes the picture at a moment of a stream. The first input is a checkpoint, the second the rest of the stream.
 #[tactic(auto, using(crate::proofs::MergeTold::told_none, crate::proofs::ResumeTold::never_memory, crate::proofs::ResumeTold::never_usage))]
 pub(crate) fn run_resume<S: Source, T: Source, K: Sink>(
     heap: &mut Heap,

@@ -1,5 +1,5 @@
-// How a run ends: what each answer of another crate is to the program, the number that the process ends with, and the
-// line that is printed.
+// How a run ends: the status for each result of another crate, the exit status of the process, and the line that is
+// printed.
 ghost use Rattle.std.specs.Prelude.{◌≡◌, ◌≤◌, ◌++◌, ◌+◌, length, [], OnOk, OnErr};
 ghost use Rattle.cdg_cmd.specs.Line.{exit_of, cue_words, script_words, words_and_count, error_line, late_words, line_words, refusal_words};
 ghost use Rattle.cdg_cmd.specs.Stops.{author_status, merge_status, play_status, press_status, pump_status, read_status, resume_status, script_status, sheet_status, text_fault_status, thin_status};
@@ -42,33 +42,33 @@ pub enum Refusal {
     Cue { line: u32, why: CueWhy },
     /// This line of the picture script, counted from 1.
     Script { line: u32, why: ScriptWhy },
-    /// The audio is too short: the index lines need so many blocks.
+    /// The audio is too short: the index lines need `need` blocks.
     LengthShort { need: u32 },
-    /// The program would have so many blocks.
+    /// The program of the disc would have `blocks` blocks, which is too many.
     DiscTooLong { blocks: u32 },
-    /// The lead-in needs so many blocks.
+    /// The lead-in is too short: it needs `need` blocks.
     LeadInShort { need: u32 },
-    /// The texts need so many packs.
+    /// The texts need `packs` packs, which is too many.
     TextTooLong { packs: u32 },
-    /// The text pack of this number is wanted, and none is good.
+    /// No good text pack has the number `seq`, which is needed.
     TextMissing { seq: u8 },
-    /// There are text packs, but not all three that tell their sizes.
+    /// There are text packs, but not all three packs with their sizes.
     TextNoSize,
     /// This byte of the text pack of this number contradicts the other packs.
     TextMalformed { seq: u8, byte: u8 },
     /// The second reading ended within the block of this number.
     SecondTorn { block: u32 },
-    /// One reading has only so many whole blocks and the other has more.
+    /// One reading has only `blocks` whole blocks, and the other has more.
     Unequal { blocks: u32 },
     /// The file ended within the pack of this number.
     PackTorn { pack: u32 },
     /// The first track, by its number, that has a gap.
     Gap { track: u8 },
-    /// The file has so many packs, and the audio has room for so many.
+    /// The file has `packs` packs, but the audio has room for only `room` packs.
     CdgTooLong { packs: u32, room: u32 },
     /// The first input is no checkpoint, as this byte shows.
     BadSave { byte: u32 },
-    /// The moment is before the checkpoint, which comes after so many program blocks.
+    /// The moment is before the checkpoint, which was made after `blocks` program blocks.
     BeforeSave { blocks: u32 },
 }
 
@@ -77,13 +77,13 @@ pub enum Refusal {
 pub enum Status {
     /// The work is whole.
     Done,
-    /// The work is whole, but so many packs or frames could not be recovered.
+    /// The output is complete, but this number of packs or frames could not be recovered.
     Damaged(u32),
-    /// The words spell no command; nothing was read.
+    /// The words are no command; nothing was read.
     Usage,
     /// An input was refused.
     Refused(Refusal),
-    /// The first picture that cannot be ready: it needs so many packs, and so many are free for it.
+    /// `picture` is the first picture that cannot be ready: it needs `need` packs, and `free` packs are free for it.
     Late { picture: u32, need: u32, free: u32 },
     /// A read of this input failed.
     ReadFault(Which),
@@ -154,7 +154,7 @@ pub(crate) fn play_status(answer: Result<Played, PlayStop>) -> Status
     }
 }
 
-// The status where the text packs of a lead-in give no texts.
+// The status if the text packs of a lead-in hold no texts.
 fn text_fault_status(fault: TextFault) -> Status
     ensures { result ≡ text_fault_status fault }
 {

@@ -1,4 +1,4 @@
-// Running a command: its line is split, its words are read, its work is done, and the line of its status is told.
+// Runs a command: splits its line, reads its words, performs it, and prints the line of its status.
 ghost use Rattle.std.specs.Prelude.{◌≡◌, ◌≢◌, ◌↔◌, ◌≤◌, ◌<◌, ℕ, List, Some, None, IfSome, length, position, string_bytes, bytes_eq, codes};
 ghost use Rattle.disc_time.specs.Counts.{most_program};
 ghost use Rattle.std.specs.List.{concat};
@@ -68,19 +68,19 @@ pub fn split(line: &[String]) -> Split
     }
 }
 
-/// Runs the command of the words over its inputs, its output and the error output.
+/// Runs a command on its inputs, its output and the error output.
 ///
-/// The first input is the stream of a command, the cue sheet of `author` and `press`, or the checkpoint of
-/// `resume`. The second is the picture script of `author`, the file of packs of `press`, the other reading of
-/// `merge`, or the rest of the stream of `resume`; a command that needs neither reads neither. An input is read
-/// once, in order, and the output written in order. `err` takes the one line of the status, or nothing where it
-/// is `Done`; a failure there changes nothing.
+/// The first input is the stream of a command, the cue sheet of `author` and `press`, or the checkpoint of `resume`.
+/// The second input is the picture script of `author`, the file of packs of `press`, the other reading of `merge`, or
+/// the rest of the stream of `resume`. A command does not read an input that it does not need. Each input is read
+/// once, in order, and the output is written in order. The line of the status is written to `err`; `Done` has no
+/// line. If this write fails, nothing else changes.
 ///
 /// # Errors
 ///
-/// The status says what ended the run: `Usage` before anything is read, a refusal where its reason is the first
-/// that holds in the order of the inputs, a fault as the source or the sink failed, `NoMemory` with an untouched
-/// output.
+/// The status is the reason for the end of the run: `Usage` before anything is read; a refusal if its reason is the
+/// first that applies, in the order of the inputs; a fault if a source or the sink failed; `NoMemory` with an
+/// unchanged output.
 #[tactic(auto, using(crate::proofs::Told::tells))]
 pub fn run<S: Source, T: Source, K: Sink, E: Sink>(
     alloc: Global,
@@ -94,35 +94,36 @@ pub fn run<S: Source, T: Source, K: Sink, E: Sink>(
     ensures usage { ((result ≡ Status.Usage) ↔ ((command : Command) → ¬ (Spells command (texts words.now))))
         × (result ≡ Status.Usage
         → (first.new ≡ first.old) × (second.new ≡ second.old) × (out.new ≡ out.old)) }
-    // What the command reads, writes and answers.
+    // The input, the output and the status of the command.
     ensures performs { (command : Command) → Spells command (texts words.now) → Performs command
         (input S.Source first.old first.new) (input T.Source second.old second.new)
         (change K.held out.old out.new) (first.old, second.old, out.old)
         (first.new, second.new, out.new) result }
-    // A fault is told only where that count of faults rose, and no other count rises.
+    // A fault is the status only if its count of faults rose, and no other count rises.
     ensures faults { TellsFaults (call S.faults T.faults K.faults (first.old, second.old, out.old)
         (first.new, second.new, out.new)) result }
-    // Where the words spell a command and no count rose, no fault is told: `does` then says the exact answer.
+    // If the words are a command and no count rose, the status is no fault, and `does` gives the exact status.
     ensures complete { (command : Command) → Spells command (texts words.now)
         → NoneRose (call S.faults T.faults K.faults
         (first.old, second.old, out.old) (first.new, second.new, out.new)) → IsAnswered result }
     // The error output took the line of the status, or a prefix of it where its count rose.
     ensures told { Tells E.held E.faults err.old err.new result }
 
-    // Of a sheet and a script that have their place on a disc an authored stream is written, or the first
-    // picture that is late is told.
+    // For a sheet and a script that fit on a disc, an authored stream is written, or the status is the first late
+    // picture.
     ensures authors { (disc : Disc) → Spells (Command.Author disc.lead_in disc.audio) (texts words.now)
         → HavePlace disc → IfSome (S.left first.old) (λ cue. IfSome (T.left second.old) (λ text.
         IsSheetText cue disc.sheet → IsScriptText text disc.script
         → WritesOrIsLate disc (change K.held out.old out.new) result)) }
-    // A picture that is told late cannot be ready: no list of instructions without scrolls brings it in the
-    // packs that are free for it. One for the first picture has to make all settings, so that a blank one may be late.
+    // A picture with the status `Late` cannot be ready: no list of instructions without scrolls draws it in the packs
+    // that are free for it. The list for the first picture must make all settings, so even a blank first picture may
+    // be late.
     ensures late { (lead_in audio picture need free : ℕ) (script : List Drawing)
         → Spells (Command.Author lead_in audio) (texts words.now) → result ≡ Status.Late picture need free
         → IfSome (T.left second.old) (λ text. IsScriptText text script
         → CannotBeReady script picture need free) }
-    // From an authored stream, after damage of at most two symbols a word, a conversion gives back every
-    // scheduled pack.
+    // If damage changed at most two symbols of each word of an authored stream, a conversion recovers every scheduled
+    // pack.
     ensures gives_back { (form : Form) (disc : Disc) (stream : List ℕ) (packs : List (List ℕ))
         → Spells (Command.Convert disc.lead_in form) (texts words.now) → IsAuthored disc stream packs
         → IfSome (S.left first.old) (λ all. IsDamagedCopy form disc.lead_in stream all
@@ -153,17 +154,18 @@ pub fn run<S: Source, T: Source, K: Sink, E: Sink>(
         → IfSome (S.left first.old) (λ one. IfSome (T.left second.old) (λ other. (blocks : ℕ)
         (packs : List (List ℕ)) → IsReadTwice lead_in blocks packs one other
         → GivesBack (concat packs) (change K.held out.old out.new) result)) }
-    // From a pressed stream, after damage of at most two symbols a word, a conversion gives back every pack, and the
-    // screen shows, so many blocks after the audio has begun, what stands after four packs of the file for each.
+    // If damage changed at most two symbols of each word of a pressed stream, a conversion recovers every pack, and the
+    // screen n blocks after the start of the audio is the screen after 4n packs of the file.
     ensures unpresses { (command : Command) → Spells command (texts words.now)
         → IfSome (S.left first.old) (λ all. Unpresses command all (change K.held out.old out.new) result) }
-    // From the file of a checkpoint, whoever made it, and the rest of a stream, what stands at a time is written;
-    // where `save` made it of the first part of a stream, `screen` answers and writes the same with the whole stream.
+    // From the file of a checkpoint, from any origin, and the rest of a stream, the screen at a time is written. If
+    // `save` made the file from the first part of a stream, `screen` has the same status and output for the whole
+    // stream.
     ensures resumes { (at : ℕ) → Spells (Command.Resume at) (texts words.now) → IsAnswered result
         → result ≢ Status.NoMemory → IfSome (S.left first.old) (λ file. IfSome (T.left second.old) (λ rest.
         ResumesFrom file at rest (change K.held out.old out.new) result)) }
-    // Of a whole file the thin form is written: the same stands in both after each number of packs, and the thin
-    // form of it is itself.
+    // For a whole file the thin form is written: the screens of both are equal after each number of packs, and the
+    // thin form of the output is the output.
     ensures thins { Spells Command.Thin (texts words.now) → result ≡ Status.Done
         → IfSome (S.left first.old) (λ all. (text : List ℕ) × ShowsAll all text
         × Appends (K.held out.old) (K.held out.new) text) }
