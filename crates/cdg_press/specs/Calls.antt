@@ -1,4 +1,4 @@
--- What a call that writes the thin form takes, puts and answers.
+-- The input, the output and the result of a call that writes the thin form.
 use Rattle.std.specs.Prelude.{◌≡◌, ℕ, ◌*◌, ◌/◌, List, length, Result, IfOk}
 use Rattle.std.specs.Io.KnownBytes.{Appends}
 use Rattle.bit_lists.specs.Counting.{whole_parts}
@@ -22,17 +22,17 @@ pub record IsThinnedBy (bytes : List ℕ) (pumped : Pumped) (text : List ℕ) : 
 abbrev pub thinning : Reading Pumped PumpStop
 thinning = as_pumped (record { size = symbols_a_slot; limit = most_file_packs }) IsThinnedBy
 
--- The call took these bytes, and put the thin form of their packs as it took them.
+-- The call consumed these bytes, and wrote the thin form of their packs while it read them.
 abbrev pub Thins : Passed → Result Pumped PumpStop → List ℕ → Type 0
 Thins passed result taken = Streams thinning passed result taken
 
--- bytes in which the same stands after each number of packs as in others, and which are their own thin form
+-- The text shows the same screen as these bytes after each number of packs, and it is its own thin form.
 pub record ShowsAll (bytes text : List ℕ) : Type 0 where
   pub thin : IsThinText bytes text
   pub alike : (m : ℕ) → StandAlike m (whole_parts symbols_a_slot bytes) (whole_parts symbols_a_slot text)
   pub again : IsThinText text text
 
--- such bytes were put for the whole input
+-- Such a text was written for the whole input.
 abbrev pub ThinsAll : List ℕ → Change Bytes → Result Pumped PumpStop → Type 0
 ThinsAll all out result =
     IfOk result (λ pumped. (text : List ℕ) × ShowsAll all text × Appends out.before out.after text)

@@ -28,7 +28,7 @@ file_pack file n = slice_index_or (file_packs file) n []
 abbrev pub file_begin : ℕ
 file_begin = whole_packs pause_blocks
 
--- what a disc is pressed from: a cue sheet and a file of packs, and so many blocks of lead-in and of audio
+-- the inputs of a press: a cue sheet, a file of packs, and the numbers of blocks of lead-in and of audio
 pub record Press : Type 0 where
   pub sheet : CueSheet
   pub file : List ℕ
@@ -57,7 +57,7 @@ pub record IsPressed (press : Press) (bytes : List ℕ) (packs : List (List ℕ)
       (program_symbols Raw bytes press.lead_in) packs
   pub enough : 0 < press.lead_in → lead_in_need press.sheet ≤ press.lead_in
 
--- pack n, where so many idle packs come before those of a file, and idle ones after them
+-- Pack n of a program that has `wait` idle packs before the packs of a file, and idle packs after them.
 pub record IsPackAfter (wait : ℕ) (file : List ℕ) (n : ℕ) (pack : List ℕ) : Type 0 where
   pub of_file : (k : ℕ) → n ≡ wait + k → k < length file / pack_bytes → IsMadeGood (file_pack file k) pack
   pub idle : (n < wait) ⊎ (wait + length file / pack_bytes ≤ n) → pack ≡ idle_pack

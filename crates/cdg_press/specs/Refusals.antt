@@ -46,8 +46,8 @@ pub record IsPressable (sheet : CueSheet) (file : List ℕ) (lead_in audio : ℕ
   pub in_time : RunsInTime sheet file audio
   pub room : HasRoom sheet lead_in
 
--- why a stream is not pressed: each refusal comes only where those before it do not hold, and a failed write and want of
--- memory only where nothing is refused
+-- why a stream is not pressed: each refusal comes only where those before it do not hold, and a failed write and want
+-- of memory only where nothing is refused
 abbrev pub IsPressStop : CueSheet → List ℕ → ℕ → ℕ → PressStop → Type 0
 IsPressStop sheet file lead_in audio (PackTorn pack) = (length file % pack_bytes ≢ 0)
     × (pack ≡ length file / pack_bytes)

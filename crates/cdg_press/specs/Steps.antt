@@ -12,7 +12,7 @@ use Rattle.cdg_instructions.specs.declared.instr.Instr.{Instr}
 unfoldable pub pack_instruction : List ℕ → Instr
 pack_instruction pack = meaning (symbols_of pack)
 
--- whether the same stands in both
+-- whether two screens are equal
 unfoldable pub is_same : Standing → Standing → Bool
 is_same a b =
     pointwise (pointwise nat_eq) a.memory b.memory
@@ -22,11 +22,11 @@ is_same a b =
     && a.h == b.h
     && a.v == b.v
 
--- whether it is a graphics instruction after which the same stands as before
+-- whether it is a graphics instruction that does not change the screen
 unfoldable pub is_needless : Standing → Instr → Bool
 is_needless now instr = is_graphic instr && is_same (standing_after now (instr ∷ [])) now
 
--- what stands after a pack
+-- the screen after a pack
 unfoldable pub thin_next : Standing → List ℕ → Standing
 thin_next now pack = standing_after now (pack_instruction pack ∷ [])
 

@@ -28,13 +28,13 @@ is_graphic Foreign = false
 is_graphic Unknown = false
 is_graphic instr = true
 
--- A graphics instruction that changes nothing after these: the same stands with it and without it.
+-- A graphics instruction that changes nothing after these instructions: the screen is the same with and without it.
 pub record IsNeedless (before : List Instr) (instr : Instr) : Type 0 where
   pub graphic : IsTrue (is_graphic instr)
   pub nothing : standing_after blank (before ++ instr ∷ []) ≡ standing_after blank before
 
--- what stands for a pack in the thin form: an idle one where its instruction is needless after those before it, and
--- else the pack as it is
+-- The pack of the thin form: an idle pack if the instruction is needless after the earlier ones, otherwise the same
+-- pack.
 abbrev pub IsThinned : List Instr → Instr → List ℕ → List ℕ → Type 0
 IsThinned before instr pack thin = (IsNeedless before instr × (thin ≡ idle_pack))
     ⊎ (¬ IsNeedless before instr × (thin ≡ pack))
@@ -54,7 +54,7 @@ pub record IsThinText (bytes text : List ℕ) : Type 0 where
   pub form : IsThinForm (whole_parts symbols_a_slot bytes) thins
   pub text_is : text ≡ concat thins
 
--- the same stands after the first m packs of both
+-- The screens after the first m packs of both are equal.
 pub record StandAlike (m : ℕ) (packs others : List (List ℕ)) : Type 0 where
   pub instrs : List Instr
   pub other_instrs : List Instr

@@ -11,7 +11,7 @@ use Rattle.cdg_press.specs.Pressed.{IsPackAfter, IsPressed, Press, file_begin}
 use Rattle.cdg_press.specs.declared.stops.PressStop.{PressStop}
 use Rattle.cdg_press.specs.declared.stops.PressStop.TheVariants.{WriteFault}
 
--- What a call that presses a file leaves in an output, of which its bytes and its faults are told.
+-- The output of a call that presses a file, for an output that reveals its bytes and its faults.
 pub record WritesPressed {T K : Type 0} (held : K → Bytes) (faults : K → ℕ) (press : Press) (before after : K)
     (result : Result T PressStop) : Type 0 where
   -- a pressed stream was written
@@ -24,6 +24,6 @@ pub record WritesPressed {T K : Type 0} (held : K → Bytes) (faults : K → ℕ
   pub part : result ≡ Err WriteFault → (n : ℕ) × (packs : List (List ℕ))
       × PutsStreamPart (framing_of (layout_of press.sheet press.audio) (text_packs press.sheet) press.lead_in)
       (IsPackAfter file_begin press.file) (change held before after) n packs
-  -- what stands then is a prefix of a pressed stream
+  -- the output is then a prefix of a pressed stream
   pub prefix : result ≡ Err WriteFault → (bytes : List ℕ) × (packs : List (List ℕ))
       × IsPressed press bytes packs × AppendsPrefix (held before) (held after) bytes

@@ -8,11 +8,11 @@ use Rattle.cdg_io.specs.Causes.{CountedReader, nothing_told}
 use Rattle.ribjasper.specs.declared.inputs.InputReader.{InputReader}
 use Rattle.ribjasper.specs.declared.inputs.InputReader.TheVariants.{Empty, Missing, Named, Standard, Unopened}
 
--- what one read answered: the states and the bytes of a buffer before and after it, and its answer
+-- one read: the states and the bytes of a buffer before and after it, and its result
 abbrev pub ReadAnswer : Type 0 → Type 1
 ReadAnswer X = X → X → List ℕ → List ℕ → Result ℕ Error → Type 0
 
--- what the machine answered when the file of a name was to be opened
+-- the result of the machine when it opened the file with a name
 abbrev pub OpenAnswer : Type 0 → Type 0 → Type 1
 OpenAnswer O F = O → List ℕ → Result F Error → Type 0
 
@@ -28,8 +28,8 @@ unopened_file (Empty opener) = None
 abbrev pub IsUnopened : {I F O : Type 0} → O → String Global → InputReader I F O → Type 0
 IsUnopened opener name reader = unopened_file reader ≡ Some (opener, string_bytes name)
 
--- The two inputs of the names of a line, of which there are two at most: the files of these names, in order; without
--- names standard input and nothing. What no name asks to open stays with an unused opener.
+-- The two inputs for the at most two names of a line: the files with these names, in order. Without names, they are
+-- standard input and no input. An opener for which there is no name stays unused.
 abbrev pub AreInputs : {I F O : Type 0} → I → O × O → List (String Global) → InputReader I F O
     → InputReader I F O → Type 0
 AreInputs stdin openers [] first second = (first ≡ Standard stdin openers.0) × (second ≡ Empty openers.1)
@@ -39,13 +39,13 @@ AreInputs stdin openers (one ∷ other ∷ []) first second =
     IsUnopened openers.0 one first × IsUnopened openers.1 other second
 AreInputs stdin openers names first second = ⊤
 
--- an input, as the machine answered when its file was to be opened
+-- an input after the machine opened its file, or failed to open it
 abbrev pub opened : {I F O : Type 0} → Result F Error → InputReader I F O
 opened (Ok file) = Named file
 opened (Err error) = Missing
 
--- The file of an input is open, or could not be opened: the machine was asked once for the file of its name. Any other
--- input is as it was.
+-- The machine was asked once for the file of an input: the file is open or could not be opened. Any other input is
+-- unchanged.
 abbrev pub OpensAs : {I F O : Type 0} → OpenAnswer O F → InputReader I F O → InputReader I F O → Type 0
 OpensAs opens (Unopened opener name) reader =
     (answer : Result _ Error) × opens opener name.now answer × (reader ≡ opened answer)
@@ -54,8 +54,8 @@ OpensAs opens (Named file) reader = reader ≡ Named file
 OpensAs opens Missing reader = reader ≡ Missing
 OpensAs opens (Empty opener) reader = reader ≡ Empty opener
 
--- An input that is open was read once, and the answer is that of standard input or of its file. One that could not be
--- opened fails at each read, and one that is none is at its end.
+-- An open input was read once, and the result is that of standard input or of its file. An input that could not be
+-- opened fails at each read, and an input without a file is at its end.
 abbrev pub ReadsAs : {I F O : Type 0} → ReadAnswer I → ReadAnswer F → InputReader I F O → InputReader I F O
     → List ℕ → List ℕ → Result ℕ Error → Type 0
 ReadsAs stdin_reads file_reads (Standard stdin opener) after old new answer =

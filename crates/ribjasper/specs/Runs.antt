@@ -38,7 +38,7 @@ words_of_command line = take (split_of line).words line
 abbrev pub input_names : List (String Global) → List (String Global)
 input_names line = drop (length line - (split_of line).names) line
 
--- What an input tells: of its bytes nothing, since it is of the machine.
+-- An input of the machine reveals nothing about its bytes.
 abbrev pub input_source : (I F O : Type 0) → Source (InputSource I F O)
 input_source I F O = record {
   left = λ source. reader_remaining (λ _. None) source.inner;
@@ -47,7 +47,7 @@ input_source I F O = record {
   fills = λ source. Some source.tally.fills;
 }
 
--- What waited in an output was written, and nothing waits any more; or some of it waits, and that is told.
+-- The waiting bytes of an output were written; or some bytes still wait, and the status reports the failure.
 pub record IsSettled {W : Type 0} (contents : W → Bytes) (out : Change (Buffered W))
     (answer status : Status) : Type 0 where
   pub settled : (out.after.waiting ≡ []) × (status ≡ answer)
@@ -55,7 +55,7 @@ pub record IsSettled {W : Type 0} (contents : W → Bytes) (out : Change (Buffer
   pub bytes : Keeps (bytes_with_waiting contents out.before) (bytes_with_waiting contents out.after)
   pub nothing : out.before.waiting ≡ [] → status ≡ answer
 
--- A command was run over sources of two inputs and an output, as `run` says.
+-- A command was run on the sources of two inputs and on an output, as the contract of `run` states.
 pub record RunsOver {I F O W : Type 0} (contents : W → Bytes) (words : List (List ℕ))
     (first second : Change (InputSource I F O)) (out : Change (Buffered W)) (answer : Status) : Type 0 where
   pub usage : ((answer ≡ Usage) ↔ ((command : Command) → ¬ (Spells command words)))
@@ -80,21 +80,20 @@ pub record RunsLine (F : Type 0) {I O W : Type 0} (stdin : I) (openers : O × O)
   pub second : Change (InputSource I F O)
   pub first_is : IsNewSource first_input first.before
   pub second_is : IsNewSource second_input second.before
-  -- the output and the answer before what waits was written
+  -- the output and the status before the waiting bytes were written
   pub unsettled : Buffered W
   pub answer : Status
   pub runs : RunsOver contents (texts (words_of_command line)) first second
       (from_to out.before unsettled) answer
   pub settles : IsSettled contents (from_to unsettled out.after) answer status
 
--- The words of a line are those after the program's own name, as the machine gave them; if it says that they
--- are no text, there are none.
+-- The words of a line are the machine's words after the name of the program. If the machine reports that they are not
+-- text, there are no words.
 abbrev pub AreOwnWords : Result (IntoIter (String Global) Global) Error → List (String Global) → Type 0
 AreOwnWords (Ok all) line = line ≡ drop 1 (into_iter_items all)
 AreOwnWords (Err error) line = (error_kind error ≡ InvalidData) × (line ≡ [])
 
--- An output over this writer, to which nothing was put yet, as the program makes it: with room for 128 KiB, of
--- which 64 KiB may wait after a piece is put.
+-- A new output over this writer, as the program makes it: it has room for 128 KiB, and at most 64 KiB wait after a put.
 pub record IsNewOutput {W : Type 0} (writer : W) (out : Buffered (RecordingWriter W)) : Type 0 where
   pub over : out.inner.writer ≡ writer
   pub taken : out.inner.taken.bytes ≡ []
@@ -103,12 +102,12 @@ pub record IsNewOutput {W : Type 0} (writer : W) (out : Buffered (RecordingWrite
   pub turn : out.turn ≡ 65536
   pub room : out.room ≡ 131072
 
--- the bytes that a writer has taken
+-- the bytes that a writer has accepted
 abbrev pub taken_bytes : {W : Type 0} → RecordingWriter W → Bytes
 taken_bytes writer = Some writer.taken.bytes
 
--- The words that the machine gave were run on the inputs that they name, and over a new output, which tells the
--- bytes that the writer took.
+-- The words from the machine were run on the inputs that they name, and on a new output, which reveals the bytes that
+-- the writer accepted.
 pub record RunsProgram (F : Type 0) {I O W : Type 0}
     (words : Result (IntoIter (String Global) Global) Error) (stdin : I)
     (openers : O × O) (writer : W) (status : Status) : Type 0 where
@@ -118,8 +117,7 @@ pub record RunsProgram (F : Type 0) {I O W : Type 0}
   pub new_output : IsNewOutput writer out.before
   pub runs : RunsLine F stdin openers taken_bytes line out status
 
--- The line of a status was put to an error output over this writer, to which nothing was put before, unless a write
--- failed.
+-- The line of a status was written to a new error output over this writer, unless a write failed.
 pub record TellsLine {E : Type 0} (writer : E) (status : Status) : Type 0 where
   pub err : Change (Counted (RecordingWriter E))
   pub over : err.before.inner.writer ≡ writer
@@ -127,7 +125,8 @@ pub record TellsLine {E : Type 0} (writer : E) (status : Status) : Type 0 where
   pub told : Rose err.before.faults err.after.faults
       ⊎ Appends (taken_bytes err.before.inner) (taken_bytes err.after.inner) (error_line status)
 
--- The program ran and told its status; or memory for its words or a buffer was not found, and it told that.
+-- The program ran and printed the line of its status; or an allocation for its words or a buffer failed, and it printed
+-- the line of this status.
 pub record EndsProgram (F : Type 0) {I O W E : Type 0}
     (words : Result (IntoIter (String Global) Global) Error)
     (machine : MachineStreams I O W E) (exit : ExitCode) : Type 0 where

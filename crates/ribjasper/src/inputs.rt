@@ -41,7 +41,7 @@ impl<'a, I, F, O> InputReader<'a, I, F, O> {
         }
     }
 
-    // The input of a file, as the machine answered when it was to be opened.
+    // The input after the machine opened its file, or failed to open it.
     fn of(answer: io::Result<F>) -> InputReader<'a, I, F, O>
         ensures { result ≡ opened answer }
     {

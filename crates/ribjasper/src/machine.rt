@@ -1,8 +1,8 @@
 // The machine: the program reads its inputs, opens files by their names and writes its outputs.
 //
 // The rest of the program is proved for every machine, over these traits. A relation of a trait says what one call
-// returned. It holds for no other result, so a body must return the result of exactly one call. Only this file names the
-// types of std.
+// returned. It holds for no other result, so a body must return the result of exactly one call. Only this file names
+// the types of std.
 ghost use Rattle.std.specs.Prelude.{◌≡◌, ◌++◌, ⊤, ℕ, List, [], None, Result, Some, string_bytes};
 ghost use Rattle.std.specs.Io.{ReadsAtMost, WritesAtMost};
 ghost use Rattle.std.specs.Io.KnownBytes.{Keeps, WriteAppends};
@@ -104,7 +104,7 @@ pub(crate) struct MachineStreams<I, O, W, E> {
     pub stderr: E,
 }
 
-/// A writer over an output. For proofs only, it records the bytes that the output has taken.
+/// A writer over an output. For proofs only, it records the bytes that the output has accepted.
 #[derive(Drop)]
 pub(crate) struct RecordingWriter<W> {
     writer: W,

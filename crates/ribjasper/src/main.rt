@@ -29,7 +29,7 @@ use subcode_author::Heap;
 // The size of the output buffer: more than one read of an input returns.
 const BUFFER: usize = 131_072;
 
-// The most that stays in the output buffer after a piece is put: as much as a pipe holds.
+// The maximum number of bytes that wait in the output buffer after a put: as many as a pipe can hold.
 const TURN: usize = 65_536;
 
 fn main(rt: HostRuntime) -> ExitCode {
@@ -67,8 +67,8 @@ where
     ExitCode::from(status.exit())
 }
 
-// Runs the command of these words on the inputs that they name. It fails only if no memory is found for the words or the
-// buffers.
+// Runs the command of these words on the inputs that they name. It fails only if no memory is found for the words or
+// the buffers.
 fn run_line<
     I: MachineInput + Drop,
     F: MachineInput + Drop,
@@ -101,7 +101,7 @@ fn run_line<
     }
 }
 
-// The words after the program's own name. If the machine says that they are no text, there are none.
+// The words after the name of the program. If the machine reports that they are not text, there are no words.
 fn own_words(alloc: Global, answer: io::Result<Args>) -> io::Result<Vec<String>>
     ensures words { IfOk result (λ words. AreOwnWords answer words.items) }
     ensures no_text { (error : Error) → answer ≡ Err error → error_kind error ≡ ErrorKind.InvalidData

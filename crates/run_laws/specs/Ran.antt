@@ -1,4 +1,4 @@
--- What `run` says of its command.
+-- The contract of `run` for its command.
 use Rattle.std.specs.Prelude.{◌≡◌, ◌≢◌, []}
 use Rattle.std.specs.Io.KnownBytes.{Appends}
 use Rattle.cdg_cmd.specs.Answer.{Does}
@@ -9,8 +9,8 @@ use Rattle.cdg_cmd.specs.declared.command.Command.{Command}
 use Rattle.cdg_cmd.specs.declared.status.Status.{Status}
 use Rattle.cdg_cmd.specs.declared.status.Status.TheVariants.{NoMemory}
 
--- A command was run: where memory was found it did this, and else nothing was written. One that takes no memory wants
--- none.
+-- A command was run: it had this effect, or an allocation failed and nothing was written. A command that allocates
+-- nothing never has the status `NoMemory`.
 pub record IsRun (command : Command) (call : Call Bytes) (status : Status) : Type 0 where
   pub does : status ≢ NoMemory → Does command call status
   pub nothing : status ≡ NoMemory → Appends call.out.before call.out.after []

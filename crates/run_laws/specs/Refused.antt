@@ -7,10 +7,10 @@ use Rattle.cdg_cmd.specs.Authors.{IsStopped, PutsAuthored}
 use Rattle.cdg_io.specs.Change.{Bytes, Change}
 use Rattle.cdg_cmd.specs.declared.status.Status.{Status}
 
--- an authored stream was put, unless a read or a write failed or no memory was found
+-- An authored stream was written, unless a read, a write or an allocation failed.
 abbrev pub Writes : Disc → Change Bytes → Status → Type 0
 Writes disc out status = OnDone (PutsAuthored disc out) status
 
--- nothing was put, and the status is this one, unless a read failed or no memory was found
+-- Nothing was written, and the status is this one, unless a read or an allocation failed.
 abbrev pub RefusesWith : Status → Change Bytes → Status → Type 0
 RefusesWith why out status = Appends out.before out.after [] × ((status ≡ why) ⊎ IsStopped status)

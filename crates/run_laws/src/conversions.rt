@@ -1,4 +1,4 @@
-// What conversions and screens give of streams, of two readings of a disc, and of players that were saved.
+// The results of conversions and screens: of streams, of two readings of a disc, and of saved players.
 ghost use Rattle.std.specs.Prelude.{◌≡◌, ◌≤◌, ℕ, List, IfSome};
 ghost use Rattle.disc_time.specs.Counts.{most_lead_in, most_program};
 ghost use Rattle.std.specs.List.{concat};
@@ -37,8 +37,7 @@ use rw_interleave::{clean_words_are_found, found_packs_are_the_text, packs_are_r
 use rw_merge::two_readings_give_packs;
 use stream_trial::scratched_streams_are_recovered;
 
-/// A law: from damage of at most two symbols a word a conversion gives back every pack of a stream, wherever it comes
-/// from.
+/// A law: if damage changed at most two symbols of each word of any stream, a conversion recovers every pack.
 pub fn damaged_streams_give_their_packs()
     ensures { (lead_in : ℕ) (form : Form) (call : Call Bytes) (status : Status)
         → IsRun (Convert lead_in form) call status
@@ -50,8 +49,8 @@ pub fn damaged_streams_give_their_packs()
     found_packs_are_the_text();
 }
 
-/// A law: from its ready time to its hold time each picture of a script is shown, of any stream whose packs are a
-/// schedule of it, whatever damage of at most two symbols a word does.
+/// A law: a stream whose packs are a schedule of a script shows each picture from its ready time to its hold time,
+/// even if damage changed at most two symbols of each word.
 pub fn scheduled_streams_show_their_pictures()
     ensures { (lead_in at : ℕ) (form : Form) (call : Call Bytes) (status : Status)
         → IsRun (Screen lead_in form at) call status
@@ -73,7 +72,7 @@ pub fn clean_streams_give_their_words()
     found_packs_are_the_text();
 }
 
-/// A law: of a scratched authored stream a conversion gives back every scheduled pack.
+/// A law: a conversion recovers every scheduled pack of a scratched authored stream.
 pub fn scratched_streams_give_their_packs()
     ensures { (lead_in audio seed : ℕ) (sheet : CueSheet) (script : List Drawing) (bytes : List ℕ)
         (packs : List (List ℕ))
@@ -88,9 +87,9 @@ pub fn scratched_streams_give_their_packs()
     scratched_streams_are_damaged();
 }
 
-/// A law: an authored stream with scratches differs from one that carries its packs, a schedule of the script, in at
-/// most two symbols of each word. From such a stream `Player::convert` gives back every pack, and `Player::screen_at`
-/// each picture. What it gives of a raw stream is the packs alone: no zeros follow those of the program.
+/// A law: a scratched authored stream differs in at most two symbols of each word from a stream with its packs, which
+/// are a schedule of the script. From such a stream `Player::convert` recovers every pack, and `Player::screen_at`
+/// each picture. The output for a raw stream has only the packs of the program, with no zeros after them.
 pub fn scratched_streams_are_damaged()
     ensures damaged { (sheet : CueSheet) (script : List Drawing) (lead_in audio seed : ℕ) (bytes : List ℕ)
         (packs : List (List ℕ))
@@ -121,8 +120,8 @@ pub fn damaged_readings_give_their_packs()
     two_readings_give_packs();
 }
 
-/// A law: a player that goes to the file which `save` wrote of a stream is where one is that was fed its blocks. The
-/// same stands, and what either is fed from there on gives the same.
+/// A law: a player that is restored from a file that `save` wrote has the state of a player that was fed the blocks of
+/// the stream: both show the same screen, and both have the same results for all later input.
 pub fn players_go_on_from_saved_streams()
     ensures { (lead_in : ℕ) (given : List Given) (bytes file : List ℕ) (back : LivePlayer)
         → AreBlocksOf bytes given → IsSaveOf lead_in bytes file → IsAt (checkpoint_in file) back

@@ -1,4 +1,4 @@
-// When discs are written and refused, what is listed of them, and when some answers come.
+// When discs are written and refused, the lists of their contents, and when some statuses occur.
 ghost use Rattle.std.specs.Prelude.{◌≢◌, ◌≡◌, ◌≤◌, ◌<◌, ◌*◌, ℕ, List, Some, Err, IfSome, true};
 ghost use Rattle.cue_sheet.specs.CueSheet.{CueSheet};
 ghost use Rattle.picture_script.specs.Script.{Drawing};
@@ -46,7 +46,7 @@ pub fn accepted_discs_are_written()
     accepted_scripts_are_in_order();
 }
 
-/// A law: each refusal of `author` is the answer where its reason is the first that holds.
+/// A law: each refusal of `author` is the status if its reason is the first that applies.
 pub fn refusals_are_told()
     // Of the cue sheet,
     ensures sheet { (lead_in audio : ℕ) (why : Refusal) (call : Call Bytes) (status : Status)
@@ -111,8 +111,8 @@ pub fn copied_texts_are_written()
     copied_text_lists_are_answered();
 }
 
-/// A law: a fault of the second input is told only by a command that reads it: by `author` and `press` after the
-/// first was read to its end and accepted.
+/// A law: only a command that reads the second input reports a fault of it; `author` and `press` do so after they
+/// read the first input to its end and accepted it.
 pub fn second_faults_come_after_the_first_input()
     ensures { (command : Command) (call : Call Bytes) (status : Status) → IsRun command call status
         → status ≡ ReadFault Second → ReadsSecond command call.first }

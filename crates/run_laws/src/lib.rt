@@ -1,4 +1,4 @@
-//! Laws over what a command does: the cases of what `run` says, each from its clauses `does` and `memory`.
+//! Laws about the effects of commands: the cases of the contract of `run`, each from its clauses `does` and `memory`.
 #![tactic(auto)]
 
 mod conversions;

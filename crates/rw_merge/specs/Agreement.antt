@@ -16,7 +16,7 @@ pub record IsAgreed (first second codeword : List ℕ) : Type 0 where
   pub is_codeword : IsCodeword codeword
   pub few : 2 * equally_wrong first second codeword + differences first second ≤ 4
 
--- a codeword is given where one is agreed, and none where none is
+-- The value is the agreed codeword, or None if there is none.
 abbrev pub GivesAgreed : List ℕ → List ℕ → Option (List ℕ) → Type 0
 GivesAgreed first second given = MatchOption given ((codeword : List ℕ) → ¬ IsAgreed first second codeword)
     (λ codeword. IsAgreed first second codeword)

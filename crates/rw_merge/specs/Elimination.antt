@@ -1,4 +1,4 @@
--- The sums of errors, and how the part of a position is taken out of them.
+-- The sums of errors, and how the share of one position is removed from them.
 use Rattle.std.specs.Prelude.{◌≡◌, ℕ, ◌<◌, List, [], ◌∷◌, length, slice_index, bit_xor}
 use Rattle.gf64.specs.Field.{product, alpha_power}
 use Rattle.rw_code.specs.Codeword.{IsWord, weighted_sum}

@@ -1,4 +1,4 @@
--- What a merge of two readings of a stream takes, writes and answers.
+-- The inputs, the output and the result of a merge of two readings of a stream.
 use Rattle.std.specs.Prelude.{◌≡◌, ◌≢◌, ◌⊎◌, ℕ, ◌+◌, ◌-◌, ◌*◌, ◌/◌, ◌%◌, ◌<◌, ◌≤◌, ⊤, min, List, length, take, slice_index_or, Option, None, Result, Ok, Err, IfOk, IfSome}
 use Rattle.std.specs.Io.KnownBytes.{Appends, Consumes, IsAtEnd}
 use Rattle.cdg_io.specs.Causes.{Count, RoseOnce}
@@ -18,14 +18,13 @@ use Rattle.rw_merge.specs.declared.merge.Merged.{Merged}
 use Rattle.rw_merge.specs.declared.merge.MergeStop.{MergeStop}
 use Rattle.rw_merge.specs.declared.merge.MergeStop.TheVariants.{FirstFault, SecondFault, WriteFault, TooLong, Torn, SecondTorn, Unequal}
 
--- what is found for each word of the symbols of two readings of so many program blocks
+-- The agreed codewords (if any) for the words of two readings with `blocks` program blocks.
 pub record IsMerged (blocks : ℕ) (first second : List ℕ) (found : List (Option (List ℕ))) : Type 0 where
   pub count : length found ≡ whole_packs blocks
   pub each : (n : ℕ) → n < whole_packs blocks
       → IsAgreement (word_of first n) (word_of second n) (slice_index_or found n None)
 
--- the text of the packs that are agreed for the bytes of two readings of equally many blocks, and for how many words
--- none is
+-- The text has the agreed packs of two readings with the same number of blocks; `bad` words have no agreed codeword.
 pub record IsMergedText (lead_in : ℕ) (first second text : List ℕ) (bad : ℕ) : Type 0 where
   pub found : List (Option (List ℕ))
   pub merged : IsMerged (length first / block_bytes - lead_in) (program_symbols Raw first lead_in)
@@ -33,13 +32,13 @@ pub record IsMergedText (lead_in : ℕ) (first second text : List ℕ) (bad : �
   pub text_is : text ≡ cdg_bytes found
   pub bad_is : bad ≡ bad_count found
 
--- the first n blocks of each give this text
+-- The text is that of the first n blocks of each reading.
 abbrev pub GivesMergedText : ℕ → ℕ → List ℕ → List ℕ → List ℕ → Type 0
 GivesMergedText n lead_in first second text = (bad : ℕ)
     × IsMergedText lead_in (take (n * block_bytes) first) (take (n * block_bytes) second) text bad
 
--- The answer to so many bytes of two inputs, where no read or write fails. The first block that not both have whole
--- is looked at in this order: a rest of the first, a rest of the second, a block that one of them has.
+-- The result for two inputs of these lengths if no read and no write fails. The first block that is not whole in both
+-- decides, in this order: a part of a block in the first input, a part in the second input, a block in only one input.
 abbrev pub IsAnswer : ℕ → Result Merged MergeStop → ℕ → ℕ → Type 0
 IsAnswer lead_in (Ok merged) first second = (first ≤ most_units * block_bytes) × (second ≡ first)
     × (first % block_bytes ≡ 0)
@@ -61,15 +60,15 @@ IsAnswer lead_in (Err FirstFault) first second = ⊤
 IsAnswer lead_in (Err SecondFault) first second = ⊤
 IsAnswer lead_in (Err WriteFault) first second = ⊤
 
--- the same of two whole inputs, where both tell their bytes
+-- The same for two whole inputs, if both reveal their bytes.
 abbrev pub IsAnswerTo : ℕ → Result Merged MergeStop → Bytes → Bytes → Type 0
 IsAnswerTo lead_in result first second =
     IfSome first (λ xs. IfSome second (λ ys. IsAnswer lead_in result (length xs) (length ys)))
 
--- How much was taken of two inputs where no whole block came of one of them, as it had none or a read of it
--- failed. If this was the first, as many whole blocks were taken of the second; if it was the second, whole
--- blocks were taken of the first, and of the second less than a block beyond them. A read that failed came before any
--- byte past the most blocks.
+-- The consumed bytes of two inputs if one of them had no further whole block or a read of it failed. If this was the
+-- first input, the second input was read for the same number of whole blocks. If it was the second input, whole
+-- blocks of the first were consumed, and less than one block fewer of the second. A failed read came before any byte
+-- after the last allowed block.
 abbrev pub TakesInTurn : Result Merged MergeStop → ℕ → ℕ → Type 0
 TakesInTurn (Err FirstFault) first second = (second ≡ first / block_bytes * block_bytes)
     × (first ≤ most_units * block_bytes)
@@ -80,23 +79,24 @@ TakesInTurn (Err (SecondTorn block)) first second = (first % block_bytes ≡ 0)
     × (second < first + block_bytes)
 TakesInTurn result first second = ⊤
 
--- Of two inputs these bytes were taken, and the text of their pairs of blocks was put.
+-- These bytes of two inputs were consumed, and the text of their pairs of blocks was written.
 pub record Merges (lead_in : ℕ) (held : Change Bytes) (result : Result Merged MergeStop)
     (first second : List ℕ) : Type 0 where
-  -- of neither is more taken than a block beyond the other
+  -- neither input was read further than one block beyond the other
   pub in_step : (length first ≤ length second + block_bytes) × (length second ≤ length first + block_bytes)
   pub within : (length first ≤ most_units * block_bytes + 1) × (length second ≤ most_units * block_bytes + 1)
-  -- a block of the first was asked for and then one of the second
+  -- a block of the first input was read, and then a block of the second
   pub turns : TakesInTurn result (length first) (length second)
   pub answer : IsAnswer lead_in result (length first) (length second)
   pub done : IfOk result (λ merged. (text : List ℕ) × IsMergedText lead_in first second text merged.bad
       × Appends held.before held.after text)
-  -- where no write failed, all is put that the whole pairs of blocks give
+  -- if no write failed, the output for all whole pairs of blocks was written
   pub put : result ≢ Err WriteFault
       → (text : List ℕ) × GivesMergedText
       (min (length first / block_bytes) (length second / block_bytes)) lead_in first second
       text × Appends held.before held.after text
-  -- a write failed: nothing after the pair whose text was being put was taken, and the text of those before it is put
+  -- a write failed: nothing after the pair of the failed write was consumed, and the output for the earlier pairs was
+  -- written
   pub in_turn : result ≡ Err WriteFault
       → (n : ℕ) × (n < most_units) × (length first ≡ (n + 1) * block_bytes)
       × (length second ≡ (n + 1) * block_bytes)
@@ -104,34 +104,34 @@ pub record Merges (lead_in : ℕ) (held : Change Bytes) (result : Result Merged 
       × GivesMergedText (n + 1) lead_in first second high
       × AppendsBetween held.before held.after low high)
 
--- The first input is at its end, where the answer says so.
+-- The first input is at its end, if the result requires it.
 abbrev pub FirstIsAtEnd : Result Merged MergeStop → Option (List ℕ) → Type 0
 FirstIsAtEnd (Ok merged) left = IsAtEnd left
 FirstIsAtEnd (Err (Torn block)) left = IsAtEnd left
 FirstIsAtEnd (Err stop) left = ⊤
 
--- the same of the second
+-- The same for the second input.
 abbrev pub EndsSecond : Result Merged MergeStop → Option (List ℕ) → Type 0
 EndsSecond (Ok merged) left = IsAtEnd left
 EndsSecond (Err (SecondTorn block)) left = IsAtEnd left
 EndsSecond (Err stop) left = ⊤
 
--- The end of an input was told once,
+-- The end of an input was recorded once,
 abbrev pub Told : Change Count → Type 0
 Told ends = RoseOnce ends.before ends.after
 
--- or was not told.
+-- or was not recorded.
 abbrev pub Untold : Change Count → Type 0
 Untold ends = ends.after ≡ ends.before
 
--- Of two inputs, of which so many bytes were taken in turn: the end of this one was told once where no more of it were
--- taken than of the other, and else not.
+-- Two inputs were read in turn: the end of this input was recorded once if no more bytes of it were consumed than of
+-- the other input, otherwise it was not recorded.
 abbrev pub ToldUnlessAhead : ℕ → ℕ → Change Count → Type 0
 ToldUnlessAhead bytes other_bytes ends = (bytes ≤ other_bytes → Told ends)
     × (other_bytes < bytes → Untold ends)
 
--- How often the ends of two readings were told where a merge stopped after so many bytes of each. A block of the first
--- is asked for and then one of the second, and of neither once its end is told.
+-- The counts of the ends of two readings if a merge stopped after these numbers of bytes. The merge reads a block of
+-- the first and then a block of the second, and stops reading an input at its end.
 abbrev pub EndsAtStop : MergeStop → ℕ → ℕ → Change Count → Change Count → Type 0
 EndsAtStop (Torn block) one other first second = Told first × Untold second
 EndsAtStop (SecondTorn block) one other first second = ToldUnlessAhead one other first × Told second
@@ -142,29 +142,30 @@ EndsAtStop SecondFault one other first second = ToldUnlessAhead one other first 
 EndsAtStop FirstFault one other first second = Untold first × Untold second
 EndsAtStop WriteFault one other first second = Untold first × Untold second
 
--- And where it is done both ends were told.
+-- If the merge is complete, both ends were recorded.
 abbrev pub EndsBoth : {A : Type 0} → Result A MergeStop → ℕ → ℕ → Change Count → Change Count → Type 0
 EndsBoth (Ok done) one other first second = Told first × Told second
 EndsBoth (Err stop) one other first second = EndsAtStop stop one other first second
 
--- how many reads are filled by so many bytes: one by each whole block, and one by the byte past the most
+-- the number of full reads for this number of bytes: one for each whole block, and one for the byte after the last
+-- allowed block
 abbrev pub full_reads : ℕ → ℕ
 full_reads bytes = bytes / block_bytes + (bytes - most_units * block_bytes)
 
--- an input that is read: its bytes, and how often its end was told and a read gave all that it had room for
+-- an input that is read: its bytes, and the counts of its ends and its full reads
 pub record ReadInput : Type 0 where
   pub left : Change Bytes
   pub counts : Counts
 
--- what is seen of it
+-- the input as a source shows it
 abbrev pub read_input : {S : Type 0} → Source S → S → S → ReadInput
 read_input source before after = record {
   left = change source.left before after;
   counts = counts source.ends source.fills before after;
 }
 
--- Of two inputs these bytes were taken, of which the first holds; of so many bytes of each the second says how often the
--- ends were told, and the third how many reads were filled.
+-- Bytes of two inputs were consumed. `holds` is true for these bytes; `ends` gives the counts of the ends for their
+-- numbers, and `reads` the number of full reads.
 pub record ReadsBoth (holds : List ℕ → List ℕ → Type 0)
     (ends : ℕ → ℕ → Change Count → Change Count → Type 0) (reads : ℕ → ℕ)
     (first second : ReadInput) : Type 0 where

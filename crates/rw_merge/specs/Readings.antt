@@ -12,7 +12,8 @@ use Rattle.rw_merge.specs.declared.merge.Merged.{Merged}
 use Rattle.rw_merge.specs.declared.merge.MergeStop.{MergeStop}
 use Rattle.rw_merge.specs.declared.merge.MergeStop.TheVariants.{FirstFault, SecondFault, WriteFault}
 
--- the bytes of two readings of equally many blocks, of which so many belong to the lead-in and to the program
+-- The bytes of two readings with the same number of blocks: `lead_in` blocks of the lead-in and `blocks` of the
+-- program.
 pub record AreReadings (lead_in blocks : ℕ) (first second : List ℕ) : Type 0 where
   pub few : lead_in + blocks ≤ most_units
   pub first_size : length first ≡ (lead_in + blocks) * block_bytes
@@ -39,7 +40,7 @@ pub record IsDamagedTwice (lead_in blocks : ℕ) (packs : List (List ℕ)) (firs
   pub first_damage : IsDamaged symbols Raw (program_symbols Raw first lead_in)
   pub second_damage : IsDamaged symbols Raw (program_symbols Raw second lead_in)
 
--- unless a read or a write failed, so many blocks were merged, none of their words is bad, and this text was put
+-- If no read and no write failed, `blocks` blocks were merged, none of their words is bad, and this text was written.
 abbrev pub MergeRestores : Result Merged MergeStop → ℕ → Option (List ℕ) → Option (List ℕ) → List ℕ → Type 0
 MergeRestores (Ok merged) blocks held held' text = (merged.blocks ≡ blocks) × (merged.bad ≡ 0)
     × Appends held held' text

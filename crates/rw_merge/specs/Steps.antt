@@ -21,7 +21,7 @@ use Rattle.rw_merge.specs.declared.merge.MergeStop.{MergeStop}
 use Rattle.rw_merge.specs.declared.merge.MergeStop.TheVariants.{FirstFault, SecondFault, WriteFault, TooLong, Torn, SecondTorn, Unequal}
 use Rattle.raw_subcode.specs.Sizes.{block_bytes, symbols_a_slot}
 
--- the first slots of some bytes, as many as are wanted
+-- the first `count` slots of some bytes
 abbrev pub leading_slots : ℕ → List ℕ → List (List ℕ)
 leading_slots count bytes = map symbols_of (parts count symbols_a_slot bytes)
 
@@ -39,7 +39,7 @@ AreAgreements [] [] [] = ⊤
 AreAgreements (x ∷ xs) (y ∷ ys) (f ∷ fs) = IsAgreement x y f × AreAgreements xs ys fs
 AreAgreements xs ys fs = ⊥
 
--- the packs of what is found for the words of two readings, at most four of each
+-- The packs are the agreed packs of the words of two readings, at most four words of each.
 abbrev pub AreAgreedPacks : List (List ℕ) → List (List ℕ) → Packs → Type 0
 AreAgreedPacks first second packs = (found : List (Option (List ℕ))) × AreAgreements first second found
     × (packs.bytes ≡ cdg_bytes found) × (packs.bad ≡ bad_count found) × (length found ≤ 4)
@@ -49,20 +49,20 @@ abbrev pub MergesBlocks : Windows → List ℕ → List ℕ → Packs → Type 0
 MergesBlocks windows first second packs =
     AreAgreedPacks (words_from_block windows.first first) (words_from_block windows.second second) packs
 
--- Of the first input a whole block was taken, or it was at its end.
+-- A whole block of the first input was consumed, or the input was at its end.
 abbrev pub IsHalfRead : Option (List ℕ) → List ℕ → Type 0
 IsHalfRead left taken = (length taken ≡ block_bytes) ⊎ ((taken ≡ []) × IsAtEnd left)
 
--- what was taken of an input, and what is left of it
+-- the consumed bytes of an input, and the bytes that are left
 pub record Taken : Type 0 where
   pub bytes : List ℕ
   pub left : Option (List ℕ)
 
--- these bytes were taken, and this is left
+-- these bytes were consumed, and these bytes are left
 abbrev pub taken_of : List ℕ → Option (List ℕ) → Taken
 taken_of bytes left = record { bytes = bytes; left = left }
 
--- What was taken of both inputs where a pair of blocks was asked for after so many.
+-- The consumed bytes of both inputs when the pair of blocks with this number was read.
 abbrev pub IsPairRead : ℕ → Result Bool MergeStop → Taken → Taken → Type 0
 IsPairRead block (Ok true) first second = (length first.bytes ≡ block_bytes)
     × (length second.bytes ≡ block_bytes)
@@ -91,13 +91,13 @@ IsEndRead (Err FirstFault) first second = (first.bytes ≡ []) × (second.bytes 
 IsEndRead (Err SecondFault) first second = (first.bytes ≡ []) × (second.bytes ≡ [])
 IsEndRead (Err stop) first second = ⊥
 
--- How often the ends of both inputs were told by then.
+-- The counts of the ends of both inputs at this time.
 abbrev pub EndsOfPair : Result Bool MergeStop → ℕ → ℕ → Change Count → Change Count → Type 0
 EndsOfPair (Ok true) one other first second = Untold first × Untold second
 EndsOfPair (Ok false) one other first second = Told first × Told second
 EndsOfPair (Err stop) one other first second = EndsAtStop stop one other first second
 
--- A pair of blocks was asked for after so many: what was read, and where both are whole, that these are the blocks.
+-- The pair of blocks with this number was read. If both blocks are whole, these are the blocks.
 abbrev pub ReadsPair : ℕ → Result Bool MergeStop → List ℕ → List ℕ → ReadInput → ReadInput → Type 0
 ReadsPair block result one other first second = ReadsBoth
     (λ xs ys. IsPairRead block result (taken_of xs first.left.after) (taken_of ys second.left.after)

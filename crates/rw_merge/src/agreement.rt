@@ -9,7 +9,7 @@ use crate::elimination::{WordSums, solved};
 use crate::places::wrong_places;
 use rw_code::{Pack, Word, correct, correct_by_sums};
 
-// The most that may stand against an agreed codeword.
+// The maximum number of doubts against an agreed codeword.
 const MOST_DOUBTS: u8 = 4;
 
 /// The codeword that is agreed for two readings of a word: twice the symbols that both have equally wrong and those
@@ -67,8 +67,8 @@ fn agree_apart(a: &Word, b: &Word) -> Option<Pack>
     accept(a, b, &solved(a, &sums, &places))
 }
 
-// The agreed codeword, where it is quickly found: it is one of the readings, against which stand only the symbols in
-// which they differ, or near the first.
+// A quick search for the agreed codeword: it is one of the readings, with doubts only where the readings differ, or
+// it is near the first reading.
 fn likely(a: &Word, b: &Word) -> Option<Pack>
     requires { differences a.now b.now ≤ 4 }
     ensures { IfSome result (λ pack. IsAgreed a.now b.now pack) }

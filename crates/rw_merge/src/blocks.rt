@@ -31,10 +31,11 @@ impl Stage for KeptBlock {
     }
 }
 
-/// Reads a block, as `fill` does, or takes it from where it is at hand. Before it reads, the output passes on what waits.
+/// Reads a block like `fill`, or takes it from the buffer of the source. Before a read, it asks the output to write its
+/// waiting bytes.
 ///
 /// # Errors
-/// `Failed` where a read failed: fewer bytes than a block were taken.
+/// `Failed` if a read failed: less than a block was consumed.
 #[inline]
 pub(crate) fn next_block<S: Source, K: Sink>(
     source: &mut S,

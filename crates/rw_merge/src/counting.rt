@@ -1,4 +1,4 @@
-// Where two readings differ, and how much stands against a codeword.
+// The positions where two readings differ, and the doubts against a codeword.
 ghost use Rattle.std.specs.Prelude.{◌≡◌, ◌≢◌, ◌≤◌, ◌+◌, ◌*◌, MatchOption};
 ghost use Rattle.rw_code.specs.Codeword.{IsWord, differences};
 ghost use Rattle.rw_merge.specs.Agreement.{equally_wrong};
@@ -26,7 +26,8 @@ pub(crate) fn next_difference(
     None
 }
 
-/// At how many positions two readings differ. All are looked at, which is faster than to stop at the first.
+/// The number of positions where two readings differ. It examines all positions, which is faster than a loop that
+/// stops.
 pub fn differing(first: &Word, second: &Word) -> u8
     ensures count { result ≡ differences first.now second.now }
     ensures first { IsWord first.now }
@@ -60,7 +61,7 @@ pub(crate) fn doubts(first: &Word, second: &Word, word: &Word) -> u8
     doubts
 }
 
-// What a symbol adds to these: a number in any case, so that many symbols are looked at in one step.
+// The doubts at one symbol. It has no branch, so that one step can process several symbols.
 #[inline(always)]
 fn doubt(first: u8, second: u8, word: u8) -> u8
     ensures apart { first ≢ second → result ≡ 1 }

@@ -59,8 +59,8 @@ pub fn two_readings_give_packs()
     found_packs_are_the_text();
 }
 
-/// Merges two readings of one stream, one pair of streams at a time. It takes no memory from an allocator. Each call
-/// begins anew, whatever stopped the one before. Seen as the last slots of both readings.
+/// Merges two readings of a stream, one pair in each call. A call never depends on an earlier call. It allocates
+/// nothing. The model is the pair of the most recent slots of both readings.
 #[derive(Drop)]
 pub struct Merger {
     first: Gather,
@@ -86,7 +86,7 @@ impl Merger {
         }
     }
 
-    /// `new` as it was promised to callers: it takes nothing from the allocator and does not fail.
+    /// `new` in the form that callers were promised. It allocates nothing and never fails.
     pub fn start(_alloc: Global) -> Result<Merger, AllocError>
         ensures made { IsOk result }
         ensures fresh { IfOk result (λ m. m ≡ record { first = []; second = [] }) }
@@ -119,7 +119,7 @@ impl Merger {
         ensures merges { ReadsBoth (Merges lead_in (change K.held out.old out.new) result) (EndsBoth result)
             full_reads (read_input S.Source first.old first.new)
             (read_input T.Source second.old second.new) }
-        // Every pack comes back where both readings together have enough of each word.
+        // Every pack is recovered if both readings together have enough of each word.
         ensures restores { IfSome (S.left first.old) (λ xs. IfSome (T.left second.old) (λ ys.
             (blocks : ℕ) (packs : List (List ℕ)) → IsReadTwice lead_in blocks packs xs ys
             → MergeRestores result blocks (K.held out.old) (K.held out.new) (concat packs))) }
@@ -127,7 +127,7 @@ impl Merger {
         ensures repairs { IfSome (S.left first.old) (λ xs. IfSome (T.left second.old) (λ ys.
             (blocks : ℕ) (packs : List (List ℕ)) → IsDamagedTwice lead_in blocks packs xs ys
             → MergeRestores result blocks (K.held out.old) (K.held out.new) (concat packs))) }
-        // Where nothing failed, the answer is that of the lengths of both whole inputs.
+        // If nothing failed, the lengths of both whole inputs decide the result.
         ensures answer { IsAnswerTo lead_in result (S.left first.old) (T.left second.old) }
         ensures first_end { FirstIsAtEnd result (S.left first.new) }
         ensures second_end { EndsSecond result (T.left second.new) }

@@ -10,7 +10,8 @@ use crate::merge::MergeStop;
 use cdg_io::{Failed, Sink, Source};
 use raw_subcode::BLOCK_BYTES;
 
-/// Reads a block of the first input, and then one of the second; before a read the output passes on what waits. False where both inputs are at their end.
+/// Reads a block of the first input, and then one of the second; before a read the output passes on what waits. False
+/// where both inputs are at their end.
 ///
 /// # Errors
 /// A stop, where there is no whole block of both: all but the faults say the number of the block.

@@ -18,8 +18,8 @@ pub(crate) struct WrongPlaces {
     pub(crate) fourth: usize,
 }
 
-/// Four positions outside of which every agreed codeword is equal to the first of two readings that differ. `sums`
-/// are those of the first. None only where no codeword is agreed.
+/// Four positions: outside of them, every agreed codeword equals the first of two readings that differ. `sums` are
+/// those of the first reading. None only if there is no agreed codeword.
 pub(crate) fn wrong_places(first: &Word, second: &Word, sums: &WordSums) -> Option<WrongPlaces>
     requires differ { first.now ≢ second.now }
     requires sums { AreFirstSums 4 first.now sums.now }

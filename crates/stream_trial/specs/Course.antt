@@ -68,13 +68,13 @@ pub record AreTakenAndCompared (script : List Drawing) (symbols : List ℕ) (pac
   pub taken : AreTaken symbols packs others (whole_of_slots n) replay
   pub compared : AreCompared script n gallery
 
--- so many words of a stream were taken, whichever schedule of the script it is damaged from
+-- n words of a stream were read; the stream differs by such damage from any schedule of the script
 abbrev pub HasTaken : List Drawing → List ℕ → ℕ → Replay → Type 0
 HasTaken script bytes n replay = (symbols : List ℕ) (packs : List (List ℕ))
     → IsDamagedSchedule script (length bytes / block_bytes) symbols packs (symbols_of bytes)
     → AreTaken symbols packs (symbols_of bytes) n replay
 
--- so many blocks of it were played
+-- b blocks of the stream were played
 abbrev pub HasShown : List Drawing → List ℕ → ℕ → Replay → Gallery → Type 0
 HasShown script bytes b replay gallery = (symbols : List ℕ) (packs : List (List ℕ))
     → IsDamagedSchedule script (length bytes / block_bytes) symbols packs (symbols_of bytes)
@@ -88,15 +88,15 @@ pub record HasGoneOver (script : List Drawing) (seed : ℕ) (bytes : List ℕ) (
   pub gather : course.gather ≡ gathered_before (scratched 0 seed bytes) course.blocks
   pub shown : HasShown script (scratched 0 seed bytes) course.blocks course.replay course.gallery
 
--- the counts are not too great, and the canvas stands at the next picture
+-- The counts are in range, and the canvas is at the next picture.
 pub record IsSteady (script : List Drawing) (course : Course) : Type 0 where
   pub small : IsBelow (slots_a_block * course.blocks) course.replay
   pub canvas : StandsBefore script course.gallery.next course.gallery.canvas
   pub next : course.gallery.next ≤ pictures script
   pub equal : course.gallery.equal ≤ course.gallery.next
 
--- What a trial knows of the bytes that were put: the course has gone over their whole blocks, whatever follows them,
--- and so many bytes of the block that has begun are at hand.
+-- The state of a trial after these bytes: it processed their whole blocks, regardless of what follows, and `block`
+-- holds the first `filled` bytes of the next block.
 pub record Knows (script : List Drawing) (seed count : ℕ) (course : Course) (block : List ℕ) (filled : ℕ)
     (bytes : List ℕ) : Type 0 where
   pub script_is : script ≡ generated_drawings seed count

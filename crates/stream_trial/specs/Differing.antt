@@ -4,7 +4,7 @@ use Rattle.bit_lists.specs.Counting.{below}
 use Rattle.rw_code.specs.Codeword.{differences}
 use Rattle.rw_interleave.specs.Interleave.{word_of}
 
--- of the first packs, how many have a word in which two streams differ in exactly so many symbols
+-- the number of words among the first `packs` ones in which two streams differ in exactly `wrong` symbols
 unfoldable pub differing : ℕ → ℕ → List ℕ → List ℕ → ℕ
 differing wrong packs symbols others =
     count_by (λ n. differences (word_of others n) (word_of symbols n) == wrong) (below packs)

@@ -20,7 +20,7 @@ abbrev pub wanted_pixel : Board → ℕ → ℕ → ℕ
 wanted_pixel board x y = if nat_le tile_width x && nat_le x window_right && nat_le tile_height y
     && nat_le y window_bottom then pixel_of board.pixels (x - tile_width) (y - tile_height) else board.border
 
--- the screen shows what stands on the canvas
+-- The screen shows the picture of the canvas.
 pub record Agrees (now : Standing) (board : Board) : Type 0 where
   pub border : now.border ≡ board.border
   pub colours : (n : ℕ) → n < 16 → slice_index now.colours n ≡ slice_index board.colours n

@@ -1,4 +1,4 @@
--- What a report tells.
+-- The lines of a report.
 use Rattle.std.specs.Prelude.{ℕ, List, ◌++◌}
 use Rattle.stream_trial.specs.TrialLines.{input_lines, output_lines}
 use Rattle.stream_trial.specs.declared.lines.Report.{Report}

@@ -23,7 +23,7 @@ use Rattle.stream_trial.specs.TrialLines.{input_lines, output_lines}
 use Rattle.stream_trial.specs.declared.trying.TrialStop.{TrialStop}
 use Rattle.stream_trial.specs.declared.trying.TrialStop.TheVariants.{NoMemory, WriteFault}
 
--- the blocks of audio of a trial of so many pictures: the one that is ready last is held for twenty more
+-- the blocks of audio of a trial with `count` pictures: the last picture is held for twenty blocks
 abbrev pub trial_audio : ℕ → ℕ
 trial_audio count = 800 * count + 20
 
@@ -52,7 +52,7 @@ pub record IsTrial (seed count : ℕ) (text : List ℕ) : Type 0 where
       text ≡ input_lines seed count (trial_blocks count) number (all_changes script)
       ++ output_lines (differing 1 number symbols others) (differing 2 number symbols others) 0 count
 
--- What a call leaves in an output that writes the lines of a trial, where bytes and faults of the output are told.
+-- The output of a call that writes the lines of a trial, for an output that reveals its bytes and its faults.
 pub record WritesTrial {T K : Type 0} (held : K → Bytes) (faults : K → ℕ) (seed count : ℕ) (before after : K)
     (result : Result T TrialStop) : Type 0 where
   -- the lines were written

@@ -113,7 +113,7 @@ impl<'a> TrialRun<'a> {
 }
 
 impl<'a> Sink for TrialRun<'a> {
-    // The seed and the count of pictures, which stay, and then what was put.
+    // The seed and the number of pictures, which never change, and then the bytes that were written.
     ghost held = { λ s. Some (s.seed ∷ s.pictures ∷ s.history.bytes) };
 
     ghost faults = { λ s. s.faults };

@@ -33,8 +33,8 @@ pub fn generated_scripts_are_ready()
     needs_are_fewest();
 }
 
-/// A law: a generated script is written with each sheet that has a layout of so many blocks, and room for its texts
-/// in the lead-in.
+/// A law: a generated script is authored with each sheet that has a layout for this length, and room for its texts in
+/// the lead-in.
 pub fn generated_scripts_are_authored()
     ensures accepted { (sheet : CueSheet) (seed count lead_in audio : ℕ) → HasLayout sheet audio
         → 800 * count + 20 ≤ program_blocks sheet audio → HasRoom sheet lead_in

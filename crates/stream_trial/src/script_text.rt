@@ -6,7 +6,7 @@ use cdg_io::{Failed, MemSink, Sink};
 use std::alloc::AllocError;
 use subcode_author::Heap;
 
-/// The text of a script, in room that is taken at the start. A write fails only if that is full.
+/// The text of a script, in memory that is allocated at the start. A write fails only if this memory is full.
 #[derive(Drop)]
 pub(crate) struct ScriptText {
     sink: MemSink,
@@ -15,7 +15,7 @@ pub(crate) struct ScriptText {
 }
 
 impl ScriptText {
-    /// An empty text with room for so many bytes.
+    /// An empty text with room for `room` bytes.
     pub(crate) fn start(heap: &mut Heap, room: usize) -> Result<ScriptText, AllocError>
         ensures empty { IfOk result (λ text. text.sink.held ≡ []) }
         ensures room { IfOk result (λ text. text.sink.room ≡ room) }

@@ -85,7 +85,7 @@ fn write_stream(
     }
 }
 
-// The same with the sheet at hand. A run takes more blocks than the stream has, so no write fails.
+// The same with a given sheet. A run accepts more blocks than the stream has, so no write fails.
 fn author_run(
     heap: &mut Heap,
     sheet: &Sheet,

@@ -82,7 +82,7 @@ fn make_report(heap: &mut Heap, seed: u64, pictures: u32) -> Result<Report, Tria
     ensures err { IfErr result (λ stop. stop ≡ NoMemory) }
     ensures counted { HasCause heap.old heap.new result }
 {
-    // For what the text of the script and of the sheet says.
+    // The contents of the generated script and of the sheet.
     generated_scripts_are_read();
     generated_scripts_have_times();
     trial_sheet_is_read();
