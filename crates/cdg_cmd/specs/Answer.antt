@@ -114,8 +114,7 @@ LacksMemory (Author lead_in length) call = AuthorsWith lead_in length call NoMem
 LacksMemory (Press lead_in length) call = PressesWith lead_in length call NoMemory
 LacksMemory command call = ⊤
 
--- The status is `Done` and this holds, or a read or a write failed, or memory ran out. Nothing is stated about those
--- three.
+-- The status is `Done` and this holds, or a read or a write failed, or memory ran out. Nothing is stated about those three.
 abbrev pub OnDone : Type 0 → Status → Type 0
 OnDone holds Done = holds
 OnDone holds (ReadFault which) = ⊤

@@ -37,8 +37,7 @@ WritesOrIsLate disc out (Damaged n) = ⊥
 WritesOrIsLate disc out Usage = ⊥
 WritesOrIsLate disc out (Refused why) = ⊥
 
--- A stream of whole units of a form. In each word, its program symbols differ from those of a raw stream in at most
--- two.
+-- A stream of whole units of a form. In each word, its program symbols differ from those of a raw stream in at most two.
 pub record IsDamagedCopy (form : Form) (lead_in : ℕ) (stream bytes : List ℕ) : Type 0 where
   pub few : length bytes ≤ most_units * unit_size form
   pub whole : length bytes % unit_size form ≡ 0

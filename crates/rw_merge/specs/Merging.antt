@@ -67,8 +67,8 @@ IsAnswerTo lead_in result first second =
 
 -- The consumed bytes of two inputs if one of them had no further whole block or a read of it failed. If this was the
 -- first input, the second input was read for the same number of whole blocks. If it was the second input, whole
--- blocks of the first were consumed, and less than one block fewer of the second. A failed read came before any byte
--- after the last allowed block.
+-- blocks of the first were consumed, and of the second less than a block more than of the first. A failed read came
+-- before any byte after the last allowed block.
 abbrev pub TakesInTurn : Result Merged MergeStop → ℕ → ℕ → Type 0
 TakesInTurn (Err FirstFault) first second = (second ≡ first / block_bytes * block_bytes)
     × (first ≤ most_units * block_bytes)
