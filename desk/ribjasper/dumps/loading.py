@@ -84,7 +84,7 @@ def add_options(parser: argparse.ArgumentParser) -> None:
         help=f"the form of the dump: {FORM_NAMES}, each also with -reversed or -swapped appended (detected)",
     )
     parser.add_argument(
-        "--lead-in", type=lead_in, metavar="N", help="the number of blocks in the lead-in (detected " "from channel Q)"
+        "--lead-in", type=lead_in, metavar="N", help="the number of blocks in the lead-in (detected from channel Q)"
     )
     parser.add_argument(
         "--skip",

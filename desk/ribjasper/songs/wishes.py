@@ -38,9 +38,13 @@ def add_wishes(parser: argparse.ArgumentParser) -> None:
         help="the height of letters in pixels (24 to 16, or less if most lines would not fit into a row)",
     )
     parser.add_argument(
-        "--rows", type=number_in(LEAST_ROWS, MOST_ROWS), metavar="N", help="the number of rows of a " "page (4)"
+        "--rows", type=number_in(LEAST_ROWS, MOST_ROWS), metavar="N", help="the number of rows of a page (4)"
     )
-    parser.add_argument("--sweep", action="store_true", help="colour each word gradually while it is sung")
+    parser.add_argument(
+        "--sweep",
+        action="store_true",
+        help="colour each word gradually while it is sung, a column of tiles (6 pixels) at a time",
+    )
     parser.add_argument(
         "--lead",
         type=seconds_in(0, LONGEST_LEAD),

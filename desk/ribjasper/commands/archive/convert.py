@@ -71,17 +71,17 @@ def add_parser(commands: Commands) -> None:
         dest="begin",
         type=place,
         metavar="PLACE",
-        help="where the part begins: a time of the disc as " "MM:SS:FF, or the number of a block",
+        help="where the part begins: a time of the disc as MM:SS:FF, or the number of a block",
     )
     parser.add_argument(
         "--to",
         dest="end",
         type=place,
         metavar="PLACE",
-        help="where the part ends: the first time " "or block that is not written",
+        help="where the part ends: the first time or block that is not written",
     )
     parser.add_argument(
-        "--audio", metavar="FILE", help="take the audio of sectors from this file of raw samples or " "WAV file"
+        "--audio", metavar="FILE", help="take the audio of sectors from this file of raw samples or WAV file"
     )
     parser.add_argument("--silent", action="store_true", help="write sectors with silence")
     parser.add_argument("--sheet", metavar="CUE", help="take P and Q of pressed blocks from this cue sheet")

@@ -50,7 +50,7 @@ def add_parser(commands: Commands) -> None:
         "-o",
         "--output",
         metavar="OUT.cdg",
-        help="the output: packs, or a stream if the name ends " "in .raw, .subcode or .sub",
+        help="the output: packs, or a stream if the name ends in .raw, .subcode or .sub",
     )
     parser.add_argument(
         "--unread",
@@ -61,7 +61,7 @@ def add_parser(commands: Commands) -> None:
         "the ending; blocks that the map lacks count as unread",
     )
     parser.add_argument(
-        "--map", metavar="FILE", help="write a table of the words that no reading has, with " "positions in the output"
+        "--map", metavar="FILE", help="write a table of the words that no reading has, with positions in the output"
     )
     parser.add_argument(
         "--ddrescue-map", metavar="FILE", help="write the same positions as a map of bytes, for ddrescue's option -m"
@@ -72,7 +72,7 @@ def add_parser(commands: Commands) -> None:
     parser.add_argument(
         "--force",
         action="store_true",
-        help="mend readings that seem to be of different discs; overwrite an " "existing output of any kind",
+        help="mend readings that seem to be of different discs; overwrite an existing output of any kind",
     )
     parser.set_defaults(run=run, error=parser.error)
 

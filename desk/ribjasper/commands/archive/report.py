@@ -66,7 +66,7 @@ def add_parser(commands: Commands) -> None:
         "-o",
         "--output",
         metavar="DIR",
-        help="the folder for the report; with --submission, a file " "(standard output)",
+        help="the folder for the report; with --submission, a file (standard output)",
     )
     parser.add_argument(
         "--submission",
@@ -75,7 +75,7 @@ def add_parser(commands: Commands) -> None:
     )
     parser.add_argument("--json", action="store_true", help="with --submission, write JSON")
     parser.add_argument(
-        "--jobs", type=jobs, default=processors(), metavar="N", help="how many files are read at the " "same time"
+        "--jobs", type=jobs, default=processors(), metavar="N", help="how many files are read at the same time"
     )
     parser.add_argument(
         "--no-pictures", action="store_true", help="make no pictures and no maps, and do not use Pillow"

@@ -59,7 +59,7 @@ def add_parser(commands: Commands) -> None:
     )
     parser.add_argument("--packs", metavar="OUT", help="write the packs whose CRC matches, each once, in order")
     parser.add_argument(
-        "--header", action="store_true", help="with --packs, put four extra bytes in front that some " "tools need"
+        "--header", action="store_true", help="with --packs, put four extra bytes in front that some tools need"
     )
     add_options(parser)
     parser.add_argument("--back", action="store_true", help="read a file of packs, not a dump")

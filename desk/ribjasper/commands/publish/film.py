@@ -42,7 +42,7 @@ def add_parser(commands: Commands) -> None:
         type=number_in(1, 8),
         default=3,
         metavar="N",
-        help="enlarge the picture by this " "factor (3: 900 by 648 pixels)",
+        help="enlarge the picture by this factor (3: 900 by 648 pixels)",
     )
     parser.add_argument(
         "--lossless", action="store_true", help="keep each pixel unchanged; fewer programs play such videos"
@@ -54,7 +54,7 @@ def add_parser(commands: Commands) -> None:
         help="write a page with each picture that is shown for at least a fifth of a second, and its time",
     )
     parser.add_argument(
-        "--every", type=float, metavar="SECONDS", help="put a picture on this page every SECONDS " "seconds"
+        "--every", type=float, metavar="SECONDS", help="put a picture on this page every SECONDS seconds"
     )
     add_force(parser)
     parser.set_defaults(run=run, parser=parser)

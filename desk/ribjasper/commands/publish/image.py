@@ -35,10 +35,10 @@ def add_parser(commands: Commands) -> None:
     )
     parser.add_argument("sheet", type=Path, metavar="SHEET", help="the cue sheet of the disc")
     parser.add_argument(
-        "stream", type=Path, metavar="STREAM", help="the raw stream that `author` or `press` made " "from this sheet"
+        "stream", type=Path, metavar="STREAM", help="the raw stream that `author` or `press` made from this sheet"
     )
     parser.add_argument(
-        "--audio", type=Path, required=True, metavar="WAV", help="the audio: 44,100 Hz, stereo, 16 " "bits"
+        "--audio", type=Path, required=True, metavar="WAV", help="the audio: 44,100 Hz, stereo, 16 bits"
     )
     parser.add_argument(
         "--hold-through-pause",
@@ -48,7 +48,7 @@ def add_parser(commands: Commands) -> None:
     )
     parser.add_argument("--latin-1", action="store_true", help="write the texts in Latin-1, as players read them")
     parser.add_argument(
-        "-o", "--output", type=Path, required=True, metavar="DISC", help="the name of the output " "without an ending"
+        "-o", "--output", type=Path, required=True, metavar="DISC", help="the name of the output without an ending"
     )
     add_force(parser)
     parser.set_defaults(run=run)

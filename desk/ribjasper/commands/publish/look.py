@@ -45,7 +45,7 @@ def add_parser(commands: Commands) -> None:
     )
     parser.add_argument("song", type=Path, metavar="SONG", help="the lyrics")
     parser.add_argument(
-        "--audio", type=Path, metavar="SOUND", help="the sound (the sound next to SONG with the same " "name)"
+        "--audio", type=Path, metavar="SOUND", help="the sound (the sound next to SONG with the same name)"
     )
     add_wishes(parser)
     parser.add_argument("-o", "--output", type=Path, required=True, metavar="PAGE.html", help="the page")

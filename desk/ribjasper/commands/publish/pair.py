@@ -22,16 +22,16 @@ def add_parser(commands: Commands) -> None:
     )
     parser.add_argument("song", type=Path, metavar="SONG", help="the lyrics")
     parser.add_argument(
-        "--audio", type=Path, metavar="SOUND", help="the sound (the sound next to SONG with the same " "name)"
+        "--audio", type=Path, metavar="SOUND", help="the sound (the sound next to SONG with the same name)"
     )
     add_wishes(parser)
     parser.add_argument(
-        "--mp3", action="store_true", help="write the sound as MP3, with title and singer (needs " "ffmpeg)"
+        "--mp3", action="store_true", help="write the sound as MP3, with title and singer (needs ffmpeg)"
     )
     parser.add_argument("--zip", action="store_true", help="write both files as one file, NAME.zip")
     parser.add_argument("--karaoke-cd", action="store_true", help="also write a disc image, as `album` does")
     parser.add_argument(
-        "-o", "--output", type=Path, required=True, metavar="NAME", help="the name of the output " "without an ending"
+        "-o", "--output", type=Path, required=True, metavar="NAME", help="the name of the output without an ending"
     )
     add_force(parser)
     parser.set_defaults(run=run)

@@ -43,9 +43,7 @@ def add_parser(commands: Commands) -> None:
         "size and no more colours, it is drawn pixel for pixel. Add a line `show READY HOLD` with the times yourself.",
     )
     parser.add_argument("image", type=Path, metavar="IMAGE")
-    parser.add_argument(
-        "--colours", type=number_in(1, COLOURS), metavar="N", help="the greatest number of colours " "(16)"
-    )
+    parser.add_argument("--colours", type=number_in(1, COLOURS), metavar="N", help="the maximum number of colours (16)")
     parser.add_argument(
         "--first",
         type=number_in(0, COLOURS - 1),
@@ -63,8 +61,9 @@ def add_parser(commands: Commands) -> None:
         "--simple",
         type=float,
         default=PLAIN,
-        metavar="LOSS",
-        help="how much a tile may change so that it needs fewer packs (2; 0 keeps every tile, 40 is coarse)",
+        metavar="ERROR",
+        help="change the pixels of a tile so that it needs fewer packs, up to this mean squared colour error (2; 0 "
+        "changes no pixel, 40 gives a coarse picture)",
     )
     parser.add_argument("--dither", action="store_true", help="mix colours from dots; this needs many packs")
     parser.add_argument(
@@ -74,7 +73,7 @@ def add_parser(commands: Commands) -> None:
         help="the colour of the border, like #08F (the most frequent colour at the edge of the image)",
     )
     parser.add_argument(
-        "--crop", action="store_true", help="scale the image so that it fills the window, and remove " "what is outside"
+        "--crop", action="store_true", help="scale the image so that it fills the window, and remove what is outside"
     )
     parser.add_argument(
         "--frame", type=number_in(1, 1_000_000), metavar="N", help="the frame to use if the image has several"

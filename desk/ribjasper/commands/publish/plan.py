@@ -39,7 +39,7 @@ def add_parser(commands: Commands) -> None:
     parser.add_argument("script", type=Path, metavar="SCRIPT", help="the picture script")
     add_length(parser)
     parser.add_argument(
-        "--chart", type=Path, metavar="FILE.png", help="draw a chart of the packs that are needed " "and free over time"
+        "--chart", type=Path, metavar="FILE.png", help="draw a chart of the packs that are needed and free over time"
     )
     parser.add_argument(
         "--latin-1",

@@ -43,13 +43,13 @@ def add_parser(commands: Commands) -> None:
     )
     parser.add_argument("song", type=Path, metavar="SONG", help="the lyrics, a text, or a folder with one of them")
     parser.add_argument(
-        "--audio", type=Path, metavar="SOUND", help="the sound (the sound next to SONG with the same " "name)"
+        "--audio", type=Path, metavar="SOUND", help="the sound (the sound next to SONG with the same name)"
     )
     add_encoding(parser)
     parser.add_argument("--no-browser", action="store_true", help="print the address of the page, and open no browser")
     parser.add_argument("--export", choices=EXPORTS, help="write the song for another program, and open no page")
     parser.add_argument(
-        "-o", "--output", type=Path, metavar="FILE", help="with --export, the file to write (named " "like SONG)"
+        "-o", "--output", type=Path, metavar="FILE", help="with --export, the file to write (named like SONG)"
     )
     add_force(parser)
     parser.set_defaults(run=run, parser=parser)
