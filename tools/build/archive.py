@@ -1,8 +1,8 @@
 #!/usr/bin/env python3
 """Packs a folder as a .tar.gz or .zip archive that is always the same: archive.py FOLDER ARCHIVE
 
-Files stand in the order of their names, belong to root, and have the time SOURCE_DATE_EPOCH. Programs and shared libraries keep
-their right to be run. In a .zip a link is the file that it leads to."""
+Files are sorted by name, belong to root, and have the time SOURCE_DATE_EPOCH. Programs and shared libraries stay executable. In a
+.zip, a link is replaced by its target."""
 from __future__ import annotations
 
 import argparse

@@ -1,11 +1,11 @@
 #!/bin/sh
 # Proves the library for programs in C, and builds it in lib/: libribjasper.so.0, with a link to it, and
-# libribjasper.a, with the heap inside. What an earlier call proved is kept.
+# libribjasper.a, which includes the heap. Proofs of earlier calls are reused.
 #
-# TARGET is another system, whose library is left in a folder of its own in lib/ (tools/build/build_target.sh). CPU is the
-# oldest processor that the library has to run on: x86-64, or a newer one (rt lib --help lists them). CC is the C compiler
-# that links it. With OVER_GATE=1 it stands on what `rt ci` has just proved, if that is all there, so that nothing below the
-# library is proved a second time; then lib/modules has its LLVM module, from which libraries for other systems are made.
+# TARGET is another system; its library is written to a separate folder in lib/ (tools/build/build_target.sh). CPU is the
+# oldest processor that the library must run on: x86-64, or a newer one (rt lib --help lists them). CC is the C compiler
+# that links the library. With OVER_GATE=1 the library is built over the crates that `rt ci` has just proved, if all are
+# there, so no crate below it is proved again. Then lib/modules has its LLVM module, the source for other systems.
 set -e
 cd "$(dirname "$0")/../.."
 host=x86_64-unknown-linux-gnu

@@ -51,13 +51,13 @@ def kit() -> ModuleType:
 
 
 def left_by_the_gate(rlib: str) -> bool:
-    """Whether a library stands there that the gate built: only the gate writes no stamp."""
+    """Whether the gate built this library: only the gate writes no stamp."""
     return os.path.isfile(f"{rlib}/format") and not os.path.exists(f"{os.path.dirname(rlib)}/stamp")
 
 
 @contextlib.contextmanager
 def toolchain_of(kits: Path, module: Path | None) -> Iterator[Path]:
-    """The kit's toolchain, or one beside it whose clang keeps the module."""
+    """The kit's toolchain, or a copy of it whose clang keeps the module."""
     if module is None:
         yield kits
         return

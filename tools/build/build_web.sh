@@ -1,8 +1,8 @@
 #!/bin/sh
-# Proves the calls for web pages, compiles them to WebAssembly and leaves in lib/web: ribjasper.wasm, ribjasper.mjs with
-# its types, and index.html, the page of examples/web with both inside, which needs no server. If wasm-opt is there (Debian:
-# binaryen), ribjasper32.wasm is the same module with a 32-bit memory, which every browser has, and the page has that one
-# inside. With OVER_GATE=1 it stands on what `rt ci` has just proved, if that is all there.
+# Proves the calls for web pages, compiles them to WebAssembly, and writes to lib/web: ribjasper.wasm, ribjasper.mjs with its
+# types, and index.html, the page of examples/web with both inside, which needs no server. If wasm-opt is installed (Debian:
+# binaryen), ribjasper32.wasm is the same module with a 32-bit memory, which every browser supports, and the page has this
+# module inside. With OVER_GATE=1 the calls are built over the crates that `rt ci` has just proved, if all are there.
 set -e
 cd "$(dirname "$0")/../.."
 target=wasm64-unknown-unknown

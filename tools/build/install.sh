@@ -1,7 +1,7 @@
 #!/bin/sh
-# Installs packages, or removes what of them is installed: install.sh [--remove] DESTDIR PREFIX LIBDIR PACKAGE ..
-# tools/build/installed.txt lists what they hold. DESTDIR, which may be empty, stands before each name. Names may have blanks.
-# With a package go the folders that are then empty, but for those of the system.
+# Installs packages, or removes their installed files: install.sh [--remove] DESTDIR PREFIX LIBDIR PACKAGE ..
+# tools/build/installed.txt lists the files of each package. DESTDIR, which may be empty, is put in front of each name. Names
+# may contain spaces. Removing a package also removes folders that become empty, except those of the system.
 set -e
 cd "$(dirname "$0")/../.."
 act=put

@@ -1,7 +1,7 @@
 #!/bin/sh
-# Installs, where it may, what the checks use beside Python itself, as root, by apt-get, within some minutes: packages of
-# Python, fonts, compilers, a browser, and the programs that ours are compared with. Whatever comes of it, it ends well: checks that
-# lack a package are skipped, and counted.
+# Installs the packages that the checks need in addition to Python, if it runs as root, with apt-get, in some minutes: Python
+# packages, fonts, compilers, a browser, and the programs for comparisons. The exit status is 0 in any case: checks without
+# their packages are skipped and counted.
 packages="black pyflakes3 python3-venv python3-pil python3-tqdm python3-distributed python3-hypothesis python3-mido python3-numpy
 python3-pyphen hyphen-en-us python3-chardet python3-shtab zsh mypy fonts-dejavu-core
 fonts-vlgothic ffmpeg cdrdao cdrskin libburn-dev valgrind gcc g++ clang binutils pkg-config cmake lld nodejs chromium

@@ -1,8 +1,8 @@
 #!/bin/sh
 # Makes packages for Debian of what `make` and `make library` built, with dpkg-deb only, and leaves them in deb/:
 # ribjasper (the program, its page and completions), libribjasper0 (the shared library), libribjasper-dev (header,
-# archive, pkg-config, CMake) and ribjasper-desk. Without lib/ it makes only the first, and says so. The same commit gives the
-# same packages byte for byte (SOURCE_DATE_EPOCH, or the time of the commit).
+# archive, pkg-config, CMake) and ribjasper-desk. Without lib/ it makes only the first, and reports this. Packages of the same
+# commit are equal byte for byte (SOURCE_DATE_EPOCH, or the time of the commit).
 set -e
 cd "$(dirname "$0")/../.."
 command -v dpkg-deb >/dev/null || { echo "make_deb: dpkg-deb is missing (package dpkg)" >&2; exit 1; }

@@ -9,8 +9,8 @@
 #   ribjasper_desk-V-*.whl, .tar.gz      complete wheels and the source archive of the desk
 #   ribjasper-npm-V.tgz                  the npm package
 #   *.deb                                packages for Debian
-# What lacks a tool is skipped and named; a release has nothing skipped. The same commit gives the same files byte for byte:
-# all files have the time of the commit.
+# If a tool is missing, its outputs are skipped and named; a release skips nothing. The files of the same commit are equal byte
+# for byte: all have the time of the commit.
 set -e
 cd "$(dirname "$0")/../.."
 version=$(cat VERSION)

@@ -1,12 +1,12 @@
 #!/usr/bin/env python3
-"""Proves the libraries that crates stand on, independent ones side by side: prove_crates.py CRATE ..
+"""Proves the libraries below crates, independent ones in parallel: prove_crates.py CRATE ..
 
-Says beforehand how long it will take, and as it goes which library of how many is proved. What is proved
-is kept in crates/*/out, so a call that was stopped is gone on with by the next. `rt run` of the crates
-themselves looks at all of it again, so nothing here is taken on trust.
+First prints an estimate of the time, and then each library that is proved. Proofs are kept in crates/*/out, so a call
+continues where a stopped one ended. `rt run` of the crates themselves verifies all of it again, so this script needs no
+trust.
 
-What each crate takes of a processor stands in seconds.tsv: the crate with the dearest chain above it comes first. A run from
-nothing writes that table anew with --write."""
+seconds.tsv has the processor seconds of each crate. The crate with the longest chain above it comes first. --write updates
+the table after a run from nothing."""
 from __future__ import annotations
 
 import argparse
@@ -28,17 +28,17 @@ from rattle import graph as graph  # noqa: E402
 
 # The processor seconds that each crate took once.
 TABLE = ROOT / "tools" / "build" / "seconds.tsv"
-# For a crate that is not in it: how many lines of code and proofs a processor works off in a second, and the seconds that any
-# crate takes.
+# For a crate that is not in the table: the lines of code and proofs that a processor checks in a second, and the minimum time
+# of a crate in seconds.
 LINES_A_SECOND, LEAST_SECONDS = 45, 10
-# How many seconds of work weigh as much as that: what this run shows by and by counts for more.
+# The estimate of the table has the weight of this many seconds of work; the measurements of this run have the rest.
 LEARNT_SECONDS = 60
-# What a check takes of memory.
+# The memory that a check needs.
 BYTES = 2_500_000_000
 
 
 def libraries(below: dict[str, list[str]], goals: list[str]) -> list[str]:
-    """All that the goals stand on, lowest first."""
+    """All crates below the goals, lowest first."""
     found: list[str] = []
 
     def visit(name: str) -> None:
@@ -104,15 +104,15 @@ def spoken(seconds: float) -> str:
 
 
 def all_below(name: str, below: dict[str, list[str]]) -> set[str]:
-    """A crate and all of the repository that it stands on."""
+    """A crate and all crates of the repository below it."""
     return {name}.union(*(all_below(it, below) for it in below[name]))
 
 
 def room_of(name: str, below: dict[str, list[str]]) -> pathlib.Path:
-    """A copy, by links, of a crate and what it stands on.
+    """A copy, by links, of a crate and the crates below it.
 
-    `rt` keeps every other `rt` out of the crates that it works over, so two proofs that stand on the same
-    library would wait for one another in one folder."""
+    `rt` locks the crates that it works on, so in one folder two proofs over the same library would wait for each
+    other."""
     room = ROOT / "crates" / name / "out" / "room"
     if (room / "crates" / name / "out").is_dir():
         give_back(name, room)  # of a call that was stopped
@@ -128,7 +128,7 @@ def room_of(name: str, below: dict[str, list[str]]) -> pathlib.Path:
 
 
 def copy_crate(crate: pathlib.Path, place: pathlib.Path) -> None:
-    """Copies a crate by links, all of it but the room that is made in its `out`: the name may stand elsewhere too."""
+    """Copies a crate by links, without the folder for copies in its `out`; other folders may have the same name."""
 
     def skipped(folder: str, names: list[str]) -> set[str]:
         return {"room"}.intersection(names) if pathlib.Path(folder) == crate / "out" else set()
@@ -197,7 +197,7 @@ class Proving:
         return max(1, free - (ready - 1))
 
     def prove(self, name: str, jobs: int) -> None:
-        """Proves a crate with so many processors and builds its library, over what earlier runs kept."""
+        """Proves a crate with this number of processors and builds its library, over the proofs that earlier runs kept."""
         folder = ROOT / "crates" / name
         os.makedirs(folder / "out", exist_ok=True)
         room = room_of(name, self.below)
@@ -238,7 +238,7 @@ class Proving:
 
 
 def lanes() -> int:
-    """As many checks at a time as JOBS says, or as there are processors and memory for."""
+    """The number of checks at a time: JOBS, or as many as processors and memory allow."""
     if os.environ.get("JOBS", "").isdigit():
         return max(1, int(os.environ["JOBS"]))
     return max(1, min(len(os.sched_getaffinity(0)), available() // BYTES))

@@ -1,6 +1,6 @@
 #!/bin/sh
-# Leaves in bin/ and lib/ what the gate has just proved: its program as it is, and the library and the player for web pages
-# over the crates that it proved. `make check` calls it right after `rt ci`, so that whatever follows is tried with what was proved.
+# Copies the program that the gate has just proved to bin/, and builds the library and the player for web pages in lib/ over
+# the crates that the gate proved. `make check` calls it right after `rt ci`, so all later checks use proved code.
 set -e
 cd "$(dirname "$0")/../.."
 program=crates/ribjasper/out/ribjasper

@@ -1,5 +1,5 @@
 #!/usr/bin/env python3
-"""Tests of prove_crates.py: a crate is proved in a copy of it and of what it stands on, which has to be whole."""
+"""Tests of prove_crates.py: a crate is proved in a complete copy of itself and of the crates below it."""
 import pathlib
 import subprocess
 import sys

@@ -1,10 +1,10 @@
 #!/usr/bin/env python3
 """Compiles the LLVM module of a proved crate for another system: translate.py MODULE TARGET OBJECT [--rename OLD=NEW ..]
 
-MODULE is what the kit's compiler gave its clang for Linux on x86-64 (build_over_gate.py --module). The heap of tools/build/heap.ll is
-put into it, and of all its functions only the calls of the library and `main` stay visible. The kit's own clang has the
-code generators of every target. Calls keep the platform's C convention: no call passes or returns a struct by value, and
-numbers narrower than a register are read without their unused bits. This translation is not proved; tests compare it."""
+MODULE is the input of the kit's clang for Linux on x86-64 (build_over_gate.py --module). The script adds the heap of
+tools/build/heap.ll, and hides all functions except the calls of the library and `main`. The kit's clang has the code generators of
+every target. Calls keep the platform's C convention: no call passes or returns a struct by value, and numbers narrower than a
+register are read without their unused bits. This translation is not proved; tests compare its results."""
 from __future__ import annotations
 
 import argparse
@@ -20,7 +20,7 @@ from typing import NamedTuple
 BUILD = Path(__file__).resolve().parent
 VISIBLE = re.compile(r"ribjasper_\w+|main$")
 DEFINED = re.compile(r"^define (?:(?:dso_local|hidden|protected|external) )*(?P<rest>.*?@(?P<name>[\w.$]+)\()", re.M)
-# What the module says of Linux on x86-64 only: its triple, its layout, its processor, and how large frames touch the stack.
+# The parts of the module that are only for Linux on x86-64: triple, layout, processor, and the stack probes of large frames.
 # Types have the same size and alignment on each target: 64-bit addresses, the lowest byte first.
 OF_LINUX = re.compile(r'^target (?:datalayout|triple) = .*\n|"probe-stack"="inline-asm" ?|"target-cpu"="[^"]*" ?', re.M)
 

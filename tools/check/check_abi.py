@@ -44,7 +44,7 @@ def questions(header: str) -> Iterator[str]:
 
 
 def of_header() -> list[str]:
-    """What the header says, as lines of the list."""
+    """The declarations of the header, as lines of the list."""
     header = COMMENT.sub("", HEADER.read_text())
     told = sorted({f"call {name}" for name in CALL.findall(header)})
     with tempfile.TemporaryDirectory() as folder:
@@ -57,7 +57,7 @@ def of_header() -> list[str]:
 
 
 def of_library() -> list[str]:
-    """What the shared library says: its name, and its symbols with their version."""
+    """The name of the shared library, and its symbols with their versions."""
     dynamic = subprocess.run(["readelf", "-d", LIBRARY], check=True, capture_output=True, text=True).stdout
     found = re.search(r"SONAME.*\[(.*)\]", dynamic)
     symbols = subprocess.run(["nm", "-D", "--defined-only", "--with-symbol-versions", LIBRARY], check=True,

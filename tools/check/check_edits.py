@@ -1,12 +1,12 @@
 #!/usr/bin/env python3
-"""Checks the wrong bodies that the checker has to refuse: check_edits.py [TOP]
+"""Checks the wrong bodies that the checker must refuse: check_edits.py [TOP]
 
-Each edit's old text stands exactly once in the file that it names, so that the edit still changes what it was written
-for. If an edit has several texts, each is looked for in the result of those before it. The gate tries the edits of
-`must-fail/`, and tools/check/try_wrong_bodies.py those of `wrong-bodies/`.
+The old text of each edit must occur exactly once in the file that it names, so that the edit still makes its change. If an
+edit has several texts, each is searched in the result of the earlier ones. The gate tries the edits of `must-fail/`, and
+tools/check/try_wrong_bodies.py those of `wrong-bodies/`.
 
-The first line of each edit of `wrong-bodies/` says what a user would notice and what refuses the edit; each row or test
-that it names stands in the file that it names. tools/write/list_wrong_bodies.py makes a list of these lines.
+The first line of each edit of `wrong-bodies/` states what a user would notice and what refuses the edit. Each row or test
+that it names must be in the file that it names. tools/write/list_wrong_bodies.py makes a list of these lines.
 """
 import argparse
 import re
@@ -21,7 +21,7 @@ from list_wrong_bodies import wrong_bodies  # noqa: E402
 
 KEYS = ("file", "old", "new")
 FOLDERS = ("must-fail", "wrong-bodies")
-# A file of rows or tests, and a row or a test that stands in it.
+# A file of rows or tests, and a row or a test in it.
 WITNESS = re.compile(r"`([\w.]+)`: `([\w-]+)`")
 WITNESSES = ("crates/rows/data/*.rows", "crates/call_tests/src/*.rt", "tests/*/*", "desk/tests/*.py")
 

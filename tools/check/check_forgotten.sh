@@ -1,6 +1,6 @@
 #!/bin/sh
-# No code lets go of memory without giving it back: no clause could say so. `Box::into_raw_with_allocator` stands in one place,
-# where a player is put behind a pointer for C.
+# No code leaks memory; no clause could state this. `Box::into_raw_with_allocator` occurs in one place, which makes a pointer
+# to a player for C.
 cd "$(dirname "$0")/../.." || exit 1
 found=$(grep -rnE '\b(forget|leak|into_raw|into_raw_parts|ManuallyDrop)\b' --include='*.rt' crates/*/src)
 [ -z "$found" ] || { echo "check_forgotten: memory may be lost: $found" >&2; exit 1; }

@@ -1,10 +1,12 @@
 #!/usr/bin/env python3
-"""Looks at the names and lines of the code: check_names.py [TOP]
+"""Checks the names and lines of the code: check_names.py [TOP]
 
-Complains of a definition whose name stands in the public specs of two crates, of a type (a struct, an enum, a trait, or
-a record of definitions) whose name stands in two crates, of a line of code, clause, definition or proof over 110 columns
-(comments, proof hints and imports are laid out by `rt fmt`, and are passed over), and of a public item or a definition
-that no other place in the code names. The crate `surface` names what callers were promised.
+It reports:
+- a definition whose name is in the public specs of two crates;
+- a type (a struct, an enum, a trait, or a record of definitions) whose name is in two crates;
+- a line of code, clause, definition or proof over 110 columns, except comments, proof hints and imports, which `rt fmt`
+  lays out;
+- a public item or a definition that no other place in the code names. The crate `surface` names what callers were promised.
 """
 import argparse
 import functools
@@ -27,12 +29,12 @@ WORD = re.compile(r"[A-Za-z_][A-Za-z0-9_'?!]*")
 PASSED_OVER = re.compile(r"\s*(?:ghost )?(?:pub )?use |\s*#\[tactic|\s*//|\s*--")
 # The types that may be called alike in two crates, at most five, each with the reason.
 ALIKE: dict[str, str] = {}
-# What may stand although nothing names it, with the reason.
+# Items that nothing names, with the reason why they are allowed.
 ALLOWED = {
     "main": "the program's entry",
 }
 
-# Each name with the places at which it stands: a file and the number of a line.
+# The places of each name: a file and the number of a line.
 Found = dict[str, list[tuple[Path, int]]]
 
 
@@ -48,7 +50,7 @@ def crate_of(path: Path) -> str:
 
 
 def definitions(of_types: bool = False) -> Found:
-    """Each public definition of specs, or each type there, with the places at which it stands."""
+    """The places of each public definition of specs, or of each type there."""
     found: Found = defaultdict(list)
     for path, lines in texts("specs").items():
         for it in rattle.definitions(lines):
@@ -58,7 +60,7 @@ def definitions(of_types: bool = False) -> Found:
 
 
 def types() -> Found:
-    """Each type of the code and each record of definitions, with the places at which it stands."""
+    """The places of each type of the code and of each record of definitions."""
     found = definitions(of_types=True)
     for path, lines in texts("src").items():
         for it in rattle.items(lines):
@@ -68,7 +70,7 @@ def types() -> Found:
 
 
 def items() -> Iterator[tuple[str, Path, int]]:
-    """Each public item of the code but those of tests, with the place at which it stands."""
+    """The place of each public item of the code, without tests."""
     for path, lines in texts("src").items():
         if crate_of(path) in ("ribjasper_c", "ribjasper_web"):
             continue  # what C calls is named by the header, what pages call by web/ribjasper.mjs
@@ -76,7 +78,7 @@ def items() -> Iterator[tuple[str, Path, int]]:
 
 
 def uses() -> Counter[str]:
-    """How often each word stands in the code, the definitions and the proofs."""
+    """How often each word occurs in the code, the definitions and the proofs."""
     count: Counter[str] = Counter()
     for kind in KINDS:
         for lines in texts(kind).values():

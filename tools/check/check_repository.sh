@@ -1,6 +1,5 @@
 #!/bin/sh
-# Cheap checks of what no proof sees: the handles, the links and commands of the documents, and that
-# every crate is listed.
+# Checks of everything that no proof covers: handles, documents, tools, tests and the desk.
 cd "$(dirname "$0")/../.." || exit 1
 failed=0
 
@@ -28,7 +27,7 @@ try() {
 # No handle is allowed.
 [ "$(cat HANDLES)" = "Handles allowed: none." ] || complain "HANDLES is changed"
 
-# The repository stands alone: no document outside of it is cited.
+# No document outside the repository is cited.
 cited=$(git grep -nIE '\b(paper|request|demand|rung) [0-9]+|\bpapers?/[0-9]' -- . ':!tools/check/check_repository.sh')
 [ -z "$cited" ] || complain "something outside is cited: $cited"
 
@@ -37,7 +36,7 @@ listed=$(sed -n 's/^\([a-z0-9_]*\):.*/\1/p; s/^\([a-z0-9_]*\) staticlib:.*/\1/p'
 present=$(ls crates | sort)
 [ "$listed" = "$present" ] || complain "crates.txt and crates/ differ"
 
-# The definitions are listed as they stand, and each crate is on the map.
+# DEFINITIONS has the current definitions, and each crate is on the map.
 tools/write/list_definitions.py --check || complain "docs/DEFINITIONS.md is not what tools/write/list_definitions.py writes"
 for crate in $present; do
     grep -qw "$crate" docs/ARCHITECTURE.md || complain "docs/ARCHITECTURE.md leaves out $crate"
@@ -52,10 +51,10 @@ output=$(tools/build/test_proving.py 2>&1) || complain "tools/build/test_proving
 # What wraps proof lines changes nothing but white space.
 output=$(tools/write/test_wrapping.py 2>&1) || complain "tools/write/test_wrapping.py fails: $(echo "$output" | tail -n 6)"
 
-# Each edit's old text stands exactly once in the file that it names.
+# The old text of each edit occurs exactly once in the file that it names.
 tools/check/check_edits.py || complain "an edit does not turn what it was written for"
 
-# The checker refuses the wrong bodies of dear crates, function by function, over what the gate or `make` left.
+# The checker refuses the wrong bodies of slow crates, function by function, over the proofs of the gate or of `make`.
 try tools/check/try_wrong_bodies.py --by-function || complain "a wrong body is not refused"
 
 # The tables of numbers are those that are reckoned.
@@ -64,12 +63,11 @@ try tests/peers/tables.py || complain "a table of numbers is not what tests/peer
 # What rows want is what their definitions give.
 try tests/peers/reckon_rows.py --check || complain "a row does not want what tests/peers/reckon_rows.py reckons"
 
-# The manual page and the completions are those of the table of commands, which README.md lists too, and
-# the guide's commands do what it says.
+# The manual page, the completions and README.md have the commands of FORMATS, and the commands of the guide work.
 tools/write/commands.py --check || complain "share/ is not what tools/write/commands.py writes"
 try tools/check/run_guide.sh || complain "the guide does not run"
 
-# The tour does what it says, and each example of a refusal is refused so, where the program is built.
+# If the program is built: the demo works, and each example of a refusal is refused as documented.
 for program in bin/ribjasper crates/ribjasper/out/ribjasper; do
     if [ -x "$program" ]; then
         room=$(mktemp -d)
@@ -90,8 +88,8 @@ try tests/library/test_linking.sh || complain "the library for programs in C is 
 try tests/library/compare_targets.sh || complain "what is built for another system is not as the program"
 try tests/library/compare_plugins.sh || complain "a plug-in does not show what the program shows"
 
-# What linked programs rest on is as it was, examples show what the program shows, mending is that of another program, no call
-# takes more of the stack than is said, and nothing that is asked for is forgotten.
+# The ABI is unchanged, examples show the same as the program, mending equals that of another implementation, no call needs
+# more stack than documented, and no memory leaks.
 try tools/check/check_abi.py || complain "tools/check/abi.txt does not list what the library is"
 try tests/library/compare_examples.sh || complain "an example of a player does not show what the program shows"
 [ ! -e lib/libribjasper.so.0 ] || try tests/peers/compare_mending.py --cases 300 || complain "readings are mended otherwise than the rule says"
@@ -106,7 +104,7 @@ try tests/program/test_live_stream.py || complain "a live stream is held back"
 try tests/peers/compare_web.sh || complain "the player for web pages is not as the program"
 try tests/peers/compare_c.sh || complain "the player as plain C is not as the program"
 
-# The desk does what it says, where the program and the library are built.
+# If the program and the library are built: the tests of the desk.
 LIMIT=3000
 try tools/check/test_desk.sh || complain "a test of the desk fails"
 
@@ -124,7 +122,7 @@ try tools/check/check_types.sh || complain "the types of what is written in Pyth
 try tools/check/check_style.sh || complain "the desk's Python is not laid out as it should be"
 try bench/instructions.py --check || complain "a command takes more instructions than bench/instructions.tsv says"
 
-# No more code runs than tools/check/way_of.tsv says, by 2 %.
+# At most 2 % more code runs than tools/check/way_of.tsv states.
 try tools/check/way_of.py --check || complain "more code runs for a command than tools/check/way_of.tsv says"
 
 # Other programs agree, where they are installed.

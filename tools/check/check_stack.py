@@ -1,9 +1,9 @@
 #!/usr/bin/env python3
-"""Compares the stack that the program takes at most with a limit, right after the gate: check_stack.py [--most BYTES]
+"""Compares the maximum stack of the program with a limit, right after the gate: check_stack.py [--most BYTES]
 
-No clause can say how deep a stack gets. The kit's own compiler reports the most that a call of `main` takes, functions in C
-left out, with a `+` behind the number if a function may call itself. This builds the program by that compiler over the
-libraries that the gate has proved, and fails if the number is above the limit or has a `+`."""
+No clause can limit a stack. The kit's own compiler reports the maximum stack of a call of `main`, without functions in C, and
+adds a `+` to the number if a function may call itself. This script builds the program with that compiler over the libraries
+that the gate has proved. It fails if the number is above the limit or has a `+`."""
 from __future__ import annotations
 
 import argparse

@@ -6,7 +6,7 @@ check() {
     MYPYPATH=$path mypy --config-file desk/pyproject.toml "$@"
 }
 files() { git ls-files --cached --others --exclude-standard "$@" | sort -u; }
-# Modules are looked for beside those that import them, as Python does.
+# mypy searches modules in the folder of the importing module, as Python does.
 path=desk:desk/tests:$(files 'tools/*.py' 'tests/*.py' 'examples/*.py' | xargs -n 1 dirname | sort -u | paste -sd :)
 check $(files 'tools/*.py' 'tests/*.py' 'bench/*.py' 'examples/*.py')
 tools=$?

@@ -1,8 +1,8 @@
 #!/bin/sh
-# Runs the gate and prints how many processor seconds each crate took for its proof, its tests and its must-fail edits,
-# dearest first: tools/check/gate_times.sh [--anew] [LOG]. With --anew all is proved and tried from nothing; otherwise a kit
-# whose gate keeps proofs passes over what an earlier run here proved. The gate's log has no times, so the processes of the
-# run are watched. The log (gate.log, if none is named) ends with the table, and tools/check/gate_times.sh --again LOG prints
-# it once more.
+# Runs the gate and prints the processor seconds of each crate for its proof, its tests and its must-fail edits, slowest
+# first: tools/check/gate_times.sh [--anew] [LOG]. With --anew everything is proved and tried from nothing; otherwise a kit
+# whose gate keeps proofs skips everything that an earlier run here proved. The log of the gate has no times, so the script
+# watches the processes of the run. The log (default: gate.log) ends with the table; tools/check/gate_times.sh --again LOG
+# prints it again.
 cd "$(dirname "$0")/../.." || exit 1
 exec python3 tools/check/gate_times.py "$@"

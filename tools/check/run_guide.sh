@@ -1,8 +1,8 @@
 #!/bin/sh
-# Runs the commands of README.md, docs/FORMATS.md and docs/GUIDE.md as they stand, from a clean environment: each document
-# in a home of its own, begun in this checkout, with nothing set but HOME and the system's PATH. What README's first block
-# sets, the other two stand on, as they say. Blocks marked `sh` want bin/ribjasper, `sh desk` lib/ and Pillow too, `sh
-# library` a C compiler and lib/, `sh song` also ffmpeg and a font. What cannot be run is counted as skipped.
+# Runs the commands of README.md, docs/FORMATS.md and docs/GUIDE.md unchanged, in a clean environment: each document in a
+# separate home folder, starting in this checkout, with only HOME and the system's PATH set. The other two documents use the
+# variables of README's first block, as they state. Blocks marked `sh` need bin/ribjasper, `sh desk` also lib/ and Pillow, `sh
+# library` a C compiler and lib/, `sh song` also ffmpeg and a font. Blocks that cannot run are counted as skipped.
 cd "$(dirname "$0")/../.." || exit 1
 [ -x bin/ribjasper ] || { echo "guide: skipped, there is no bin/ribjasper (make)"; exit 0; }
 work=$(mktemp -d)

@@ -1,7 +1,7 @@
 #!/bin/sh
-# A stranger's way through README.md, from its first line to its last: a fresh clone of what is committed here, a clean
-# environment, and every block as it stands, with `make demo`, `make` and `make library`. Prints how long each of these took.
-# By hand, before a release: it proves everything anew. With --kept it takes along what was proved in this checkout.
+# Follows README.md like a new user, from the first line to the last: in a fresh clone of the commit, with a clean
+# environment, it runs every block unchanged, and `make demo`, `make` and `make library`. Prints the time of each. It is run
+# by hand before a release, because it proves everything from nothing. With --kept it uses the proofs of this checkout.
 cd "$(dirname "$0")/../.." || exit 1
 work=$(mktemp -d)
 trap 'rm -rf "$work"' EXIT

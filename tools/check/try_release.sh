@@ -12,7 +12,7 @@ work=$(mktemp -d)
 trap 'umount "$work"/*/proc 2>/dev/null || true; rm -rf "$work"' EXIT
 failed=0
 
-# The first result: a publisher's disc and a look at it, an archivist's answers. EXAMPLES has the two texts.
+# The first results of README: a publisher's disc and one picture of it, and an archivist's tables. EXAMPLES has the inputs.
 cat >"$work/first_result" <<'END'
 set -e
 mkdir /tmp/first-result

@@ -1,14 +1,14 @@
 #!/usr/bin/env python3
-"""Has the checker try wrong bodies: try_wrong_bodies.py [--by-function] [--jobs N] [CRATE ..]
+"""Tries wrong bodies: try_wrong_bodies.py [--by-function] [--jobs N] [CRATE ..]
 
-The gate tries the edits of `must-fail/`. Those of `wrong-bodies/` stand in crates whose proof is dear, or say less; all are
-tried here, before a release, each over a copy of what `make`, `rt check` or `rt lib` kept of its crate, so that one takes
-seconds and not a whole proof. The kit's own command judges each. What is not refused so, and each edit of a crate that is
-not proved over what was kept, is tried once more from nothing. The status is 0 only if each wrong body is refused.
+The gate tries the edits of `must-fail/`. The edits of `wrong-bodies/` belong to crates with slow proofs, or are less
+important. This script tries all of them before a release, each over a copy of the proofs that `make`, `rt check` or `rt lib`
+kept for its crate, so one edit needs seconds instead of a whole proof. The kit's command decides. An edit that is not refused
+is tried again from nothing, and so is an edit of a crate without kept proofs. The status is 0 only if every edit is refused.
 
-With --by-function those alone are tried that name a function, in a line `function: PATH`. Of each this function is proved with
-what it calls, and nothing else of its crate, over the libraries that the gate or `make` left: ten to forty seconds each.
-`make check` does so right after the gate, which has proved the same functions without the edits."""
+With --by-function the script tries only the edits with a line `function: PATH`. It proves this function and the functions
+that it calls, over the libraries that the gate or `make` left: ten to forty seconds for each edit. `make check` does this
+right after the gate, which has proved the same functions without the edits."""
 from __future__ import annotations
 
 import argparse
@@ -32,7 +32,7 @@ from prove_crates import lanes  # noqa: E402
 
 FOLDERS = ("must-fail", "wrong-bodies")
 FLAGS = ["--jobs", "1"]
-# Of a line of the checker so many letters are printed.
+# The number of printed letters of a line of the checker.
 MOST_LETTERS = 160
 FUNCTION = re.compile(r"function: (\S+)")
 # How many functions a check was asked for, and how many of them it proved.
@@ -85,7 +85,7 @@ def tried(rt: ModuleType, crate: Any) -> list[str]:
 
 
 def judged(rt: ModuleType, crate: Any, edit: str, function: str) -> tuple[bool, str]:
-    """Whether the checker refuses the function with the edit, and what it says."""
+    """Whether the checker refuses the function with the edit, and its message."""
     texts, why = rt.read_edit(edit, crate.folder)
     if why:
         return False, why
@@ -102,7 +102,7 @@ def judged(rt: ModuleType, crate: Any, edit: str, function: str) -> tuple[bool, 
 
 
 def tried_by_function(rt: ModuleType, crate: Any, edit: str) -> bool:
-    """Tries one wrong body, prints what comes of it, and says whether it is refused."""
+    """Tries one wrong body, prints the result, and returns whether it is refused."""
     began, function = time.monotonic(), function_of(edit)
     is_refused, said = judged(rt, crate, edit, function or "")
     word, took = "refused" if is_refused else "NOT REFUSED", time.monotonic() - began
@@ -113,7 +113,7 @@ def tried_by_function(rt: ModuleType, crate: Any, edit: str) -> bool:
 def try_all(rt: ModuleType, crates: list[Any], jobs: int) -> list[str]:
     """Tries all wrong bodies of some crates, and returns those that are not refused."""
     print(f"try_wrong_bodies: {sum(len(edits_of(it)) for it in crates)} in {len(crates)} crates", flush=True)
-    # What they stand on is built first, one after another.
+    # The crates below are built first, one after another.
     if any(low.build_rlib(FLAGS, anew=False) for it in crates for low in it.below()):
         sys.exit("try_wrong_bodies: a library that a crate stands on is not proved")
     with ThreadPoolExecutor(jobs) as pool:

@@ -2,14 +2,14 @@
 """Counts the code that runs when a command runs: way_of.py [--files] [--program PROGRAM] WORDS .. <INPUT
 Compares it with tools/check/way_of.tsv: way_of.py --check | --write
 
-Valgrind names each function that ran: its crate, its module and its name. So a function that is reached through a trait counts,
-and one that never runs does not. Nothing may be inlined in PROGRAM. Without --program it is built by
-tools/build/build_over_gate.py, right after the gate. For each crate the output has the functions that ran, their lines with their
-clauses, and the files and lines that they stand in; --files lists the files. The depth is the longest chain of calls. Functions of
-the kit are left out, and so are laws, which do nothing.
+Valgrind names each function that ran: its crate, its module and its name. So a function that is called through a trait counts,
+and a function that never runs does not. Nothing may be inlined in PROGRAM. Without --program, tools/build/build_over_gate.py
+builds it, right after the gate. For each crate the output has the number of functions that ran, of their lines with their
+clauses, of their files and of the lines of these files; --files lists the files. The depth is the longest chain of calls.
+Functions of the kit do not count, nor do laws, which do nothing.
 
---check counts the ways of `convert` and `author` for the example's disc, and fails if a count is more than 2 % above
-way_of.tsv. --write writes that file anew."""
+--check counts the code that runs for `convert` and `author` with the example's disc, and fails if a count is more than 2 %
+above way_of.tsv. --write updates that file."""
 from __future__ import annotations
 
 import argparse
@@ -42,7 +42,7 @@ UNCHANGED = re.compile(r"&self|\w+: (&(?!mut\b).*|[ui]\d+|usize|bool)")
 
 
 class Counts(NamedTuple):
-    """How much ran: functions, their lines, the files that they stand in, and the longest chain of calls."""
+    """The code that ran: functions, their lines, their files, and the longest chain of calls."""
 
     functions: int
     lines: int
@@ -200,7 +200,7 @@ def counts(files: Ran, depth: int = 0) -> Counts:
 
 
 def sizes(files: Ran) -> str:
-    """How much ran: functions and their lines, of so many files and lines."""
+    """The code that ran: functions and their lines, with the number of their files and of the lines of these files."""
     found = counts(files)
     whole = sum(len(file.read_text().splitlines()) for file in files)
     return f"{found.functions} functions of {found.lines:,} lines, in {found.files} files of {whole:,}"

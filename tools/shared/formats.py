@@ -1,4 +1,4 @@
-"""The tables of docs/FORMATS.md, as the tools and tests read them that write or try what it says."""
+"""Reads the tables of docs/FORMATS.md, for the tools that write documents and the tests that try the statements there."""
 import re
 from pathlib import Path
 
@@ -39,5 +39,5 @@ def bare(cell: str) -> str:
 
 
 def quoted(cell: str) -> list[str]:
-    """What stands in a cell between marks of code."""
+    """The texts between backticks in a cell."""
     return re.findall("`([^`]+)`", cell)

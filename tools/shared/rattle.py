@@ -18,7 +18,7 @@ Names = dict[str, tuple[str, str]]
 
 
 class Item(NamedTuple):
-    """An item of the code: its kind and name, the type or trait that it belongs to, and at which line it stands."""
+    """An item of the code: its kind and name, the type or trait that it belongs to, and its line."""
 
     kind: str
     name: str
@@ -31,7 +31,7 @@ class Item(NamedTuple):
 
 
 class Definition(NamedTuple):
-    """A definition, a record or a kind of data, and at which line it stands."""
+    """A definition, a record or a kind of data, and its line."""
 
     name: str
     is_public: bool
@@ -40,7 +40,7 @@ class Definition(NamedTuple):
 
 
 def graph(top: Path = TOP) -> dict[str, list[str]]:
-    """The crates of the repository, lowest first, with those of it that each stands on."""
+    """The crates of the repository, lowest first, each with the crates of the repository that it uses."""
     below: dict[str, list[str]] = {}
     for line in (top / "crates.txt").read_text().splitlines():
         name, colon, rest = line.split("#")[0].partition(":")

@@ -50,7 +50,7 @@ def words_of(row: Row) -> tuple[str, list[tuple[str, bool]]]:
 
 
 def examples(text: str) -> list[tuple[str, list[str]]]:
-    """What each block of commands of the document shows: pairs of what it is and its lines."""
+    """The blocks of commands in the document: pairs of a description and its lines."""
     found: list[tuple[str, list[str]]] = []
     for block in re.findall(r"^```sh\n(.*?)^```$", text, re.M | re.S):
         for line in block.splitlines():
@@ -67,7 +67,7 @@ def entry(tag: str, said: str) -> list[str]:
 
 
 def letters(formats: str) -> list[str]:
-    """The part on the letters that stand for values."""
+    """The part about the letters that represent values."""
     out = [".SH VALUES"]
     for letter, meaning, spelled in table(formats, "| Letter | Is | Spelled |"):
         said = meaning if spelled == "the same" else f"{meaning}: {spelled}"
@@ -119,7 +119,7 @@ def manual(formats: str, commands: list[Row]) -> str:
 
 
 def values_of(name: str, option: str) -> list[str]:
-    """What may stand after an option, as far as it can be listed."""
+    """The values that may follow an option, if they can be listed."""
     if option != "--form":
         return []
     return [form for form in FORMS if not (form == "cooked" and name in WITHOUT_COOKED)]

@@ -12,10 +12,10 @@ from pathlib import Path
 TOP = Path(__file__).resolve().parents[2]
 # A comment that begins a line, which may be left out, and the lines up to the next empty one or such comment.
 PARTS = re.compile(r"^(?:/\*(.*?)\*/\n)?((?:(?!/\*|\n)[^\n]*\n)*)", re.M | re.S)
-# Lines that are for the compiler alone, and a word that is.
+# Lines that only the compiler needs, and a word that only the compiler needs.
 GUARDS = re.compile(r'^(#if|#el|#endif|#include|#define RIBJASPER_(H$|NODISCARD)|RIBJASPER_NODISCARD$|extern "C"|\}$)')
 FOR_COMPILERS = "RIBJASPER_NODISCARD "
-# A line of a comment that begins what is said of one or more parameters.
+# The first line of the description of one or more parameters in a comment.
 PARAMETER = re.compile(r"^ {5}[a-z_]\w*(?:, [a-z_]\w*)*: ")
 CALL = re.compile(r"\b(ribjasper_\w+)\(")
 
@@ -46,7 +46,7 @@ def said(comment: str) -> list[str]:
 
 
 def entry(comment: str, code: str) -> list[str]:
-    """A part of the header: what it declares, and what is said of it."""
+    """A part of the header: its declarations and its description."""
     lines = [line.replace(FOR_COMPILERS, "") for line in code.splitlines() if not GUARDS.match(line)]
     told = [".RS", *said(comment), ".RE"] if comment else []
     if not lines:

@@ -1,11 +1,11 @@
 #!/usr/bin/env python3
 """Writes docs/DEFINITIONS.md: the claims of the headline, and the definitions that they cite.
 
-A part begins with clauses of the top call `run`, with definitions or with laws. It shows each definition that these rest
-on once, in the order in which they are met; definitions that only name a number stand in a table at its end. A later part
-does not repeat them. The document has the parts of the headline. With --whole (`make definitions`) the script writes all
-parts, and the names that no part reaches, to a file that is not committed. With --check it reports whether the document is
-current; --count prints the lines of each part.
+A part begins with clauses of the top call `run`, with definitions or with laws. It shows each definition below these once,
+in the order of their first use; a table at the end has the definitions that only name a number. Later parts do not repeat
+them. The document has the parts of the headline. With --whole (`make definitions`) the script writes all parts, and the
+names that no part reaches, to a file that is not committed. With --check it reports whether the document is current; --count
+prints the lines of each part.
 """
 import argparse
 import re
@@ -24,8 +24,8 @@ CLAIMS = TOP / "crates" / "cdg_cmd" / "src" / "top.rt"
 LAWS = TOP / "crates" / "run_laws" / "src"
 NAME = re.compile(r"[A-Za-z_][A-Za-z0-9_'?!-]*|◌[^◌\s]+◌")
 
-# Each part with its roots: clauses of `run`, definitions, or the laws of run_laws. What a later part begins with is not
-# shown before it: a part takes it on trust, and says in which part it stands.
+# Each part with its roots: clauses of `run`, definitions, or the laws of run_laws. The roots of a later part are not shown
+# in earlier parts: an earlier part only names the part that shows them.
 PARTS = [
     ("Packs are recovered", ["run.gives_back"]),
     ("Pictures are shown", ["IsAuthored", "run.shows", "pixmap", "Drawing", "written_symbols"]),
@@ -41,10 +41,10 @@ PARTS = [
 # The parts of the headline, which the document shows.
 HEADLINE = 3
 
-# The crates whose definitions the clauses of the library for programs in C rest on, beside those of the program.
+# The crates with definitions for the clauses of the C library, in addition to the crates of the program.
 LIBRARY = ("block_survey", "rw_mend", "mended_stream", "disc_plan", "live_player", "ribjasper_c")
 
-# What a part says first, where its claims name something that it does not show.
+# The introduction of a part whose claims name something that the part does not show.
 SAID = {
     "Packs are recovered": "This part is about `convert`. In its clause, `disc` is a cue sheet and a script with the numbers of blocks of the"
     " lead-in and of the audio. `stream` is the bytes of an authored stream of this disc. `packs` is the list of packs in this stream, each a"
@@ -217,9 +217,9 @@ WORDS = {
 }
 
 
-# A definition: the module in which it stands, and its name there.
+# A definition: its module, and its name there.
 Target = tuple[str, str]
-# A claim: what is said of it, and its lines.
+# A claim: its description and its lines.
 Claim = tuple[list[str], list[str]]
 
 
@@ -313,7 +313,7 @@ def signature() -> list[str]:
 
 
 def variants(crate: str, name: str) -> list[str]:
-    """A public enum of the code as it stands, without its comments."""
+    """A public enum of the code, without its comments."""
     for path in files("src", crate):
         lines = path.read_text().splitlines()
         if f"pub enum {name} {{" in lines:
@@ -389,7 +389,7 @@ class Book:
         return cited
 
     def claims_of(self, root: str) -> tuple[list[Claim], list[Target]]:
-        """The claims that a root of a part stands for, and the definitions that these cite."""
+        """The claims of a root of a part, and the definitions that these claims cite."""
         if root == "library":
             modules = [(where, module) for where, module in self.modules.items() if module.crate in LIBRARY]
             return [], [(where, name) for where, module in modules for name in module.blocks]

@@ -1,8 +1,8 @@
 #!/usr/bin/env python3
 """Writes the list of wrong bodies in crates/*/wrong-bodies to standard output, as Markdown: list_wrong_bodies.py [TOP]
 
-The first line of each edit is `# NOTICE | REFUSED`: what a user would notice, and what refuses the edit beside the proof
-of its crate. `tried:` in front of the second part means that the row or test was run on the wrong body and failed.
+The first line of each edit is `# NOTICE | REFUSED`: what a user would notice, and what refuses the edit in addition to the
+proof of its crate. `tried:` before the second part means that the row or test was run on the wrong body and failed.
 """
 import argparse
 import re

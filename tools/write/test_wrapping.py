@@ -10,7 +10,7 @@ CALL = "first_law " + " ".join(f"(argument_{number} left right)" for number in r
 
 
 def broken(line: str) -> list[str]:
-    """The lines of a line, of which those that are still too long are broken again."""
+    """The lines of a broken line; lines that are still too long are broken again."""
     lines = [line]
     for _ in range(wrap_proofs.ROUNDS):
         lines = [part for it in lines for part in wrapped(it, False, False)]

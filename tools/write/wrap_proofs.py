@@ -1,16 +1,15 @@
 #!/usr/bin/env python3
 """Wraps the lines of proofs over 110 columns: wrap_proofs.py [--imports] [CRATE ..]
 
-Wraps all proof files of the crates that are named, or of all crates. A line is broken at spaces alone, at its
-outermost operators first: behind `in` and `=`, before `→`, `×`, `∙`, relations and sums, then between the
-arguments of a call, and within brackets last. `rattle fmt`, which lies beside the kit's `rt`, indents the
-lines, and those that are still too long are broken again. Long imports get a line for each name where
---imports is given. A comment over 120 columns is filled anew, and a line that ends with a comment stays.
+Wraps all proof files of the named crates, or of all crates. A line is broken only at spaces, at its outermost operators
+first: after `in` and `=`, before `→`, `×`, `∙`, relations and sums, then between the arguments of a call, and last within
+brackets. `rattle fmt`, which is part of the kit, indents the lines, and lines that are still too long are broken again. With
+--imports, long imports get a line for each name. A comment over 120 columns is reflowed; a line that ends with a comment
+does not change.
 
-A wrapped file has to have the tokens, and the letters of comments, that it had before. Where `rattle fmt`
-breaks a bracket it adds a `,` or `;` before the closing one, or a `|` behind `[`: these alone do not count. A
-file with any other difference, or one that `rattle fmt` refuses, is put back as it was and told, and the
-status is then 1.
+A wrapped file must have the same tokens, and the same letters in comments, as before. If `rattle fmt` breaks a bracket, it
+adds a `,` or `;` before the closing bracket, or a `|` after `[`; these do not count. If a file has another difference, or
+`rattle fmt` refuses it, the file is restored and reported, and the status is 1.
 """
 import argparse
 import json
@@ -25,15 +24,15 @@ from typing import NamedTuple
 
 TOP = Path(__file__).resolve().parents[2]
 LIMIT, COMMENT_LIMIT = 110, 120
-# How often the lines of a file are broken and indented anew, at most.
+# The maximum number of rounds that break and indent the lines of a file.
 ROUNDS = 6
-# A part that is broken itself begins on the line of the part before, where that has so many letters at most.
+# A broken part begins on the line of the previous part if that line has at most this number of letters.
 BEGUN = 75
-# How much further in the right side of `=` stands than the left one, and an item than its bracket.
+# The additional indent of the right side of `=`, and of an item in a bracket.
 DEEPER, ITEM = 4, 2
 
 STRING = re.compile(r'"(?:\\.|[^"\\])*"?')
-# `[` and `]` are brackets where they stand apart from what they hold, as `elim` has them.
+# `[` and `]` are brackets if spaces separate them from their content, as in `elim`.
 BRACKET = re.compile(r"(?P<opens>[({]|(?<![^ (])\[(?![^ ]))|[)}]|(?<= )\](?![^ ;,)])")
 IMPORT = re.compile(r"\s*(pub )?(open \S+ )?use ")
 COMMENT = re.compile(r"( *-- ?)(.*)")
@@ -82,12 +81,12 @@ WITH_LAST = {"in", "=", "where", ":"}
 
 
 class Room(NamedTuple):
-    """Where a text is laid: the column of its lines, and how many letters stand before and behind it."""
+    """The place of a text: the column of its lines, and the number of letters before and after it."""
 
     indent: int
     before: int = 0
     behind: int = 0
-    # Whether the next line of the file goes on with an arrow.
+    # Whether the next line of the file continues with an arrow.
     goes_on: bool = False
 
     def fits(self, text: str) -> bool:
@@ -99,11 +98,11 @@ class Room(NamedTuple):
         return self._replace(behind=0)
 
     def below(self, deeper: int = 0) -> "Room":
-        """The room of what begins a line of its own."""
+        """The room of a text that begins a new line."""
         return self._replace(indent=self.indent + deeper, before=0)
 
     def following(self, line: str, first: bool) -> "Room":
-        """The room of what follows on a line, which is the first one or not."""
+        """The room of a text that follows on a line."""
         return self._replace(before=len(line) + 1 + (self.before if first else 0))
 
 
@@ -118,7 +117,7 @@ class Before(NamedTuple):
 
 
 class PutBack(NamedTuple):
-    """A file that is put back, with the reason."""
+    """A file that is restored, with the reason."""
 
     path: Path
     reason: str
@@ -128,7 +127,7 @@ class PutBack(NamedTuple):
 
 
 def unquoted(text: str) -> str:
-    """A text of the same length in which nothing that strings hold stands."""
+    """A text of the same length without the contents of strings."""
     return STRING.sub(lambda it: '"' * len(it[0]), text)
 
 
@@ -288,7 +287,7 @@ def at_function(words: list[str], room: Room) -> list[str]:
 
 
 def binder_lines(words: list[str], room: Room) -> list[str]:
-    """The lines of a function's binders, of which none is broken; the first stays behind the `λ`."""
+    """The lines of the binders of a function; no binder is broken, and the first stays after the `λ`."""
     lines = [" ".join(words[:2])]
     for word in words[2:]:
         if room.following(lines[-1], len(lines) == 1).fits(word):
@@ -366,7 +365,7 @@ def names_apart(line: str) -> list[str]:
 
 
 def comment_lines(begin: str, text: str) -> list[str]:
-    """The lines of a comment, filled anew; each has the same begin."""
+    """The reflowed lines of a comment; each has the same beginning."""
     parts = textwrap.wrap(text, LIMIT - len(begin), break_long_words=False, break_on_hyphens=False)
     return [begin + part for part in parts]
 
@@ -383,7 +382,7 @@ def break_lines(path: Path, imports: bool) -> bool:
     return True
 
 
-# What `rattle fmt` does, and what it says of a file.
+# Calls of `rattle fmt`, and its messages about a file.
 
 
 def find_rattle() -> Path:
@@ -446,7 +445,7 @@ def wrap(rattle: Path, paths: list[Path], imports: bool) -> list[Path]:
 
 
 def reason_against(rattle: Path, path: Path, before: Before, is_refused: bool) -> str:
-    """Why a wrapped file has to be put back; nothing where it need not."""
+    """The reason why a wrapped file must be restored, or an empty text."""
     if is_refused:
         return "is refused by rattle fmt"
     if not before.tokens or tokens(rattle, path) != before.tokens:
@@ -455,7 +454,7 @@ def reason_against(rattle: Path, path: Path, before: Before, is_refused: bool) -
 
 
 def wrap_crate(rattle: Path, crate: str, imports: bool) -> tuple[int, list[PutBack]]:
-    """Wraps the proofs of a crate: how many files are wrapped, and those that are put back."""
+    """Wraps the proofs of a crate. Returns the number of wrapped files, and the restored files."""
     held = {path: Before(path.read_text(), tokens(rattle, path)) for path in proofs(crate) if is_long(path)}
     bad = wrap(rattle, list(held), imports)
     count, put_back = 0, []
@@ -472,7 +471,7 @@ def wrap_crate(rattle: Path, crate: str, imports: bool) -> tuple[int, list[PutBa
 
 
 def main() -> int:
-    """Wraps the crates that are named, and tells how many files are changed and which are put back."""
+    """Wraps the named crates. Prints the number of changed files, and the restored files."""
     parser = argparse.ArgumentParser(description="Wraps the lines of proofs over 110 columns.")
     parser.add_argument("crates", nargs="*", metavar="CRATE", help="a crate that is wrapped (none: all)")
     parser.add_argument("--imports", action="store_true", help="also give each name of a long import a line")
