@@ -59,12 +59,12 @@ class Shared:
 
 
 def whole_words(blocks: int) -> int:
-    """How many words of so many blocks are whole."""
+    """The number of whole words in this number of blocks."""
     return max(0, PACKS_A_BLOCK * blocks - SLOTS + 1)
 
 
 def packs_of_part(stream: bytes, blocks: int) -> Packs:
-    """The packs of a part of so many blocks, by itself."""
+    """The packs of a part of a stream, without the blocks before it."""
     if not has_graphics_bits(stream):
         words = whole_words(blocks)
         return Packs(bytes(PACK * words), bytes(words))

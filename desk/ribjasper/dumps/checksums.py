@@ -82,7 +82,7 @@ class Listed(NamedTuple):
     values: dict[str, str]
 
     def differs(self, found: Sums) -> list[str]:
-        """In which of them a file differs."""
+        """The names of the checksums in which a file differs."""
         own = {field: str(value) for field, value in zip(Sums._fields, found)}
         return [field for field, value in self.values.items() if own[field] != value]
 

@@ -42,7 +42,7 @@ def flags(column: bytes) -> bytes:
 
 
 def busy(content: bytes, unit: int) -> bytes:
-    """A byte for each unit of so many bytes, 1 where the unit is not all zeros."""
+    """A byte for each unit of `unit` bytes, 1 where the unit is not all zeros."""
     return flags(either(*(content[place::unit] for place in range(unit)))) if content else b""
 
 

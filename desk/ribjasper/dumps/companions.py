@@ -1,5 +1,5 @@
-"""Files that tools leave beside a dump. They say how many sessions the disc has, with which tracks, and at which
-absolute time the dump begins."""
+"""Files that other tools write next to a dump. They contain the sessions of the disc, their tracks, and the absolute
+time at which the dump begins."""
 import configparser
 import os
 import re
@@ -14,17 +14,18 @@ from ..common.times import PAUSE
 REDUMPER_START, SAMPLES = -45_000, 588
 # A .c2 file has a bit for each of the 2,352 bytes of a sector, and some tools two bytes more.
 C2_SIZES = (294, 296)
-# At most so many bytes of a companion file are read.
+# The maximum number of bytes that are read from a companion file.
 MOST = 1 << 22
-# The point of a table of contents that says where the lead-out begins.
+# The point of a table of contents with the start of the lead-out.
 LEAD_OUT = 0xA2
 MDS_MARK = b"MEDIA DESCRIPTOR"
 
 
 @dataclass
 class Companions:
-    """What files beside a dump say: their names, how many sessions there are, the first track of each after the first,
-    the absolute time of each lead-out, and the absolute time at which the dump begins, in blocks, if they say so."""
+    """The contents of the files next to a dump: their names; the number of sessions; the first track of each session
+    after the first; the absolute time of each lead-out; and the absolute time at which the dump begins, in blocks, if
+    known."""
 
     names: list[str] = field(default_factory=list)
     sessions: int | None = None
@@ -106,7 +107,8 @@ READERS: dict[str, Callable[[bytes, Companions], None]] = {
 
 
 def beside_dump(path: str, blocks: int) -> Companions:
-    """The contents of the companion files of a dump of so many blocks. An unusable file is noted and ignored."""
+    """The contents of the companion files of a dump with this number of blocks. An unusable file is noted and
+    ignored."""
     found = Companions()
     for name in neighbours(path, (".state", ".c2", *READERS)):
         ending = os.path.splitext(name)[1].lower()

@@ -75,8 +75,8 @@ def named_file(folder: Path, name: str) -> tuple[str, int, int] | None:
 
 
 def read_cue(path: str, content: bytes) -> Cue:
-    """What a cue sheet of any tool says, also of several files and of data, which `author` does not take: here it is
-    only compared."""
+    """The contents of a cue sheet of any tool. It may name several files and data tracks, which `author` refuses, since
+    it is only compared."""
     cue, folder = Cue(), Path(path).parent
     before: int | None = 0
     length: int | None = 0

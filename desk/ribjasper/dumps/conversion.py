@@ -16,8 +16,8 @@ AT_ONCE = 4096
 
 
 class Sources(NamedTuple):
-    """What a conversion may need beside the dump: a file of samples, or silence, for the audio of sectors; and the cue
-    sheet whose disc the blocks belong to that are pressed from packs."""
+    """The inputs that a conversion may need in addition to the dump: a file of samples, or silence, for the audio of
+    sectors; and the cue sheet of the disc for blocks that are pressed from packs."""
 
     audio: str | None = None
     is_silent: bool = False
@@ -74,7 +74,7 @@ class Audio:
         self.start = header_of(sources.audio) if sources.audio else loaded.dump.skip + first * loaded.form.unit
 
     def sectors(self, number: int, count: int) -> list[bytes]:
-        """The audio of so many sectors from one on."""
+        """The audio of `count` sectors from this sector on."""
         if self.path is None:
             return [bytes(AUDIO)] * count
         with reading(self.path), open(self.path, "rb") as file:

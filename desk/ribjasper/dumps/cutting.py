@@ -187,8 +187,8 @@ def open_disc(path: str, words: DumpOptions = DumpOptions()) -> CutDisc:
 
 
 def track_bytes(cut: CutDisc, track: CutTrack, offset: int = 0) -> Iterator[bytes]:
-    """The bytes of a track, in parts of whole sectors. The audio of a track begins so many samples later in the
-    image."""
+    """The bytes of a track, in parts of whole sectors. In the image, the audio of a track begins `offset` samples
+    later."""
     if track.is_data or not offset:
         for first in range(track.first, track.end, AT_ONCE):
             yield cut.image.read(first, min(AT_ONCE, track.end - first))
@@ -231,7 +231,7 @@ def hashed(cut: CutDisc, track: CutTrack, offset: int = 0) -> Hashed:
 
 
 def shift_tables(length: int) -> list[list[int]]:
-    """For each of the four bytes of a CRC-32: its contribution after so many zero bytes."""
+    """For each of the four bytes of a CRC-32: its contribution after `length` zero bytes."""
 
     def times(matrix: list[int], value: int) -> int:
         found, place = 0, 0
@@ -293,8 +293,8 @@ def found_offset(cut: CutDisc, listed: Sequence[Listed]) -> int | None:
 
 
 class Comparison(NamedTuple):
-    """What a list says of an image: the disc that has the most of its tracks, if there is one, how many it has, and of
-    each track the name of its file in the list or the fields that differ."""
+    """An image compared with a list: the disc in the list that has the most of its tracks, if there is one; the number
+    of these tracks; and for each track the name of its file in the list, or the fields that differ."""
 
     game: Game | None
     same: int

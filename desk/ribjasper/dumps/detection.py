@@ -10,33 +10,34 @@ from .dump import DumpFile
 from .forms import Coding, FORMS, Form, Order, PLAIN_FORMS, subcode
 from .survey import Survey
 
-# A form is tried in windows of so many bytes, the same bytes for each form. Windows of a few places are looked at,
-# until enough of them are not empty; if these decide nothing, more of all places.
+# A form is tried in windows of WINDOW bytes, the same bytes for each form. First a few windows are read, until enough
+# of them are not empty. If these decide nothing, windows from everywhere are read.
 WINDOW, FEW, ENOUGH, MANY = 1 << 17, 64, 12, 64
 # How often random bytes are good by chance: a Q frame of any kind, one with fields of its own, one with fields and no
 # check, a word with a codeword near it, and the first symbols of a pack of graphics.
 CHANCE_FRAME, CHANCE_FIELDS, CHANCE_UNCHECKED, CHANCE_WORD, CHANCE_PACK = 2**-16, 1e-9, 1e-5, 1.6e-5, 9 / 4096
 # How unlikely chance has to be.
 UNLIKELY = 1e-8
-# A form that explains so much of what is not empty is taken at once; one that explains less than so much of what the
-# best one does is none; and from so much on it is as much.
+# A form that explains the share SURE of the non-empty units is taken at once. A form that explains less than the share
+# COMPARABLE of the best form's units is excluded. From the share AS_MUCH on, it counts as equally good.
 SURE, COMPARABLE, AS_MUCH = 0.9, 0.7, 0.95
-# A form that explains so many times less frames than another is none.
+# A form is excluded if another form explains this many times more frames.
 FAR_LESS = 10
 # Where the best form explains so much, no stranger ones are tried.
 LIKELY_BY_Q, LIKELY_BY_WORDS = 0.2, 0.5
 # Q decides before words do, unless it explains less than so much and words are likely.
 LITTLE = 0.05
-# The share of packs of graphics that a file of packs without parity has at least, and of words of what is not idle.
+# The minimum share of graphics packs in a file of packs without parity, and the minimum share of words that are not
+# idle.
 LEAST_PACKS, LEAST_WORDS = 0.2, 0.05
-# The share of frames with fields of what is not empty, where their checks may be missing.
+# The minimum share of non-empty blocks whose frames have valid fields, if the checks of the frames may be missing.
 LEAST_UNCHECKED = 0.25
 # A header that is longer than a unit ends, up to here, where a frame is good or a block empty.
 MOST_HEADER = 4096
-# What is strange is tried in so many windows; where the header does not follow from the length of a file, so many units
-# of them at each byte, or of sectors at each fourth one.
+# Unusual forms are tried in STRANGE_WINDOWS windows. If the length of a file does not determine its header, TRIED_UNITS
+# units are tried from each byte on, or from each fourth byte on for sectors.
 STRANGE_WINDOWS, TRIED_UNITS, SECTOR_STEP = 3, 20, 4
-# Columns of 1 where a symbol says that a pack is of graphics, and where one is an instruction of graphics.
+# Tables with 1 for a symbol that marks a graphics pack, and for a symbol that is a graphics instruction.
 _IS_GRAPHICS = bytes(symbol == GRAPHICS for symbol in range(256))
 _IS_INSTRUCTION = bytes(symbol in (1, 2, 6, 20, 24, 28, 30, 31, 38) for symbol in range(256))
 
@@ -65,8 +66,8 @@ class Signs(NamedTuple):
 
 
 class Explained(NamedTuple):
-    """Whether Q decides, or the words do; the share that is good of what is not empty; and how many frames, or words,
-    are."""
+    """Whether Q or the words decide; the share of good ones among the non-empty units; and the number of good frames or
+    good words."""
 
     by_q: bool
     share: float
@@ -89,7 +90,7 @@ class Found(NamedTuple):
             return Explained(True, it.fields / it.frames, it.fields) if is_so else None
         by_q, by_words = self.explained_by_q(), self.explained_by_words()
         if by_q is not None and by_words is not None and by_words.share >= LIKELY_BY_WORDS:
-            # Where most frames are bad the words say how much is explained.
+            # If most frames are bad, the words decide how much is explained.
             return by_q._replace(share=max(by_q.share, by_words.share))
         return by_q or by_words
 
@@ -121,7 +122,7 @@ class Found(NamedTuple):
 
 
 def is_no_chance(count: int, of: int, chance: float) -> bool:
-    """Whether so many good ones are more than random bytes have."""
+    """Whether this number of good ones is more than in random bytes."""
     expected = of * chance
     if count <= expected:
         return False

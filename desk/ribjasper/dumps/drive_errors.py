@@ -1,5 +1,5 @@
-"""What a drive said while it read a dump: C2 errors and redumper's states of samples, in files beside the dump. They
-are of the main channel, but where the drive was unsure of it, the subcode is doubtful too."""
+"""The errors that a drive reported while it read a dump: C2 errors and redumper's states of samples, in files next to
+the dump. They belong to the main channel, but if the drive was unsure of this channel, the subcode is doubtful too."""
 import os
 import re
 from typing import NamedTuple
@@ -15,8 +15,8 @@ _BAD = re.compile(rb"[^\x00]")
 
 
 class DriveErrors(NamedTuple):
-    """A byte for each block of a dump, 1 where the drive was unsure of the sector; and the names of the files that say
-    so."""
+    """A byte for each block of a dump, 1 where the drive was unsure of the sector; and the names of the files with
+    these errors."""
 
     mask: bytes
     names: list[str]
@@ -58,8 +58,8 @@ def unit_of(path: str, blocks: int) -> int | None:
 
 
 def drive_errors(path: str, blocks: int) -> DriveErrors | None:
-    """The doubtful blocks of a dump of so many blocks, by the .c2 and .state files beside it; none if there are no such
-    files of its length."""
+    """The doubtful blocks of a dump, from the .c2 and .state files next to it, or None if no such file fits the number
+    of blocks."""
     masks, names = [], []
     for name in neighbours(path, (".c2", ".state")):
         try:

@@ -13,7 +13,7 @@ READ_AT_ONCE = 1 << 23
 
 
 class DumpFile:
-    """A file of units after a header of so many bytes."""
+    """A file of units after a header."""
 
     def __init__(self, path: Name, skip: int = 0):
         self.path = os.fsdecode(path)

@@ -26,8 +26,8 @@ MODE_1, MODE_2_FORM_1, MODE_2_FORM_2 = EdcLayout(0, 2064), EdcLayout(16, 2072), 
 
 @dataclass
 class EdcCount:
-    """What the codes of data sectors say: how many sectors there are, how many of them have no code, and the numbers of
-    those whose code is wrong or that are no data sectors."""
+    """The result of checking the EDC of data sectors: the number of sectors, the number of sectors without EDC, and the
+    numbers of the sectors that have a wrong EDC or are no data sectors."""
 
     sectors: int = 0
     without: int = 0

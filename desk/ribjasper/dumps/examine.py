@@ -26,7 +26,7 @@ GOOD, DAMAGED, TORN, EMPTY, FOREIGN, UNREAD = "good", "damaged", "torn", "empty"
 QUIET, LONGEST = 300, 3000
 # So many packs of graphics are drawn at most until a picture shows.
 MOST_DRAWN = 30_000
-# A row has at most so many places; the list has all.
+# The maximum number of places in a row; the list has all places.
 MOST_PLACES = 20
 
 

@@ -53,7 +53,7 @@ class Form(NamedTuple):
         return self.coding is not Coding.PQ
 
     def blocks(self, units: int) -> int:
-        """The number of blocks in so many units. In a file of packs, four units are a block."""
+        """The number of blocks in this number of units. In a file of packs, four units are a block."""
         return -(-units // PACKS_A_BLOCK) if self.coding is Coding.CDG else units
 
     def is_plain(self) -> bool:

@@ -1,5 +1,5 @@
-"""What the Q frames of a reading say about the places of its blocks: the pieces that they place, and the gaps between
-these pieces."""
+"""The places of blocks that the Q frames of a reading determine: the pieces that they place, and the gaps between these
+pieces."""
 import bisect
 from collections import Counter
 from dataclasses import dataclass, field, replace
@@ -29,9 +29,9 @@ _ZERO = bytes(value == 0 for value in range(256))
 
 @dataclass(eq=False)
 class FrameGap:
-    """A gap: blocks of a file, from `first` up to `end`, whose place no frame says. `read` is how many of them were
-    read, `near` are the pieces next to the gap, `around` are the pieces of the file's main run before and after it, and
-    `strays` are the shifts of single frames in it."""
+    """A gap: blocks of a file, from `first` up to `end`, whose place no frame determines. `read` is the number of them
+    that were read, `near` are the pieces next to the gap, `around` are the pieces of the file's main run before and
+    after it, and `strays` are the shifts of single frames in it."""
 
     first: int
     end: int
@@ -58,7 +58,7 @@ class FrameGap:
 
 @dataclass(eq=False)
 class Framed:
-    """A reading with the pieces whose place its own frames say, in the order of the file, and the gaps between them."""
+    """A reading with the pieces that its own frames place, in the order of the file, and the gaps between them."""
 
     reading: Reading
     unframed: bytes  # a byte for each block, 1 where it was read and has no good frame
@@ -145,7 +145,7 @@ def read_without_frame(survey: Survey) -> bytes:
 
 
 def framed(reading: Reading) -> Framed:
-    """What the frames of a reading say."""
+    """The pieces and gaps of a reading."""
     survey = reading.loaded.survey
     column, stretches = read_without_frame(survey), survey.stretches()
     found = Framed(reading, column)
@@ -290,8 +290,8 @@ def only_shift(pieces: Iterable[Piece]) -> int | None:
 
 
 def is_sure(found: Framed, run: set[Piece]) -> bool:
-    """Whether the frames of a reading are enough to say its place: most blocks have one, or the frames are scattered
-    over the whole reading. Frames of a few stale runs are neither."""
+    """Whether the frames of a reading are enough to determine its place: most blocks have a frame, or the frames are
+    scattered over the whole reading. Frames of a few stale runs are not enough."""
     survey, total = found.reading.loaded.survey, sum(piece.known for piece in found.pieces)
     # Without Q an idle block is all zeros, and seems to be unread.
     first, end = (survey.first, survey.end) if total > LONGEST_STALE else (0, survey.blocks)

@@ -1,4 +1,4 @@
-"""What the words of a gap say about its place: at which shift its packs agree with those of another reading."""
+"""The place of a gap that its words determine: the shift at which its packs agree with those of another reading."""
 import functools
 from typing import Iterable, NamedTuple, Sequence
 
@@ -14,8 +14,8 @@ WINDOW, MOST_WINDOWS = 75, 24
 
 
 class Judgement(NamedTuple):
-    """What the words of a gap say: the place at which they agree with another reading, if there is one; the places that
-    they contradict; and whether they say nothing, so that frames may decide."""
+    """The result of comparing the words of a gap: the place at which they agree with another reading, if there is one;
+    the places that they contradict; and whether the words decide nothing, so that frames may decide."""
 
     shift: int | None
     against: set[int]

@@ -1,4 +1,5 @@
-"""A dump as the commands read it: its form, its lead-in and its survey, found or as the words of the command say."""
+"""A dump as commands read it: its form, its lead-in and its survey. They are detected, or options of the command set
+them."""
 import argparse
 from typing import Iterator, NamedTuple
 
@@ -147,7 +148,7 @@ def load_found(path: str, words: DumpOptions = DumpOptions()) -> Loaded | Unknow
 
 
 def read_dump(path: str, words: DumpOptions = DumpOptions()) -> Loaded:
-    """A dump with its form, or a refusal that says why it has none."""
+    """A dump with its form, or a refusal with the reason why no form fits."""
     found = load_found(path, words)
     if isinstance(found, Unknown):
         raise Refusal(path, found.cause)

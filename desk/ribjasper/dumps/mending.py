@@ -121,7 +121,7 @@ def in_common(laid: Laid) -> dict[tuple[int, int], Shared]:
 
 
 def packs_within(laid: Laid, number: int, first: int, end: int) -> Packs:
-    """The packs of a reading by itself in a part of the disc."""
+    """The packs of one reading in a part of the disc."""
     return packs_of_part(bytes(laid.window(laid.readings[number], first, end)), end - first)
 
 

@@ -9,7 +9,7 @@ from .survey import Stretch, Survey
 FEWEST = 3
 # A piece can decide the lead-in if it has a second of frames, or this share of all frames.
 DECIDES, SHARE = 75, 100
-# Only so many of the heaviest pieces are ordered.
+# Only this number of pieces, those with the most blocks, is ordered.
 MOST_PIECES = 300
 TABLE = (library.Q_TRACK, library.Q_FIRST, library.Q_LAST, library.Q_LEAD_OUT)
 

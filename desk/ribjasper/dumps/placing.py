@@ -1,6 +1,6 @@
-"""Where the blocks of readings belong on the disc. A good Q frame places its own block. Other blocks go where their
-words agree with those of another reading; or else where enough frames around them say, or where a reading of the same
-length has them. If nothing decides they are left out."""
+"""The places of the blocks of readings on the disc. A good Q frame places its own block. The words of other blocks
+decide first: their place is where they agree with another reading. Otherwise enough frames around the blocks decide, or
+a reading of the same length. If nothing decides, the blocks are omitted."""
 import bisect
 from collections import Counter
 from dataclasses import replace
@@ -120,7 +120,7 @@ def as_they_are(found: Sequence[Framed]) -> Laid:
 
 
 def lead_in_without_times(found: Framed) -> int:
-    """The lead-in of a reading whose frames are not believed: 0 if only these frames say it."""
+    """The lead-in of a reading whose frames are not believed: 0 if it is known only from these frames."""
     survey = found.reading.loaded.survey
     return 0 if found.pieces and survey.lead_in == lead_in_of(survey) else survey.lead_in
 
@@ -147,8 +147,8 @@ def places_of(found: Framed, gap: FrameGap) -> list[int]:
 
 
 def by_frames(found: Framed, gap: FrameGap, shift: int | None) -> int | None:
-    """The place of a gap whose words say nothing. It is the place of the frames around the gap if there are enough of
-    them, or else that of other readings with the same length."""
+    """The place of a gap whose words decide nothing. It is the place of the frames around the gap if there are enough
+    of them, otherwise that of other readings with the same length."""
     frames = found.frames[shift] if shift is not None else 0
     if not found.homes:
         is_main = found.is_sure and shift == found.main()

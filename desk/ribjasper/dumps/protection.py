@@ -8,18 +8,19 @@ from typing import Collection, Iterable, Mapping, NamedTuple
 CHECK = 2
 # The bytes of a frame that hold its relative and its absolute time.
 RELATIVE, ABSOLUTE = slice(3, 6), slice(7, 10)
-# The second frame of a pair is so many blocks after the first.
+# The number of blocks from the first frame of a pair to the second.
 APART = 5
 # What LibCrypt turns in a check: most discs the first, some the second, in which one bit is wrong, as damage has it
 # too.
 CHECK_BITS, ONE_CHECK_BIT = 0x8001, 0x0080
-# Frames that differ from the right ones in the same way are no accident if there are so many; fewer bits are damage.
+# FEWEST_ALIKE frames that differ from the right ones in the same way are no accident. Fewer than FEWEST_BITS bits are
+# damage.
 FEWEST_ALIKE, FEWEST_BITS = 4, 3
 SBI_MARK, SBI_FRAME = b"SBI\0", b"\1"
 
 
 class BadFrame(NamedTuple):
-    """A bad frame whose right value follows from good frames beside it; `absolute` is the time of its place."""
+    """A bad frame whose right value follows from good frames next to it; `absolute` is the time of its place."""
 
     block: int
     absolute: int
@@ -70,8 +71,8 @@ def likeness(frame: BadFrame) -> Likeness:
 
 
 def judged(frames: Iterable[BadFrame]) -> dict[int, Verdict]:
-    """What each bad frame is, by its block. Frames are changed by design if both of a pair resemble those of LibCrypt
-    in full. One that does so alone, and a pair that does so but for its checks, may be."""
+    """The verdict on each bad frame, by its block. Both frames of a pair are changed by design if they fully resemble
+    those of LibCrypt. A single frame that resembles them, and a pair whose checks differ, may be changed by design."""
     alike = {frame.block: likeness(frame) for frame in frames}
     found = {}
     for block, own in alike.items():

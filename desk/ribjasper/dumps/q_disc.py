@@ -14,7 +14,7 @@ from .loading import Loaded
 from .q_source import Source as Source
 from .sessions import Layout, Session
 
-# So many frames of a track are looked at for its control bits.
+# The number of frames of a track that are read for its control bits.
 SAMPLED = 25
 ISRC, CATALOGUE = re.compile(rb"[A-Z]{2}[A-Z0-9]{3}[0-9]{7}"), re.compile(rb"[0-9]{13}")
 
@@ -33,7 +33,7 @@ class Vote(NamedTuple):
 
 @dataclass
 class QDisc(Disc):
-    """The disc of a dump: all that a sheet says, and how many frames said it."""
+    """The disc of a dump: all contents of a sheet, and the number of frames that they come from."""
 
     listed: dict[int, QFrame] = field(default_factory=dict)  # the tables of contents
     end: int | None = None  # where the last lead-out begins, if a frame or a file says so
@@ -78,7 +78,7 @@ def first_index(source: Source, known: dict[int, tuple[int, int]]) -> int | None
 
 
 class Start(NamedTuple):
-    """Where an index begins: at an absolute time, or up to so many blocks before, if frames there name no index."""
+    """The start of an index: an absolute time, or up to `unsure` blocks earlier, if frames there name no index."""
 
     time: int
     unsure: int = 0
@@ -110,7 +110,7 @@ def start_of(source: Source, known: tuple[int, int], before: Hidden, behind: Hid
 
 
 def owner_of(frame: QFrame | None, before: Hidden, behind: Hidden) -> Hidden | None:
-    """To which of two tracks a frame without a time belongs, by its code or its control bits."""
+    """The track, of two, that a frame without a time belongs to, by its code or its control bits."""
     if frame is None or frame.kind not in (library.Q_CATALOGUE, library.Q_ISRC):
         return None
     code = bytes(frame.text)[:12] if frame.kind == library.Q_ISRC else b""
@@ -143,8 +143,8 @@ def most(counted: collections.Counter[bytes]) -> Vote | None:
 
 
 def codes(source: Source) -> dict[int, Vote]:
-    """The recording code that most frames of each track say. A code between two tracks may be that of either: it counts
-    for the second where this has no other, and it is not the first one's."""
+    """The recording code that most frames of each track have. A code between two tracks may belong to either. It counts
+    for the second track if this track has no other code and the code is not that of the first track."""
     counts: dict[int, collections.Counter[bytes]] = {}
     between: dict[int, bytes] = {}
     for block, frame in source.frames(library.Q_ISRC):
@@ -237,14 +237,16 @@ class Parts(NamedTuple):
 
 
 def code_of(vote: Vote | None, text: bytes, name: str, votes: list[str]) -> bytes:
-    """A code that most frames say, or else the texts of the lead-in; that not all frames say it is noted."""
+    """A code that most frames have, or else the texts of the lead-in. If not all frames have it, a note reports
+    this."""
     if vote and vote.by < vote.of:
         votes.append(f"{name} {vote.value.decode('ascii', 'replace')} by {vote.by} of {vote.of} frames")
     return vote.value if vote and vote.holds() else text
 
 
 def disc(source: Source, companions: Companions | None = None) -> QDisc:
-    """All that a sheet says, of the frames of the program and else of the lead-in; of sessions also by files beside."""
+    """All contents of a sheet, from the frames of the program, or else of the lead-in; sessions also from companion
+    files."""
     layout, met, found_texts = Layout(source), index_starts(source), lead_in_texts(source)
     listed, isrc = listed_by(layout), codes(source)
     by_frames = {number: first for number, known in met.items() if (first := first_index(source, known)) is not None}

@@ -24,7 +24,7 @@ FILLED, LEFT, CHANGED, DOUBTFUL, REGULAR, P_WRONG, ORDER = (
 # The kinds of lines after which the exit status is 1.
 OPEN = (LEFT, DOUBTFUL, REGULAR, P_WRONG, ORDER)
 FRAME, CHECK = 12, 2
-# Good frames with the time of another place are no accident if so many are wrong by the same time.
+# Good frames with the time of another place are no accident if this number of them is wrong by the same time.
 FEWEST_MOVED = 4
 MAY_BE_CHANGED = "may have been changed by design, as LibCrypt changes frames, but not both frames of its pair are so"
 
@@ -66,7 +66,7 @@ def bits_apart(a: bytes, b: bytes) -> int:
 
 
 def moved(frame: QFrame, by: int) -> QFrame:
-    """The frame so many blocks behind a frame of the program, in the same index of the same track."""
+    """The frame `by` blocks after a frame of the program, in the same index of the same track."""
     time = frame.time + by if frame.index else frame.time - by
     return QFrame(frame.kind, time, frame.absolute + by, frame.control, frame.mode, frame.track, frame.index)
 
@@ -219,8 +219,8 @@ def moved_rows(source: Source) -> Iterator[Finding]:
 
 
 def p_rows(source: Source) -> Iterator[Finding]:
-    """Where P does not say what Q does: it is set in the pause before a track, two seconds long at least, and falls
-    with its index 01. Where it is set nowhere it says nothing."""
+    """The places where P contradicts Q. P is set in the pause before a track, for at least two seconds, and ends with
+    index 01 of the track. If P is set nowhere, it has no information."""
     if not any(source.has_p(block) for block in samples(source)):
         return
     tracks, indices = source.survey.column("track"), source.survey.column("index")

@@ -1,4 +1,4 @@
-"""A dump whose Q frames are decoded one by one, where its survey says that they are good."""
+"""A dump whose good Q frames, according to its survey, are decoded one by one."""
 import re
 from typing import Iterator
 
@@ -14,7 +14,7 @@ NEAR = 4
 
 
 class Source:
-    """A stream whose Q frames are decoded one by one, where its survey says that they are good."""
+    """A stream whose good Q frames, according to its survey, are decoded one by one."""
 
     def __init__(self, loaded: Loaded):
         self.stream, self.survey = loaded.stream, loaded.survey

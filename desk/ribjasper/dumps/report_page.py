@@ -1,4 +1,4 @@
-"""The page of a report, which is read without a network, and sorts and filters by itself."""
+"""The page of a report. It needs no network, and sorts and filters its rows itself."""
 import collections
 import html as marks
 import os

@@ -1,4 +1,4 @@
-"""The sessions of a disc, as the lead-ins and lead-outs in its dump say: tracks, and where each lead-out begins."""
+"""The sessions of a disc, from the lead-ins and lead-outs in its dump: tracks, and the start of each lead-out."""
 import collections
 import re
 from typing import Iterator, Mapping, NamedTuple, Sequence
@@ -16,7 +16,7 @@ from .q_source import Source
 LEAD_OUT_TRACK, POSITION = 0xAA, 1
 # Fewer frames make no lead-in and no lead-out; frames of one that are no further apart belong together.
 FEWEST, APART = 3, 75
-# So many blocks of a lead-in are looked at for its table of contents, and so many frames of a lead-out.
+# The maximum number of blocks of a lead-in that are read for its table of contents, and of frames of a lead-out.
 MOST_OF_LEAD_IN, MOST_OF_LEAD_OUT = 20_000, 500
 # The blocks from a lead-out to the music of the next session: the lead-out of the first session or of a later one, the
 # next lead-in, and a pause.
@@ -52,7 +52,7 @@ class Session(NamedTuple):
 
     @property
     def is_sure(self) -> bool:
-        """Whether a frame or a file says where the lead-out begins."""
+        """Whether a frame or a file contains the start of the lead-out."""
         return self.by in (BY_CONTENTS, BY_FRAMES, BY_FILE)
 
     def said(self) -> str:
@@ -130,8 +130,8 @@ def lead_out_by_frames(source: Source, zone: Zone) -> int | None:
 
 
 class Border:
-    """What comes before the first part of the program, between two parts, or behind the last: the table of contents of
-    what comes behind, and where the lead-out begins of what comes before."""
+    """The blocks before the first part of the program, between two parts, or after the last: the table of contents of
+    the following part, and the start of the lead-out of the previous part."""
 
     def __init__(self, source: Source, of: Sequence[Zone]) -> None:
         self.end = of[-1].last if of else -1
@@ -171,9 +171,9 @@ class Layout:
 def numbers_of(
     layout: Layout, blocks: Mapping[int, int | None], begins: Mapping[int, int], session_tracks: Mapping[int, int]
 ) -> dict[int, int]:
-    """The session of each track, by a file beside the dump, or by the borders, or because it begins behind a lead-out
-    that the table of contents names. Of each track are given the first block, if it was met, and the time at which it
-    begins."""
+    """The session of each track: from a companion file, from the borders, or because the track begins after a lead-out
+    that the table of contents names. The inputs are the first block of each track, if it was found, and the time at
+    which the track begins."""
     if session_tracks:
         return {
             number: max([1, *(session for session, first in session_tracks.items() if number >= first)])

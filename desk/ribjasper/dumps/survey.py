@@ -1,5 +1,5 @@
-"""What the library's survey says of a stream, column by column, with no loop over its blocks in Python. Blocks before
-the first and behind the last one that was read are not surveyed: they are unread, and nothing is wrong with them."""
+"""The library's survey of a stream, in columns, without a loop over blocks in Python. The blocks before the first block
+that was read, and after the last one, are not surveyed: they are unread, and do not count as damage."""
 import bisect
 import ctypes
 import functools
@@ -25,7 +25,7 @@ _UNREAD = _NO_TIME + bytes(COLUMNS["q"] - 4) + bytes([library.Q_NONE]) + bytes(R
 _WITHOUT_Q = bytes(byte for byte in range(256) if not byte & 0x40)
 _WITHOUT_RW = bytes(byte for byte in range(256) if not byte & 0x3F)
 _SET = re.compile(rb"[^\x00]")
-# So many bytes are looked at at a time.
+# The number of bytes that are read at a time.
 AT_ONCE = 1 << 16
 _BAD_Q = bytes(1 if value in (library.Q_BAD_FIELD, library.Q_BAD_CHECK) else 0 for value in range(256))
 
@@ -169,8 +169,8 @@ class Survey:
         return int.from_bytes(self.rows[ROW * block : ROW * block + 4], "little")
 
     def _steps(self) -> bytes:
-        """A byte for each block: 0 where its time goes on by one from that of the block before, 1 where
-        another time is known, and above 1 where none is."""
+        """A byte for each block: 0 if its time is one more than that of the previous block, 1 if another time is known,
+        and above 1 if no time is known."""
         if not self.blocks:
             return b""
         # Times have three bytes, and the highest of four is free for what is carried.

@@ -1,4 +1,4 @@
-"""What text packs say in all their languages: texts by their character codes, and by its kind what is kept as bytes.
+"""The contents of text packs in all their languages: texts with their character codes, and other kinds as bytes.
 (Red Book CD-TEXT, as libburn and libcdio describe it; languages are those of EBU Tech 3258.)"""
 import ctypes
 from dataclasses import dataclass, field
@@ -98,8 +98,8 @@ def languages_of(packs: Iterable[bytes]) -> list[Language]:
 
 
 def strings(packs: Sequence[bytes], width: int) -> Iterator[tuple[int, bytes]]:
-    """The texts of a kind, each with its track. Where a pack is missing, the rest of the text that it was in is missing
-    too, and the next pack says where it goes on."""
+    """The texts of a kind, each with its track. If a pack is missing, the rest of its text is missing too, and the next
+    pack contains the position of the following text."""
     track, text, is_whole, number = 0, b"", True, None
     for pack in packs:
         if number is None or pack[NUMBER] != number + 1:
@@ -118,7 +118,7 @@ def strings(packs: Sequence[bytes], width: int) -> Iterator[tuple[int, bytes]]:
 
 
 def decoded(text: bytes, code: str | None) -> str:
-    """A text as its character code says; bytes that it does not know, as \\xHH."""
+    """A text, decoded with its character code; bytes that the code does not define are written as \\xHH."""
     return text.decode(code or "ascii", "backslashreplace")
 
 
@@ -144,7 +144,7 @@ def genre(language: Language) -> Iterator[Said]:
 
 
 def said(packs: Iterable[bytes]) -> Iterator[Said]:
-    """All that packs say: of each language its texts, and as hexadecimal bytes what is no text."""
+    """The contents of packs: for each language its texts, and all other kinds as hexadecimal bytes."""
     for language in languages_of(packs):
         kinds = sorted({pack[KIND] for pack in language.packs})
         for kind in kinds:
@@ -173,7 +173,7 @@ def beyond(packs: Iterable[bytes]) -> str:
 
 # The bytes of a pack that number it: the sequence, and the block of a language in bits 4 to 6.
 SEQUENCE, LANGUAGE = 2, 3
-# A lead-in that is made of packs has each of them so many times.
+# The number of times that a lead-in made from packs repeats each pack.
 TIMES = 3
 
 

@@ -27,7 +27,7 @@ COULD_NOT = "could not be looked at: the process that did ended each time"
 
 
 class FileTask(NamedTuple):
-    """A file to be looked at: where it is, and its name in the report."""
+    """A file to be examined: its path, and its name in the report."""
 
     path: str
     name: str
@@ -70,8 +70,8 @@ def pool_of(count: int) -> ProcessPoolExecutor:
 
 
 def here(tasks: Sequence[FileTask], how: How, count: int) -> Iterator[Examined]:
-    """Looks at files in so many processes on this machine. Where a process ends, the files that were being looked at
-    are tried again one by one, and one that ends its process again is a row that says so."""
+    """Examines files in `count` processes on this machine. If a process crashes, the files that were being examined are
+    tried again one by one. A file that crashes its process again is a row that reports this."""
     waiting = collections.deque(tasks)
     while waiting:
         suspects = yield from in_pool(waiting, how, count)
@@ -83,8 +83,8 @@ def here(tasks: Sequence[FileTask], how: How, count: int) -> Iterator[Examined]:
 
 
 def in_pool(waiting: collections.deque[FileTask], how: How, count: int) -> Generator[Examined, None, list[FileTask]]:
-    """Looks at the files that wait, as many at a time as there are processes, until a process ends: then the files that
-    were being looked at are returned."""
+    """Examines the waiting files, one in each process, until a process crashes. Then it returns the files that were
+    being examined."""
     running: dict[Future[Examined], FileTask] = {}
     pool = pool_of(count)
     try:
@@ -155,6 +155,6 @@ def by_cluster(tasks: Sequence[FileTask], how: How, address: str) -> Iterator[Ex
     except (OSError, RuntimeError, distributed.comm.CommClosedError, concurrent.futures.CancelledError) as error:
         raise Refusal(address, gone) from error
     finally:
-        # One that answers no more cannot be closed in order.
+        # A client that no longer responds cannot be closed in order.
         with contextlib.suppress(Exception):
             client.close(timeout=2)
