@@ -1,4 +1,4 @@
-"""Temporary files beside the outputs, until all outputs are written; and signals that are delayed for as long."""
+"""Temporary files in the folders of the outputs, until all outputs are complete; signals are delayed until then."""
 import atexit
 import contextlib
 import errno
@@ -15,14 +15,14 @@ from .failures import writing
 PREFIX = ".ribjasper-"
 # What a user ends a command with. Windows has SIGBREAK in place of SIGHUP.
 STOPS = tuple(getattr(signal, name) for name in ("SIGINT", "SIGTERM", "SIGHUP", "SIGBREAK") if hasattr(signal, name))
-# Why a file system has no hard links; EINVAL is what Windows says of FAT.
+# The errors of a file system without hard links; EINVAL is the error of Windows for FAT.
 NO_LINKS = (errno.EPERM, errno.EOPNOTSUPP, errno.ENOSYS, errno.EMLINK, errno.EXDEV, errno.EINVAL)
-# Files that wait beside, and the process that made them: a child of it leaves them alone.
+# Temporary files, and the process that made each: a child process does not touch them.
 _waiting: dict[str, int] = {}
 
 
 def sweep() -> None:
-    """Removes what still waits beside; for the end of a command that was stopped at an unlucky moment."""
+    """Removes the remaining temporary files, at the end of a command that was stopped."""
     for part, process in list(_waiting.items()):
         if process == os.getpid():
             with contextlib.suppress(OSError):

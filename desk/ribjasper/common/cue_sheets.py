@@ -28,7 +28,7 @@ def spelled_name(name: bytes) -> bytes:
 
 
 class CueWriter:
-    """A cue sheet, line by line: first what is said of the disc, then its tracks."""
+    """A cue sheet, line by line: first the lines of the disc, then its tracks."""
 
     def __init__(self) -> None:
         self._lines: list[bytes] = []
@@ -44,7 +44,8 @@ class CueWriter:
         self._add(b"CATALOG " + digits)
 
     def text(self, kind: str, text: bytes) -> bool:
-        """A text of the disc or of the last track, as a remark if no command has its kind; false if it cannot be spelled."""
+        """A text of the disc or of the last track, as a remark if no command has its kind; false if it cannot be
+        spelled."""
         spelling = spelled_text(text)
         if spelling is None:
             return False

@@ -1,4 +1,5 @@
-"""What burners read beside the sectors of a disc image: its sheet and its table of contents for cdrdao."""
+"""The files that burners read in addition to the sectors of a disc image: its sheet, and its table of contents for
+cdrdao."""
 import os
 
 from .cue_sheets import COMMANDS, COPY, FOUR_CHANNELS, PRE_EMPHASIS, CueWriter

@@ -1,5 +1,5 @@
-"""A disc and its tracks, whether a cue sheet or a dump names them; and what a cue sheet says of its disc. The library reads the
-sheet, and the stream that the program authors of it has the frames that a stream of this disc has to have."""
+"""A disc and its tracks, from a cue sheet or from a dump. The library reads the sheet. The program authors a stream of
+the sheet, which has the frames that each stream of this disc must have."""
 import itertools
 from dataclasses import dataclass
 from pathlib import Path
@@ -17,8 +17,8 @@ ROOM_FOR_TABLE = 4 * 3 * 102
 
 @dataclass
 class Track:
-    """A track: its control bits; the absolute time at which each index begins, index 0 being its pause; its recording code, or
-    nothing; its session; and the blocks of silence before and behind it that no file has."""
+    """A track: its control bits; the absolute time at which each index begins, index 0 being its pause; its recording
+    code, or nothing; its session; and the blocks of silence before and behind it that no file has."""
 
     number: int
     control: int
@@ -35,8 +35,8 @@ class Track:
 
 @dataclass
 class Disc:
-    """A disc: its tracks, the blocks of its program, its catalogue number, or nothing, and its texts by kind and track, track
-    0 being the album."""
+    """A disc: its tracks, the blocks of its program, its catalogue number, or nothing, and its texts by kind and track,
+    track 0 being the album."""
 
     tracks: list[Track]
     blocks: int
@@ -46,7 +46,8 @@ class Disc:
 
 @dataclass
 class SheetDisc(Disc):
-    """The disc of a cue sheet, with the stream of the sheet without pictures, and how many of its blocks are lead-in."""
+    """The disc of a cue sheet, with the stream of the sheet without pictures, and how many of its blocks are
+    lead-in."""
 
     stream: bytes
     lead_in: int
@@ -56,8 +57,8 @@ class SheetDisc(Disc):
         return min((other.begin for other in self.tracks if other.begin > track.begin), default=self.blocks)
 
     def silence(self) -> set[int]:
-        """The blocks whose sound no file has: before each track that has a pregap, of the first one behind the pause, and
-        behind each that has a postgap."""
+        """The blocks whose sound no file has: before each track that has a pregap, of the first one behind the pause,
+        and behind each that has a postgap."""
         befores = (range(max(track.begin, PAUSE), max(track.begin, PAUSE) + track.pregap) for track in self.tracks)
         ends = ((self.end_of(track), track.postgap) for track in self.tracks)
         behinds = (range(end - postgap, end) for end, postgap in ends)
@@ -69,7 +70,7 @@ class SheetDisc(Disc):
 
 
 def read_disc(path: Path, sheet: bytes, audio: int) -> SheetDisc:
-    """What a sheet says, for an audio of so many blocks."""
+    """The disc of a sheet, with this number of blocks of audio."""
     try:
         lead_in = least_lead_in(sheet, audio) + ROOM_FOR_TABLE
     except NoPlan as none:

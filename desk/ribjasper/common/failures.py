@@ -1,4 +1,4 @@
-"""What can go wrong outside, the line that says so, and what the desk then ends with."""
+"""Failures from outside, their error messages, and the exit statuses of the desk."""
 import contextlib
 import os
 import warnings
@@ -6,7 +6,7 @@ from typing import Iterator, NamedTuple
 
 
 Name = str | bytes | os.PathLike[str] | os.PathLike[bytes]
-# What the desk ends with beside 0. Damage was found, or files differ: that is an answer, and no failure.
+# The exit statuses of the desk other than 0. Status 1 (damage was found, or files differ) is a result, not a failure.
 FOUND = 1
 # A file cannot be used: an input that is not what it should be, or an output that would take the place of another file.
 REFUSED = 3
@@ -105,7 +105,7 @@ class Refusals:
 
 
 class Outside(NamedTuple):
-    """What an exception means: how the line goes on, and what kind of failure it is."""
+    """The meaning of an exception: the rest of the error message, and the kind of failure."""
 
     cause: str
     failure: type[Refusal]

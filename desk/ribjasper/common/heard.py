@@ -1,5 +1,5 @@
-"""The files that this process opens to read, whoever asks for them: a command reads more files than its arguments name,
-as the files beside a dump. None of them may be overwritten."""
+"""All files that this process opens for reading. A command reads more files than its arguments name, for example the
+files next to a dump. None of them may be overwritten."""
 import contextlib
 import os
 import stat
@@ -57,7 +57,7 @@ def stop_hearing(heard: Heard) -> None:
 
 @contextlib.contextmanager
 def paused() -> Iterator[None]:
-    """Files that are opened in here are only looked at, as an output that is there already."""
+    """Files that are opened within this context do not count as inputs, for example an output that exists already."""
     global _paused
     _paused += 1
     try:

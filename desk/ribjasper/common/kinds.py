@@ -4,7 +4,7 @@ import re
 from typing import Callable, NamedTuple
 
 
-# So many of a file's first bytes are looked at.
+# The number of bytes at the beginning of a file that are read to recognize it.
 LOOKED_AT = 1 << 16
 PNG_MARK = b"\x89PNG\r\n\x1a\n"
 # What the pages of the desk have near their beginning.
@@ -12,9 +12,9 @@ PAGE_MARK = b'<meta name="generator" content="ribjasper-desk">'
 
 
 class Kind(NamedTuple):
-    """What a command writes: a name; and how such a file is known: by its first bytes and its size, by the ending of
-    its name, or by both. What is known by neither is replaced with --force alone. Other programs and people make files
-    of a recorded kind too, so only those that the desk wrote itself are replaced."""
+    """A kind of output: its name, and how to recognize such a file: by its first bytes and its size, by the ending of
+    its name, or by both. A file of any other kind is overwritten only with --force. Other programs and people also make
+    files of a recorded kind, so only files that the desk itself wrote are overwritten."""
 
     name: str
     looks: Callable[[bytes, int], bool] | None = None
@@ -44,7 +44,7 @@ def begins(*marks: bytes) -> Callable[[bytes, int], bool]:
 
 
 def lines_like(pattern: bytes) -> Callable[[bytes, int], bool]:
-    """Texts each of whose lines, as far as they are looked at, begins so, or is empty."""
+    """A test for texts in which each line at the beginning matches the pattern or is empty."""
     like = re.compile(rb"[ \t]*(?:(?:" + pattern + rb")(?![A-Za-z0-9_])|\r?$)", re.IGNORECASE)
 
     def looks(head: bytes, size: int) -> bool:

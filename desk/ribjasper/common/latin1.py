@@ -31,8 +31,8 @@ def warn(path: Path, sheet: bytes) -> None:
 
 
 def as_latin_1(path: Path, sheet: bytes) -> bytes:
-    """The sheet with its texts as players expect them, or a refusal that names the line which cannot be said so. A
-    line that is no UTF-8 is taken to be Latin-1 already."""
+    """The sheet with its texts in Latin-1, as players expect them, or a refusal that names a line that has other
+    letters. A line that is not UTF-8 is assumed to be Latin-1."""
     lines = sheet.removeprefix(b"\xef\xbb\xbf").split(b"\n")
     for number, line in lines_beyond_ascii(b"\n".join(lines)):
         try:

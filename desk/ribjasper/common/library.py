@@ -83,7 +83,7 @@ class SurveyRow(Structure):
 
 
 class Pack(Structure):
-    """A pack as it was read, and how many of its symbols were wrong, or -1."""
+    """A pack as it was read, and the number of its wrong symbols, or -1."""
 
     _fields_ = [("symbols", c_uint8 * PACK), ("wrong", c_int32)]
 
@@ -156,12 +156,12 @@ class Change(Structure):
 
     @property
     def is_none(self) -> bool:
-        """Whether all is as it was."""
+        """Whether nothing changed."""
         return bool(self.left == WIDTH and not self.colours and not self.levels)
 
 
 class SheetRow(Structure):
-    """An index line of a cue sheet: its time in the file, and what the sheet says of its track."""
+    """An index line of a cue sheet: its time in the file, and the attributes of its track."""
 
     _fields_ = [
         ("time", c_uint32),
@@ -195,7 +195,7 @@ class Sheet(NamedTuple):
     why: int
 
 
-# What each call takes and answers. Where bytes are read a `bytes` may be given, which is not copied.
+# The parameters and the result of each call. A `bytes` may be passed where bytes are read; it is not copied.
 _BYTES, _PLAYER = c_void_p, POINTER(PlayerHandle)
 CALLS = {
     "ribjasper_version": ([], c_uint32),
@@ -271,7 +271,7 @@ def loaded() -> ctypes.CDLL:
 
 @functools.lru_cache(maxsize=None)
 def call(name: str) -> Any:
-    """A call of the library, by its name in the header; it takes and answers what CALLS says."""
+    """A call of the library, by its name in the header; CALLS has its parameters and its result."""
     try:
         function = getattr(loaded(), name)
     except AttributeError:
@@ -324,7 +324,7 @@ def q_frame(block: bytes) -> QFrame | None:
 
 
 def sheet(text: bytes) -> Sheet:
-    """What a cue sheet says, line by line of its indices."""
+    """The contents of a cue sheet, with a row for each index line."""
     rows, result = (SheetRow * MOST_INDEX_LINES)(), SheetResult()
     status = call("ribjasper_sheet")(text, len(text), rows, MOST_INDEX_LINES, result)
     if status == NO_MEMORY:

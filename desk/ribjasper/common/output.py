@@ -31,7 +31,7 @@ from .targets import DASH as DASH, Target, against_standard_output, inputs_of, s
 STANDARD_OUTPUT = "standard output"
 # Programs that write a file themselves go by its ending, if it is one.
 LONGEST_ENDING = 16
-# Outputs that are no files wait in memory up to so many bytes, and in a file without a name beyond.
+# Outputs that are no files wait in memory up to this number of bytes, and in a file without a name if they are larger.
 KEPT_IN_MEMORY = 1 << 26
 COPIED_AT_ONCE = 1 << 20
 # What is read as a whole is never longer: a device would have no end.
@@ -42,7 +42,7 @@ ALL_MODES = stat.S_IRWXU | stat.S_IRWXG | stat.S_IRWXO
 
 
 def package(module: str, debian: str) -> Any:
-    """Imports a module that is needed here alone, or says which package to install."""
+    """Imports a module that only some commands need, or raises a failure that names the package to install."""
     try:
         return __import__(module, fromlist=["_"])
     except ImportError as error:
@@ -178,7 +178,7 @@ class Output:
         return self.part
 
     def path(self, ending: str) -> str:
-        """The name of a file beside, for a program that writes it itself."""
+        """The name of a temporary file, for a program that writes it itself."""
         if self.waits is None:
             os.close(self._beside(tempfile.gettempdir() if self.target.is_stream else self.target.folder, ending))
         assert self.waits is not None
@@ -281,10 +281,10 @@ def _copy(file: Any, target: Target) -> None:
 
 
 class Outputs:
-    """The outputs of a call, to be used in a `with`. Made from the files that the call reads and from those that it is
-    to write, each with its kind (a name that is None is passed over); what would cost the user a file is refused at
-    once. Within the `with` each file that is opened to read is an input too, as one beside a dump. If the `with` ends
-    well, all that was opened appears together; otherwise nothing does."""
+    """The outputs of a call, for use in a `with`. The arguments are the files that the call reads and those that it
+    writes, each with its kind (a name that is None is ignored). An output that would cost the user a file is refused at
+    once. Within the `with`, each file that is opened for reading also counts as an input, for example a file next to a
+    dump. If the `with` ends without an exception, all outputs appear together; otherwise none appears."""
 
     def __init__(
         self,

@@ -1,4 +1,4 @@
-"""What the library's plan of a disc says: what each picture of a script needs, or why there is no plan."""
+"""The library's plan of a disc: the needs of each picture of a script, or the reason why there is no plan."""
 import enum
 import struct
 from typing import NamedTuple
@@ -127,7 +127,7 @@ def plan(sheet: bytes, script: bytes, audio: int, lead_in: int = LONGEST_LEAD_IN
     return Plan([PlannedPicture._make(row) for row in ROW.iter_unpack(listed)], result.blocks)
 
 
-# At most so many refused lines of a text are reported.
+# The maximum number of refused lines of a text that are reported.
 MOST_CAUSES = 20
 # What later lines of a sheet depend on: if one of these is refused, what follows cannot be judged.
 NEEDED_LATER = (b"FILE", b"TRACK", b"INDEX")

@@ -14,17 +14,17 @@ if TYPE_CHECKING:
     import numpy
     import numpy.typing
 
-# A seek feeds at most the blocks from one mark to the next: ten seconds, or a hundredth of a long stream. A mark holds
-# a player: its place and so many bytes.
+# A seek feeds at most the blocks from one mark to the next: ten seconds, or a hundredth of a long stream. MARK is the
+# size of a mark in bytes: a place and the state of a player.
 LEAST_STEP, MOST_MARKS, MARK = 750, 100, 8 + 8 * 8135
 # The library's formats of pixels: three bytes a pixel, and four with the opacity.
 RGB, RGBA_LEVELS = 1, 4
 
 
 class Player:
-    """Draws the graphics of packs and raw blocks on a screen of 300 by 216 pixels, with a border of 6 pixels at the left
-    and right and of 12 above and below. It keeps memory of the library until it is closed: by a `with`, by `close`, or
-    when nothing refers to it.
+    """Draws the graphics of packs and raw blocks on a screen of 300 by 216 pixels, with a border of 6 pixels at the
+    left and right and of 12 above and below. It keeps memory of the library until it is closed: by a `with`, by
+    `close`, or when nothing refers to it.
 
     A player may be made over a stream, for `seek`: bytes of whole raw blocks (96 bytes each) with their lead-in, or
     with `is_packs` whole packs (24 bytes each) as a `.cdg` file has them. Raises MemoryError if there is not enough

@@ -18,7 +18,8 @@ BUILT = (checkout("bin", NAME), checkout("crates", "ribjasper", "out", NAME))
 
 
 def of_wheel() -> list[Path]:
-    """Where the wheel that has this desk put the program: in the folder of scripts of this Python, or of its user."""
+    """The places in which the wheel of this desk may have installed the program: the folder for scripts of this Python
+    or of its user."""
     if not (PACKAGE / "native").exists():
         return []
     schemes = sysconfig.get_default_scheme(), sysconfig.get_preferred_scheme("user")

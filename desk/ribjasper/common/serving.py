@@ -29,7 +29,7 @@ HEADERS = {
 
 
 class Answer(NamedTuple):
-    """An answer: bytes, or a file from a byte on; what kind it is; and the status."""
+    """An answer: bytes, or a file from a byte on; its media type; and the status."""
 
     content: bytes | Path
     kind: str = "application/json"
@@ -71,7 +71,7 @@ class Server(http.server.ThreadingHTTPServer):
         return f"http://{self.host}/{self.token}/"
 
     def end(self) -> None:
-        """Ends serving, once the request at hand is answered."""
+        """Ends serving after the current request is answered."""
         threading.Thread(target=self.shutdown, daemon=True).start()
 
     def handle_error(self, request: object, client_address: object) -> None:

@@ -285,7 +285,7 @@ def sing(album: Album, ready: Ready) -> Sung:
 
 
 def sing_one(lyrics: Path, sound: Path, wishes: Wishes) -> tuple[Album, Sung]:
-    """A song by itself, as an album of one track."""
+    """A single song, as an album with one track."""
     track = ListedTrack(lyrics, sound, "", "", "", wishes, Treatment(intro=wishes.intro))
     album = Album(lyrics, "", "", "", 0, [track])
     ready = made_ready(track)

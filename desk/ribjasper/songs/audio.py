@@ -25,7 +25,7 @@ SECTOR_AUDIO = FRAMES_A_BLOCK * CHANNELS * SAMPLE_BYTES
 PLAIN, EXTENSIBLE = 1, 0xFFFE
 # The length of a stream whose end was not known when its header was written.
 UNKNOWN = (0, 0xFFFF_FFFF)
-# Sounds that may lie beside lyrics, by the endings of their names.
+# The endings of sounds that may be next to lyrics.
 ENDINGS = (".wav", ".flac", ".mp3", ".ogg", ".opus", ".m4a", ".aiff", ".aif")
 DISC_FORM = ["-vn", "-ar", str(RATE), "-ac", str(CHANNELS), "-c:a", "pcm_s16le"]
 
@@ -176,7 +176,7 @@ def sectors(path: Path) -> Iterator[bytes]:
 
 
 def header(samples: int) -> bytes:
-    """The header of a WAV file with so many bytes of samples of a disc."""
+    """The header of a WAV file with this number of bytes of samples of a disc."""
     frame = CHANNELS * SAMPLE_BYTES
     form = struct.pack("<4sIHHIIHH", b"fmt ", 16, PLAIN, CHANNELS, RATE, RATE * frame, frame, 8 * SAMPLE_BYTES)
     return struct.pack("<4sI4s", b"RIFF", 36 + samples, b"WAVE") + form + struct.pack("<4sI", b"data", samples)
@@ -286,7 +286,7 @@ def length_with(path: Path, intro: float) -> int:
 
 
 def sound_beside(lyrics: Path) -> Path | None:
-    """The sound beside lyrics that has their name, in small letters or in capitals."""
+    """The sound next to lyrics with the same name, whose ending is in small letters or in capitals."""
     exact = next((path for path in (lyrics.with_suffix(ending) for ending in ENDINGS) if path.exists()), None)
     if exact or not lyrics.name:
         return exact

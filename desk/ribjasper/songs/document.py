@@ -1,5 +1,5 @@
-"""A song as a document: LRC, and a TOML file beside it for what LRC cannot express. Both together give back the same
-song, for every kind of file that it came from."""
+"""A song as a document: an LRC file, and next to it a TOML file for everything that LRC cannot express. Reading both
+results in the same song, for every kind of file that the song came from."""
 import copy
 import json
 import tomllib
@@ -11,11 +11,11 @@ from ..common.failures import Refusal
 from .lrc import INSERTS, MARK, OFFSET, TAG, read_lrc, stamps_of
 from .songs import BOTH, FIRST, SINGERS, TOGETHER, Insert, Line, Song, Syllable
 
-# The name of the file beside NAME.lrc.
+# The ending of the file next to NAME.lrc.
 BESIDE = ".lyrics.toml"
 VERSION = 1
 MARKS = ("M: ", "F: ", "v3: ", "v4: ", "D: ")
-# Tags that say something else than the name of a tag and its value.
+# Tags with a special meaning, which are not just a name and a value.
 SPECIAL = {"ti", "ar", "offset", "singer", *INSERTS}
 # An insert of a song: what it shows, its time if it has one, and the time that it comes after.
 Shown = tuple[str, float | None, float]
@@ -90,8 +90,8 @@ def others_in(text: str) -> list[str]:
 
 @dataclass
 class Document:
-    """A song, its rests, rows of LRC that hold no lyrics, the two files that it was read from if these are LRC and TOML,
-    and how it is to look, which the TOML keeps; a save of what is unchanged gives these files again."""
+    """A song; its rests; the rows of its LRC without lyrics; the two files that it was read from, if these are LRC and
+    TOML; and its look, which the TOML contains. Saving an unchanged document writes the same files again."""
 
     song: Song
     rests: list[float] = field(default_factory=list)
@@ -108,7 +108,7 @@ class Document:
         return not is_same(self.song, song) or self.rests != rests or self.look != look
 
     def files(self) -> tuple[bytes, bytes | None]:
-        """The LRC file and, where it is needed, the TOML file beside it."""
+        """The LRC file and, if it is needed, the TOML file next to it."""
         if self.lrc is not None and not self.is_changed():
             return self.lrc, self.toml
         written = lrc_of(self.song, self.rests, self.others)
@@ -134,7 +134,7 @@ def document_of(song: Song, lrc: bytes, toml: bytes | None) -> Document:
 
 
 def look_in(toml: bytes | None) -> dict[str, Any]:
-    """How the file beside LRC says that the song is to look."""
+    """The look of the song in the file next to its LRC."""
     try:
         found = tomllib.loads((toml or b"").decode("utf-8")).get("look", {})
     except (UnicodeDecodeError, tomllib.TOMLDecodeError):
@@ -270,7 +270,7 @@ def insert_table(one: Shown) -> dict[str, object]:
 
 
 def heads_of(song: Song) -> dict[str, object]:
-    """What a song says apart from its lines."""
+    """The attributes of a song, without its lines."""
     inserts = [insert_table(one) for one in shows(song)]
     return {
         "title": song.title,
@@ -282,7 +282,7 @@ def heads_of(song: Song) -> dict[str, object]:
 
 
 def toml_of(song: Song, written: Written, look: dict[str, Any]) -> str:
-    """What the LRC does not say, or nothing if it says all."""
+    """The contents of the song that the LRC cannot express, or an empty text if there are none."""
     again = Song([], path=song.path)
     read_lrc(written.text, again)
     parts: list[str] = []
@@ -319,7 +319,7 @@ def line_entry(line: Line, read: LineValues | None, row: int, lrc: str) -> list[
 
 
 def apply(song: Song, text: str, content: bytes, path: Path = Path("the file beside the lyrics")) -> None:
-    """Adds to a song what the file beside its LRC says. Changes in the LRC since then are kept."""
+    """Adds the contents of the file next to an LRC to its song. Later changes in the LRC are kept."""
     try:
         table = tomllib.loads(content.decode("utf-8"))
     except (UnicodeDecodeError, tomllib.TOMLDecodeError) as error:
@@ -412,7 +412,7 @@ def line_of(entry: dict[str, Any], read: LineValues | None) -> Line:
 
 
 def pictures_in(content: bytes) -> list[str]:
-    """The pictures that the file beside LRC names; none if the file cannot be read."""
+    """The pictures that the file next to an LRC names; none if the file cannot be read."""
     try:
         found = tomllib.loads(content.decode("utf-8"))["inserts"]["value"]
         return [one["what"] for one in found if not one["what"].startswith("#")]

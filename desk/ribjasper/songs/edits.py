@@ -196,7 +196,7 @@ def tap(score: Score, edit: Edit) -> Score:
 
 
 def in_words(line: ScoreLine) -> ScoreLine:
-    """A line with one time for all words as a line of words; a word without time is as it was."""
+    """A line with one time for all words as a line of words; a word without a time is unchanged."""
     if not line.is_whole:
         return line
     texts = [text for word in line.words for text in split_words(word.text)]
@@ -334,7 +334,8 @@ def rest_moved(score: Score, time: float, by: float) -> Score:
 
 
 def text(score: Score, edit: Edit) -> Score:
-    """A line has other words; those that stay keep their times, and new ones share the time of what they replace."""
+    """Changes the words of a line. Unchanged words keep their times, and new words share the time of the words that
+    they replace."""
     place = score.place_of(key_of(edit["line"]))
     line = score.lines[place]
     texts = [text_of(one) for one in edit["texts"]]

@@ -1,4 +1,4 @@
-"""How the text of a file is encoded: as its user, its mark or its content says, or as a guess, which is reported."""
+"""The encoding of a text file: from its user, its byte order mark or its content, or a guess, which is reported."""
 import codecs
 import importlib
 import re
@@ -109,7 +109,8 @@ def kana_in(text: str) -> float:
 
 
 def detected(content: bytes) -> tuple[str | None, float]:
-    """What a detector says, if one is installed: chardet, which distinguishes more languages, or charset-normalizer."""
+    """The result of a detector, if one is installed: chardet, which distinguishes more languages, or
+    charset-normalizer."""
     try:
         chardet: Any = importlib.import_module("chardet")
         found = chardet.detect(content)

@@ -60,7 +60,7 @@ class PairFiles:
             write_sound(outputs, self.sound, sound, song, self.ending)
 
     def names(self) -> str:
-        """The names of what is written."""
+        """The names of the outputs."""
         if self.is_packed:
             return self.packed
         return f"{self.cdg} and {self.sound}{' (which is there already)' * self.is_there}"

@@ -1,5 +1,5 @@
-"""The journal of a song that is edited: the files that it was opened from, all edits, and how many of them hold. It
-lies beside the song, and a studio that is opened again goes on from it."""
+"""The journal of a song that is edited: the files that it was opened from, all edits, and the number of edits that are
+not undone. The journal is next to the song, and a studio that is opened again continues from it."""
 import base64
 import hashlib
 import json
@@ -27,7 +27,7 @@ def checksum(content: bytes | None) -> str | None:
 
 
 class Kept(NamedTuple):
-    """A history as it was."""
+    """A copy of a history."""
 
     scores: list[Score]
     edits: list[Edit]
@@ -39,7 +39,7 @@ class Kept(NamedTuple):
 
 
 class History:
-    """A score as it was opened, and edits; the scores after each of them. Nothing is changed in place: undo and redo
+    """The score that was opened, the edits, and the score after each edit. Nothing is changed in place: undo and redo
     only choose another score."""
 
     def __init__(self, first: Score) -> None:
@@ -77,15 +77,15 @@ class History:
         return self.score
 
     def go(self, at: int) -> Score:
-        """The score after so many of the edits."""
+        """Goes to the score after this number of edits."""
         self.at = max(0, min(len(self.edits), at))
         return self.score
 
 
 @dataclass
 class Journal:
-    """What a journal holds: the lyrics and the file beside them as they were opened, edits and how many of them hold;
-    after how many edits the song was saved last, and the checksums of the files that this wrote."""
+    """The contents of a journal: the lyrics and the file next to them when they were opened; the edits, and the number
+    of edits that are not undone; the number of edits at the last save, and the checksums of the saved files."""
 
     lyrics: bytes
     more: bytes | None
@@ -133,7 +133,7 @@ def checked_table(value: object) -> dict[str, Any]:
 
 
 def history_of(path: Path, first: Score, journal: Journal) -> History:
-    """The history that a journal holds of a score as it was opened."""
+    """The history in a journal, for the score that was opened."""
     history = History(first)
     try:
         for edit in journal.edits:

@@ -31,7 +31,7 @@ class Stamped:
 
 
 def read_lrc(text: str, song: Song) -> None:
-    """A time without text is a rest; `[singer:Name]` says who sings the lines that follow."""
+    """Reads LRC. A time without text is a rest; `[singer:Name]` names the singer of the following lines."""
     stamped: list[Stamped] = []
     offset, voice = 0.0, FIRST
     for number, line in enumerate(text.splitlines(), 1):
@@ -83,8 +83,8 @@ def later_ones(stamped: list[Stamped]) -> list[Stamped | None]:
 
 
 def tell_order(song: Song, stamped: list[Stamped]) -> None:
-    """Notes each line that is earlier than one before it, or at the same time; a line that comes at several times may be
-    earlier."""
+    """Notes each line that is earlier than one before it, or at the same time; a line that comes at several times may
+    be earlier."""
     counts = Counter(one.number for one in stamped)
     once = [one for one in stamped if counts[one.number] == 1 and not one.is_empty()]
     for before, one in zip(once, once[1:]):

@@ -10,8 +10,8 @@ from ..drawing.styles import INKS, Inks, Style
 from .setting import Letters, Setter, text_of_words, wrapped
 from .songs import Line, Syllable
 
-# How long nothing is sung, in seconds, before a page that is not full is left; before the next line is counted in; and
-# before a page says how long it is.
+# The minimum lengths of a rest, in seconds: after REST a new page begins although the page is not full; after
+# COUNTED_REST dots count down to the next line; after SHOWN_REST a page shows how long the rest is.
 REST, COUNTED_REST, SHOWN_REST = 3.0, 6.0, 12.0
 # What is left of a page goes so long after its last word; a page after a long rest comes so long before its first.
 GOES, COMES = 2.0, 6.0
@@ -70,8 +70,8 @@ class Placed:
 
     @property
     def lit_end(self) -> float:
-        """When all of it is lit; a line whose end is a guess may stay longer. An empty place has the time of what stood
-        there."""
+        """The time at which all of it is lit; a line whose end is a guess may stay longer. An empty place has the time
+        of its previous line."""
         if not self.letters:
             return self.before.lit_end if self.before else self.end
         return self.letters.syllables[-1].end
@@ -166,7 +166,7 @@ class Draw(ColumnStep):
 
 
 class Light(ColumnStep):
-    """They take the colour of what is sung."""
+    """Columns of tiles that change to the colour of sung text."""
 
     def rows(self) -> Iterable[Row]:
         placed = self.placed
@@ -194,8 +194,8 @@ class Group:
 
 
 def groups_of(lines: list[Line], font: Font, style: Style, rests: bool = True, end: float = 0.0) -> list[Group]:
-    """The rows of a verse, at most so many a page; the rows of a line are on one page if possible, and after a rest a
-    new page begins. Nothing is sung from a time on, until the verse begins."""
+    """The rows of a verse in groups, one for each page. The rows of a line are on one page if possible, and after a
+    rest a new page begins. `end` is the end of the singing before the verse."""
     pages: list[Group] = []
     most = style.rows
     for number, line in enumerate(lines):
@@ -218,7 +218,7 @@ def groups_of(lines: list[Line], font: Font, style: Style, rests: bool = True, e
 
 
 def rest_page(text: str, end: float, start: float, font: Font) -> Group:
-    """A page that says how long nothing is sung."""
+    """A page that shows the length of a rest."""
     seconds = round(start - end)
     return still_page([f"{text} {seconds // 60}:{seconds % 60:02}"], end + GOES, start - COMES, font)
 
@@ -273,8 +273,8 @@ class Screen:
 
 @dataclass
 class SongPage:
-    """What is to be drawn of a page, in its order, and what it is made of. A page that follows quickly does not wait until
-    the one in front of it is left."""
+    """What is to be drawn of a page, in its order, and what it is made of. A page that follows quickly does not wait
+    until the one in front of it is left."""
 
     placed: list[Placed]
     group: Group

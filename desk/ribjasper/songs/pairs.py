@@ -19,7 +19,7 @@ CHANGES_OFFSETS = (SCROLL, COPY, TRANSPARENT)
 # The first packs of a track begin in front of it: a player that skips to the track does not read them whole. From pack
 # 8 on presets and colours make it clean, at the latest here.
 LOST, LATEST_START = 8, 48
-# If the graphics leave no room, they and the sound are later by so many blocks.
+# If the graphics leave no room, the graphics and the sound are delayed by this number of blocks.
 LEAD = 4
 
 
@@ -35,7 +35,7 @@ def is_pair(path: Path) -> bool:
 
 
 def read_pair(path: Path, sound: Path | None = None) -> Pair:
-    """The pair of a file; the sound may be named, else it is beside or in the file."""
+    """The pair of a file. If the sound is not named, it is next to the file or in it."""
     if path.suffix.lower() == ZIP:
         graphics, packed = unpacked(path)
         return Pair(packs_in(path, graphics), sound or packed)
@@ -122,7 +122,7 @@ def clean(packs: list[bytes]) -> list[bytes] | None:
         is_free = is_free or number in colours and pack[4:20] == colours[number]
         if not is_free:
             return None
-        # Two more places stay idle, for what `unmoved` says.
+        # Two more places stay idle, because `unmoved` needs them.
         made[place] = wanted.pop(0) if wanted else bytes(PACK)
         spare -= not wanted
         if spare < 0:

@@ -1,4 +1,4 @@
-"""What a file is that was given in place of another one, so that a refusal can say what to do."""
+"""The kind of a file that was passed instead of the expected one, so that the refusal can explain what to do."""
 import os
 import re
 from pathlib import Path

@@ -66,7 +66,7 @@ class Picture(NamedTuple):
 
 @dataclass(frozen=True)
 class Look:
-    """How the song looks, as the options of the commands say it; pictures are names in the folder of the song."""
+    """The look of a song, with the options of the commands; pictures are names in the folder of the song."""
 
     style: str = "night"
     rows: int | None = None
@@ -198,7 +198,8 @@ def filled(words: Iterable[Word]) -> list[Syllable]:
 
 
 def song_of(score: Score, like: Song) -> Song:
-    """The song of a score, whose lines have the numbers of the score; a line whose first word has no time is left out."""
+    """The song of a score, whose lines have the numbers of the score; a line whose first word has no time is left
+    out."""
     lines = [
         Line(number, filled(one.words), one.is_whole, written(one), one.until, one.new_page)
         for number, one in enumerate(score.lines, 1)

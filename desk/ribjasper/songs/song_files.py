@@ -59,9 +59,9 @@ def why_not(content: bytes, name: str) -> str:
 
 
 def read_song(path: Path | str, encoding: str | None = None, later: float = 0.0) -> Song:
-    """The song of a file: karaoke MIDI, ASS, UltraStar, SubRip, WebVTT or LRC, by its content; all of it some seconds
-    later than the file says. Times are in seconds of the sound. The encoding is found if it is not given. Raises
-    Refusal, with all faults of the file at once."""
+    """The song of a file: karaoke MIDI, ASS, UltraStar, SubRip, WebVTT or LRC, recognized by its content. `later` is
+    added to all times of the file, in seconds. Times are in seconds of the sound. The encoding is detected if it is
+    None. Raises Refusal, with all faults of the file at once."""
     path = Path(path)
     content, more = read_file(path), companion_of(path)
     song, _ = parsed_song(path, content, read_file(more) if more else None, encoding)
@@ -81,7 +81,7 @@ def open_document(path: Path, encoding: str | None = None) -> Document:
 
 
 def companion_of(path: Path) -> Path | None:
-    """The file beside LRC that holds what LRC cannot express, if it is there."""
+    """The file next to an LRC with the contents that LRC cannot express, if it exists."""
     found = beside(path)
     return found if path.suffix.lower() == ".lrc" and found.is_file() else None
 
@@ -108,8 +108,8 @@ def parsed_song(path: Path, content: bytes, toml: bytes | None, encoding: str | 
 
 
 def pictures_of(path: Path) -> list[Path]:
-    """The files that lyrics bring with them: the one beside LRC, and the pictures that lyrics of any kind may name. A
-    file that is no regular one is not looked at."""
+    """The files that belong to lyrics: the file next to an LRC, and the pictures that lyrics of any kind may name. Only
+    regular files are read."""
     if not path.is_file():
         return []
     more = companion_of(path)

@@ -51,14 +51,14 @@ BACKGROUND_LOSS = 30.0
 # Sizes of letters, and by how much the rows may be more for the sake of larger ones; and smaller sizes, which are taken
 # where most lines would be broken and are not with them.
 SIZES, SMALLER_SIZES, MORE_ROWS = range(24, 15, -1), range(15, 12, -1), 1.1
-# Where one row of so many, or one alone, is late, that is no reason for other letters.
+# If at most one in FEW_LATE rows is late, or a single row, the letters keep their size.
 FEW_LATE = 20
-# So much later than others what only clears a place is due.
+# A step that only clears a place is due this number of blocks later than other steps.
 LATER = 60 * BLOCKS
 # Schedules that are tried until the plan finds nothing late.
 ROUNDS = 8
-# A line is drawn so many seconds before it is sung, or earlier if lines would be late otherwise (None: as early as
-# there is room). If that is not enough, lines whose end is a guess go as soon as they are lit.
+# A line is drawn this number of seconds before it is sung, or earlier if lines would be late otherwise (None: as early
+# as there is room). If that is not enough, lines whose end is a guess disappear as soon as they are lit.
 LEAD = 4.0
 # At last columns of a sweep are lit two by two, which takes fewer blocks.
 Trial = tuple[float | None, bool, bool]
@@ -78,9 +78,9 @@ LEAVE, BOXES = "leave", "box"
 
 @dataclass(frozen=True)
 class Wishes:
-    """What is asked of a script: how it looks, where its audio ends (a block of the program), how many seconds at most
-    a line is shown before it is sung, and what is shown beside the lines. The encoding of the lyrics, and by how much
-    they are later than their file says, are for those who read the song."""
+    """The options for a script: its look, the end of its audio (a block of the program), the maximum number of seconds
+    for which a line is shown before it is sung, and the contents in addition to the lines. Readers of the song use the
+    encoding of the lyrics and their delay."""
 
     style: Style
     fonts: tuple[Path, ...] = ()
@@ -205,7 +205,7 @@ def empty_page(style: Style, voices: int) -> Raster:
     return picture
 
 
-# A text of a page with its voice, and whether its letters are those of what is sung.
+# A text of a page, its voice, and whether it has the letters of sung text.
 Text = tuple[str, int, int]
 
 
@@ -260,8 +260,8 @@ def first_of(fonts: list[Font], holds: Callable[[Font], bool]) -> int:
 
 
 def without_missing(song: Song, wishes: Wishes) -> list[str]:
-    """Takes the letters that no font has out of the song, or puts boxes in their place; a note for each line that
-    changes. A line without any other letters goes."""
+    """Removes the letters that no font has from the song, or replaces them by boxes. Returns a note for each line that
+    changes. A line with no other letters is removed."""
     font, has_boxes = first_font(wishes), wishes.missing == BOXES
     notes: list[str] = []
 
@@ -699,10 +699,10 @@ def dues_of_rows(rows: list[Placed]) -> dict[Placed, int]:
 
 
 def tasks_of(pages: list[SongPage], begin: int, style: Style, lead: float | None, stays: bool = True) -> list[Task]:
-    """What is to be drawn, and from when on: in the order of singing; not before what stood there is sung; a page ahead at
-    most, and nothing of a page before the page in front of it begins; and no longer than the lead before it is sung. What
-    stays without need goes. With pages that go as a whole, one that follows quickly comes row by row. If lines whose end is a guess do not stay, their places are free when they are lit.
-    """
+    """The rows to draw, with their earliest times, in the order of singing. A row is drawn only after the row in its
+    place is sung, at most one page ahead and after the previous page begins, and at most `lead` seconds before it is
+    sung. Rows that are no longer needed are cleared. If pages change as a whole, a page that follows quickly still
+    appears row by row. If lines whose end is a guess do not stay, their places are free as soon as they are lit."""
     follows = {placed.before: placed for page in pages for placed in page.placed if placed.letters}
     rows = [placed for page in pages for placed in page.placed if placed.letters]
     ahead = dict(zip(rows[style.rows :], rows))
@@ -791,8 +791,8 @@ def end_with_sound(song: Song, end: int) -> None:
 
 
 def best(song: Song, wishes: Wishes, known: Known | None = None) -> Made:
-    """The script in the first font in which hardly a row of the song is late, or else that in which least is. Needs that
-    are known of another script are not asked for again."""
+    """The script in the first font in which hardly a row of the song is late, or else that in which least is. Needs
+    that are known of another script are not asked for again."""
     made: list[Made] = []
     notes = without_missing(song, wishes)
     if wishes.end:

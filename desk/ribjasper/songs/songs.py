@@ -4,8 +4,9 @@ import unicodedata
 from dataclasses import dataclass, field
 from pathlib import Path
 
-# How long the last word of a line is sung at most, if the file does not say. A line whose words have no times is swept
-# over in at most so many letters a second, and is taken as sung until the next one if that comes within ten seconds.
+# The maximum length of the last word of a line, in seconds, if the file does not have it. A line whose words have no
+# times changes its colour by at most SLOWEST_LETTERS letters a second, and is sung until the next line if that begins
+# within ten seconds.
 LONGEST_WORD = 3.0
 SLOWEST_LETTERS, SHORTEST_SWEEP = 12.0, 1.0
 LONGEST_LINE = 10.0
@@ -30,9 +31,9 @@ class Syllable:
 
 @dataclass
 class Line:
-    """A line of lyrics: its syllables, one after the other; its number in the file; whether it has one time for all of
-    its words; its time as the file spells it; if no file says when it ends, the time until which it is taken as sung: the
-    line then stays on the screen, although all of it is lit; and whether a page begins with it."""
+    """A line of lyrics: its syllables, in order; its number in the file; whether it has one time for all of its words;
+    its time as the file spells it; if its end is a guess, the time until which it stays on the screen, although all of
+    it is lit; and whether a page begins with it."""
 
     number: int
     syllables: list[Syllable]
@@ -71,8 +72,8 @@ class Line:
 
 @dataclass
 class Insert:
-    """A picture or a colour between verses: the number of its line, what the file says, and a time if it has one;
-    otherwise it comes after the line of lyrics in front of it."""
+    """A picture or a colour between verses: the number of its line, its text in the file, and a time if it has one;
+    otherwise it follows the previous line of lyrics."""
 
     number: int
     what: str

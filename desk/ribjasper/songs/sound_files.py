@@ -1,4 +1,4 @@
-"""The sound of a song as a file beside its graphics."""
+"""The sound of a song as a file next to its graphics."""
 import argparse
 import os
 import shutil

@@ -1,5 +1,5 @@
-"""A song that is open in the studio: its files, its history with a journal beside it, its pictures, and what can be made
-of it. Only one studio has a song open, and it writes only files that belong to the song."""
+"""A song that is open in the studio: its files, its history and journal, its pictures, and its exports. Only one studio
+can open a song, and it writes only files that belong to the song."""
 import os
 import sys
 import threading
@@ -30,7 +30,7 @@ from .song_files import parsed_song as read_from
 LYRICS = (".lrc", ".txt", ".ass", ".ssa", ".srt", ".vtt", ".kar", ".mid")
 PICTURES = (".png", ".jpg", ".jpeg", ".gif", ".bmp", ".webp")
 ALBUM = "album.toml"
-# How a list of songs calls what the look of a song says.
+# The names in a list of songs for the options of a look.
 IN_ALBUM = {
     "style": "style",
     "title": "picture",
@@ -162,8 +162,8 @@ class Job:
 
 
 class Studio:
-    """A song that is open: every change goes through `do`, `undo` and `redo`, and is in the journal before it is
-    answered."""
+    """An open song. Every change is made by `do`, `undo` or `redo`, and is written to the journal before the call
+    returns."""
 
     def __init__(self, files: Files, encoding: str | None = None, force: bool = False) -> None:
         self.lyrics, self.sound, self.encoding = files.lyrics, files.sound, encoding
@@ -202,7 +202,7 @@ class Studio:
     # Opening
 
     def open(self, force: bool) -> None:
-        """Opens the files, and goes on from the journal if it belongs to them."""
+        """Opens the files, and continues from the journal if it belongs to them."""
         lyrics = read_file(self.lyrics)
         more = read_file(self.more) if self.is_lrc and self.more.is_file() else None
         kept = self.kept_journal(lyrics, more, force)
@@ -243,8 +243,8 @@ class Studio:
         self.act(self.history.redo)
 
     def act(self, change: Callable[[], Score]) -> None:
-        """Makes a change, keeps it in the journal, and plans its pictures meanwhile. A change that cannot be kept is not
-        made."""
+        """Makes a change, keeps it in the journal, and plans its pictures meanwhile. A change that cannot be kept is
+        not made."""
         with self.guard:
             before = self.history.kept()
             if change() is before.score:
@@ -292,7 +292,7 @@ class Studio:
             raise Refusal(self.lyrics, f"lines without all times: {first}; the journal keeps what is done")
 
     def save(self) -> list[str]:
-        """Saves the song as LRC with a file beside it where that is needed; the names of what was written."""
+        """Saves the song as LRC, with a file next to it if needed. Returns the names of the saved files."""
         with self.guard:
             self.check_timed()
             lrc, more = document_for(self.score, self.opened.document, self.opened.score).files()
@@ -318,8 +318,8 @@ class Studio:
             return [path.name for path in written]
 
     def is_ours(self) -> bool:
-        """Whether the LRC file and the one beside it are as this studio opened or saved them; only then they may be
-        replaced, and otherwise by the rules for all outputs."""
+        """Whether the LRC file and the file next to it are unchanged since this studio opened or saved them. Only then
+        they may be overwritten without the rules for all outputs."""
         sums = {path.name: checksum(read_file(path) if path.is_file() else None) for path in (self.target, self.more)}
         opened = {self.target.name: checksum(self.journal.lyrics), self.more.name: checksum(self.journal.more)}
         if sums == self.journal.sums or self.is_lrc and sums == opened:

@@ -89,8 +89,8 @@ def grouped(dues: Sequence[Due]) -> list[Due]:
 
 
 def paired(dues: Sequence[Due]) -> list[Due]:
-    """What is lit soon after each other on a line is lit together where that fits into one block. Two columns of a tile's
-    width then take one block instead of two, and more blocks are left for what is drawn."""
+    """What is lit soon after each other on a line is lit together where that fits into one block. Two columns of a
+    tile's width then take one block instead of two, and more blocks are left for what is drawn."""
     kept: list[Due] = []
     for due in dues:
         last = kept[-1] if kept else None
@@ -165,8 +165,8 @@ class Arranger:
         return [task for task in self.tasks.values() if task.steps and task.release < until and self.may_come(task)]
 
     def may_come(self, task: Task) -> bool:
-        """Whether the row in front of it is drawn, and what stood in its place is sung, and is cleared where letters
-        are to come."""
+        """Whether the previous row is drawn, and the row in the same place is sung and is cleared where the new letters
+        are."""
         before, follows = task.placed.before, task.placed.follows
         if task.placed.letters and follows in self.tasks and self.tasks[follows].steps:
             return False
@@ -248,7 +248,7 @@ def note(late: dict[Placed, int], placed: Placed, blocks: int) -> None:
 
 
 def fitting(steps: list[Draw], blocks: int) -> int:
-    """How many of the first steps fit into so many blocks."""
+    """The number of first steps that fit into this number of blocks."""
     room = PACKS_A_BLOCK * blocks
     for count, step in enumerate(steps):
         room -= step.need

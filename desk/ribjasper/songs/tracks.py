@@ -26,8 +26,8 @@ class LateScript(Failure):
 
 
 def track_packs(path: Path, script: bytes, blocks: int) -> bytes:
-    """The packs of a track of so many blocks, four a block: eight idle ones, so that nothing of it is sent before the
-    track; the presets and colours of the first picture; and all others at the times of the script."""
+    """The packs of a track, four for each of its blocks: eight idle packs, so that no symbol of the graphics is sent
+    before the track; the presets and colours of the first picture; and all other packs at the times of the script."""
     packs = authored(path, script, blocks)
     if packs is None:
         packs = authored(path, THROUGH_PAUSE.encode() + b"\n" + script.removeprefix(b"\xef\xbb\xbf"), blocks)
@@ -39,8 +39,8 @@ def track_packs(path: Path, script: bytes, blocks: int) -> bytes:
 
 
 def authored(path: Path, script: bytes, blocks: int) -> bytes | None:
-    """All packs of a disc with this track alone; nothing where its first picture is more than presets and colours, or
-    is not complete until the track begins."""
+    """All packs of a disc with only this track; None if its first picture is more than presets and colours, or is not
+    complete when the track begins."""
     stream, status, message = author(ONE_TRACK, script, 0, blocks)
     if status == LATE:
         raise LateScript(f"{path}: {message}")

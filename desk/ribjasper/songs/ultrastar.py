@@ -30,7 +30,7 @@ class Beats:
     changes: list[tuple[int, float]] = field(default_factory=list)
 
     def seconds(self, beat: int) -> float:
-        """The time of a beat: the beats in front of it, each as long as its tempo says."""
+        """The time of a beat: the sum of the lengths of the earlier beats, each with its tempo."""
         time, until = self.gap / 1000, self.base + beat
         tempos = [(0, self.beats_a_minute), *(change for change in self.changes if 0 < change[0] < until)]
         for (first, tempo), (following, _) in itertools.pairwise([*tempos, (until, 0.0)]):

@@ -1,4 +1,4 @@
-"""The options that say how a song looks."""
+"""The options for the look of a song."""
 import argparse
 import os
 from dataclasses import replace
@@ -20,7 +20,7 @@ LONGEST_INTRO = 600
 
 
 def add_wishes(parser: argparse.ArgumentParser) -> None:
-    """The options that say how a song looks."""
+    """Adds the options for the look of a song."""
     parser.add_argument("--title", type=Path, metavar="IMAGE", help="show this picture before the first words")
     parser.add_argument("--style", metavar="STYLE", help=f"{', '.join(shipped())}, or a file STYLE.toml (night)")
     parser.add_argument(
@@ -98,7 +98,7 @@ def add_encoding(parser: argparse.ArgumentParser) -> None:
 
 
 def look_for(arguments: argparse.Namespace) -> Look:
-    """The look that the studio saved beside the song; the default if it saved none."""
+    """The look that the studio saved next to the song, or the default look."""
     more = companion_of(arguments.song)
     return look_of(look_in(read_file(more))) if more else Look()
 
@@ -111,7 +111,7 @@ def style_of(arguments: argparse.Namespace, look: Look) -> Style:
 
 
 def wishes_of(arguments: argparse.Namespace, end: int | None) -> Wishes:
-    """What the options ask for; what they do not say is as the studio saved it."""
+    """The look from the options; options that are not given have the values that the studio saved."""
     look, folder = look_for(arguments), arguments.song.parent
     style, rows = style_of(arguments, look), arguments.rows or look.rows
     between = arguments.between or [one if one.startswith("#") else os.fspath(folder / one) for one in look.between]
