@@ -1,10 +1,12 @@
-"""Makes the wheels and the source archive of the desk, as PEP 517 and PEP 660 ask for them, with the standard library only.
+"""Makes the wheels and the source archive of the desk, as PEP 517 and PEP 660 ask for them, with the standard library
+only.
 
     build_wheel.py FOLDER PLATFORM ..
 
-As a command it writes complete wheels for releases: PLATFORM is manylinux_2_17_x86_64, manylinux_2_17_aarch64 or win_amd64, and
-bin/ and lib/ of the checkout have what was built for it. `pip install ./desk` gets what was built for this machine inside,
-if it was built. All files of an archive have one time (SOURCE_DATE_EPOCH), so the same files make the same archive."""
+As a command it writes complete wheels for releases: PLATFORM is manylinux_2_17_x86_64, manylinux_2_17_aarch64 or
+win_amd64, and bin/ and lib/ of the checkout have what was built for it. `pip install ./desk` gets what was built for
+this machine inside, if it was built. All files of an archive have one time (SOURCE_DATE_EPOCH), so the same files make
+the same archive."""
 import argparse
 import base64
 import gzip
@@ -22,8 +24,8 @@ from typing import Any, Iterator, Mapping, NamedTuple
 
 DESK = Path(__file__).resolve().parent
 TOP = DESK.parent
-# The version stands beside the desk in an archive of its sources, and above it in the repository; between two releases
-# it ends in -dev, which packages of Python spell so.
+# The file VERSION is in the desk's folder in an archive of its sources, and one folder above it in the repository.
+# Between two releases the version ends in -dev, which Python packages spell differently.
 WRITTEN = next(path for path in (DESK / "VERSION", TOP / "VERSION") if path.exists()).read_text().strip()
 VERSION = WRITTEN.replace("-dev", ".dev0")
 PROJECT: dict[str, Any] = tomllib.loads((DESK / "pyproject.toml").read_text())["project"]

@@ -51,14 +51,14 @@ def wanted(action: argparse.Action) -> str:
 
 
 def option(action: argparse.Action, of: argparse.ArgumentParser) -> list[str]:
-    """An option or an argument, and what is said of it."""
+    """An option or an argument, and its description."""
     spelled = ", ".join(f"{name} {wanted(action)}".strip() for name in action.option_strings) or wanted(action)
     said = (action.help or "") % {"default": action.default, "prog": of.prog, "choices": action.choices}
     return [".TP", f".B {roff(spelled)}", *([roff(said)] if said else [])]
 
 
 def shown(of: argparse.ArgumentParser) -> Iterator[argparse.Action]:
-    """What a page says of a parser: all but its help and its commands."""
+    """The arguments of a parser that a page describes: all except its help and its commands."""
     for action in of._actions:
         if not isinstance(action, (argparse._HelpAction, argparse._SubParsersAction)):
             yield action

@@ -94,7 +94,7 @@ class Stopped(KeyboardInterrupt):
 
 
 def _stop(number: int, _: FrameType | None) -> NoReturn:
-    """The first request to end is followed, and those that come while files are put away are not."""
+    """Ends the command at the first signal; signals during the clean-up are ignored."""
     for other in beside.STOPS:
         signal.signal(other, signal.SIG_IGN)
     raise Stopped(number)
@@ -136,7 +136,7 @@ def let_go_of_output() -> None:
 
 
 def called_on(arguments: argparse.Namespace | None) -> str:
-    """How the files of a call are called where nobody knows which of them was at fault."""
+    """The name for the files of a call in a message, if it is unknown which of them has the fault."""
     names = (getattr(arguments, name, None) for name in ("files", "file", "folder", "song", "image", "sheet", "stream"))
     found = next((name for name in names if name), "the call")
     return os.fspath(found[0] if isinstance(found, list) else found)

@@ -25,8 +25,8 @@ KINDS = ("program", "track", "first", "last", "lead-out", "catalogue", "isrc", "
 
 @dataclass(frozen=True, slots=True)
 class Frame:
-    """A good frame of the Q channel. Times are in blocks, 75 a second. Fields that the frame's kind does not have are 0 or
-    empty.
+    """A good frame of the Q channel. Times are in blocks, 75 a second. Fields that the frame's kind does not have are 0
+    or empty.
 
     block: the number of its block in the dump, from 0
     kind: program, track, first, last, lead-out, catalogue, isrc or other
@@ -61,7 +61,7 @@ class Dump:
 
     @property
     def path(self) -> str:
-        """The name of the file, as it was given."""
+        """The name of the file, as it was passed."""
         return self._loaded.path
 
     @property
@@ -88,7 +88,7 @@ class Dump:
 
     @property
     def notes(self) -> list[str]:
-        """What is unusual in the file: a torn end, a header, unread blocks, files beside it."""
+        """Unusual features of the file: a torn end, a header, unread blocks, companion files."""
         return list(self._loaded.notes())
 
     def packs(self) -> bytes:
@@ -178,11 +178,11 @@ def convert(
 
 
 def mend(*dumps: Dump, as_stream: bool = False) -> Mended:
-    """The best of several readings of one disc, put side by side by the times of their Q frames: the packs of the
-    program, or with `as_stream` its raw blocks, in `content`. `sources` has a byte for each word: the number of the
-    reading it is from, 254 if readings agree on it, 255 if none gives a codeword; `counts` has what each reading gave,
-    in words. Raises Refusal if a dump has only packs, or if nothing says where it belongs. Nothing checks that all are
-    of one disc."""
+    """Mends several readings of one disc. The times of their Q frames align the readings. `content` has the packs of
+    the program, or with `as_stream` its raw blocks. `sources` has a byte for each word: the number of its reading, 254
+    if several readings agree on it, or 255 if no reading has a codeword. `counts` has the number of words from each
+    reading. Raises Refusal if a dump has only packs, or if its place cannot be found. Whether all readings are of one
+    disc is not checked."""
     if not 2 <= len(dumps) <= library.READINGS:
         raise ValueError(f"from 2 to {library.READINGS} readings are mended, not {len(dumps)}")
     for dump in dumps:

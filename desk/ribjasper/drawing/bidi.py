@@ -115,8 +115,8 @@ def pairs_of(letters: list[str], kinds: list[str]) -> list[tuple[int, int]]:
 
 
 def brackets(letters: list[str], kinds: list[str], side: str, first: list[str]) -> None:
-    """Rule N0: a pair of brackets has the direction of the line if anything in it has, else that of what is in it and
-    in front of it."""
+    """Rule N0: a pair of brackets has the direction of the line if any text in it has this direction; otherwise the
+    direction of the text in it and before it."""
     for opening, closing in pairs_of(letters, kinds):
         inside = {side_of(kind) for kind in kinds[opening + 1 : closing]} - {None}
         if side in inside:

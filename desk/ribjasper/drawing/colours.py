@@ -36,7 +36,7 @@ def linear(part: float) -> float:
 
 
 def contrast(first: Colour, second: Colour) -> float:
-    """How well one stands out against the other, from 1 to 21: the contrast ratio of WCAG 2."""
+    """The contrast ratio of WCAG 2, from 1 to 21."""
     dark, light = sorted((first.lightness(), second.lightness()))
     return (light + 0.05) / (dark + 0.05)
 
@@ -68,7 +68,7 @@ def nearest_colour(colour: Colour, among: Sequence[Colour]) -> int:
 
 
 def chosen(pixels: Iterable[Colour], most: int) -> list[Colour]:
-    """At most so many colours that come nearest to these pixels, frequent ones first."""
+    """At most `most` colours that are nearest to these pixels, frequent ones first."""
     weights = Counter(pixels)
     if len(weights) <= most:
         return [colour for colour, _ in weights.most_common()]

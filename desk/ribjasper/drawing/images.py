@@ -40,7 +40,7 @@ def image_package() -> Any:
 
 
 def read_image(path: Path, how: ImageOptions = ImageOptions()) -> Any:
-    """The image of a file as it is to be looked at, in red, green and blue, on black where it is transparent."""
+    """The image of a file in its right orientation, in red, green and blue, on black where it is transparent."""
     pictures = image_package()
     with reading(path):
         image = pictures.open(path)
@@ -108,7 +108,7 @@ def most_near(edge: Counter[Colour], among: Sequence[Colour]) -> Colour:
 
 
 def in_colours(image: Any, most: int, dither: bool = False) -> Flat:
-    """The image in at most so many colours, chosen for it."""
+    """The image in at most `most` colours, chosen for it."""
     pixels = [colouring.near(*pixel) for pixel in image.getdata()]
     few = colouring.chosen(pixels, most)
     if dither:

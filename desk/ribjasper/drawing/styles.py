@@ -34,7 +34,7 @@ LEAST_SIZE, MOST_SIZE = 10, 40
 
 @dataclass(frozen=True)
 class Voice:
-    """The colours of a singer: of what is to be sung, and of what is sung; and letters of their own."""
+    """The colours of a singer: of text that is still to be sung, and of sung text; and the letters of the singer."""
 
     unsung: Colour
     sung: Colour
@@ -86,7 +86,7 @@ INKS = {
 
 @dataclass(frozen=True)
 class Style:
-    """Colours, letters and layout; a page has so many rows, and with `by_page` it goes as a whole."""
+    """Colours, letters and layout. A page has `rows` rows; with `by_page`, all rows of a page disappear together."""
 
     voices: tuple[Voice, ...]
     ground: Colour = BLACK
@@ -203,7 +203,7 @@ class TomlTable:
         return colour
 
     def file(self, key: str) -> Path | None:
-        """A file by its name, beside this one where it is no whole path."""
+        """A file by its name; a relative path starts in the folder of this file."""
         name = self.text(key)
         return self.path.parent / name if name else None
 

@@ -58,7 +58,7 @@ def run(arguments: argparse.Namespace) -> int:
 
 
 def list_to_read_again(loaded: Loaded, form: str) -> str:
-    """The list of sectors to read again. Notes say what it is made from."""
+    """The list of sectors to read again. Notes report its sources."""
     if loaded.form.library != RAW or not loaded.survey.has_q:
         raise Refusal(loaded.path, "has no Q channel, which says where its sectors are")
     errors = drive_errors(loaded.path, len(loaded.stream) // BLOCK)

@@ -28,7 +28,7 @@ PACKS, STREAMS, PLANAR = ".cdg", (".raw", ".subcode"), ".sub"
 ENDINGS = (PACKS, *STREAMS, PLANAR)
 # At least this share of the packs that two readings of one disc have in common is equal.
 LEAST_SHARE = 0.5
-# Fewer common packs decide nothing; tracks are compared at so many times.
+# Fewer than TOO_FEW common packs decide nothing. Tracks are compared at COMPARED times.
 TOO_FEW, COMPARED = 12, 200
 PLANAR_AT_ONCE = 4096 * BLOCK
 

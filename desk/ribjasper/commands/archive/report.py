@@ -1,4 +1,4 @@
-"""A report on all dumps below a folder, which goes on where it was stopped."""
+"""A report on all dumps below a folder. If a run was stopped, the next run continues."""
 import argparse
 import contextlib
 import hashlib
@@ -130,7 +130,7 @@ def files_below(folder: str, out: str, follow_links: bool) -> Below:
 
 
 def stamp(path: str, settings: str) -> str:
-    """What a row depends on: the file as it is, the library and how it was looked at."""
+    """The state that a row depends on: the file, the library and the settings."""
     try:
         found = os.stat(path)
     except OSError as error:
@@ -189,7 +189,7 @@ def append(journal: BinaryIO, line: bytes) -> None:
 def look_at_all(
     arguments: argparse.Namespace, tasks: list[FileTask], known: dict[str, tuple[str, ReportRow]], out: Path
 ) -> dict[str, ReportRow]:
-    """The rows of all files: those that are known and did not change, and the others looked at."""
+    """The rows of all files: known rows of unchanged files, and new rows of the other files, which are examined."""
     how = How(not arguments.no_pictures, asked(arguments))
     options = "".join(f" {word}" for word in how.words if word is not None)
     stamps = {
@@ -216,7 +216,7 @@ def look_at_all(
         append(journal, b"\n" if journal.tell() else b"")
         for entry in progress(found, len(todo), "files"):
             name = entry.row["file"]
-            # What could not be looked at is tried again by the next run.
+            # The next run tries files again that could not be examined.
             keep_entry(out, journal, entry, "" if entry.was_lost else stamps[name])
             rows[name] = entry.row
     tell(f"{len(todo)} files read, {len(tasks) - len(todo)} known")

@@ -1,4 +1,5 @@
-"""The sheet of a dump: what its Q channel and its lead-in say, as the program's `author`, cdrdao or CloneCD take it."""
+"""The sheet of a dump, from its Q channel and its lead-in, in the format of the program's `author`, of cdrdao or of
+CloneCD."""
 import argparse
 import os
 from typing import Iterator
@@ -40,7 +41,7 @@ class SheetWriter:
         return text if self.is_latin_1 else text.decode("latin-1").encode("utf-8")
 
     def add_texts(self, sheet: CueWriter, number: int) -> None:
-        """Adds the texts of a track, or of the album; those that a sheet cannot say are mentioned."""
+        """Adds the texts of a track, or of the album. Texts that a sheet cannot contain are reported."""
         for kind in (*COMMANDS, *MENTIONED):
             text = self.disc.texts.get((kind, number))
             if text and not sheet.text(kind, self.encoded(text)):
@@ -167,7 +168,7 @@ def minute_second_frame(time: int) -> tuple[int, int, int]:
 
 
 def remarks(loaded: Loaded, source: Source, found: QDisc) -> Iterator[str]:
-    """What a sheet cannot say of a disc, what is missing, and what not all frames say."""
+    """Remarks: facts of a disc that a sheet cannot contain, missing facts, and facts that not all frames confirm."""
     numbers = [track.number for track in found.tracks]
     missing = sorted(set(range(numbers[0], numbers[-1] + 1)) - set(numbers))
     if missing:

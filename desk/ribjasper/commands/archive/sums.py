@@ -15,7 +15,7 @@ from ...dumps.loading import add_options, asked
 
 CHECKED = (*NAMES, "found")
 TRACK_NAMES = ("track", "type", "first", "sectors", "size", "crc32", "md5", "sha1", "edc-bad", "found")
-# What a line of a check says.
+# The verdicts in the lines of a check.
 SAME, WRONG, UNLISTED, MISSING = "same", "differs", "not listed", "missing"
 
 
@@ -63,7 +63,7 @@ def offset(word: str) -> int:
 
 
 def checked_file(path: str, found: Sums, listed: Sequence[Listed]) -> tuple[str, set[str]]:
-    """What a list says of a file, and which names of the list the file is."""
+    """The verdict of a list on a file, and the names in the list that the file has."""
     same_name = [it for it in listed if os.path.basename(it.name.replace("\\", "/")) == plain(os.path.basename(path))]
     for it in same_name:
         if not it.differs(found):

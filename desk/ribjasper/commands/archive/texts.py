@@ -75,7 +75,7 @@ def lead_in_of_dump(path: str, words: DumpOptions) -> bytes:
 
 
 def write_all(outputs: Outputs, packs: list[bytes], as_json: bool) -> None:
-    """The table of all that packs say."""
+    """Writes the table of the contents of packs."""
     names = {language.number: language.name for language in text_packs.languages_of(packs)}
     table = outputs.table(("language", "kind", "track", "text"), as_json)
     for said in text_packs.said(packs):

@@ -128,7 +128,7 @@ def album_reads(album: Album) -> list[Path | None]:
 
 
 def check(album: Album, most: int, as_json: bool) -> int:
-    """Prints the tracks and their times; the status says whether they fit."""
+    """Prints the tracks and their times. Returns the exit status: whether they fit."""
     ready = [made_ready(track) for track in album.tracks]
     table = Table(COLUMNS, as_json)
     at = 0

@@ -1,4 +1,4 @@
-"""`film`: a film of what a stream or a `.cdg` file shows, and a page of its pictures."""
+"""`film`: a video of the pictures of a stream or a `.cdg` file, and a page of stills."""
 import argparse
 import contextlib
 import math
@@ -16,7 +16,7 @@ from ...dumps.streams import Stream, open_stream
 from ...songs import audio
 from ...songs.films import FilmForm, film_of
 
-# A picture that is shown for so many seconds gets a place on a page of stills.
+# A picture that is shown for at least this number of seconds gets a place on a page of stills.
 LEAST_SHOWN = 0.2
 MOST_STILLS = 1_000
 # A sound that is shorter than the pictures by no more seconds is as long as they are.
@@ -78,7 +78,7 @@ class Still(NamedTuple):
 
 
 class Stills:
-    """The pictures that a page is to show: those that are shown for a while, or one every so many seconds."""
+    """The pictures of a page of stills: those that are shown for a while, or one at regular times."""
 
     def __init__(self, rate: int, every: float | None):
         self.rate, self.every = rate, every

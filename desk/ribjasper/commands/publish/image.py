@@ -19,7 +19,7 @@ from ...dumps.streams import open_stream
 from ...songs import audio
 from ...songs.tracks import FIRST_OF_AUDIO
 
-# Held through the pause, so that all pictures come with the audio, which alone is on an image.
+# This picture is held through the pause, so that all other pictures are in the audio: an image has only the audio.
 HOLD_THROUGH_PAUSE = b"show 00:00:20 00:02:02\n"
 # The bits of the channels P and Q in a byte of a block.
 P_AND_Q = bytes(byte & 0xC0 for byte in range(256))

@@ -28,7 +28,7 @@ from ...songs.tracks import as_pair
 from ...songs.wishes import add_wishes, reads_of, wishes_of
 
 FOLDER = Path(__file__).parent
-# The picture is looked at each so many blocks, twenty-five times a second.
+# The picture is compared every three blocks, twenty-five times a second.
 EVERY = 3
 # A place of the page that is filled in.
 PART = re.compile(r"\{\{(\w+)\}\}")
@@ -54,8 +54,8 @@ def add_parser(commands: Commands) -> None:
 
 
 def changes_of(packs: bytes) -> Iterator[bytes]:
-    """The changes of the picture, each with its block: whether colours come, the first pixel, width and height of what
-    changes, and the numbers of its colours."""
+    """The changes of the picture, each with its block: whether colours follow; the first pixel, width and height of the
+    changed rectangle; and the numbers of its colours."""
     step = PACK * PACKS_A_BLOCK * EVERY
     before, colours = bytes(WIDTH * HEIGHT), [0] * COLOURS
     with Player() as player:

@@ -1,4 +1,4 @@
-"""`pair`: a song as karaoke players take it: the graphics as a .cdg file, and the sound beside it."""
+"""`pair`: a song for karaoke players: the graphics as a .cdg file, and the sound next to it."""
 import argparse
 from dataclasses import replace
 from pathlib import Path

@@ -1,4 +1,4 @@
-"""`plan`: a row for each picture of a script, and which of them are late."""
+"""`plan`: a row for each picture of a script, and the late pictures."""
 import argparse
 from pathlib import Path
 
@@ -16,7 +16,7 @@ NAMES = ("picture", "line", "ready", "hold", "need", "free", "first", "late")
 
 
 def add_length(parser: argparse.ArgumentParser) -> None:
-    """The options that say how long the audio is."""
+    """Adds the options for the length of the audio."""
     length = parser.add_mutually_exclusive_group(required=True)
     length.add_argument("--length", type=times.blocks, metavar="MM:SS:FF", help="how long the audio is")
     length.add_argument("--audio", type=Path, metavar="WAV", help="the audio, whose length is taken")

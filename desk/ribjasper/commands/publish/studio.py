@@ -56,7 +56,7 @@ def add_parser(commands: Commands) -> None:
 
 
 class Page(NamedTuple):
-    """The page of a studio: what it answers to each request."""
+    """The page of a studio: the answer to each request."""
 
     studio: Studio
     close: Callable[[], None]
@@ -147,7 +147,7 @@ def of_web(name: str) -> Answer | None:
 
 
 def make_film(studio: Studio, job: Job) -> None:
-    """A film of the song beside it."""
+    """Writes a film of the song next to it."""
     made = studio.ready()
     out = studio.lyrics.with_suffix(".mp4")
     count = max(1, round(made.blocks / 75 * FILM_RATE))
