@@ -34,7 +34,7 @@ class Version(argparse.Action):
         output.write_text(f"ribjasper-desk {__version__}\n")
         try:
             if version() != __version__:
-                output.complain(f"the library at hand has the version {version()}")
+                output.complain(f"the installed library has the version {version()}")
         except output.Missing as missing:
             output.complain(str(missing))
         parser.exit()

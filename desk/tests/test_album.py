@@ -225,7 +225,7 @@ class AlbumTest(SongsTest):
         refused("knows nothing of 'colour'", lambda text: text.replace("lyrics", "colour = 1\nlyrics", 1))
         refused("track 1 needs lyrics and sound", lambda text: text.replace("sound", "# sound", 1))
         refused("has 0 tables [[track]]", lambda text: text[: text.index("[[track]]")])
-        refused("is no TOML", lambda text: text + "x\n")
+        refused("is not TOML", lambda text: text + "x\n")
         self.assertEqual(desk("album", self.folder / "1.lrc", self.folder / "2.lrc", "-o", self.folder / "x").status, 2)
 
 
@@ -347,7 +347,7 @@ class PairTest(SongsTest):
     def test_no_sound(self) -> None:
         self.assertIn("4.lrc: no such file", self.pair(song="4.lrc", status=3).errors)
         os.unlink(self.folder / "1.wav")
-        self.assertIn("has no sound of its name beside it", self.pair(status=3).errors)
+        self.assertIn("has no sound with its name next to it", self.pair(status=3).errors)
 
 
 if __name__ == "__main__":

@@ -105,7 +105,7 @@ class AudioTest(FolderTest):
             (write_wav(self.folder / "c.wav", 100, channels=1), "has 44100 Hz, 1 channel, 16 bits"),
             (write_wav(self.folder / "d.wav", 100, width=3), "has 44100 Hz, 2 channels, 24 bits"),
             (self.sound(extensible(form=3, bits=32), "e.wav"), "has 44100 Hz, 2 channels, 32 bits"),
-            (self.sound(b"ID3 no sound", "f.mp3"), "is no WAV file"),
+            (self.sound(b"ID3 no sound", "f.mp3"), "is not a WAV file"),
         ):
             with mock.patch.dict(os.environ, {"PATH": str(self.folder)}):
                 errors = self.refused(path)
@@ -131,7 +131,7 @@ class AudioTest(FolderTest):
 
     @needs_ffmpeg
     def test_what_ffmpeg_cannot_read(self) -> None:
-        self.assertIn("is no WAV file, and ffmpeg cannot convert it", self.refused(self.sound(b"no sound", "a.mp3")))
+        self.assertIn("is not a WAV file, and ffmpeg cannot convert it", self.refused(self.sound(b"no sound", "a.mp3")))
         self.assertIn("no such file", self.refused(self.folder / "none.wav"))
 
     def test_a_header_for_samples(self) -> None:

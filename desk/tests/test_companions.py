@@ -1,4 +1,4 @@
-"""Files beside a dump: what each tells, and that one which tells nothing costs nothing."""
+"""Files beside a dump: what each tells, and that one which has no usable information costs nothing."""
 import struct
 import unittest
 
@@ -28,7 +28,7 @@ class CompanionsTest(FolderTest):
         blocks = len(stream) // BLOCK
         row = self.found(stream, "a.subcode", state=bytes(588 * blocks))
         self.assertEqual((row["form"], row["lead-in"], row["graphics"]), ("raw", "45000", "yes"))
-        self.assertIn("beside it: a.state", row["notes"])
+        self.assertIn("next to it: a.state", row["notes"])
         row = self.found(stream, "b.subcode", state=bytes(588 * blocks - 1))
         self.assertEqual(row["lead-in"], "0")
         self.assertIn("b.state is not as long as the dump", row["notes"])
@@ -44,7 +44,7 @@ class CompanionsTest(FolderTest):
         self.assertIn("2 sessions", self.found(stream, "a.sub", ccd=ccd)["notes"])
         cue = b'FILE "b.bin" BINARY\nREM SESSION 01\nTRACK 01 AUDIO\nINDEX 01 00:00:00\nREM SESSION 02\nTRACK 02 AUDIO\nINDEX 01 01:00:00\n'
         self.assertIn("2 sessions", self.found(stream, "b.sub", cue=cue)["notes"])
-        self.assertIn("beside it: c.toc", self.found(stream, "c.sub", toc=b"CD_DA\n\nTRACK AUDIO\n")["notes"])
+        self.assertIn("next to it: c.toc", self.found(stream, "c.sub", toc=b"CD_DA\n\nTRACK AUDIO\n")["notes"])
         mds = bytearray(b"MEDIA DESCRIPTOR" + bytes(0x70))
         struct.pack_into("<H", mds, 0x14, 3)
         struct.pack_into("<I", mds, 0x50, 0x58)
@@ -64,7 +64,7 @@ class CompanionsTest(FolderTest):
         ):
             row = self.found(stream, f"{number}.sub", **{ending: content})
             self.assertEqual((row["form"], row["lead-in"]), ("raw", "0"))
-        self.assertIn("3.ccd tells nothing", self.found(stream, "3.sub")["notes"])
+        self.assertIn("3.ccd has no usable information", self.found(stream, "3.sub")["notes"])
 
     def test_other_files(self) -> None:
         stream = known.program(DISC, 150, DISC.end)

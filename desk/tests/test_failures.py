@@ -54,7 +54,7 @@ class TableTest(unittest.TestCase):
             (EOFError(), "ends too early", 3),
             (wave.Error("odd"), "cannot be read", 3),
             (struct.error("odd"), "cannot be read", 3),
-            (UnicodeDecodeError("utf-8", b"\xff", 0, 1, "odd"), "is no text in UTF-8", 3),
+            (UnicodeDecodeError("utf-8", b"\xff", 0, 1, "odd"), "is not UTF-8 text", 3),
         ):
             self.assertEqual(called(error)[1:], (f"a\\tb: {message}", status))
         self.assertIs(called(MemoryError())[0], NoMemory)
@@ -64,7 +64,7 @@ class TableTest(unittest.TestCase):
         from PIL import Image
 
         self.assertEqual(called(Image.DecompressionBombError())[1], "a\\tb: has too many pixels for an image")
-        self.assertEqual(called(Image.UnidentifiedImageError("odd"))[1], "a\\tb: is no image that can be read")
+        self.assertEqual(called(Image.UnidentifiedImageError("odd"))[1], "a\\tb: is not a readable image")
         with self.assertRaises(Refusal), reading("x"):
             warnings.warn("could be decompression bomb DOS attack", Image.DecompressionBombWarning)
 

@@ -104,7 +104,7 @@ class FilmTest(FolderTest):
 
     def test_refusals(self) -> None:
         ran = desk("film", self.write("a.cdg", bytes(25)), "--stills", self.folder / "a.png")
-        self.assertEqual((ran.status, "a.cdg: is no stream and no .cdg file: 25 bytes" in ran.errors), (3, True))
+        self.assertEqual((ran.status, "a.cdg: is neither a stream nor a .cdg file: 25 bytes" in ran.errors), (3, True))
         self.assertEqual(desk("film", self.folder / "none", "--stills", self.folder / "a.png").status, 3)
         self.assertEqual(desk("film", self.stream).status, 2)
 

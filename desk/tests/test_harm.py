@@ -125,17 +125,22 @@ class SameFileTest(CallsTest):
 
     def test_names_of_which_several_files_cannot_be_made(self) -> None:
         file = write_wav(self.folder / "s.wav", 100)
-        for name, why in (("-", "stands for standard output"), ("", "is no name"), ("..", "is no name")):
+        for name, why in (("-", "means standard output"), ("", "is not"), ("..", "is not")):
             self.refuses("image", file, file, "--audio", file, "-o", name, why=why)
             self.refuses("pair", file, "--audio", file, "-o", name, why=why)
             if name in ("-", ""):
-                self.refuses("report", self.folder, "-o", name, why="is no name of a folder")
+                self.refuses("report", self.folder, "-o", name, why="is not the name of a folder")
 
     def test_a_report_takes_a_folder_of_its_own(self) -> None:
         self.write("dumps/x", b"dump")
         self.write("mine/pictures/holiday.png", b"precious")
         self.refuses(
-            "report", self.folder / "dumps", "-o", self.folder / "mine", "--no-pictures", why="is no folder of a report"
+            "report",
+            self.folder / "dumps",
+            "-o",
+            self.folder / "mine",
+            "--no-pictures",
+            why="is not the folder of a report",
         )
 
 

@@ -214,12 +214,12 @@ class ImageTest(FolderTest):
                 "has 48000 Hz, 2 channels, 16 bits, and ffmpeg is not installed",
                 audio=write_wav(self.folder / "b.wav", 100, rate=48_000),
             )
-        refused("is no WAV file", audio=self.sheet)
+        refused("is not a WAV file", audio=self.sheet)
         refused("no such file", audio=self.folder / "none.wav")
         refused("author it with --length 00:23:00", audio=write_wav(self.folder / "b.wav", 588 * 75 * 23))
         refused("they differ at 00:08:48", sheet=self.write("b.cue", SHEET.replace("00:05:49", "00:05:48")))
-        refused("is no stream", stream=self.sheet)
-        refused("is no raw stream, but a .cdg file", stream=self.write("a.cdg", bytes(24 * 50)))
+        refused("is neither a stream", stream=self.sheet)
+        refused("is a .cdg file, not a raw stream", stream=self.write("a.cdg", bytes(24 * 50)))
         self.disc = self.folder / "a"
         refused("a.cue: is read here and would be overwritten")
 

@@ -101,14 +101,14 @@ class StylesTest(FolderTest):
             ('colour = "#000"', "knows nothing of 'colour'"),
             ('align = "middle"', "align is 'middle'"),
             ('font = "No Such Font"', "there is no font No"),
-            ("rows = ", "is no TOML"),
+            ("rows = ", "is not TOML"),
             ("sweep = true", "knows nothing of 'sweep'"),
         ):
             ran = desk("lyrics", SONG / "song.lrc", "-o", self.folder / "a.script", "--style", self.style(line))
             self.assertEqual((ran.status, why in ran.errors), (3, True), ran.errors)
         ran = desk("lyrics", SONG / "song.lrc", "-o", self.folder / "a.script", "--style", "green")
         self.assertEqual(
-            (ran.status, "is no style; there are black, night, paper" in ran.errors), (3, True), ran.errors
+            (ran.status, "is not a style; the styles are black, night, paper" in ran.errors), (3, True), ran.errors
         )
         for voices in ("", '[[voice]]\nunsung = "#FFF"\n', 3 * '[[voice]]\nunsung = "#FFF"\nsung = "#000"\n'):
             ran = desk(
@@ -294,7 +294,7 @@ class LyricsTest(ScriptTest):
     def test_a_title_without_room_is_left_out(self) -> None:
         song = self.write("a.lrc", "[00:03.00]La\n")
         ran, _, _ = self.made(song, "--title", SONG / "title.png")
-        self.assertIn("the title is left out", ran.errors)
+        self.assertIn("the title is omitted", ran.errors)
 
     @needs_program
     def test_a_title_stands(self) -> None:
@@ -315,20 +315,22 @@ class LyricsTest(ScriptTest):
             "[ti:A \U0001f941]\n[00:09.00]Fine\n[00:12.00]\U00012000\n[00:14.00]So \U0001f941\ufe0f long \U00012000\n",
         )
         ran, script, maker = self.made(song)
-        both = "\U00012000 (U+12000 cuneiform sign a), \U0001f941 (U+1F941 drum with drumsticks); they are left out"
-        self.assertIn(f"line 4: no font here has {both}", ran.errors)
-        self.assertIn("line 3: no font here has any of its letters, and so it is left out", ran.errors)
-        self.assertIn("the title: no font here has \U0001f941", ran.errors)
+        both = "\U00012000 (U+12000 cuneiform sign a), \U0001f941 (U+1F941 drum with drumsticks); they are omitted"
+        self.assertIn(f"line 4: no installed font has {both}", ran.errors)
+        self.assertIn("line 3: no installed font has any of its letters, so it is omitted", ran.errors)
+        self.assertIn("the title: no installed font has \U0001f941", ran.errors)
         self.assertIn(str(song), ran.errors)
         self.assertEqual([line.text for line in maker.song.lines], ["Fine", "So  long"])
         self.assertEqual(maker.song.title.strip(), "A")
         ran, script, maker = self.made(song, "--missing", "box")
         self.assertEqual([line.text for line in maker.song.lines], ["Fine", "\u25a1", "So \u25a1 long \u25a1"])
-        self.assertIn("boxes stand for them", ran.errors)
+        self.assertIn("boxes replace them", ran.errors)
         self.is_planned(script)
         nothing = self.write("b.lrc", "[00:09.00]\U00012000\n")
         ran = desk("lyrics", nothing, "-o", self.folder / "b.script")
-        self.assertEqual((ran.status, f"{nothing}: no font here has its letters" in ran.errors), (3, True), ran.errors)
+        self.assertEqual(
+            (ran.status, f"{nothing}: no installed font has its letters" in ran.errors), (3, True), ran.errors
+        )
 
     def test_long_words_and_titles_are_broken(self) -> None:
         word = "Donaudampfschifffahrtselektrizitaetenhauptbetriebswerkbauunterbeamtengesellschaft"
@@ -584,7 +586,7 @@ class ReadableTest(ScriptTest):
         stands = next(pixels for block, pixels in self.screens(script) if block == PAUSE + 75 * 5)
         self.assertLessEqual({3, 7, 11}, set(stands))
         ran, _, _ = self.made(self.write("b.lrc", QUICK), "--legend")
-        self.assertIn("only one voice sings, and so there is no legend", ran.errors)
+        self.assertIn("only one voice sings, so there is no legend", ran.errors)
 
     def dots(self, pixels: bytes, placed: Placed) -> int:
         """How many of the dots above a line stand."""

@@ -651,7 +651,7 @@ class PlacingTest(DiscCase):
         self.assertFalse(out.exists())
         alone = program("convert", "--lead-in", 0, stdin=first, statuses=(0, 1))
         self.assertEqual(self.mended(first, worse, status=1), alone)
-        self.assertIn("2900 blocks are left out", self.ran.errors)
+        self.assertIn("2900 blocks are omitted", self.ran.errors)
 
     def test_a_reading_without_q_begins_or_ends_as_another(self) -> None:
         """Its words agree there, whatever its length."""
@@ -680,14 +680,14 @@ class PlacingTest(DiscCase):
         gap = with_zeros(with_zeros(self.whole, 1000, 1100), 3000, 3100)
         for readings in ((bare, gap), (gap, bare)):
             self.assertEqual(self.mended(*readings), self.truth, self.ran.errors)
-        self.assertRegex(self.ran.errors, r"\d\d blocks are left out")
+        self.assertRegex(self.ran.errors, r"\d\d blocks are omitted")
 
     def test_stale_frames_alone_say_no_time(self) -> None:
         """Two readings without Q, stale blocks in one: they stay block beside block, and their time is not known."""
         worse = self.with_stale(self.bare, 2000, 1611, 100)
         gap = with_zeros(self.bare, 3000, 3100)
         self.assertEqual(self.mended(gap, worse), self.truth, self.ran.errors)
-        self.assertIn("no Q frame says its absolute time", self.ran.errors)
+        self.assertIn("no Q frame has its absolute time", self.ran.errors)
 
 
 if __name__ == "__main__":

@@ -202,7 +202,7 @@ class OutputTest(FolderTest):
     def test_no_output(self) -> None:
         self.write("file", "x")
         self.refused("is a directory", [], [(self.folder, ANY)], force=True)
-        self.refused("is no name of a file", [], [("", ANY)])
+        self.refused("is not the name of a file", [], [("", ANY)])
         with self.assertRaises(Unwritten) as caught:
             write_file(self.path("none/a"), b"", ANY)
         self.assertEqual(str(caught.exception), f"{self.path('none/a')}: no such file or directory")

@@ -209,9 +209,9 @@ class PairsTest(FolderTest):
         lyrics = ['lyrics = "one.lrc"', 'sound = "one.wav"']
         for lines, why in (
             (['pair = "none.cdg"', 'sound = "one.wav"'], "none.cdg: has no graphics"),
-            (['pair = "bad.zip"'], "bad.zip: is no ZIP file that can be read"),
+            (['pair = "bad.zip"'], "bad.zip: is not a readable ZIP file"),
             (['pair = "empty.zip"'], "empty.zip: has 1 .cdg files and 0 sounds"),
-            (['pair = "alone.cdg"'], "alone.cdg: has no sound of its name beside it"),
+            (['pair = "alone.cdg"'], "alone.cdg: has no sound with its name next to it"),
             (['pair = "gone.cdg"'], "gone.cdg: no such file"),
             (['pair = "usual.cdg"', "begin = 2"], "track 1: a pair cannot begin later"),
             ([*lyrics, 'pair = "usual.cdg"'], "track 1 needs lyrics and sound, or a pair"),

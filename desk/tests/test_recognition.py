@@ -68,7 +68,7 @@ class RefusalTest(FolderTest):
             self.assertIn(
                 f"{lyrics}: is lyrics, and no list of songs: `ribjasper-desk album --new {lyrics}", errors, name
             )
-        self.assertIn("is no TOML", self.refused("album", self.write("a.toml", b"= 1\n"), "-o", self.folder / "disc"))
+        self.assertIn("is not TOML", self.refused("album", self.write("a.toml", b"= 1\n"), "-o", self.folder / "disc"))
         self.assertIn("no such file", self.refused("album", self.folder / "none.toml", "-o", self.folder / "disc"))
 
     def test_unknown_forms(self) -> None:

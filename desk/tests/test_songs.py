@@ -189,7 +189,7 @@ class LrcTest(SongTest):
         self.assertEqual(words(song), [[("Half", 0)], [("La", 3)]])
         self.assertEqual([line.stays for line in song.lines][:1], [3])
         notes = "\n".join(song.notes)
-        self.assertIn("line 2 at [00:00.00] would be sung before the audio begins, and is left out: Heading", notes)
+        self.assertIn("line 2 at [00:00.00] would be sung before the audio begins, and is omitted: Heading", notes)
         self.assertIn("line 4 at [00:01.50] would begin 0.50 seconds before the audio", notes)
 
     def test_order_is_told_with_the_times_as_they_are_written(self) -> None:
@@ -287,8 +287,8 @@ class AssTest(SongTest):
 
     def test_all_faults_at_once(self) -> None:
         errors = self.refused(ASS.replace("0:00:05.00", "5 seconds").replace("0:00:12.00", "0:x"), "a.ass")
-        self.assertIn("line 9: 5 seconds is no time", errors)
-        self.assertIn("line 11: 0:x is no time", errors)
+        self.assertIn("line 9: 5 seconds is not a time", errors)
+        self.assertIn("line 11: 0:x is not a time", errors)
 
     def test_what_the_templater_reads_and_makes(self) -> None:
         song = self.song(TEMPLATER, "a.ass")
@@ -377,7 +377,7 @@ class VttTest(SongTest):
 
     def test_faults(self) -> None:
         errors = self.refused("WEBVTT\n\n00:05.5 -> 00:06\na\n\n0:5 --> 0:7\nb\n", "a.vtt")
-        self.assertIn("line 6: 0:5 --> 0:7 is no time", errors)
+        self.assertIn("line 6: 0:5 --> 0:7 is not a time", errors)
 
 
 class SrtTest(SongTest):
@@ -392,8 +392,8 @@ class SrtTest(SongTest):
 
     def test_faults(self) -> None:
         errors = self.refused("1\n00:00:05,500 --> 00:00:09,500\na\n\n2\n0:5 --> 0:7\nb\n\n3\nx --> y\nc\n", "a.srt")
-        self.assertIn("line 6: 0:5 --> 0:7 is no time", errors)
-        self.assertIn("line 10: x --> y is no time", errors)
+        self.assertIn("line 6: 0:5 --> 0:7 is not a time", errors)
+        self.assertIn("line 10: x --> y is not a time", errors)
 
 
 def variable(number: int) -> bytes:
@@ -442,7 +442,7 @@ class KarTest(SongTest):
     def test_refusals(self) -> None:
         whole = midi((0, 0x51, self.SLOW), (480, 5, b"One"))
         for size in (6, 20, len(whole) - 5):
-            self.assertRegex(self.refused(whole[:size], "a.kar"), r"is no MIDI file that can be read: \w+")
+            self.assertRegex(self.refused(whole[:size], "a.kar"), r"is not a readable MIDI file: \w+")
 
     def test_an_encoding(self) -> None:
         text = "\\\u0412\u043e \u043f\u043e\u043b\u0435".encode(

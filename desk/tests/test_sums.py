@@ -65,7 +65,7 @@ class SumsTest(FolderTest):
         for content in (b"", b"text", b"<a/>"):
             ran = desk("sums", self.files[0], "--check", self.write("no.dat", content))
             self.assertEqual(ran.status, 3)
-            self.assertIn("is no list of checksums", ran.errors)
+            self.assertIn("is not a list of checksums", ran.errors)
 
 
 if __name__ == "__main__":

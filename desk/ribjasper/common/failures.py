@@ -116,10 +116,10 @@ class Outside(NamedTuple):
 OUTSIDE = {
     "MemoryError": Outside("there is not enough memory for it", NoMemory),
     "RecursionError": Outside("is nested too deeply", Refusal),
-    "UnidentifiedImageError": Outside("is no image that can be read", Refusal),
+    "UnidentifiedImageError": Outside("is not a readable image", Refusal),
     "DecompressionBombError": Outside("has too many pixels for an image", Refusal),
     "DecompressionBombWarning": Outside("has too many pixels for an image", Refusal),
-    "UnicodeDecodeError": Outside("is no text in UTF-8", Refusal),
+    "UnicodeDecodeError": Outside("is not UTF-8 text", Refusal),
     "EOFError": Outside("ends too early", Refusal),
     "Error": Outside("cannot be read", Refusal),
     "error": Outside("cannot be read", Refusal),
@@ -145,7 +145,7 @@ def failure_of(error: BaseException, path: Name, writing: bool = False) -> Failu
     while where and where.tb_next:
         where = where.tb_next
     at = f"{os.path.basename(where.tb_frame.f_code.co_filename)}:{where.tb_lineno}" if where else "?"
-    said = f"a fault of the desk, which should have known what this is: {type(error).__name__}: {error} ({at})"
+    said = f"an internal error of the desk: {type(error).__name__}: {error} ({at})"
     return Fault(path, shown(said))
 
 

@@ -27,7 +27,9 @@ def warn(path: Path, sheet: bytes) -> None:
         except UnicodeDecodeError:
             continue
         wrong = line.strip().decode("latin-1")
-        tell(f"{path}: line {number}: {text} goes onto the disc in UTF-8, and players show {wrong!r}; see --latin-1")
+        tell(
+            f"{path}: line {number}: {text} is written to the disc in UTF-8, and players show {wrong!r}; see --latin-1"
+        )
 
 
 def as_latin_1(path: Path, sheet: bytes) -> bytes:

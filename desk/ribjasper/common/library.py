@@ -275,7 +275,7 @@ def call(name: str) -> Any:
     try:
         function = getattr(loaded(), name)
     except AttributeError:
-        raise Missing(f"the library at hand has no {name}: build it again ('make library')") from None
+        raise Missing(f"the installed library has no {name}: build it again ('make library')") from None
     function.argtypes, function.restype = CALLS[name]
     return function
 

@@ -328,7 +328,7 @@ class Outputs:
             if other.target.identity() == target.identity():
                 raise Refusal(output.name, f"is the same file as another output, {shown(other.name)}")
         if target.found is not None and (out := standard_output()) is not None and os.path.samestat(target.found, out):
-            raise Refusal(output.name, f"is what standard output is written to; {DASH} stands for it")
+            raise Refusal(output.name, f"is the file that standard output is written to; {DASH} means this file")
 
     @property
     def printed(self) -> TextIO:
@@ -428,9 +428,9 @@ def stem_of(name: Name) -> str:
     """The name from which the names of several files are made, as a call has it."""
     stem = os.fsdecode(name)
     if stem == DASH:
-        raise Refusal(DASH, f"stands for standard output, which takes one file and not several; ./{DASH} is a name")
+        raise Refusal(DASH, f"means standard output, which can hold only one file; ./{DASH} is a name")
     if os.path.basename(stem) in ("", os.curdir, os.pardir):
-        raise Refusal(stem or "''", "is no name from which those of several files can be made")
+        raise Refusal(stem or "''", "is not a name from which the names of several files can be made")
     return stem
 
 

@@ -106,7 +106,7 @@ class Handler(http.server.BaseHTTPRequestHandler):
         """The table that a request brings, or why it is refused."""
         length = self.headers.get("Content-Length", "")
         if not (length.isascii() and length.isdigit()) or int(length) > MOST_SENT:
-            return as_json({"error": "a request has at most 4 MB, and says how many bytes it has"}, 413)
+            return as_json({"error": "a request must have a Content-Length of at most 4 MB"}, 413)
         if self.headers.get_content_type() != "application/json":
             return as_json({"error": "JSON is wanted"}, 415)
         try:

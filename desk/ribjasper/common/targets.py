@@ -21,7 +21,7 @@ class Target:
         self.name = os.fsdecode(name)
         self.is_dash = self.name == DASH
         if not self.is_dash and not self.name:
-            raise Refusal("''", "is no name of a file")
+            raise Refusal("''", "is not the name of a file")
         with reading(self.name):
             self.found = None if self.is_dash else _found(self.name)
         # Where the links lead that are in the name: they stay, and what they name is replaced.
@@ -65,7 +65,11 @@ class Target:
                 return None
             if not is_own and kind.has(self.path):
                 return "is there already, and the desk did not write it, or it was changed since; --force replaces it"
-        why = f"is not {kind.name}" if kind.can_be_known else f"nobody can tell whether {kind.name} can be made again"
+        why = (
+            f"is not {kind.name}"
+            if kind.can_be_known
+            else f"the desk cannot know whether {kind.name} can be made again"
+        )
         return f"is there already, and {why}; --force replaces it"
 
 
@@ -101,4 +105,4 @@ def against_standard_output(inputs: dict[tuple[object, ...], str]) -> list[Failu
     """A refusal if standard output is written to a file that is read, and which holds something still."""
     out = standard_output()
     read = inputs.get((out.st_dev, out.st_ino)) if out is not None and out.st_size else None
-    return [] if read is None else [Refusal(read, "is read here, and standard output is written to it")]
+    return [] if read is None else [Refusal(read, "is an input, and standard output is written to it")]

@@ -23,7 +23,7 @@ def blocks(time: str) -> int:
     """The blocks of a time, as an argument of the command line."""
     parts = CLOCK.fullmatch(time)
     if not parts:
-        raise argparse.ArgumentTypeError(f"{time} is no time MM:SS:FF (75 frames a second)")
+        raise argparse.ArgumentTypeError(f"{time} is not a time MM:SS:FF (75 frames a second)")
     minutes, seconds, frames = map(int, parts.groups())
     return BLOCKS_A_SECOND * (SECONDS_A_MINUTE * minutes + seconds) + frames
 

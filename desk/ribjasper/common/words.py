@@ -13,7 +13,7 @@ def number_in(least: int, most: int) -> Callable[[str], int]:
 
     def read_number(word: str) -> int:
         if not (word.isascii() and word.isdigit() and least <= int(word) <= most):
-            raise argparse.ArgumentTypeError(f"{word} is no number from {least} to {most}")
+            raise argparse.ArgumentTypeError(f"{word} is not a number from {least} to {most}")
         return int(word)
 
     return read_number
@@ -28,7 +28,7 @@ def seconds_in(least: float, most: float) -> Callable[[str], float]:
         except ValueError:
             number = least - 1
         if not least <= number <= most:
-            raise argparse.ArgumentTypeError(f"{word} is no number of seconds from {least:g} to {most:g}")
+            raise argparse.ArgumentTypeError(f"{word} is not a number of seconds from {least:g} to {most:g}")
         return number
 
     return read_seconds

@@ -103,7 +103,7 @@ class Font:
             try:
                 self._made[number, size] = self.fonts.truetype(str(self.paths[number]), size)
             except OSError as error:
-                raise Refusal(self.paths[number], f"is no font that can be read: {error}") from None
+                raise Refusal(self.paths[number], f"is not a readable font: {error}") from None
         return self._made[number, size]
 
     def face_of(self, letter: str) -> int | None:

@@ -225,9 +225,9 @@ def read_table(path: Path) -> TomlTable:
     try:
         return TomlTable(path, tomllib.loads(content.decode("utf-8-sig")))
     except UnicodeDecodeError as wrong:
-        raise Refusal(path, f"byte {wrong.start} is no UTF-8") from None
+        raise Refusal(path, f"byte {wrong.start} is not UTF-8") from None
     except tomllib.TOMLDecodeError as wrong:
-        raise Refusal(path, f"is no TOML: {wrong}") from None
+        raise Refusal(path, f"is not TOML: {wrong}") from None
 
 
 def shipped() -> list[str]:
@@ -239,7 +239,7 @@ def read_style(word: str) -> Style:
     """A style by its name, or by its file."""
     path = FOLDER / f"{word}.toml" if word in shipped() else Path(word)
     if path.suffix != ".toml":
-        raise Refusal(word, f"is no style; there are {', '.join(shipped())}, and files that end with .toml")
+        raise Refusal(word, f"is not a style; the styles are {', '.join(shipped())}, and files that end with .toml")
     table = read_table(path)
     voices = tuple(voice_of(one) for one in table.tables("voice"))
     if not 1 <= len(voices) <= VOICES:

@@ -114,14 +114,14 @@ def read_games(path: str) -> list[Game]:
     try:
         top = xml.fromstring(read_file(path))
     except xml.ParseError as error:
-        raise Refusal(path, f"is no list of checksums: {error}") from None
+        raise Refusal(path, f"is not a list of checksums: {error}") from None
     found = []
     for game in [top, *top.iter("game"), *top.iter("machine")]:
         files = [listed_of(rom) for rom in game.findall("rom")]
         if files:
             found.append(Game(game.get("name", ""), files))
     if not found:
-        raise Refusal(path, "is no list of checksums: it has no rom")
+        raise Refusal(path, "is not a list of checksums: it has no rom")
     return found
 
 

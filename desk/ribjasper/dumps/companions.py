@@ -36,7 +36,7 @@ class Companions:
 
     def notes(self) -> Iterator[str]:
         if self.names:
-            yield f"beside it: {', '.join(self.names)}"
+            yield f"next to it: {', '.join(self.names)}"
         yield from self.wrong
 
 
@@ -123,7 +123,7 @@ def beside_dump(path: str, blocks: int) -> Companions:
                     READERS[ending](file.read(MOST), found)
             found.names.append(os.path.basename(name))
         except (OSError, ValueError, KeyError, struct.error, configparser.Error):
-            found.wrong.append(f"{os.path.basename(name)} tells nothing")
+            found.wrong.append(f"{os.path.basename(name)} has no usable information")
     return found
 
 

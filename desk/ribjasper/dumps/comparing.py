@@ -108,7 +108,7 @@ def read_cue(path: str, content: bytes) -> Cue:
         elif command == "INDEX" and len(words) > 2 and cue.tracks and words[1].isdecimal():
             time = blocks_of(words[2])
             if time is None:
-                raise Refusal(path, f"line {number}: {words[2]} is no time")
+                raise Refusal(path, f"line {number}: {words[2]} is not a time")
             if before is None:
                 cue.why_unknown = "the times of later files are not known: a file that the sheet names is not there"
             else:

@@ -130,7 +130,7 @@ def tracks_of_dump(loaded: Loaded) -> CutDisc:
             notes.append(f"sectors are missing in the image between {spelled(before)} and {spelled(after.time)}")
     last = cut[-1]
     if last.end > image.sectors:
-        notes.append(f"the image ends {last.end - image.sectors} sectors before the lead-out; they are taken as zeros")
+        notes.append(f"the image ends {last.end - image.sectors} sectors before the lead-out; they are read as zeros")
     return CutDisc(loaded.path, image, cut, notes + gaps(cut), found, loaded)
 
 
@@ -183,7 +183,7 @@ def open_disc(path: str, words: DumpOptions = DumpOptions()) -> CutDisc:
         return tracks_of_sheet(sheet)
     if isinstance(found, Unknown):
         raise Refusal(path, found.cause)
-    raise Refusal(path, "has no sectors with Q, and no cue sheet lies beside it")
+    raise Refusal(path, "has no sectors with Q, and no cue sheet is next to it")
 
 
 def track_bytes(cut: CutDisc, track: CutTrack, offset: int = 0) -> Iterator[bytes]:

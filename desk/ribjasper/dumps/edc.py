@@ -27,7 +27,7 @@ MODE_1, MODE_2_FORM_1, MODE_2_FORM_2 = EdcLayout(0, 2064), EdcLayout(16, 2072), 
 @dataclass
 class EdcCount:
     """The result of checking the EDC of data sectors: the number of sectors, the number of sectors without EDC, and the
-    numbers of the sectors that have a wrong EDC or are no data sectors."""
+    numbers of the sectors that have a wrong EDC or are not data sectors."""
 
     sectors: int = 0
     without: int = 0

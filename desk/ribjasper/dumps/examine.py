@@ -149,4 +149,4 @@ def examine(path: str, name: str, with_pictures: bool = True, words: DumpOptions
 def why_no_picture(graphics: str) -> str:
     """Why there is no first picture."""
     reasons = {"no": "no graphics", "not read": "graphics not read"}
-    return reasons.get(graphics, "no picture stands: the screen has one colour")
+    return reasons.get(graphics, "there is no picture: the screen has one colour")

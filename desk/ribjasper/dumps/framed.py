@@ -69,7 +69,7 @@ class Framed:
     ends: set[int] = field(default_factory=set)  # the shifts of the first and the last piece of this run
     slack: dict[Piece, int] = field(default_factory=dict)  # for each piece, its longest row of blocks without a frame
     strays: list[Stretch] = field(default_factory=list)  # frames of too few blocks for a piece
-    stale: list[Run] = field(default_factory=list)  # blocks that are left out, because such frames are wrong
+    stale: list[Run] = field(default_factory=list)  # blocks that are omitted, because such frames are wrong
     homes: set[int] = field(default_factory=set)  # the shifts of other readings with the same length
     guesses: list[int] = field(default_factory=list)  # shifts at which it begins or ends where another reading does
     is_sure: bool = False
@@ -108,7 +108,7 @@ class Framed:
 
     def run(self, gap: FrameGap) -> Piece | None:
         """The blocks of a gap, if its place was found. Some blocks at its edge may belong to a neighbour with another
-        shift: at most as many as this neighbour has in a row without a frame. These blocks are left out."""
+        shift: at most as many as this neighbour has in a row without a frame. These blocks are omitted."""
         if gap.shift is None:
             return None
         first, end = (gap.inner.first, gap.inner.last + 1) if gap.inner else (gap.first, gap.end)
@@ -262,7 +262,7 @@ def without_runs(piece: Piece, runs: Sequence[Run]) -> list[Piece]:
 
 def leave_out_strays(found: Sequence[Framed]) -> None:
     """Leaves out single blocks whose good frame has the time of another place, if another reading has the frame of this
-    place: such a block is stale. Its neighbours without a frame may be stale too, so they are also left out."""
+    place: such a block is stale. Its neighbours without a frame may be stale too, so they are also omitted."""
     surveys = [it.reading.loaded.survey for it in found]
     parts = [it.parts() for it in found]
     for number, it in enumerate(found):

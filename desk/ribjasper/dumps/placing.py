@@ -68,9 +68,9 @@ def laid_of(found: Sequence[Framed]) -> Laid:
     for it in found:
         left, doubt, total, path = it.left_out(), it.in_doubt(), it.total(), shown(it.reading.path)
         if left:
-            out.notes.append(f"{path}: {left} blocks are left out: no Q frame or pack says where they belong")
+            out.notes.append(f"{path}: {left} blocks are omitted: no Q frame or pack determines their place")
         if IN_DOUBT * doubt > total:
-            out.doubts.append(f"no Q frame or pack says where {doubt} of the {total} blocks of {path} belong")
+            out.doubts.append(f"no Q frame or pack determines the place of {doubt} of the {total} blocks of {path}")
     return out
 
 

@@ -87,7 +87,7 @@ def program_frame(source: Source, block: int, step: int) -> tuple[int, QFrame] |
 def gap_of(source: Source, run: Run) -> Gap:
     before, behind = program_frame(source, run.first - 1, -1), program_frame(source, run.last + 1, 1)
     if before is None or behind is None:
-        return Gap(run, [], "no good frame stands right before and right behind")
+        return Gap(run, [], "there is no good frame directly before and after it")
     (first, a), (last, b) = before, behind
     goes_on = moved(a, last - first)
     if a.absolute + last - first != b.absolute:
@@ -196,7 +196,7 @@ def fill(source: Source, gap: Gap, block: int, known: KnownFrames, result: Fixed
         what = f"differs from the right frame as others do, in the bits {known.regular[block]}"
         result.rows.append(Finding(REGULAR, block, time, what))
     elif (found_frame := nearest_frame(source, block, frame, known.coded)) is None:
-        result.rows.append(Finding(LEFT, block, time, "no frame can say its time"))
+        result.rows.append(Finding(LEFT, block, time, "no frame can have its time"))
     else:
         result.frames[block] = found_frame[0]
         what = f"track {frame.track:02} index {frame.index:02} {spelled(frame.time)}, {found_frame[1]} bits other"
@@ -214,7 +214,7 @@ def moved_rows(source: Source) -> Iterator[Finding]:
     for distance, blocks in by_distance.items():
         if len(blocks) >= FEWEST_MOVED:
             for block, time in blocks:
-                what = f"a good frame tells a time {abs(distance)} blocks {'later' if distance > 0 else 'earlier'}, as others do"
+                what = f"a good frame has a time {abs(distance)} blocks {'later' if distance > 0 else 'earlier'}, as others do"
                 yield Finding(REGULAR, block, spelled(time), what)
 
 

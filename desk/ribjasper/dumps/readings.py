@@ -68,7 +68,7 @@ class Reading:
 @dataclass
 class Laid:
     """Aligned readings: the absolute time of the first block (if `has_times`), the number of blocks, and how many of
-    these are lead-in. `notes` report blocks that are left out; `doubts` are reasons to refuse the readings."""
+    these are lead-in. `notes` report omitted blocks; `doubts` are reasons to refuse the readings."""
 
     readings: list[Reading]
     time: int

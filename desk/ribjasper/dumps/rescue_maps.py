@@ -22,20 +22,20 @@ class Area(NamedTuple):
 
 
 def areas(path: str) -> list[Area]:
-    """The areas of a map; refuses a file that is no map of ddrescue."""
+    """The areas of a map; refuses a file that is not a map of ddrescue."""
     lines = [line.split("#")[0] for line in read_file(path).decode("utf-8", "replace").splitlines()]
     rows = [line.strip() for line in lines if line.strip()]
     if not rows or not STATUS.fullmatch(rows[0]):
-        raise Refusal(path, "is no map of ddrescue")
+        raise Refusal(path, "is not a map of ddrescue")
     found: list[Area] = []
     for line in rows[1:]:
         area = AREA.fullmatch(line)
         if area is None:
-            raise Refusal(path, f"is no map of ddrescue: {line}")
+            raise Refusal(path, f"is not a map of ddrescue: {line}")
         first, size = int(area[1], 0), int(area[2], 0)
         if found and first != found[-1].end:
             raise Refusal(
-                path, f"is no map of ddrescue: an area begins at {area[1]}, which is not where the one before ends"
+                path, f"is not a map of ddrescue: an area begins at {area[1]}, which is not where the one before ends"
             )
         found.append(Area(first, first + size, area[3] == READ))
     if not found:

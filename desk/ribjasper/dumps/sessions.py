@@ -231,4 +231,4 @@ def notes(loaded: Loaded, sessions: Sequence[Session]) -> Iterator[str]:
     if len(sessions) > 1:
         yield f"{len(sessions)} sessions: " + "; ".join(session.said() for session in sessions)
     elif loaded.companions.sessions is not None and loaded.companions.sessions > 1:
-        yield f"{loaded.companions.sessions} sessions, by a file beside the dump"
+        yield f"{loaded.companions.sessions} sessions, from a file next to the dump"

@@ -60,7 +60,9 @@ def open_stream(path: Path) -> Stream:
     if found is None:
         packs = read_file(path)
         if not packs or len(packs) % PACK:
-            raise Refusal(path, f"is no stream and no .cdg file: {len(packs)} bytes are no whole packs of {PACK}")
+            raise Refusal(
+                path, f"is neither a stream nor a .cdg file: {len(packs)} bytes are not whole packs of {PACK}"
+            )
         return Stream(packs, PACK, 0, 0)
     dump.skip = found.skip
     blocks = dump.blocks(found.form)

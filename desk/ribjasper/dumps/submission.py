@@ -160,7 +160,7 @@ def ends_of(found: QDisc) -> Iterator[int]:
 def submission(loaded: Loaded, name: str, offset: int = 0) -> Submission:
     """All that a database asks for of a disc."""
     if loaded.form.library != RAW or not loaded.survey.has_q:
-        raise Refusal(loaded.path, "has no Q channel, which says what a disc is")
+        raise Refusal(loaded.path, "has no Q channel, which describes the disc")
     source = Source(loaded)
     if not source.stretches:
         raise Refusal(loaded.path, "no Q frame names a track")

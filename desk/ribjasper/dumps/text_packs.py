@@ -103,7 +103,7 @@ def strings(packs: Sequence[bytes], width: int) -> Iterator[tuple[int, bytes]]:
     track, text, is_whole, number = 0, b"", True, None
     for pack in packs:
         if number is None or pack[NUMBER] != number + 1:
-            # A text without its beginning is left out.
+            # A text without its beginning is omitted.
             track, text, is_whole = pack[TRACK] & 0x7F, b"", pack[WHERE] & 15 == 0
         number = pack[NUMBER]
         content = pack[TEXT]

@@ -23,7 +23,7 @@ from .loading import DumpOptions
 
 # The option of Linux's prctl that signals a process when its parent ends.
 PR_SET_PDEATHSIG = 1
-COULD_NOT = "could not be looked at: the process that did ended each time"
+COULD_NOT = "could not be examined: its process crashed each time"
 
 
 class FileTask(NamedTuple):
@@ -134,8 +134,8 @@ def by_cluster(tasks: Sequence[FileTask], how: How, address: str) -> Iterator[Ex
     try:
         client = distributed.Client(address, timeout=10)
     except (OSError, ValueError) as error:
-        raise Refusal(address, f"no scheduler answers: {error}") from None
-    gone = f"the scheduler went away, or all of its workers; the next run goes on ({len(tasks)} files were to be looked at)"
+        raise Refusal(address, f"no scheduler responds: {error}") from None
+    gone = f"the scheduler or all of its workers disappeared; the next run continues ({len(tasks)} files were still to be examined)"
     try:
         register = getattr(client, "register_plugin", None) or client.register_worker_plugin
         register(finder(distributed, str(library.TOP / "desk")))

@@ -380,4 +380,4 @@ def add_texts_of(sheet: CueWriter, album: Album, place: str, title: str, singer:
             )
             continue
         if plain and not sheet.text(kind, spelling):
-            tell(f"{album.path}: {place}: the {kind} {plain!r} cannot be spelled in a sheet, and is left out")
+            tell(f"{album.path}: {place}: the {kind} {plain!r} cannot be written in a sheet, and is omitted")

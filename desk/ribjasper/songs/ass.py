@@ -67,7 +67,7 @@ def sung_of(events: list[Event]) -> list[Event]:
 def ass_time(value: str, song: Song, number: int) -> float:
     clock = CLOCK.match(value.strip())
     if not clock:
-        song.fault(number, f"{value.strip()} is no time like 0:00:12.50")
+        song.fault(number, f"{value.strip()} is not a time like 0:00:12.50")
         return 0.0
     return 3600 * int(clock[1]) + seconds(clock[2], clock[3], clock[4])
 

@@ -107,7 +107,7 @@ def whole_size(start: int, size: int, end: int, a_second: int, path: Path) -> in
         return there
     if size > there:
         missing = f"{there / a_second:.2f} of {size / a_second:.2f} seconds" if a_second else f"{there} of {size} bytes"
-        raise Refusal(path, f"is cut off: {missing} are there; {remedy(path)} makes a whole file of what is left")
+        raise Refusal(path, f"is cut off: {missing} are there; {remedy(path)} makes a complete file from the rest")
     return size
 
 
@@ -128,11 +128,11 @@ def of_disc(path: Path) -> tuple[Path, Wave]:
     wave = wave_of(path)
     if wave and wave.is_of_disc:
         return path, wave
-    description = wave.description() if wave else "is no WAV file"
+    description = wave.description() if wave else "is not a WAV file"
     if not shutil.which("ffmpeg"):
         raise Refusal(
             path,
-            f"{description}, and ffmpeg is not installed; a disc takes 44,100 Hz, 2 channels, 16 bits, and "
+            f"{description}, and ffmpeg is not installed; a disc needs 44,100 Hz, 2 channels, 16 bits, and "
             f"{remedy(path)} makes such a file",
         )
     out = Path(folder()) / f"{len(os.listdir(folder()))}.wav"
@@ -140,11 +140,13 @@ def of_disc(path: Path) -> tuple[Path, Wave]:
     done = subprocess.run(words, stdin=subprocess.DEVNULL, capture_output=True)
     if done.returncode:
         why = done.stderr.decode(errors="replace").strip().splitlines()
-        raise Refusal(path, f"{description}, and ffmpeg cannot convert it: {why[-1] if why else 'it says nothing'}")
+        raise Refusal(
+            path, f"{description}, and ffmpeg cannot convert it: {why[-1] if why else 'it printed no message'}"
+        )
     tell(f"{path}: {description} and is converted by ffmpeg")
     wave = wave_of(out)
     if not wave or not wave.is_of_disc:
-        raise Refusal(path, "ffmpeg made no such file of it as a disc takes")
+        raise Refusal(path, "ffmpeg did not make a file for a disc from it")
     return out, wave
 
 
@@ -255,7 +257,7 @@ def at_loudness(path: Path, samples: bytes, loudness: float) -> bytes:
     run_ffmpeg(path, ["-i", os.fspath(source), "-af", f"{target}:{given}:linear=true", *DISC_FORM, os.fspath(out)])
     wave = wave_of(out)
     if not wave or not wave.is_of_disc:
-        raise Refusal(path, "ffmpeg made no such file of it as a disc takes")
+        raise Refusal(path, "ffmpeg did not make a file for a disc from it")
     louder = out.read_bytes()[wave.start : wave.start + wave.size]
     return louder[: len(samples)].ljust(len(samples), b"\0")
 
@@ -276,7 +278,7 @@ def run_ffmpeg(path: Path, words: list[str], level: str = "error") -> bytes:
     )
     if done.returncode:
         why = done.stderr.decode(errors="replace").strip().splitlines()
-        raise Refusal(path, f"ffmpeg ended with {done.returncode}: {why[-1] if why else 'it says nothing'}")
+        raise Refusal(path, f"ffmpeg ended with {done.returncode}: {why[-1] if why else 'it printed no message'}")
     return done.stderr
 
 

@@ -318,19 +318,19 @@ def line_entry(line: Line, read: LineValues | None, row: int, lrc: str) -> list[
     return [text]
 
 
-def apply(song: Song, text: str, content: bytes, path: Path = Path("the file beside the lyrics")) -> None:
+def apply(song: Song, text: str, content: bytes, path: Path = Path("the file next to the lyrics")) -> None:
     """Adds the contents of the file next to an LRC to its song. Later changes in the LRC are kept."""
     try:
         table = tomllib.loads(content.decode("utf-8"))
     except (UnicodeDecodeError, tomllib.TOMLDecodeError) as error:
-        raise Refusal(path, f"is no TOML: {error}") from None
+        raise Refusal(path, f"is not TOML: {error}") from None
     if table.get("version") != VERSION:
         raise Refusal(path, f"has no version = {VERSION}")
     try:
         apply_heads(song, table, path)
         apply_lines(song, text.splitlines(), table.get("line", []), path)
     except (KeyError, TypeError, ValueError, AttributeError) as error:
-        raise Refusal(path, f"does not hold what belongs to lyrics: {error}") from None
+        raise Refusal(path, f"does not contain the data for lyrics: {error}") from None
 
 
 def apply_heads(song: Song, table: dict[str, Any], path: Path) -> None:
@@ -356,20 +356,20 @@ def apply_heads(song: Song, table: dict[str, Any], path: Path) -> None:
 
 def word(value: object) -> str:
     if not isinstance(value, str):
-        raise TypeError(f"{value} is no text")
+        raise TypeError(f"{value} is not a text")
     return value
 
 
 def number(value: object) -> float:
     """A time in seconds."""
     if isinstance(value, bool) or not isinstance(value, (int, float)) or not -1e6 < value < 1e6:
-        raise TypeError(f"{value} is no time")
+        raise TypeError(f"{value} is not a time")
     return float(value)
 
 
 def voice_number(value: object) -> int:
     if isinstance(value, bool) or not isinstance(value, int) or not FIRST <= value <= BOTH:
-        raise TypeError(f"{value} is no voice")
+        raise TypeError(f"{value} is not a voice")
     return value
 
 

@@ -87,7 +87,7 @@ def followings(lines: Sequence[ScoreLine]) -> Iterable[tuple[ScoreLine, float | 
 def number_of(edit: Edit, name: str) -> float:
     value = edit[name]
     if isinstance(value, bool) or not isinstance(value, (int, float)) or not math.isfinite(value):
-        raise BadEdit(f"{name} is no number")
+        raise BadEdit(f"{name} is not a number")
     return round(float(value), DIGITS)
 
 

@@ -73,4 +73,4 @@ def film_of(form: FilmForm, name: Name, part: str) -> Iterator[IO[bytes]]:
         if status:
             said.seek(0)
             why = said.read().decode(errors="replace").strip().splitlines()
-            raise Refusal(name, f"ffmpeg ended with {status}: {why[-1] if why else 'it says nothing'}")
+            raise Refusal(name, f"ffmpeg ended with {status}: {why[-1] if why else 'it printed no message'}")

@@ -123,7 +123,7 @@ def read_journal(path: Path, content: bytes) -> Journal:
             {str(name): one for name, one in checked_table(last["sums"]).items()},
         )
     except (ValueError, KeyError, TypeError) as error:
-        raise Refusal(path, f"is no journal of the studio: {error}") from None
+        raise Refusal(path, f"is not a journal of the studio: {error}") from None
 
 
 def checked_table(value: object) -> dict[str, Any]:

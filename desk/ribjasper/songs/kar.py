@@ -35,7 +35,7 @@ def midi_texts(content: bytes, song: Song, decode: Decode) -> list[tuple[float, 
             if message.is_meta and message.type in ("lyrics", "text"):
                 found.append((now, message.type, message.text.encode("latin-1")))
     except (OSError, EOFError, ValueError, LookupError, TypeError, OverflowError) as error:
-        raise Refusal(song.path, f"is no MIDI file that can be read: {str(error) or 'it ends too early'}") from None
+        raise Refusal(song.path, f"is not a readable MIDI file: {str(error) or 'it ends too early'}") from None
     texts = decode([text for _, _, text in found])
     return [(time, kind, text) for (time, kind, _), text in zip(found, texts)]
 

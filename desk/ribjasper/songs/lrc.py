@@ -60,7 +60,7 @@ def read_lrc(text: str, song: Song) -> None:
                 for start, written in starts
             ]
         elif line:
-            song.note(number, f"has no time and is left out: {line}")
+            song.note(number, f"has no time and is omitted: {line}")
     tell_order(song, stamped)
     stamped.sort(key=lambda one: one.start)
     for one, following in zip(stamped, later_ones(stamped)):
@@ -101,7 +101,7 @@ def tell_order(song: Song, stamped: list[Stamped]) -> None:
 def offset_of(value: str, song: Song, number: int) -> float:
     if OFFSET.fullmatch(value):
         return int(value) / 1000
-    song.fault(number, f"the offset {value} is no number of milliseconds")
+    song.fault(number, f"the offset {value} is not a number of milliseconds")
     return 0.0
 
 

@@ -42,7 +42,7 @@ def read_pair(path: Path, sound: Path | None = None) -> Pair:
     found = sound or audio.sound_beside(path)
     packs = packs_in(path, read_file(path))
     if not found:
-        raise Refusal(path, f"has no sound of its name beside it ({', '.join(audio.ENDINGS)})")
+        raise Refusal(path, f"has no sound with its name next to it ({', '.join(audio.ENDINGS)})")
     return Pair(packs, found)
 
 
@@ -53,7 +53,7 @@ def unpacked(path: Path) -> tuple[bytes, Path]:
             with zipfile.ZipFile(path) as together:
                 return pair_in(path, together)
         except (zipfile.BadZipFile, zlib.error, RuntimeError, NotImplementedError, EOFError) as error:
-            raise Refusal(path, f"is no ZIP file that can be read: {error}") from None
+            raise Refusal(path, f"is not a readable ZIP file: {error}") from None
 
 
 def pair_in(path: Path, together: zipfile.ZipFile) -> tuple[bytes, Path]:
@@ -74,7 +74,7 @@ def packs_in(path: Path, content: bytes) -> bytes:
     """The packs of a .cdg file, with six bits a symbol."""
     packs = content[: len(content) // PACK * PACK].translate(bytes(byte & 63 for byte in range(256)))
     if len(packs) < len(content):
-        tell(f"{path}: has {len(content) - len(packs)} bytes behind its last pack, which are left out")
+        tell(f"{path}: has {len(content) - len(packs)} bytes after its last pack, which are ignored")
     if GRAPHICS not in packs[::PACK]:
         raise Refusal(path, "has no graphics")
     return packs

@@ -161,7 +161,7 @@ def clip(song: Song) -> None:
         if line.end <= 0:
             song.note(
                 line.number,
-                f"at {line.written} would be sung before the audio begins, and is left out: {line.text}",
+                f"at {line.written} would be sung before the audio begins, and is omitted: {line.text}",
             )
             continue
         if line.start < 0:

@@ -269,17 +269,17 @@ def without_missing(song: Song, wishes: Wishes) -> list[str]:
         missing = font.of(voice).missing(text)
         if missing:
             letters = ", ".join(named(letter) for letter in sorted(missing))
-            done = "a box stands for it" if has_boxes else "it is left out"
+            done = "a box replaces it" if has_boxes else "it is omitted"
             if len(missing) > 1:
-                done = "boxes stand for them" if has_boxes else "they are left out"
-            notes.append(f"{song.path}: {place}: no font here has {letters}; {done} (--font names another font)")
+                done = "boxes replace them" if has_boxes else "they are omitted"
+            notes.append(f"{song.path}: {place}: no installed font has {letters}; {done} (--font names another font)")
         return spelled_with(text, font.of(voice), has_boxes)
 
     for line in song.lines:
         for syllable in line.syllables if font.of(line.voice).missing(line.text) else ():
             syllable.text = spelled(syllable.text, f"line {line.number}", line.voice)
     for line in [line for line in song.lines if not line.text]:
-        notes.append(f"{song.path}: line {line.number}: no font here has any of its letters, and so it is left out")
+        notes.append(f"{song.path}: line {line.number}: no installed font has any of its letters, so it is omitted")
     for line in song.lines:
         line.syllables = [syllable for syllable in line.syllables if syllable.text.strip()]
     song.lines = [line for line in song.lines if line.syllables]
@@ -486,7 +486,7 @@ class Maker:
             elif not kept:
                 # A picture in front of all lines is a title.
                 if verse.what.startswith("#"):
-                    self.note_of(verse, "a colour before the first line is left out")
+                    self.note_of(verse, "a colour before the first line is ignored")
                 elif not self.title:
                     self.title = self.song.path.parent / verse.what
                 kept.append(Verse(verse.lines))
@@ -518,7 +518,7 @@ class Maker:
                 return True
         room = max(0, verse.until - verse.begin - TITLE_STAYS) / BLOCKS
         self.note_of(
-            verse, f"{verse.what} is left out: it needs {need / BLOCKS:.1f} seconds, and there is room for {room:.1f}"
+            verse, f"{verse.what} is omitted: it needs {need / BLOCKS:.1f} seconds, and there is room for {room:.1f}"
         )
         return False
 
@@ -551,7 +551,7 @@ class Maker:
         image, path = self.title, self.song.path
         has_legend = self.wishes.legend and self.song.voices > 1
         if self.wishes.legend and not has_legend:
-            self.notes.append(f"{path}: only one voice sings, and so there is no legend")
+            self.notes.append(f"{path}: only one voice sings, so there is no legend")
         legend = self.legend() if has_legend else []
         texts = [(text, FIRST, lit) for text, lit in ((self.song.title, 1), (self.song.performer, 0)) if text]
         need = 0
@@ -564,7 +564,7 @@ class Maker:
                 need = blocks_for([title])
             room = max(0, self.room_for([]) - TITLE_STAYS) / BLOCKS
             self.notes.append(
-                f"{image}: the title is left out: it needs {need / BLOCKS:.1f} seconds, and there is room for {room:.1f}, so "
+                f"{image}: the title is omitted: it needs {need / BLOCKS:.1f} seconds, and there is room for {room:.1f}, so "
                 f"that the first page is shown before it is sung{self.more_room(shows)}"
             )
         for lines in (texts + legend, legend, texts):

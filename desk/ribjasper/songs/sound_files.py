@@ -26,7 +26,7 @@ def sound_of(arguments: argparse.Namespace) -> Path:
     sound = arguments.audio or audio.sound_beside(arguments.song)
     if not sound:
         endings = ", ".join(audio.ENDINGS)
-        raise Refusal(arguments.song, f"has no sound of its name beside it ({endings}); --audio names one")
+        raise Refusal(arguments.song, f"has no sound with its name next to it ({endings}); --audio names one")
     return Path(sound)
 
 
@@ -76,7 +76,7 @@ def make_mp3(sound: Path, song: Song, out: str) -> None:
     done = subprocess.run(words, stdin=subprocess.DEVNULL, capture_output=True)
     if done.returncode:
         why = done.stderr.decode(errors="replace").strip().splitlines()
-        raise Refusal(sound, f"ffmpeg ended with {done.returncode}: {why[-1] if why else 'it says nothing'}")
+        raise Refusal(sound, f"ffmpeg ended with {done.returncode}: {why[-1] if why else 'it printed no message'}")
 
 
 def write_zip(outputs: Outputs, name: str, packs: bytes, sound: Path, song: Song, ending: str) -> None:

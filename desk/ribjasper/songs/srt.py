@@ -19,7 +19,7 @@ def read_srt(text: str, song: Song) -> None:
             texts = [(number + 1 + place, MARKS.sub("", one).strip()) for place, one in enumerate(below(lines, number))]
             add_texts(song, [(place, one) for place, one in texts if one], start, end, line.split("-->")[0].strip())
         elif "-->" in line:
-            song.fault(number, f"{line.strip()} is no time like 00:00:12,500 --> 00:00:15,000")
+            song.fault(number, f"{line.strip()} is not a time like 00:00:12,500 --> 00:00:15,000")
     song.lines.sort(key=lambda one: one.start)
 
 

@@ -102,10 +102,10 @@ def files_of(song: Path, sound: Path | None) -> Files:
     """The files of a song that is named by its lyrics or by a folder that holds it."""
     lyrics = lyrics_in(song) if song.is_dir() else song
     if not lyrics.is_file():
-        raise Refusal(lyrics, "is no file" if lyrics.exists() else "no such file or directory")
+        raise Refusal(lyrics, "is not a file" if lyrics.exists() else "no such file or directory")
     found = sound or audio.sound_beside(lyrics) or only_sound(lyrics.parent if song.is_dir() else None)
     if not found:
-        raise Refusal(lyrics, f"has no sound of its name beside it ({', '.join(audio.ENDINGS)}); --audio names one")
+        raise Refusal(lyrics, f"has no sound with its name next to it ({', '.join(audio.ENDINGS)}); --audio names one")
     return Files(lyrics, found)
 
 

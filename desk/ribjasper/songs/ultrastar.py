@@ -78,7 +78,7 @@ def read_ultrastar(text: str, song: Song) -> None:
         elif row.strip() == "E":
             break
         elif row.strip() and not TEMPO.match(row):
-            song.note(number, f"is no note, and is left out: {row.strip()}")
+            song.note(number, f"is not a note, and is omitted: {row.strip()}")
     close()
     song.singers = [names.get("1", ""), names.get("2", "")] if names else []
     song.lines = merged_voices(song.lines)
@@ -91,7 +91,7 @@ def tempo_of(song: Song, row: str, number: int) -> tuple[int, float] | None:
         return None
     tempo = decimal_of(found[2])
     if not 1 <= tempo <= FASTEST:
-        song.fault(number, f"the tempo {found[2]} is no number of beats a minute")
+        song.fault(number, f"the tempo {found[2]} is not a number of beats a minute")
         return None
     return int(found[1]), tempo
 

@@ -33,7 +33,7 @@ def read_vtt(text: str, song: Song) -> None:
         elif not is_block and (found := TIMES.match(line)):
             add_cue(song, number, below(lines, number), vtt_time(found.groups()[:4]), vtt_time(found.groups()[4:]))
         elif not is_block and "-->" in line:
-            song.fault(number, f"{line.strip()} is no time like 00:12.500 --> 00:15.000")
+            song.fault(number, f"{line.strip()} is not a time like 00:12.500 --> 00:15.000")
     song.lines.sort(key=lambda one: one.start)
 
 

@@ -84,7 +84,7 @@ def add_wishes(parser: argparse.ArgumentParser) -> None:
 def encoding(word: str) -> str:
     """An encoding of texts, as an argument of the command line."""
     if not known(word):
-        raise argparse.ArgumentTypeError(f"{word} is no encoding, as utf-8, windows-1251 or shift_jis are")
+        raise argparse.ArgumentTypeError(f"{word} is not an encoding like utf-8, windows-1251 or shift_jis")
     return word
 
 

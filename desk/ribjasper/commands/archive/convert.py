@@ -25,7 +25,7 @@ def place(word: str) -> tuple[bool, int]:
         return True, blocks(word)
     if re.fullmatch(r"[0-9]{1,9}", word):
         return False, int(word)
-    raise argparse.ArgumentTypeError(f"{word} is no time MM:SS:FF and no number of a block")
+    raise argparse.ArgumentTypeError(f"{word} is neither a time MM:SS:FF nor the number of a block")
 
 
 def block_at(loaded: Loaded, at: tuple[bool, int]) -> int:
@@ -103,7 +103,7 @@ def run(arguments: argparse.Namespace) -> int:
             and not loaded.form.has_graphics()
             and target.has_graphics()
         ):
-            tell(f"{shown(arguments.file)}: has P and Q alone; the channels R to W are zeros")
+            tell(f"{shown(arguments.file)}: has only P and Q; the channels R to W are zeros")
         first = block_at(loaded, arguments.begin) if arguments.begin else 0
         end = min(loaded.survey.blocks, block_at(loaded, arguments.end)) if arguments.end else loaded.survey.blocks
         if first >= end:

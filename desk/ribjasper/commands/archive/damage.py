@@ -19,7 +19,7 @@ def add_parser(commands: Commands) -> None:
         description="Prints a row for each run of damaged blocks that are neighbours, and for each jump of the "
         "times. Blocks are numbered from 0 in the file. A word is counted in the block that completes it. A block of "
         "96 zeros is empty: a drive returns it after it gave up. Empty blocks before the first and after the last "
-        "block that was read are unread; they have a row of their own and are no damage. If a file of C2 errors "
+        "block that was read are unread; they have separate rows and do not count as damage. If a file of C2 errors "
         "(.c2) or redumper's .state is next to the dump, --again also lists the sectors that it marks. The exit "
         "status is 1 if there is damage.",
     )
@@ -60,7 +60,7 @@ def run(arguments: argparse.Namespace) -> int:
 def list_to_read_again(loaded: Loaded, form: str) -> str:
     """The list of sectors to read again. Notes report its sources."""
     if loaded.form.library != RAW or not loaded.survey.has_q:
-        raise Refusal(loaded.path, "has no Q channel, which says where its sectors are")
+        raise Refusal(loaded.path, "has no Q channel, so the addresses of its sectors are unknown")
     errors = drive_errors(loaded.path, len(loaded.stream) // BLOCK)
     wanted = again.wanted(loaded, errors)
     path = shown(loaded.path)
@@ -68,7 +68,7 @@ def list_to_read_again(loaded: Loaded, form: str) -> str:
         inside = errors.within(loaded.survey.first, loaded.survey.end)
         tell(f"{path}: {inside} sectors were doubtful to the drive ({', '.join(map(shown, errors.names))})")
     if wanted.unplaced:
-        tell(f"{path}: {wanted.unplaced} damaged runs are not in the list: no frame says their addresses")
+        tell(f"{path}: {wanted.unplaced} damaged runs are not in the list: no frame has their addresses")
     tell(
         f"{path}: {sum(it.last - it.first + 1 for it in wanted.parts)} sectors in {len(wanted.parts)} runs to read again"
     )

@@ -100,7 +100,7 @@ def odd_ones(laid: Laid) -> Iterator[str]:
         if laid.readings[a].is_beside or laid.readings[b].is_beside:
             continue
         if own.all >= TOO_FEW and own.same < LEAST_SHARE * own.all:
-            yield f"readings {a + 1} and {b + 1} seem not to be of one disc: of {own.all} packs that both give {own.same} are the same"
+            yield f"readings {a + 1} and {b + 1} seem not to be of one disc: of {own.all} packs that both have {own.same} are the same"
             continue
         blocks, agree = tracks_that_agree(laid, a, b)
         if blocks and agree < LEAST_SHARE * blocks:
@@ -201,7 +201,7 @@ def report_mended(laid: Laid, mended: mending.Mended, table: Table) -> int:
         if counts.left_out:
             tell(f"{counts.left_out} words of reading {number} are ignored: it has no graphics there, or doubtful ones")
         if counts.lost:
-            tell(f"{counts.lost} words that reading {number} gives with no symbol wrong are not what came out")
+            tell(f"{counts.lost} error-free words of reading {number} are not in the result")
     return FOUND if mended.none or any(counts.lost for counts in mended.counts) else 0
 
 
@@ -211,7 +211,7 @@ def run(arguments: argparse.Namespace) -> int:
     if len(arguments.files) > library.READINGS:
         arguments.error(f"no more than {library.READINGS} readings are mended at once")
     if arguments.compare and (len(arguments.files) > 2 or arguments.output or arguments.map or arguments.ddrescue_map):
-        arguments.error("--compare takes two dumps and writes no file")
+        arguments.error("--compare needs two dumps and writes no file")
     if not arguments.compare and not arguments.output:
         arguments.error("the following arguments are required: -o/--output")
     if arguments.output and ending_of(arguments.output) not in ("", *ENDINGS):
@@ -223,7 +223,7 @@ def run(arguments: argparse.Namespace) -> int:
         laid = side_by_side(read_all(arguments))
         if len(laid.readings) > library.READINGS:
             laid.readings = laid.readings[: library.READINGS]
-            tell(f"no more than {library.READINGS} readings are mended at once: parts of files are left out")
+            tell(f"no more than {library.READINGS} readings are mended at once: parts of files are omitted")
         for line in (*twice(laid), *laid.notes):
             tell(line)
         odd = list(odd_ones(laid))
@@ -293,7 +293,7 @@ def write_mended(arguments: argparse.Namespace, laid: Laid, outputs: Outputs) ->
     if laid.has_times:
         tell(f"{place} is of the absolute time {at_time(laid, laid.lead_in)}")
     else:
-        tell(f"{place} is block {laid.lead_in} of each reading: no Q frame says its absolute time")
+        tell(f"{place} is block {laid.lead_in} of each reading: no Q frame has its absolute time")
     lost = units.lost(mended)
     if arguments.map:
         outputs.write(arguments.map, loss_table(laid, units, lost))

@@ -82,7 +82,7 @@ def run(arguments: argparse.Namespace) -> int:
             raise Refusal(path, "no frames are changed in pairs, as LibCrypt changes them")
         tell(
             f"{shown(path)}: {len(found.frames)} frames {'are' if arguments.output else 'can be'} filled in, "
-            f"{found.left()} lines are left"
+            f"{found.left()} lines remain"
         )
         if arguments.output:
             write_copy(loaded, found.frames, outputs.open(arguments.output))

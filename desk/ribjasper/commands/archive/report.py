@@ -290,7 +290,7 @@ def write_submission(arguments: argparse.Namespace) -> int:
 
 def folder_of(name: str) -> str:
     if name in ("", DASH):
-        raise Refusal(name or "''", "is no name of a folder, which a report needs")
+        raise Refusal(name or "''", "is not the name of a folder, which a report needs")
     return name
 
 
@@ -298,9 +298,9 @@ def check_folder(out: Path, folder: str, force: bool) -> None:
     """Refuses a folder for a report that has files of its own."""
     with reading(out):
         if out.exists() and os.path.isdir(folder) and os.path.samefile(out, folder):
-            raise Refusal(out, "is the folder that is read; the report takes one of its own")
+            raise Refusal(out, "is the folder with the dumps; the report needs another folder")
         if out.is_dir() and not force and any(out.iterdir()) and not any(out.glob(JOURNALS)):
-            raise Refusal(out, "has files in it and is no folder of a report; --force puts one there")
+            raise Refusal(out, "contains files and is not the folder of a report; --force writes a report there")
 
 
 def make_report(arguments: argparse.Namespace, outputs: Outputs, out: Path) -> int:

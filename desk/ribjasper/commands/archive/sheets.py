@@ -177,7 +177,7 @@ def remarks(loaded: Loaded, source: Source, found: QDisc) -> Iterator[str]:
         if track.control & DATA:
             yield f"track {track.number:02} is data, which `author` refuses"
     if found.tracks[0].indices[1] < PAUSE:
-        yield "the first track begins before 00:02:00, which no sheet can say"
+        yield "the first track begins before 00:02:00, which no sheet can express"
     yield from session_notes(loaded, found.sessions)
     for session in found.sessions:
         if not session.is_sure and session is not found.sessions[-1]:
@@ -186,7 +186,7 @@ def remarks(loaded: Loaded, source: Source, found: QDisc) -> Iterator[str]:
                 if session.by == BY_GAP
                 else "it follows the last frame"
             )
-            yield f"nothing says where the lead-out of session {session.number} begins: {how}"
+            yield f"no frame or file has the start of the lead-out of session {session.number} begins: {how}"
     yield from found.votes
     yield from found.unsure
     yield from cuts(source, found)

@@ -57,7 +57,7 @@ def offset(word: str) -> int:
         number = cutting.MOST_OFFSET + 1
     if abs(number) > cutting.MOST_OFFSET:
         raise argparse.ArgumentTypeError(
-            f"{word} is no number of samples from {-cutting.MOST_OFFSET} to {cutting.MOST_OFFSET}"
+            f"{word} is not a number of samples from {-cutting.MOST_OFFSET} to {cutting.MOST_OFFSET}"
         )
     return number
 

@@ -55,7 +55,7 @@ def add_parser(commands: Commands) -> None:
     parser.add_argument(
         "--all",
         action="store_true",
-        help="print a table of all languages and kinds, in UTF-8; print data that is no text in hexadecimal digits",
+        help="print a table of all languages and kinds, in UTF-8; print other data in hexadecimal digits",
     )
     parser.add_argument("--packs", metavar="OUT", help="write the packs whose CRC matches, each once, in order")
     parser.add_argument(
@@ -84,7 +84,7 @@ def write_all(outputs: Outputs, packs: list[bytes], as_json: bool) -> None:
 
 def run(arguments: argparse.Namespace) -> int:
     if arguments.back and (arguments.packs or arguments.header or any(it is not None for it in asked(arguments))):
-        arguments.error("--back goes with --blocks alone")
+        arguments.error("--back needs --blocks")
     if arguments.blocks and not arguments.back:
         arguments.error("--blocks needs --back")
     writes = [(arguments.packs, kinds.TEXT_PACKS), (arguments.blocks, kinds.STREAM)]

@@ -31,7 +31,7 @@ def capacity(word: str) -> int:
     """The blocks of a disc, as an argument of the command line."""
     found = LENGTH.fullmatch(word)
     if not found:
-        raise argparse.ArgumentTypeError(f"{word} is no time MM:SS or MM:SS:FF")
+        raise argparse.ArgumentTypeError(f"{word} is not a time MM:SS or MM:SS:FF")
     minutes, seconds, frames = (int(part or 0) for part in found.groups())
     return BLOCKS_A_SECOND * (60 * minutes + seconds) + frames
 
@@ -162,12 +162,12 @@ def begin_list(arguments: argparse.Namespace) -> int:
         for path, song in songs:
             if song is None:
                 if path.suffix.lower() == CDG and not audio.sound_beside(path):
-                    tell(f"{path}: no sound of that name is beside it; `sound = ...` names one")
+                    tell(f"{path}: no sound with this name is next to it; `sound = ...` names one")
                 lines += NEW_PAIR.format(pair=quoted(os.path.relpath(path, folder)), title=quoted(path.stem))
                 continue
             sound = audio.sound_beside(path)
             if not sound:
-                tell(f"{path}: no sound of that name is beside it; the list names {path.with_suffix('.wav').name}")
+                tell(f"{path}: no sound with this name is next to it; the list names {path.with_suffix('.wav').name}")
             lines += entry_of(path, sound or path.with_suffix(".wav"), song, folder)
         outputs.write(out, lines.encode())
     return 0

@@ -130,7 +130,7 @@ def run(arguments: argparse.Namespace) -> int:
     if not (arguments.output or arguments.stills):
         arguments.parser.error("one of -o and --stills is needed")
     if arguments.every is not None and arguments.every <= 0:
-        arguments.parser.error("--every takes a number above 0")
+        arguments.parser.error("--every needs a number above 0")
     reads = [arguments.stream, arguments.audio]
     writes = [(arguments.output, kinds.FILM), (arguments.stills, kinds.PNG)]
     with Outputs(reads, writes, arguments.force) as outputs:

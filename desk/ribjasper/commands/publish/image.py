@@ -58,7 +58,9 @@ def checked_program(arguments: argparse.Namespace, disc: SheetDisc) -> bytes:
     """The program of the stream: its blocks from the first pause on, as the sheet and the audio ask for."""
     stream = open_stream(arguments.stream)
     if stream.is_packs():
-        raise Refusal(arguments.stream, "is no raw stream, but a .cdg file: the program's press makes one of it")
+        raise Refusal(
+            arguments.stream, "is a .cdg file, not a raw stream: `ribjasper press` makes a raw stream from it"
+        )
     program = stream.content[BLOCK * stream.lead_in :]
     if len(program) != BLOCK * disc.blocks:
         length = audio.length(arguments.audio)
@@ -90,12 +92,12 @@ def loses_pictures(program: bytes) -> str | None:
             return None
     if not any(packs[: PACK * FIRST_OF_AUDIO]):
         return (
-            "the first seven packs of its .cdg file begin in the first pause and are not on an image: let them be idle, "
-            "or say once more behind them what they say, as the files of `pair` do"
+            "the first seven packs of its .cdg file begin in the first pause, which an image does not contain: make them "
+            "idle, or repeat them later in the file, as `pair` does"
         )
     return (
-        "what is sent in the first pause is not on an image, and the pictures that need it will not be whole; "
-        "--hold-through-pause SCRIPT puts a black picture before them"
+        "an image does not contain the first pause, so pictures that need packs from this pause will not be complete; "
+        "--hold-through-pause SCRIPT adds a black picture before them"
     )
 
 

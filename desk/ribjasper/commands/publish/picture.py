@@ -19,7 +19,7 @@ def colour_word(word: str) -> Colour:
     """A colour, as an argument of the command line."""
     colour = colouring.read_colour(word)
     if colour is None:
-        raise argparse.ArgumentTypeError(f"{word} is no colour like #08F or #0088FF")
+        raise argparse.ArgumentTypeError(f"{word} is not a colour like #08F or #0088FF")
     return colour
 
 
@@ -28,7 +28,7 @@ def tile_place(word: str) -> tuple[int, int]:
     try:
         column, row = map(int, word.split(","))
     except ValueError:
-        raise argparse.ArgumentTypeError(f"{word} is no place COLUMN,ROW") from None
+        raise argparse.ArgumentTypeError(f"{word} is not a place COLUMN,ROW") from None
     if not (0 <= column < COLUMNS and 0 <= row < ROWS):
         raise argparse.ArgumentTypeError(f"{word} is outside: columns are 0 to {COLUMNS - 1}, rows 0 to {ROWS - 1}")
     return column, row

@@ -67,7 +67,7 @@ class Page(NamedTuple):
         try:
             return self.change(asked.path, asked.table)
         except (KeyError, TypeError, ValueError) as error:
-            return as_json({"error": f"the request lacks something: {error}"}, 400)
+            return as_json({"error": f"the request is incomplete: {error}"}, 400)
 
     def read(self, asked: Asked) -> Answer | None:
         if asked.path in PAGES:

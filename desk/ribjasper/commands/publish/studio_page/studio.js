@@ -431,7 +431,7 @@ function wireLine() {
   for (const [id, kind] of [["from", "start"], ["to", "end"]]) {
     onChange(id, (field) => {
       const at = secondsOf(field.value);
-      if (at === null) tell(`${field.value} is no time like 01:02.50`, true);
+      if (at === null) tell(`${field.value} is not a time like 01:02.50`, true);
       else edit({ do: kind, line: lineNow().key, word: Math.min(app.word, lineNow().words.length - 1), at });
     });
   }
