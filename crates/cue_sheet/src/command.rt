@@ -1,10 +1,9 @@
 // The commands of a cue sheet and their arguments.
-ghost use Rattle.std.specs.Prelude.{◌≡◌, ◌≤◌, ◌<◌, IfSome, length, option_map, option_copied};
-ghost use Rattle.std.specs.Str.{str_eq_ignore_ascii_case};
-ghost use Rattle.std.specs.List.{list_all, position};
+ghost use Rattle.std.specs.Prelude.{◌≡◌, ◌≤◌, ◌<◌, IfSome, None, Some, if◌then◌else◌, length, option_map, option_copied};
+ghost use Rattle.std.specs.List.{list_all};
 ghost use Rattle.text_lines.specs.Text.{most_text_bytes, words_in};
 ghost use Rattle.cue_sheet.specs.CueSheet.{IsText, is_capital_code};
-ghost use Rattle.cue_sheet.specs.CueLines.{IsLineInRange, SaysCatalogue, SaysFlags, SaysIndex, SaysIsrc, SaysTrack, begins_quoted, catalogue_argument, code_argument, flags_argument, index_argument, is_file, is_flag, is_plain, is_quote, names_flag, plain, quoted, said_by, text_argument, track_argument, two_words};
+ghost use Rattle.cue_sheet.specs.CueLines.{IsLineInRange, SaysCatalogue, SaysFile, SaysFlags, SaysIndex, SaysIsrc, SaysTrack, catalogue_argument, code_argument, flags_argument, index_argument, is_file, is_flag, names_flag, quoted, said_by, text_argument, track_argument, two_words};
 ghost use Rattle.cue_sheet.specs.Steps.{line_said};
 
 use disc_time::{CATALOGUE_DIGITS, ISRC_CHARACTERS};
@@ -34,29 +33,29 @@ impl SheetCommand {
     pub(crate) fn named(word: &[u8]) -> Option<SheetCommand>
         ensures { result ≡ command_named word.now }
     {
-        if is_word(word, b"REM") || is_word(word, b"CDTEXTFILE") {
+        if word.eq_ignore_ascii_case(b"REM") || word.eq_ignore_ascii_case(b"CDTEXTFILE") {
             Some(SheetCommand::Remark)
-        } else if is_word(word, b"CATALOG") {
+        } else if word.eq_ignore_ascii_case(b"CATALOG") {
             Some(SheetCommand::Catalogue)
-        } else if is_word(word, b"FILE") {
+        } else if word.eq_ignore_ascii_case(b"FILE") {
             Some(SheetCommand::File)
-        } else if is_word(word, b"TITLE") {
+        } else if word.eq_ignore_ascii_case(b"TITLE") {
             Some(SheetCommand::Title)
-        } else if is_word(word, b"PERFORMER") {
+        } else if word.eq_ignore_ascii_case(b"PERFORMER") {
             Some(SheetCommand::Performer)
-        } else if is_word(word, b"SONGWRITER") {
+        } else if word.eq_ignore_ascii_case(b"SONGWRITER") {
             Some(SheetCommand::Songwriter)
-        } else if is_word(word, b"TRACK") {
+        } else if word.eq_ignore_ascii_case(b"TRACK") {
             Some(SheetCommand::Track)
-        } else if is_word(word, b"FLAGS") {
+        } else if word.eq_ignore_ascii_case(b"FLAGS") {
             Some(SheetCommand::Flags)
-        } else if is_word(word, b"ISRC") {
+        } else if word.eq_ignore_ascii_case(b"ISRC") {
             Some(SheetCommand::Isrc)
-        } else if is_word(word, b"PREGAP") {
+        } else if word.eq_ignore_ascii_case(b"PREGAP") {
             Some(SheetCommand::Pregap)
-        } else if is_word(word, b"INDEX") {
+        } else if word.eq_ignore_ascii_case(b"INDEX") {
             Some(SheetCommand::Index)
-        } else if is_word(word, b"POSTGAP") {
+        } else if word.eq_ignore_ascii_case(b"POSTGAP") {
             Some(SheetCommand::Postgap)
         } else {
             None
@@ -81,13 +80,6 @@ pub(crate) enum SheetLine<'a> {
     Postgap(u32),
 }
 
-/// Whether a word is this name, in upper or lower case.
-pub(crate) fn is_word(word: &[u8], name: &[u8]) -> bool
-    ensures { result ≡ str_eq_ignore_ascii_case word.now name.now }
-{
-    word.eq_ignore_ascii_case(name)
-}
-
 /// The line of a command and its argument, if the argument is valid.
 pub(crate) fn spelled(command: SheetCommand, argument: &[u8]) -> Option<SheetLine<'_>>
     requires { length argument.now ≤ most_text_bytes }
@@ -97,12 +89,7 @@ pub(crate) fn spelled(command: SheetCommand, argument: &[u8]) -> Option<SheetLin
     match command {
         SheetCommand::Remark => Some(SheetLine::Remark),
         SheetCommand::Catalogue => catalogue(argument),
-        SheetCommand::File => {
-            if !is_file(argument) {
-                return None;
-            }
-            Some(SheetLine::File)
-        },
+        SheetCommand::File => file(argument),
         SheetCommand::Title => Some(SheetLine::Title(text(argument)?)),
         SheetCommand::Performer => Some(SheetLine::Performer(text(argument)?)),
         SheetCommand::Songwriter => Some(SheetLine::Songwriter(text(argument)?)),
@@ -115,25 +102,6 @@ pub(crate) fn spelled(command: SheetCommand, argument: &[u8]) -> Option<SheetLin
     }
 }
 
-// The bytes, if none of them is a control byte.
-#[tactic(auto, unfolding(crate::specs::CueLines::plain))]
-fn plain(text: &[u8]) -> Option<&[u8]>
-    requires { length text.now ≤ most_text_bytes }
-    ensures text { option_copied result ≡ plain text.now }
-    ensures range { IfSome result (λ s. IsText s.now) }
-{
-    if !text.iter().all(|byte| *byte >= 32 && *byte != 127) {
-        return None;
-    }
-    Some(text)
-}
-
-fn begins_quoted(argument: &[u8]) -> bool
-    ensures { result ≡ begins_quoted argument.now }
-{
-    matches!(argument, [b'"', ..])
-}
-
 // The bytes between the first two quotes of an argument that begins with one, and the rest after them.
 #[tactic(auto, unfolding(crate::specs::CueLines::quoted))]
 fn quoted(argument: &[u8]) -> Option<(&[u8], &[u8])>
@@ -142,15 +110,8 @@ fn quoted(argument: &[u8]) -> Option<(&[u8], &[u8])>
     ensures length { IfSome result (λ parts. length parts.0.now ≤ length argument.now) }
 {
     let rest = &argument[1..];
-    let end = closing_quote(rest)?;
+    let end = rest.iter().position(|byte| *byte == b'"')?;
     Some((&rest[..end], &rest[end + 1..]))
-}
-
-fn closing_quote(text: &[u8]) -> Option<usize>
-    ensures place { result ≡ position is_quote text.now }
-    ensures bound { IfSome result (λ end. end < length text.now) }
-{
-    text.iter().position(|byte| *byte == b'"')
 }
 
 // A text: in quotes with nothing after them, or not empty and without quotes.
@@ -160,43 +121,39 @@ fn text(argument: &[u8]) -> Option<&[u8]>
     ensures text { option_copied result ≡ text_argument argument.now }
     ensures range { IfSome result (λ s. IsText s.now) }
 {
-    if begins_quoted(argument) {
-        let (inside, after) = quoted(argument)?;
-        if !after.is_empty() {
-            return None;
+    let text = match argument {
+        [] => return None,
+        [b'"', ..] => {
+            let (inside, after) = quoted(argument)?;
+            if !after.is_empty() {
+                return None;
+            }
+            inside
         }
-        return plain(inside);
-    }
-    if argument.is_empty() {
+        _ => argument,
+    };
+    if !text.iter().all(|byte| *byte >= 32 && *byte != 127) {
         return None;
     }
-    plain(argument)
+    Some(text)
 }
 
-// A file: a name in quotes and then one word, or two or more words.
+// The line of a file: a name in quotes and then one word, or two or more words.
 #[tactic(auto, unfolding(crate::specs::CueLines::is_file))]
-fn is_file(argument: &[u8]) -> bool
-    ensures { result ≡ is_file argument.now }
+fn file(argument: &[u8]) -> Option<SheetLine<'_>>
+    ensures { option_map line_said result ≡ (if is_file argument.now then Some SaysFile else None) }
 {
-    if begins_quoted(argument) {
-        return match quoted(argument) {
-            Some((_, after)) => word_count(after) == 1,
-            None => false,
-        };
+    if let [b'"', ..] = argument {
+        let (_, after) = quoted(argument)?;
+        let (_, rest) = next_word(after)?;
+        if next_word(rest).is_some() {
+            return None;
+        }
+    } else {
+        let (_, rest) = next_word(argument)?;
+        next_word(rest)?;
     }
-    word_count(argument) >= 2
-}
-
-fn word_count(line: &[u8]) -> usize
-    ensures { result ≡ length (words_in line.now) }
-{
-    let mut rest = line;
-    let mut count = 0;
-    while let Some((_, after)) = next_word(rest) {
-        count += 1;
-        rest = after;
-    }
-    count
+    Some(SheetLine::File)
 }
 
 // The line of a catalogue number, 13 digits.
@@ -257,7 +214,7 @@ fn track(argument: &[u8]) -> Option<SheetLine<'_>>
     if number == 0 {
         return None;
     }
-    let audio = is_word(kind, b"AUDIO");
+    let audio = kind.eq_ignore_ascii_case(b"AUDIO");
     Some(SheetLine::Track { number, audio })
 }
 

@@ -8,7 +8,7 @@ use text_lines::split_command;
 
 /// What is known about the lines of one track, or about those before the first track: which single lines there are, and
 /// the index lines.
-#[derive(Clone, Copy)]
+#[derive(Clone, Copy, Default)]
 pub(crate) struct SectionMarks {
     pub(crate) catalogue: bool,
     pub(crate) title: bool,
@@ -24,27 +24,8 @@ pub(crate) struct SectionMarks {
 
 impl SectionMarks {
     ghost use Rattle.cue_sheet.specs.CueSheet.{CueSection};
-    ghost use Rattle.cue_sheet.specs.Grammar.{follows_index, no_section};
     ghost use Rattle.cue_sheet.specs.Judging.{Marks};
     ghost use Rattle.cue_sheet.specs.Steps.{is_repeated, line_said};
-
-    /// The marks before the first line.
-    pub(crate) fn none() -> SectionMarks
-        ensures { Marks no_section result }
-    {
-        SectionMarks {
-            catalogue: false,
-            title: false,
-            performer: false,
-            songwriter: false,
-            control: false,
-            isrc: false,
-            pregap: false,
-            postgap: false,
-            has_index_one: false,
-            last_index: None,
-        }
-    }
 
     /// Whether a line that is allowed once is there already.
     pub(crate) fn is_repeated(&self, line: &SheetLine<'_>) -> bool
@@ -66,7 +47,7 @@ impl SectionMarks {
 
 /// What decides whether the next line is allowed. `section` describes the last track, or the lines before the first
 /// one. It allocates nothing.
-#[derive(Clone, Copy)]
+#[derive(Clone, Copy, Default)]
 pub(crate) struct SheetJudge {
     pub(crate) has_file: bool,
     pub(crate) latest: u32,
@@ -75,20 +56,11 @@ pub(crate) struct SheetJudge {
 }
 
 impl SheetJudge {
-    ghost use Rattle.cue_sheet.specs.Grammar.{CueState, nothing_said, is_second_file, is_placed};
+    ghost use Rattle.cue_sheet.specs.Grammar.{CueState, nothing_said, is_placed};
     ghost use Rattle.cue_sheet.specs.Judging.{Judges};
     ghost use Rattle.cue_sheet.specs.Steps.{after, line_said, later_sheet_reason, end_reason, IsCheckedLine};
-    ghost use Rattle.cue_sheet.specs.CueLines.{SaysTrack, SaysIndex, command_named};
+    ghost use Rattle.cue_sheet.specs.CueLines.{command_named};
     ghost use Rattle.text_lines.specs.Text.{first_word, argument_of};
-
-    fn is_second_file(&self, command: SheetCommand) -> bool
-        ensures { (said : CueState) → Judges said self.now → result ≡ is_second_file said command }
-    {
-        match command {
-            SheetCommand::File => self.has_file,
-            _ => false,
-        }
-    }
 
     // Whether a command is allowed at this place.
     fn is_placed(&self, command: SheetCommand) -> bool
@@ -112,41 +84,21 @@ impl SheetJudge {
             → result ≡ later_sheet_reason said (line_said line.now) }
     {
         match line {
-            SheetLine::Track { number, audio } => self.track_reason(*number, *audio),
-            SheetLine::Index { number, time } => self.index_reason(*number, *time),
+            SheetLine::Track { .. } if self.number.is_some() && !self.section.has_index_one => {
+                Some(CueWhy::NoIndex)
+            }
+            SheetLine::Track { audio: false, .. } => Some(CueWhy::NotAudio),
+            SheetLine::Track { number, .. } => match self.number {
+                Some(last) if last.checked_add(1) != Some(*number) => Some(CueWhy::NumberOrder),
+                _ => None,
+            },
+            SheetLine::Index { number, time } => match self.section.last_index {
+                Some(last) if last.checked_add(1) != Some(*number) => Some(CueWhy::IndexOrder),
+                None if *number > 1 => Some(CueWhy::IndexOrder),
+                _ if *time < self.latest => Some(CueWhy::TimeOrder),
+                _ => None,
+            },
             _ if self.section.is_repeated(line) => Some(CueWhy::Repeated),
-            _ => None,
-        }
-    }
-
-    // The reason to refuse a TRACK line.
-    #[tactic(auto, unfolding(crate::specs::Steps::later_sheet_reason))]
-    fn track_reason(&self, number: u8, audio: bool) -> Option<CueWhy>
-        ensures { (said : CueState) → Judges said self.now
-            → result ≡ later_sheet_reason said (SaysTrack number audio) }
-    {
-        if self.number.is_some() && !self.section.has_index_one {
-            return Some(CueWhy::NoIndex);
-        }
-        if !audio {
-            return Some(CueWhy::NotAudio);
-        }
-        match self.number {
-            Some(last) if usize::from(number) != usize::from(last) + 1 => Some(CueWhy::NumberOrder),
-            _ => None,
-        }
-    }
-
-    // The reason to refuse an INDEX line.
-    #[tactic(auto, unfolding(crate::specs::Steps::later_sheet_reason))]
-    fn index_reason(&self, number: u8, time: u32) -> Option<CueWhy>
-        ensures { (said : CueState) → Judges said self.now
-            → result ≡ later_sheet_reason said (SaysIndex number time) }
-    {
-        match self.section.last_index {
-            Some(last) if usize::from(number) != usize::from(last) + 1 => Some(CueWhy::IndexOrder),
-            None if number > 1 => Some(CueWhy::IndexOrder),
-            _ if time < self.latest => Some(CueWhy::TimeOrder),
             _ => None,
         }
     }
@@ -176,7 +128,7 @@ impl SheetJudge {
         let Some(command) = SheetCommand::named(word) else {
             return Err(CueWhy::UnknownCommand);
         };
-        if self.is_second_file(command) {
+        if self.has_file && matches!(command, SheetCommand::File) {
             return Err(CueWhy::SecondFile);
         }
         if !self.is_placed(command) {
@@ -209,7 +161,7 @@ impl SheetJudge {
             SheetLine::Postgap(_) => self.section.postgap = true,
             SheetLine::Track { number, .. } => {
                 self.number = Some(*number);
-                self.section = SectionMarks::none();
+                self.section = SectionMarks::default();
             }
             SheetLine::Index { number, time } => {
                 self.latest = self.latest.max(*time);

@@ -1,16 +1,15 @@
 // Reads a cue sheet line by line. Its contents are kept as long as there is memory for them.
-ghost use Rattle.std.specs.Prelude.{◌≡◌, ◌≤◌, length, IfOk, IfErr, Ok, Err, OnOk, ◌++◌, true, false, map, ◌≢◌, ℕ, Bool, [], Some, unwrap_or};
+ghost use Rattle.std.specs.Prelude.{◌≡◌, ◌≤◌, length, IfOk, IfErr, Ok, Err, OnOk, ◌++◌, true, false, map, ◌≢◌, ℕ, Bool, [], Some};
 ghost use Rattle.text_lines.specs.Text.{most_text_bytes};
 ghost use Rattle.cue_sheet.specs.CueSheet.{IsSheet};
 ghost use Rattle.cue_sheet.specs.Answers.{IsCueAnswer};
 ghost use Rattle.cue_sheet.specs.Grammar.{CueState, nothing_said, read_cue, track_with};
 ghost use Rattle.cue_sheet.specs.Steps.{after, line_said, sheet_said};
 ghost use Rattle.cue_sheet.specs.Views.{section_of, track_value};
-ghost use Rattle.std.specs.Option.{option_map};
 
 use crate::command::SheetLine;
 use crate::fault::{CueStop, CueText, CueWhy};
-use crate::judge::{SectionMarks, SheetJudge};
+use crate::judge::SheetJudge;
 use crate::sheet::Sheet;
 use disc_time::{CATALOGUE_DIGITS, ISRC_CHARACTERS};
 use std::alloc::{AllocError, Global};
@@ -70,9 +69,9 @@ impl Section {
     {
         match line {
             SheetLine::Catalogue(digits) => self.catalogue = Some(*digits),
-            SheetLine::Title(text) => keep_text(alloc, &mut self.title, text)?,
-            SheetLine::Performer(text) => keep_text(alloc, &mut self.performer, text)?,
-            SheetLine::Songwriter(text) => keep_text(alloc, &mut self.songwriter, text)?,
+            SheetLine::Title(text) => self.title = Some(Vec::from_slice(alloc, text)?),
+            SheetLine::Performer(text) => self.performer = Some(Vec::from_slice(alloc, text)?),
+            SheetLine::Songwriter(text) => self.songwriter = Some(Vec::from_slice(alloc, text)?),
             SheetLine::Flags(control) => self.control = Some(*control),
             SheetLine::Isrc(code) => self.isrc = Some(*code),
             SheetLine::Pregap(time) => self.pregap = Some(*time),
@@ -87,29 +86,16 @@ impl Section {
     pub(crate) fn text(&self, kind: CueText) -> &[u8]
         ensures { result.now ≡ section_text kind (section_of self.now) }
     {
-        match kind {
-            CueText::Title => bytes_or_none(&self.title),
-            CueText::Performer => bytes_or_none(&self.performer),
-            CueText::Songwriter => bytes_or_none(&self.songwriter),
+        let text = match kind {
+            CueText::Title => &self.title,
+            CueText::Performer => &self.performer,
+            CueText::Songwriter => &self.songwriter,
+        };
+        match text {
+            Some(bytes) => bytes.as_slice(),
+            None => &[],
         }
     }
-}
-
-// The bytes of a text, or none if there is no text.
-fn bytes_or_none(text: &Option<Vec<u8>>) -> &[u8]
-    ensures { result.now ≡ unwrap_or (option_map (λ v. v.items) text.now) [] }
-{
-    match text {
-        Some(bytes) => bytes.as_slice(),
-        None => &[],
-    }
-}
-
-fn keep_text(alloc: Global, place: &mut Option<Vec<u8>>, text: &[u8]) -> Result<(), AllocError>
-    ensures { IfOk result (λ _. option_map (λ v. v.items) place.new ≡ Some text.now) }
-{
-    *place = Some(Vec::from_slice(alloc, text)?);
-    Ok(())
 }
 
 /// The contents of the lines so far. `section` has the lines of the last track, or those before the first one.
@@ -192,33 +178,13 @@ impl SheetReader {
         ensures { Heard nothing_said result }
     {
         SheetReader {
-            judge: SheetJudge {
-                has_file: false,
-                latest: 0,
-                number: None,
-                section: SectionMarks::none(),
-            },
+            judge: SheetJudge::default(),
             draft: Some(SheetDraft {
                 album: Section::new(alloc),
                 tracks: Vec::new(alloc),
                 number: None,
                 section: Section::new(alloc),
             }),
-        }
-    }
-
-    // Adds an accepted line.
-    fn add(&mut self, alloc: Global, line: &SheetLine<'_>)
-        ensures { (said : CueState) → Heard said self.old
-            → Heard (after said (line_said line.now)) self.new }
-    {
-        self.judge.add(line);
-        let kept = match &mut self.draft {
-            Some(draft) => draft.add(alloc, line),
-            None => return,
-        };
-        if kept.is_err() {
-            self.draft = None;
         }
     }
 
@@ -232,7 +198,14 @@ impl SheetReader {
             return Ok(());
         }
         let said = self.judge.checked(line)?;
-        self.add(alloc, &said);
+        self.judge.add(&said);
+        let kept = match &mut self.draft {
+            Some(draft) => draft.add(alloc, &said),
+            None => return Ok(()),
+        };
+        if kept.is_err() {
+            self.draft = None;
+        }
         Ok(())
     }
 
@@ -256,17 +229,6 @@ impl SheetReader {
         match self.judge.end_reason() {
             Some(why) => Err(CueStop::Fault { line: number, why }),
             None => Ok(()),
-        }
-    }
-
-    /// The sheet of all lines, if there was memory for it.
-    pub(crate) fn finish(self) -> Result<Sheet, AllocError>
-        requires { (said : CueState) × Heard said self × IsSheet (sheet_said said) }
-        ensures { (said : CueState) → Heard said self → IfOk result (λ sheet. sheet ≡ sheet_said said) }
-    {
-        match self.draft {
-            Some(draft) => draft.finish(),
-            None => Err(AllocError),
         }
     }
 }

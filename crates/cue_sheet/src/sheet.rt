@@ -38,11 +38,11 @@ impl Sheet {
         ensures { IsCueAnswer (read_cue text.now) result }
     {
         let mut reader = SheetReader::new(alloc);
-        if let Err(stop) = reader.read(alloc, text) {
-            drop(reader);
-            return Err(stop);
+        reader.read(alloc, text)?;
+        match reader.draft {
+            Some(draft) => Ok(draft.finish()?),
+            None => Err(CueStop::NoMemory),
         }
-        Ok(reader.finish()?)
     }
 
     /// The number of tracks, 1 to 99.

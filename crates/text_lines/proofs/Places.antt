@@ -17,3 +17,17 @@ place_from p xs r result is gives =
     gives
     ∙ (ap (λ (o : Option ℕ). unwrap_or o (length xs)) is
     ∙ place_or_len (position_or_len p xs) (length xs) (prefix_len-le-length (λ x. not (p x)) xs))
+
+pub place_some : (p : ℕ → Bool) (xs : List ℕ) (r : Option ℕ) (end : ℕ)
+    → r ≡ cond (nat_lt (position_or_len p xs) (length xs)) (Some (position_or_len p xs)) None
+    → r ≡ Some end
+    → end ≡ position_or_len p xs
+place_some p xs r end is some = grind arith
+
+pub place_none : (p : ℕ → Bool) (xs : List ℕ) (r : Option ℕ)
+    → r ≡ cond (nat_lt (position_or_len p xs) (length xs)) (Some (position_or_len p xs)) None
+    → r ≡ None
+    → length xs ≡ position_or_len p xs
+place_none p xs r is none =
+    let le : position_or_len p xs ≤ length xs = prefix_len-le-length (λ x. not (p x)) xs in
+    grind arith

@@ -135,7 +135,7 @@ letter_at word k whole lt =
     (AllPass-from_list_all (λ b. not (is_blank b)) word whole) in
     grind (arith, common_steps)
 
-word_at : (word line : List ℕ) (k : ℕ) → take (length word) line ≡ word → k < length word
+pub word_at : (word line : List ℕ) (k : ℕ) → take (length word) line ≡ word → k < length word
     → get_or line k 0 ≡ get_or word k 0
 word_at word line k same lt = sym (get_or-take (length word) line k 0 lt) ∙ ap (λ s. get_or s k 0) same
 

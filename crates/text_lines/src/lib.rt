@@ -1,9 +1,8 @@
 //! Reads texts line by line without copies: lines, blanks, words, numbers and times.
 #![tactic(auto)]
 
-ghost use Rattle.std.specs.Prelude.{◌≡◌, ◌<◌, ◌≤◌, ◌+◌, ◌∷◌, [], length, MatchOption, IfSome, ◌==◌, ◌≢◌, ◌↔◌, take, drop, reverse, not, true, slice_index_or, IsNone, IsTrue, ◌^◌, ◌||◌, ℕ, All, Some};
-ghost use Rattle.std.specs.List.{position_or_len, list_all};
-ghost use Rattle.std.specs.Str.Lines.{strip_carriage_return};
+ghost use Rattle.std.specs.Prelude.{◌≡◌, ◌<◌, ◌≤◌, ◌+◌, ◌∷◌, [], length, MatchOption, IfSome, ◌==◌, ◌≢◌, ◌↔◌, drop, not, true, slice_index_or, IsNone, IsTrue, ◌^◌, ◌||◌, ℕ, All, Some};
+ghost use Rattle.std.specs.List.{list_all};
 ghost use Rattle.text_lines.specs.Text.{without_mark, lines_in, after_line, is_blank, without_blanks, trimmed, words_in, first_word, argument_of, number_in, two_digit_number, parsed_time};
 ghost use Rattle.std.specs.Char.{is_ascii_digit, is_ascii_uppercase};
 ghost use Rattle.disc_time.specs.Counts.{time_count};
@@ -38,32 +37,14 @@ pub fn next_line(text: &[u8]) -> Option<(&[u8], &[u8])>
     if text.is_empty() {
         return None;
     }
-    let end = line_end(text);
-    if end == text.len() {
+    let Some(end) = text.iter().position(|byte| *byte == b'\n') else {
         return Some((text, &[]));
-    }
-    Some((without_return(&text[..end]), &text[end + 1..]))
-}
-
-// The index of the first line feed, or the length.
-fn line_end(text: &[u8]) -> usize
-    ensures place { result ≡ position_or_len (λ b. b == 10) text.now }
-    ensures bound { result ≤ length text.now }
-{
-    text.iter()
-        .position(|byte| *byte == b'\n')
-        .unwrap_or(text.len())
-}
-
-// A line without a final carriage return.
-fn without_return(line: &[u8]) -> &[u8]
-    ensures line { result.now ≡ strip_carriage_return line.now }
-    ensures length { length result.now ≤ length line.now }
-{
-    match line {
+    };
+    let line = match &text[..end] {
         [front @ .., b'\r'] => front,
-        _ => line,
-    }
+        line => line,
+    };
+    Some((line, &text[end + 1..]))
 }
 
 /// Whether a byte is a space or a tab.
@@ -137,30 +118,20 @@ pub fn after_word<'a>(line: &'a [u8], word: &[u8]) -> Option<&'a [u8]>
     ensures rest { IfSome result (λ rest. rest.now ≡ drop (length word.now) line.now) }
     ensures none { IsNone result → slice_index_or (words_in line.now) 0 [] ≢ word.now }
 {
-    if !begins_with(line, word) {
+    if line.len() < word.len() {
         return None;
+    }
+    // A loop is faster than a call, since words are short.
+    for i in 0..word.len() {
+        if line[i] != word[i] {
+            return None;
+        }
     }
     let (_, rest) = line.split_at(word.len());
     if !rest.is_empty() && !is_blank(rest[0]) {
         return None;
     }
     Some(rest)
-}
-
-// Whether a line begins with the bytes of a word. A loop is faster than a call, since words are short.
-#[inline]
-fn begins_with(line: &[u8], word: &[u8]) -> bool
-    ensures { IsTrue result ↔ (take (length word.now) line.now ≡ word.now) }
-{
-    if line.len() < word.len() {
-        return false;
-    }
-    for i in 0..word.len() {
-        if line[i] != word[i] {
-            return false;
-        }
-    }
-    true
 }
 
 // The bytes before the first blank, and the rest from that blank on.
