@@ -1,10 +1,12 @@
 -- Eight bytes of a block, built side by side in one number.
-use Rattle.std.proofs.Common.{◌≡◌, ℕ, zero, suc, ◌+◌, ◌-◌, ◌*◌, ◌/◌, ◌%◌, ◌^◌, ◌<◌, ◌==◌, Bool, true, false, refl, sym, ap, ◌∙◌, arith}
+use Rattle.std.proofs.Common.{◌≡◌, ℕ, zero, suc, ◌+◌, ◌-◌, ◌*◌, ◌/◌, ◌%◌, ◌^◌, ◌<◌, ◌==◌, Bool, true, false, refl, sym, ap, get_or, ◌∙◌, arith}
+use mir.Val.{bool_byte}
 use Rattle.std.specs.Prelude.{if◌then◌else◌, slice_index}
 use Rattle.std.specs.Int.{bytes_low_first}
 use Rattle.bit_lists.specs.Bits.{has_bit}
 use Rattle.raw_subcode.specs.Lanes.{in_lanes, lanes_of_byte}
-use Rattle.raw_subcode.proofs.LaneNumbers.{in_lanes-byte, byte_at}
+use Rattle.raw_subcode.specs.declared.lane_table.TheConstants.{LANES}
+use Rattle.raw_subcode.proofs.LaneNumbers.{in_lanes-byte, byte_at, lanes_are, lanes-lt}
 use Rattle.raw_subcode.proofs.QBytes.{in_lanes-times}
 
 in_lanes-plus : (n : ℕ) (f g : ℕ → ℕ) → in_lanes n f + in_lanes n g ≡ in_lanes n (λ k. f k + g k)
@@ -13,6 +15,32 @@ in_lanes-plus zero f g = refl
 in_lanes-plus (suc n) f g =
     let rest = in_lanes-plus n (λ k. f (suc k)) (λ k. g (suc k)) in
     omega (arith, rest)
+
+-- a P bit in each of eight bytes
+p_lanes : (p : Bool) (n : ℕ) → n ≡ bool_byte p
+    → 9259542123273814144 * n ≡ in_lanes 8 (λ k. if p then 128 else 0)
+unfolding in_lanes
+p_lanes true n is = omega arith
+p_lanes false n is = omega arith
+
+bit-lt : (p : Bool) (n : ℕ) → n ≡ bool_byte p → n < 2
+bit-lt true n is = omega arith
+bit-lt false n is = omega arith
+
+in_lanes-lt : (f : ℕ → ℕ) → ((k : ℕ) → k < 8 → f k < 64) → in_lanes 8 f < 4557430888798830400
+unfolding in_lanes
+in_lanes-lt f small =
+    omega (
+      arith,
+      small 0 (omega arith),
+      small 1 (omega arith),
+      small 2 (omega arith),
+      small 3 (omega arith),
+      small 4 (omega arith),
+      small 5 (omega arith),
+      small 6 (omega arith),
+      small 7 (omega arith),
+    )
 
 -- the byte of a P bit, a Q bit and a symbol
 abbrev byte_of : Bool → Bool → ℕ → ℕ
@@ -47,6 +75,26 @@ symbol_of true true symbol lt = omega arith
 symbol_of true false symbol lt = omega arith
 symbol_of false true symbol lt = omega arith
 symbol_of false false symbol lt = omega arith
+
+-- P bits, Q bits and symbols of eight bytes, each kind as one number
+pub sum_of_lanes : (p : Bool) (q p_number place eight : ℕ) (symbols : ℕ → ℕ) → q < 256
+    → p_number ≡ bool_byte p → place ≡ q → eight ≡ in_lanes 8 symbols
+    → 9259542123273814144 * p_number + 64 * get_or LANES place 0 + eight
+    ≡ in_lanes 8 (λ k. if p then 128 else 0) + 64 * lanes_of_byte q + in_lanes 8 symbols
+sum_of_lanes p q p_number place eight symbols lt p_is q_is eight_is =
+    let q_bits = lanes_are q _ lt (ap (λ k. get_or LANES k 0) q_is) in
+    let p_bits = p_lanes p p_number p_is in
+    omega arith
+
+pub sum-fits : (p : Bool) (q p_number place eight : ℕ) (symbols : ℕ → ℕ) → q < 256
+    → p_number ≡ bool_byte p → place ≡ q → eight ≡ in_lanes 8 symbols
+    → ((k : ℕ) → k < 8 → symbols k < 64)
+    → 9259542123273814144 * p_number + 64 * get_or LANES place 0 + eight < 2 ^ 64
+sum-fits p q p_number place eight symbols lt p_is q_is eight_is small =
+    let q_bits = lanes-lt q _ lt (ap (λ k. get_or LANES k 0) q_is) in
+    let p_bit = bit-lt p p_number p_is in
+    let rest = in_lanes-lt symbols small in
+    omega arith
 
 -- each of eight bytes
 built_is : (p : Bool) (q n j : ℕ) (symbols : ℕ → ℕ) → ((k : ℕ) → k < 8 → symbols k < 64)

@@ -1,7 +1,6 @@
 -- The sums of a word as the code keeps them, and what its steps do with them.
-use Rattle.std.specs.Prelude.{◌≡◌, ◌≢◌, ℕ, ◌+◌, ◌-◌, ◌*◌, ◌/◌, ◌%◌, ◌^◌, ◌<◌, ◌≤◌, List, [], ◌∷◌, ◌++◌, take, bit_xor}
+use Rattle.std.specs.Prelude.{◌≡◌, ◌≢◌, ℕ, ◌+◌, ◌-◌, ◌*◌, ◌/◌, ◌%◌, ◌^◌, ◌<◌, ◌≤◌, List, take, bit_xor}
 use Rattle.gf64.specs.Field.{product, alpha_power}
-use Rattle.rw_code.specs.declared.pack.LastFour.{LastFour}
 use Rattle.rw_code.specs.declared.syndromes.Sums.{Sums}
 use Rattle.rw_code.specs.declared.correction.Locator.{Locator}
 use Rattle.rw_code.specs.declared.correction.Places.{Places}
@@ -27,21 +26,18 @@ pub record IsEntry (position symbol lanes : ℕ) : Type 0 where
   pub later : (j : ℕ) → j < 2 → 4 ≤ position → lane (4 + j) lanes ≡ 0
   pub bound : lanes < 2 ^ 36
 
--- After any symbols with which the old parity symbols make the first n sums 0, the symbol and the new ones do.
-abbrev pub ContinuesTo : ℕ → List ℕ → ℕ → List ℕ → Type 0
-ContinuesTo n old symbol new =
-    (j : ℕ) → j < n → (xs : List ℕ) → weighted_sum j (xs ++ old) ≡ 0 → weighted_sum j (xs ++ symbol ∷ new) ≡ 0
-
--- the value of a polynomial at power j of alpha, which is what it adds to sum j as the last four symbols of a word
-abbrev pub value_at : ℕ → LastFour → ℕ
-value_at j last = weighted_sum j (last.cubic ∷ last.square ∷ last.linear ∷ last.constant ∷ [])
-
 -- the lanes of the four sums over all symbols
 pub record AreLanes (lanes : ℕ) (sums : Sums) : Type 0 where
   pub zeroth : sums.zeroth ≡ lane 0 lanes
   pub first : sums.first ≡ lane 1 lanes
   pub second : sums.second ≡ lane 2 lanes
   pub third : sums.third ≡ lane 3 lanes
+
+-- the four sums, each times the power of alpha with its exponent
+abbrev pub weighted : Sums → ℕ → ℕ → ℕ → ℕ → ℕ
+weighted sums zeroth first second third =
+    let two = bit_xor (product (alpha_power zeroth) sums.zeroth) (product (alpha_power first) sums.first) in
+    bit_xor (bit_xor two (product (alpha_power second) sums.second)) (product (alpha_power third) sums.third)
 
 -- ---- Wrong symbols. An error is the sum of a wrong symbol and the right one.
 

@@ -2,7 +2,7 @@
 ghost use Rattle.std.specs.Prelude.{◌≡◌, ◌<◌, ◌↔◌, IsTrue};
 ghost use Rattle.rw_code.specs.Sizes.{word_symbols, symbol_values};
 ghost use Rattle.rw_code.specs.Codeword.{IsCodeword};
-ghost use Rattle.rw_code.specs.Syndromes.{AreLanes, AreSyndromes, IsEntry, lane};
+ghost use Rattle.rw_code.specs.Syndromes.{AreLanes, AreSyndromes, IsEntry, lane, weighted};
 
 use crate::word::{SYMBOL_VALUES, words_have_24_symbols};
 use crate::{SYMBOLS, Word};
@@ -57,6 +57,20 @@ impl Syndromes {
         ensures { result ≡ lane j self.lanes }
     {
         Sym::new(((self.lanes >> (6 * j)) % 64) as u8).unwrap()
+    }
+}
+
+impl Sums {
+    /// The sum of the four, each times the power of α with its exponent.
+    #[inline]
+    pub(crate) fn weighted(&self, zeroth: u32, first: u32, second: u32, third: u32) -> Sym
+        ensures { result ≡ weighted self.now zeroth first second third }
+    {
+        Sym::alpha(zeroth)
+            .mul(self.zeroth)
+            .add(Sym::alpha(first).mul(self.first))
+            .add(Sym::alpha(second).mul(self.second))
+            .add(Sym::alpha(third).mul(self.third))
     }
 }
 

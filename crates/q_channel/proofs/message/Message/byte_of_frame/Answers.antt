@@ -11,6 +11,6 @@ returns c =
     sym (length-bits_of c.self.inside.width n) ∙ ap length c.self.view_is ∙ c.requires.size in
     let first = c.args.first in
     let sum : first + (8 + (88 - first)) ≡ c.self.inside.width = omega (arith, c.requires.within) in
-    c.byte.ensures ∙ ap (λ k. n / 2 ^ (88 - k) % 256) c.from.ensures
+    ap (λ k. n / 2 ^ (88 - k) % 256) c.from.ensures
     ∙ sym (field_value-bits_of c.self.inside.width n first 8 (88 - first) sum)
     ∙ ap (λ bs. field_value bs first 8) c.self.view_is
