@@ -1,11 +1,11 @@
 // The commands of a script: the reader accepts a line, or refuses it with the first reason.
-ghost use Rattle.std.specs.Prelude.{◌≡◌, ◌<◌, ◌+◌, ◌&&◌, List, Some, Err, IfOk, IfErr, nat_le, nat_lt, ◌≢◌, ◌∷◌, [], length, MatchOption, None, if◌then◌else◌, IfSome, All, map, true};
+ghost use Rattle.std.specs.Prelude.{◌≡◌, ◌<◌, ◌+◌, ◌&&◌, List, Some, Err, IfOk, IfErr, ◌≢◌, ◌∷◌, [], length, MatchOption, None, if◌then◌else◌, IfSome, All, map, true};
 ghost use Rattle.picture_script.specs.Script.{Drawing, Rect, Colour, Row, Show};
 ghost use Rattle.text_lines.specs.Text.{words_in, without_blanks, is_some_bytes};
 ghost use Rattle.picture_script.specs.ScriptGrammar.{is_in_range, checked_line, checked_words, colour_line, border_line, fill_line, rect_line, row_line, show_line, IsColourNumber, IsWrongAs, small_number, numbers_in, colour_in};
 ghost use Rattle.picture_script.specs.Reader.{Followed, Takes};
 ghost use Rattle.picture_script.specs.Sizes.{small_number_values};
-ghost use Rattle.cdg_instructions.specs.Sizes.{window_height, window_width, colour_values};
+ghost use Rattle.cdg_instructions.specs.Sizes.{colour_values};
 ghost use Rattle.disc_time.specs.Counts.{time_count};
 ghost use Rattle.std.specs.Char.{is_ascii_hexdigit, digit_value};
 ghost use Rattle.std.specs.List.{list_all};
@@ -41,18 +41,6 @@ pub(crate) fn numbers<const N: usize>(line: &[u8]) -> Option<[u16; N]>
     match next_word(rest) {
         Some(_) => None,
         None => Some(numbers),
-    }
-}
-
-/// The value of a hexadecimal digit, in upper or lower case.
-pub(crate) fn hex_digit(byte: u8) -> Option<u8>
-    ensures value { result ≡ (if is_ascii_hexdigit byte then Some (digit_value byte) else None) }
-    ensures below { IfSome result (λ d. d < 16) }
-{
-    let mut value = [0];
-    match hex::decode_to_slice([b'0', byte], &mut value) {
-        Ok(()) => Some(value[0]),
-        Err(_) => None,
     }
 }
 
@@ -211,10 +199,17 @@ impl ScriptReader {
         let Some((x, y, digits)) = row_words(words) else {
             return Err(ScriptWhy::BadArgument);
         };
-        if !is_row(x, y, digits.len()) {
+        let end = usize::from(x).saturating_add(digits.len());
+        if end > WINDOW_WIDTH || usize::from(y) >= WINDOW_HEIGHT {
             return Err(ScriptWhy::OutOfRange);
         }
-        self.take_pixels(x, y as u8, digits);
+        let kept = match &mut self.draft {
+            Some(draft) => draft.push_row(x, y as u8, digits),
+            None => return Ok(()),
+        };
+        if kept.is_err() {
+            self.draft = None;
+        }
         Ok(())
     }
 
@@ -226,16 +221,21 @@ impl ScriptReader {
         let Some((ready, hold)) = show_words(words) else {
             return Err(ScriptWhy::BadArgument);
         };
-        if hold < ready {
-            return Err(ScriptWhy::TimeOrder);
-        }
-        if !self.is_after_hold(ready) {
+        if hold < ready || (self.pictures > 0 && ready <= self.held) {
             return Err(ScriptWhy::TimeOrder);
         }
         if self.pictures >= MOST_PICTURES {
             return Err(ScriptWhy::TooMany);
         }
-        self.take_picture(ready, hold);
+        self.pictures += 1;
+        self.held = hold;
+        let kept = match &mut self.draft {
+            Some(draft) => draft.push_show(ready, hold),
+            None => return Ok(()),
+        };
+        if kept.is_err() {
+            self.draft = None;
+        }
         Ok(())
     }
 
@@ -277,15 +277,6 @@ fn is_rect(x: u16, y: u16, width: u16, height: u16, colour: u16) -> bool
         && usize::from(x + width) <= WINDOW_WIDTH
         && usize::from(y + height) <= WINDOW_HEIGHT
         && usize::from(colour) < COLOURS
-}
-
-// Whether a row of `count` pixels is in the window. The first test prevents an overflow of the sum.
-fn is_row(x: u16, y: u16, count: usize) -> bool
-    ensures { result ≡ (nat_le (x + count) window_width && nat_lt y window_height) }
-{
-    count <= WINDOW_WIDTH
-        && usize::from(x) + count <= WINDOW_WIDTH
-        && usize::from(y) < WINDOW_HEIGHT
 }
 
 // The colour number after `border` or `fill`. Most lines have a space and one digit there, which need no splitting.
