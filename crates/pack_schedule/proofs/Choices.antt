@@ -1,6 +1,7 @@
 -- The choice of a start.
-use Rattle.std.proofs.Common.{◌≡◌, ℕ, ◌+◌, ◌≤◌, Bool, true, false, List, [], ◌∷◌, ◌++◌, map, length, refl, ap, ap₂, sym, ◌∙◌, arith}
+use Rattle.std.proofs.Common.{◌≡◌, ℕ, zero, suc, ◌+◌, ◌<◌, ◌≤◌, Bool, true, false, List, [], ◌∷◌, ◌++◌, map, length, refl, ap, sym, ◌∙◌, arith}
 use Rattle.std.specs.Prelude.{Option, Some, None, if◌then◌else◌, nat_lt}
+use Rattle.std.proofs.lemmas.Bool.Decides.{nat_tests}
 use Rattle.std.proofs.lemmas.List.FromFn.{map-range_with_len_more}
 use Rattle.bit_lists.specs.Counting.{below}
 use Rattle.picture_script.specs.Script.{Drawing}
@@ -19,24 +20,27 @@ least-snoc number best (y ∷ xs) x =
 one_sum : (n : ℕ) → 0 + n ≡ n
 one_sum n = omega arith
 
-either : (f : Option ℕ → ℕ) (b : Bool) (x y : Option ℕ) (m n : ℕ) → m ≡ f x → n ≡ f y
-    → (if b then m else n) ≡ f (if b then x else y)
-either f true x y m n p q = p
-either f false x y m n p q = q
+-- one colour more
+one_more : (f : Option ℕ → ℕ) (best old : Option ℕ) (c : ℕ) → old ≡ first_least f best (map Some (below c))
+    → first_least f best (map Some (below (c + 1))) ≡ (if nat_lt (f (Some c)) (f old) then Some c else old)
+one_more f best old c is =
+    ap (first_least f best) (map-range_with_len_more Some 0 c c (one_sum c))
+    ∙ least-snoc f best (map Some (below c)) (Some c)
+    ∙ ap (λ (o : Option ℕ). if nat_lt (f (Some c)) (f o) then Some c else o) (sym is)
 
-pub better_choice : (f : Option ℕ → ℕ) (best old new : Option ℕ) (c had length' got : ℕ)
-    → old ≡ first_least f best (map Some (below c)) → had ≡ f old → length' ≡ f (Some c)
-    → new ≡ (if nat_lt length' had then Some c else old) → got ≡ (if nat_lt length' had then length' else had)
-    → (new ≡ first_least f best (map Some (below (c + 1)))) × (got ≡ f new)
-better_choice f best old new c had length' got is_old is_had is_length is_new is_got =
-    let more = map-range_with_len_more Some 0 c c (one_sum c) in (
-      is_new
-          ∙ ap₂ (λ m n. if nat_lt m n then Some c else old) is_length (is_had ∙ ap f is_old)
-          ∙ ap (λ (o : Option ℕ).
-          if nat_lt (f (Some c)) (f (first_least f best (map Some (below c)))) then Some c else o) is_old
-          ∙ sym (least-snoc f best (map Some (below c)) (Some c)) ∙ ap (first_least f best) (sym more),
-      is_got ∙ either f (nat_lt length' had) (Some c) old length' had is_length is_had ∙ ap f (sym is_new),
-    )
+pub colour_taken : (f : Option ℕ → ℕ) (best old : Option ℕ) (c : ℕ)
+    → old ≡ first_least f best (map Some (below c)) → f (Some c) < f old
+    → Some c ≡ first_least f best (map Some (below (c + 1)))
+colour_taken f best old c is less =
+    let test : nat_lt (f (Some c)) (f old) ≡ true = grind (arith, nat_tests) in
+    sym (one_more f best old c is ∙ ap (λ (b : Bool). if b then Some c else old) test)
+
+pub colour_left : (f : Option ℕ → ℕ) (best old : Option ℕ) (c : ℕ)
+    → old ≡ first_least f best (map Some (below c)) → f old ≤ f (Some c)
+    → old ≡ first_least f best (map Some (below (c + 1)))
+colour_left f best old c is no_less =
+    let test : nat_lt (f (Some c)) (f old) ≡ false = grind (arith, nat_tests) in
+    sym (one_more f best old c is ∙ ap (λ (b : Bool). if b then Some c else old) test)
 
 pub is_chosen : (script : List Drawing) (k c : ℕ) (start : Option ℕ) → c ≡ 16
     → start ≡ first_least (planned_length script k) (preferred k) (map Some (below c))
@@ -57,13 +61,14 @@ pub from_picture : (script : List Drawing) (k n : ℕ)
 unfolding planned_length
 from_picture script k n h = omega (arith, h)
 
-pub none_better : (script : List Drawing) (k : ℕ) (start : Option ℕ) → start ≡ preferred k
-    → start ≡ first_least (planned_length script k) (preferred k) (map Some (below 0))
+pub first_chosen : (script : List Drawing) (k : ℕ) → k ≡ 0
+    → Some 0 ≡ first_least (planned_length script k) (preferred k) (map Some (below 0))
 unfolding first_least
-none_better script k start h = h
+first_chosen script zero first = refl
+first_chosen script (suc k) first = absurd (omega arith)
 
-pub shorter : (b : Bool) (had length' got : ℕ) → got ≡ (if b then length' else had) → had ≤ 3076
-    → length' ≤ 3076
-    → got ≤ 3076
-shorter true had length' got h p q = omega (arith, h)
-shorter false had length' got h p q = omega (arith, h)
+pub later_chosen : (script : List Drawing) (k : ℕ) → 0 < k
+    → None ≡ first_least (planned_length script k) (preferred k) (map Some (below 0))
+unfolding first_least
+later_chosen script zero later = absurd (omega arith)
+later_chosen script (suc k) later = refl

@@ -1,11 +1,13 @@
 -- Sums over tiles, from each start at once.
-use Rattle.std.proofs.Common.{◌≡◌, ◌≢◌, ℕ, ◌+◌, ◌-◌, ◌*◌, ◌/◌, ◌%◌, ◌<◌, ◌≤◌, List, [], ◌∷◌, length, map, get_or, set, take, drop, replicate, Bool, true, zero, suc, refl, ap, sym, subst, ◌∙◌, inl, inr, arith, below_more}
+use Rattle.std.proofs.Common.{◌≡◌, ◌≢◌, ℕ, ◌+◌, ◌-◌, ◌*◌, ◌/◌, ◌%◌, ◌<◌, ◌≤◌, List, [], ◌∷◌, length, map, get_or, set, take, drop, replicate, Bool, true, false, zero, suc, refl, ap, sym, subst, ◌∙◌, inl, inr, arith, below_more}
 use Rattle.std.specs.Prelude.{Option, Some, None, MatchOption, slice_index, sum_by}
+use Rattle.std.specs.Bool.{then_some}
 use Rattle.std.specs.Str.{bytes_eq}
 use Rattle.std.proofs.lemmas.Slice.Eq.{bytes_eq-Decides}
-use Rattle.std.proofs.lemmas.Bool.{cases_eq, cases_lt}
+use Rattle.std.proofs.lemmas.Bool.{cases_eq, cases_lt, false≢true}
 use Rattle.std.proofs.lemmas.Grind.{same_number_lists}
 use Rattle.std.proofs.lemmas.List.{length-replicate, get_or-replicate, get_or-take, get_or-drop, get_or-set_same, get_or-set_other, get_or_past}
+use Rattle.std.proofs.lemmas.List.Elements.{All-get_or}
 use Rattle.std.proofs.lemmas.List.FromFn.{map-range_with_len_more}
 use Rattle.std.proofs.lemmas.List.Sums.{sum_by-append}
 use Rattle.bit_lists.specs.Counting.{below}
@@ -62,7 +64,7 @@ colour_steps plans new c w small tile least =
     least-unique 1 1 (replicate 72 c) new (steps (replicate 72 c) new) w
     (plans.least 1 1 (replicate 72 c) new (omega arith) (omega arith) (colour_is_tile c small) tile) least
 
-pub all_same : (pixels : List ℕ) (first : ℕ) → length pixels ≡ 72
+all_same : (pixels : List ℕ) (first : ℕ) → length pixels ≡ 72
     → ((q : ℕ) → q < 72 → get_or pixels q 0 ≡ first)
     → pixels ≡ replicate 72 first
 all_same pixels first size all =
@@ -70,7 +72,7 @@ all_same pixels first size all =
     (λ q lt. all q (omega arith) ∙ sym (get_or-replicate {A = ℕ} 72 q first 0 (omega arith)))
 
 -- where each pixel is as the one before it, all are as the first
-pub as_before : (pixels : List ℕ) (r : Bool) → length pixels ≡ 72
+as_before : (pixels : List ℕ) (r : Bool) → length pixels ≡ 72
     → r ≡ bytes_eq (take (72 - 1) (drop 1 pixels)) (take (71 - 0) (drop 0 pixels)) → r ≡ true → (q : ℕ)
     → q < 72
     → get_or pixels q 0 ≡ get_or pixels 0 0
@@ -84,6 +86,21 @@ as_before pixels r size e holds (suc q) q_lt =
     ∙ ap (λ xs. get_or xs q 0) same
     ∙ get_or-take (71 - 0) (drop 0 pixels) q 0 (omega arith)
     ∙ as_before pixels r size e holds q (omega arith)
+
+-- the single colour of a tile, told by that comparison
+pub single_told : (tile pixels : List ℕ) (told : Bool) → IsTilePixels pixels → pixels ≡ tile
+    → told ≡ bytes_eq (take (72 - 1) (drop 1 pixels)) (take (71 - 0) (drop 0 pixels))
+    → MatchOption (then_some told (get_or pixels 0 0)) ((c : ℕ) → tile ≢ replicate 72 c)
+    (λ c. (c < 16) × (tile ≡ replicate 72 c))
+single_told tile pixels true is same tells = (
+  All-get_or (λ p. p < 16) pixels 0 0 (omega (arith, is.count)) is.below,
+  sym same ∙ all_same pixels (get_or pixels 0 0) is.count (as_before pixels true is.count tells refl),
+)
+single_told tile pixels false is same tells = λ c at.
+    let both : pixels ≡ replicate 72 c = same ∙ at in
+    false≢true (tells ∙ (bytes_eq-Decides (take (72 - 1) (drop 1 pixels)) (take (71 - 0) (drop 0 pixels))).1
+    (ap (λ (xs : List ℕ). take (72 - 1) (drop 1 xs)) both
+    ∙ sym (ap (λ (xs : List ℕ). take (71 - 0) (drop 0 xs)) both)))
 
 first_of : (c : ℕ) (pixels : List ℕ) (i : ℕ) → i < 72 → pixels ≡ replicate 72 c → get_or pixels i 0 ≡ c
 first_of c pixels i lt h = ap (λ xs. get_or xs i 0) h ∙ get_or-replicate {A = ℕ} 72 i c 0 lt

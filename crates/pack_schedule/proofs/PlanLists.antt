@@ -1,6 +1,11 @@
 -- The lists that make up a planned change.
-use Rattle.std.proofs.Common.{◌≡◌, ℕ, zero, suc, ◌+◌, ◌-◌, ◌/◌, ◌%◌, ◌<◌, Bool, List, [], ◌∷◌, ◌++◌, map, All, replicate, refl, ap, ap₂, sym, subst, ◌∙◌, arith, append_assoc, append-nil}
-use Rattle.std.specs.Prelude.{Option, Some, flat_map, ◌==◌, if◌then◌else◌, slice_index}
+use Rattle.std.proofs.Common.{◌≡◌, ℕ, zero, suc, ◌+◌, ◌-◌, ◌/◌, ◌%◌, ◌<◌, ◌⊎◌, inl, inr, Bool, true, false, List, [], ◌∷◌, ◌++◌, map, All, replicate, refl, ap, ap₂, sym, subst, ◌∙◌, arith, append_assoc, append-nil}
+use Rattle.std.specs.Prelude.{Option, Some, flat_map, ◌==◌, if◌then◌else◌, not, slice_index}
+use Rattle.std.specs.Bool.{Decides}
+use Rattle.std.specs.Str.{bytes_eq}
+use Rattle.std.proofs.lemmas.Slice.Eq.{bytes_eq-Decides}
+use Rattle.std.proofs.lemmas.Bool.{false≢true}
+use Rattle.std.proofs.lemmas.Bool.Decides.{Decides-eqb}
 use Rattle.std.proofs.lemmas.List.FromFn.{map-range_with_len_more}
 use Rattle.std.proofs.lemmas.Grind.{flat_map-append}
 use Rattle.bit_lists.specs.Counting.{below}
@@ -12,7 +17,7 @@ use Rattle.picture_script.specs.Board.{Board, IsPicture}
 use Rattle.pack_schedule.specs.Change.{settings, preset_of, tiles_before, IsStart}
 use Rattle.pack_schedule.specs.PlannedChange.{planned_tiles, planned_from}
 use Rattle.pack_schedule.proofs.Places.{place_of, places_in_order, colour_is_tile, start_small}
-use Rattle.pack_schedule.proofs.SettingLaws.{same_eight}
+use Rattle.pack_schedule.proofs.SettingLaws.{eight_Decides, same_eight}
 
 -- Tiles in turn.
 
@@ -63,7 +68,7 @@ plans_all script k i start old so_far is h =
 unless : Bool → Instr → List Instr
 unless b instr = if b then [] else instr ∷ []
 
-pub first_list : (script : List Drawing) (k : ℕ) (old : List Instr) (border : ℕ) (low high : List ℕ) → k ≡ 0
+first_list : (script : List Drawing) (k : ℕ) (old : List Instr) (border : ℕ) (low high : List ℕ) → k ≡ 0
     → border ≡ picture_border script k → low ≡ low_colours script k → high ≡ high_colours script k
     → ((old ++ BorderPreset border ∷ []) ++ ColoursLow low ∷ []) ++ ColoursHigh high ∷ []
     ≡ old ++ settings script k
@@ -73,7 +78,7 @@ first_list script zero old border low high is b l h =
     ∙ rw (b, l, h) refl
 first_list script (suc k) old border low high is b l h = absurd (omega arith)
 
-pub later_list : (script : List Drawing) (k : ℕ) (old : List Instr) (s_border s_low s_high : Bool)
+later_list : (script : List Drawing) (k : ℕ) (old : List Instr) (s_border s_low s_high : Bool)
     (border : ℕ) (low high : List ℕ) → 0 < k
     → s_border ≡ (picture_border script (k - 1) == picture_border script k)
     → s_low ≡ are_equal (low_colours script (k - 1)) (low_colours script k)
@@ -112,7 +117,7 @@ later_list script (suc k) old s_border s_low s_high border low high pos tb tl th
     (sym (append_assoc a d e) ∙ ap₂ (λ x y. x ++ y) (ap₂ (λ x y. x ++ y) one two) three)
 
 -- the colours of a canvas are those of its picture
-pub low_are : (script : List Drawing) (k : ℕ) (board : Board) → IsPicture script k board
+low_are : (script : List Drawing) (k : ℕ) (board : Board) → IsPicture script k board
     → map (λ n. slice_index board.colours (0 + n)) (below 8) ≡ low_colours script k
 unfolding low_colours
 low_are script k board h =
@@ -120,12 +125,86 @@ low_are script k board h =
     let zero_plus : 0 + n ≡ n = omega arith in
     ap (slice_index board.colours) zero_plus ∙ h.colours_are n (omega arith))
 
-pub high_are : (script : List Drawing) (k : ℕ) (board : Board) → IsPicture script k board
+high_are : (script : List Drawing) (k : ℕ) (board : Board) → IsPicture script k board
     → map (λ n. slice_index board.colours (8 + n)) (below 8) ≡ high_colours script k
 unfolding high_colours
 high_are script k board h =
     same_eight (λ n. slice_index board.colours (8 + n)) (λ n. picture_colour script k (8 + n))
     (λ n lt. h.colours_are (8 + n) (omega arith))
+
+-- a setting is appended to the first picture, and where it differs to a later one
+abbrev pub IsAppended : ℕ → Type 0 → Instr → List Instr → List Instr → Type 0
+IsAppended k Same instr old new =
+    ((new ≡ old ++ instr ∷ []) × (0 < k → ¬ Same)) ⊎ ((new ≡ old) × (0 < k) × Same)
+
+first_appended : {Same : Type 0} (instr : Instr) (old new : List Instr) → IsAppended 0 Same instr old new
+    → new ≡ old ++ instr ∷ []
+first_appended instr old new (inl told) = told.0
+first_appended instr old new (inr told) = absurd (omega (arith, told.1))
+
+later_appended : {Same : Type 0} (k : ℕ) (b : Bool) (instr : Instr) (old new : List Instr) → 0 < k
+    → Decides b Same → IsAppended k Same instr old new → new ≡ old ++ (if b then [] else instr ∷ [])
+later_appended k true instr old new pos tests (inl told) = absurd (told.1 pos (tests.0 refl))
+later_appended k false instr old new pos tests (inl told) = told.0
+later_appended k true instr old new pos tests (inr told) = told.0 ∙ sym (append-nil old)
+later_appended k false instr old new pos tests (inr told) = absurd (false≢true (tests.1 told.2))
+
+-- what a comparison of colours tells
+pub told_other : (told : Bool) (xs ys zs : List ℕ) → told ≡ not (bytes_eq xs ys) → xs ≡ zs → told ≡ true
+    → ¬ (zs ≡ ys)
+told_other told xs ys zs is at is_true same =
+    false≢true (sym (is ∙ ap not ((bytes_eq-Decides xs ys).1 (at ∙ same))) ∙ is_true)
+
+not_false : (b : Bool) → not b ≡ false → b ≡ true
+not_false true h = refl
+not_false false h = sym h
+
+pub told_same : (told : Bool) (xs ys zs : List ℕ) → told ≡ not (bytes_eq xs ys) → xs ≡ zs → told ≡ false
+    → zs ≡ ys
+told_same told xs ys zs is at is_false =
+    sym at ∙ (bytes_eq-Decides xs ys).0 (not_false (bytes_eq xs ys) (sym is ∙ is_false))
+
+-- the settings in turn
+pub all_appended : (script : List Drawing) (k : ℕ) (old new : Board) (border : ℕ) (low high : List ℕ)
+    (none one two three : List Instr)
+    → (0 < k → IsPicture script (k - 1) old) → IsPicture script k new → border ≡ new.border
+    → low ≡ map (λ n. slice_index new.colours (0 + n)) (below 8)
+    → high ≡ map (λ n. slice_index new.colours (8 + n)) (below 8)
+    → IsAppended k (old.border ≡ border) (BorderPreset border) none one
+    → IsAppended k (map (λ n. slice_index old.colours (0 + n)) (below 8) ≡ low) (ColoursLow low) one two
+    → IsAppended k (map (λ n. slice_index old.colours (8 + n)) (below 8) ≡ high) (ColoursHigh high) two three
+    → three ≡ none ++ settings script k
+all_appended script zero old new border low high none one two three before now b_is l_is h_is b l h =
+    first_appended (ColoursHigh high) two three h
+    ∙ ap (λ xs. xs ++ ColoursHigh high ∷ []) (first_appended (ColoursLow low) one two l
+    ∙ ap (λ xs. xs ++ ColoursLow low ∷ []) (first_appended (BorderPreset border) none one b))
+    ∙ first_list script 0 none border low high refl (b_is ∙ now.border_is)
+    (l_is ∙ low_are script 0 new now) (h_is ∙ high_are script 0 new now)
+all_appended script (suc k) old new border low high none one two three before now b_is l_is h_is b l h =
+    let pos : 0 < suc k = omega arith in
+    let was = before pos in
+    let old_low : ℕ → ℕ = λ n. slice_index old.colours (0 + n) in
+    let old_high : ℕ → ℕ = λ n. slice_index old.colours (8 + n) in
+    let s_low = are_equal (map old_low (below 8)) low in
+    let s_high = are_equal (map old_high (below 8)) high in
+    let low_tests : Decides s_low (map old_low (below 8) ≡ low) =
+    subst (λ xs. Decides (are_equal (map old_low (below 8)) xs) (map old_low (below 8) ≡ xs)) (sym l_is)
+    (eight_Decides old_low (λ n. slice_index new.colours (0 + n))) in
+    let high_tests : Decides s_high (map old_high (below 8) ≡ high) =
+    subst (λ xs. Decides (are_equal (map old_high (below 8)) xs) (map old_high (below 8) ≡ xs)) (sym h_is)
+    (eight_Decides old_high (λ n. slice_index new.colours (8 + n))) in
+    later_appended (suc k) s_high (ColoursHigh high) two three pos high_tests h
+    ∙ ap (λ xs. xs ++ (if s_high then [] else ColoursHigh high ∷ []))
+    (later_appended (suc k) s_low (ColoursLow low) one two pos low_tests l
+    ∙ ap (λ xs. xs ++ (if s_low then [] else ColoursLow low ∷ []))
+    (later_appended (suc k) (old.border == border) (BorderPreset border) none one pos
+    (Decides-eqb old.border border) b))
+    ∙ later_list script (suc k) none (old.border == border) s_low s_high border low high pos
+    (ap₂ (λ x y. x == y) was.border_is (b_is ∙ now.border_is))
+    (ap₂ are_equal (low_are script (suc k - 1) old was) (l_is ∙ low_are script (suc k) new now))
+    (ap₂ are_equal (high_are script (suc k - 1) old was) (h_is ∙ high_are script (suc k) new now))
+    (b_is ∙ now.border_is) (l_is ∙ low_are script (suc k) new now)
+    (h_is ∙ high_are script (suc k) new now)
 
 pub planned_whole : (script : List Drawing) (k : ℕ) (start : Option ℕ) (one two new : List Instr)
     → one ≡ preset_of start → two ≡ one ++ settings script k → new ≡ two ++ planned_tiles script k start

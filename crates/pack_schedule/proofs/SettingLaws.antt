@@ -1,10 +1,14 @@
 -- How many settings differ.
 use Rattle.std.proofs.Common.{◌≡◌, ℕ, zero, suc, ◌+◌, ◌-◌, ◌<◌, ◌≤◌, Bool, true, false, List, [], ◌∷◌, ◌++◌, length, map, refl, ap, ap₂, sym, subst, ◌∙◌, inl, inr, arith, bit_xor}
-use Rattle.std.specs.Prelude.{◌==◌, ◌&&◌, if◌then◌else◌, slice_index}
+use Rattle.std.specs.Prelude.{◌==◌, ◌&&◌, if◌then◌else◌, not, slice_index}
+use Rattle.std.specs.Bool.{Decides}
+use Rattle.std.specs.Str.{bytes_eq}
+use mir.Val.{bool_byte}
 use Rattle.std.specs.List.{list_all, range_with_len}
 use Rattle.std.specs.Int.Bits.{xor_zero_l, xor_zero_r, xor_assoc, xor_self}
 use Rattle.std.proofs.lemmas.Bool.{cases_lt}
-use Rattle.std.proofs.lemmas.Bool.Decides.{eqb_tells}
+use Rattle.std.proofs.lemmas.Bool.Decides.{eqb_tells, same_from_decides}
+use Rattle.std.proofs.lemmas.Slice.Eq.{bytes_eq-Decides}
 use Rattle.std.proofs.lemmas.List.{get_or_past}
 use Rattle.std.proofs.lemmas.List.FromFn.{get_or-map-range_with_len, length-map-range_with_len}
 use Rattle.tile_author.specs.Plan.{are_equal, delta}
@@ -100,8 +104,23 @@ same_eight one other all =
     ∙ all n (omega arith)
     ∙ sym (get_or-map-range_with_len other 0 8 n n 0 (omega arith) (zero_plus n)))
 
+-- two lists of eight numbers are compared
+pub eight_Decides : (one other : ℕ → ℕ)
+    → Decides (are_equal (map one (below 8)) (map other (below 8))) (map one (below 8) ≡ map other (below 8))
+eight_Decides one other = (
+  (λ e. same_eight one other (unequal_colours one other e)),
+  (λ e. subst (λ ys. are_equal (map one (below 8)) ys ≡ true) e (equal_colours one one (λ n lt. refl))),
+)
+
+eight_tested : (one other : ℕ → ℕ) (xs ys : List ℕ) → xs ≡ map one (below 8) → ys ≡ map other (below 8)
+    → bytes_eq xs ys ≡ are_equal (map one (below 8)) (map other (below 8))
+eight_tested one other xs ys x y =
+    ap₂ bytes_eq x y
+    ∙ same_from_decides _ _ (bytes_eq-Decides (map one (below 8)) (map other (below 8)))
+    (eight_Decides one other)
+
 flag : Bool → ℕ
-flag b = if b then 0 else 1
+flag same = bool_byte (not same)
 
 three : (b low high : Bool) (x y z : Instr)
     → length ((if b then [] else x ∷ []) ++ (if low then [] else y ∷ []) ++ (if high then [] else z ∷ []))
@@ -135,30 +154,33 @@ later_settings script k b low high e l h =
     ∙ three b low high (BorderPreset (picture_border script (suc k)))
     (ColoursLow (low_colours script (suc k))) (ColoursHigh (high_colours script (suc k)))
 
-pub settings_differ : (script : List Drawing) (k : ℕ) (b low high : Bool) (old new : Board) → 0 < k
+-- the settings are counted by comparisons
+pub settings_differ : (script : List Drawing) (k : ℕ) (old new : Board) (xs ys us vs : List ℕ) → 0 < k
     → IsPicture script (k - 1) old → IsPicture script k new
-    → b ≡ (old.border == new.border)
-    → low
-    ≡ are_equal (map (λ n. slice_index old.colours (0 + n)) (below 8))
-    (map (λ n. slice_index new.colours (0 + n)) (below 8))
-    → high
-    ≡ are_equal (map (λ n. slice_index old.colours (8 + n)) (below 8))
-    (map (λ n. slice_index new.colours (8 + n)) (below 8))
-    → (if b then 0 else 1) + (if low then 0 else 1) + (if high then 0 else 1) ≡ length (settings script k)
+    → xs ≡ map (λ n. slice_index old.colours (0 + n)) (below 8)
+    → ys ≡ map (λ n. slice_index new.colours (0 + n)) (below 8)
+    → us ≡ map (λ n. slice_index old.colours (8 + n)) (below 8)
+    → vs ≡ map (λ n. slice_index new.colours (8 + n)) (below 8)
+    → bool_byte (not (old.border == new.border)) + bool_byte (not (bytes_eq xs ys))
+    + bool_byte (not (bytes_eq us vs)) ≡ length (settings script k)
 unfolding flag low_colours high_colours
-settings_differ script zero b low high old new pos before now e l h = absurd (omega arith)
-settings_differ script (suc k) b low high old new pos before now e l h =
+settings_differ script zero old new xs ys us vs pos before now x y u v = absurd (omega arith)
+settings_differ script (suc k) old new xs ys us vs pos before now x y u v =
     let at : suc k - 1 ≡ k = omega arith in
     let was : IsPicture script k old = subst (λ j. IsPicture script j old) at before in
-    sym (later_settings script k b low high
-    (ap₂ (λ x y. x == y) (sym was.border_is) (sym now.border_is) ∙ sym e)
+    let low =
+    eight_tested (λ n. slice_index old.colours (0 + n)) (λ n. slice_index new.colours (0 + n)) xs ys x y in
+    let high =
+    eight_tested (λ n. slice_index old.colours (8 + n)) (λ n. slice_index new.colours (8 + n)) us vs u v in
+    sym (later_settings script k (old.border == new.border) (bytes_eq xs ys) (bytes_eq us vs)
+    (ap₂ (λ x y. x == y) (sym was.border_is) (sym now.border_is))
     (ap₂ are_equal (same_eight (picture_colour script k) (λ n. slice_index old.colours (0 + n))
     (λ n lt. sym (was.colours_are n (omega arith)) ∙ ap (λ j. slice_index old.colours j) (sym (zero_plus n))))
     (same_eight (picture_colour script (suc k)) (λ n. slice_index new.colours (0 + n))
     (λ n lt. sym (now.colours_are n (omega arith)) ∙ ap (λ j. slice_index new.colours j) (sym (zero_plus n))))
-    ∙ sym l)
+    ∙ sym low)
     (ap₂ are_equal (same_eight (λ n. picture_colour script k (8 + n)) (λ n. slice_index old.colours (8 + n))
     (λ n lt. sym (was.colours_are (8 + n) (omega arith))))
     (same_eight (λ n. picture_colour script (suc k) (8 + n)) (λ n. slice_index new.colours (8 + n))
     (λ n lt. sym (now.colours_are (8 + n) (omega arith))))
-    ∙ sym h))
+    ∙ sym high))

@@ -64,7 +64,7 @@ three_few : {X : Type 0} (a b c : List X) → length a ≤ 1 → length b ≤ 1 
     → length (a ++ b ++ c) ≤ 3
 three_few a b c one two three = omega (arith, length-append (a ++ b) c, length-append a b)
 
-settings_few : (script : List Drawing) (k : ℕ) → length (settings script k) ≤ 3
+pub settings_few : (script : List Drawing) (k : ℕ) → length (settings script k) ≤ 3
 settings_few script zero = omega arith
 settings_few script (suc k) =
     three_few _ _ _ (at_most_one (picture_border script k == picture_border script (suc k))

@@ -5,7 +5,6 @@ ghost use Rattle.picture_script.specs.Board.{IsPicture};
 ghost use Rattle.pack_schedule.specs.Change.{preset_of, IsStart, most_change, settings};
 ghost use Rattle.pack_schedule.specs.PlannedChange.{planned_from};
 ghost use Rattle.bit_lists.specs.Counting.{below};
-ghost use Rattle.tile_author.specs.Plan.{are_equal};
 
 mod start;
 mod tiles;
@@ -101,20 +100,6 @@ impl ChangeList {
     }
 }
 
-// Whether two canvases have the same eight colours from a number on.
-pub(crate) fn has_colours(from: u8, before: &Canvas, now: &Canvas) -> bool
-    requires { from ≤ 8 }
-    ensures { result ≡ are_equal (map (λ n. slice_index before.now.colours (from + n)) (below 8))
-        (map (λ n. slice_index now.now.colours (from + n)) (below 8)) }
-{
-    for n in 0..8u8 {
-        if before.colour(from + n) != now.colour(from + n) {
-            return false;
-        }
-    }
-    true
-}
-
 /// The number of instructions that set the border and the colours of picture `k`.
 pub(crate) fn count_settings(script: &Script, k: u32, before: &Canvas, now: &Canvas) -> u32
     requires now { IsPicture script.now k now.now }
@@ -125,33 +110,14 @@ pub(crate) fn count_settings(script: &Script, k: u32, before: &Canvas, now: &Can
     if k == 0 {
         return 3;
     }
-    let border = before.border() == now.border();
-    let low = has_colours(0, before, now);
-    let high = has_colours(8, before, now);
-    count_false(border) + count_false(low) + count_false(high)
-}
-
-// 0 for true and 1 for false.
-fn count_false(holds: bool) -> u32
-    ensures count { result ≡ (if holds then 0 else 1) }
-    ensures few { result ≤ 1 }
-{
-    if holds { 0 } else { 1 }
+    let border = before.border() != now.border();
+    let low = colours(0, before) != colours(0, now);
+    let high = colours(8, before) != colours(8, now);
+    u32::from(border) + u32::from(low) + u32::from(high)
 }
 
 impl ChangeList {
-    // Appends an instruction, unless it would change nothing.
-    fn push_unless(&mut self, is_same: bool, instr: Instr)
-        requires { length self.old < most_change }
-        ensures whole { self.new ≡ self.old ++ (if is_same then [] else instr ∷ []) }
-        ensures few { length self.new ≤ length self.old + 1 }
-    {
-        if !is_same {
-            self.push(instr);
-        }
-    }
-
-    // Appends the settings of a picture.
+    // Appends the settings of a picture. A later picture sets only what differs from the previous one.
     pub(crate) fn push_settings(&mut self, script: &Script, k: u32, before: &Canvas, now: &Canvas)
         requires few { length self.old ≤ 1 }
         requires now { IsPicture script.now k now.now }
@@ -159,39 +125,16 @@ impl ChangeList {
         ensures whole { self.new ≡ self.old ++ settings script.now k }
         ensures few { length self.new ≤ 4 }
     {
-        if k == 0 {
-            self.push(Instr::BorderPreset {
-                colour: now.border(),
-            });
-            self.push(Instr::ColoursLow {
-                colours: colours(0, now),
-            });
-            self.push(Instr::ColoursHigh {
-                colours: colours(8, now),
-            });
-            return;
+        let (border, low, high) = (now.border(), colours(0, now), colours(8, now));
+        if k == 0 || before.border() != border {
+            self.push(Instr::BorderPreset { colour: border });
         }
-        let border = before.border() == now.border();
-        let low = has_colours(0, before, now);
-        let high = has_colours(8, before, now);
-        self.push_unless(
-            border,
-            Instr::BorderPreset {
-                colour: now.border(),
-            },
-        );
-        self.push_unless(
-            low,
-            Instr::ColoursLow {
-                colours: colours(0, now),
-            },
-        );
-        self.push_unless(
-            high,
-            Instr::ColoursHigh {
-                colours: colours(8, now),
-            },
-        );
+        if k == 0 || colours(0, before) != low {
+            self.push(Instr::ColoursLow { colours: low });
+        }
+        if k == 0 || colours(8, before) != high {
+            self.push(Instr::ColoursHigh { colours: high });
+        }
     }
 }
 

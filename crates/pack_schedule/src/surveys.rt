@@ -207,8 +207,13 @@ pub(crate) fn plan_picture(
     changes_have_planned_lengths();
     script.times_rise_and_colours_are_in_range();
     let choice = choose_start(script, k, before, now, weights);
+    let start = if k == 0 {
+        0
+    } else {
+        whole_packs(script.hold(k - 1))
+    };
     PlannedChange {
-        start: start_of(script, k),
+        start,
         need: choice.need,
         preset: choice.preset,
     }
@@ -232,19 +237,6 @@ impl SurveyRoom {
             now: Canvas::start(alloc)?,
             planned: Vec::with_capacity(alloc, pictures as usize)?,
         })
-    }
-}
-
-/// The pack at which the change of picture `k` begins.
-pub(crate) fn start_of(script: &Script, k: u32) -> u32
-    requires { k < pictures script.now }
-    ensures value { result ≡ start_of script.now k }
-    ensures below { result < slots_a_block * time_count }
-{
-    if k == 0 {
-        0
-    } else {
-        whole_packs(script.hold(k - 1))
     }
 }
 

@@ -58,7 +58,9 @@ impl ChangeAtHand {
         Ok(at_hand)
     }
 
-    // Plans the change of picture `k`. If it is empty, nothing is drawn.
+    // Plans the change of picture `k`. If it is empty, nothing is drawn. The function is not inlined, since most packs are
+    // idle.
+    #[inline(never)]
     fn prepare(&mut self, script: &Script)
         requires surveyed { IsSurvey script.now self.old.survey }
         requires picture { self.old.k < pictures script.now }
@@ -73,33 +75,20 @@ impl ChangeAtHand {
     {
         // A law: the planned start is allowed.
         planned_changes_are_changes();
-        let planned = self.survey.change(self.k);
+        let k = self.k;
+        let planned = self.survey.change(k);
         self.start = planned.start;
         if planned.need == 0 {
             self.change.clear();
             return;
         }
-        draw(script, self.k, &mut self.before, &mut self.now);
-        self.change
-            .plan(script, self.k, planned.preset, &self.before, &self.now);
-    }
-
-    // Moves to the change of the next picture. It is not inlined, since most packs are idle.
-    #[inline(never)]
-    fn advance(&mut self, script: &Script, given: u32)
-        requires weaving { IsWeaving script.now self.old given }
-        requires picture { self.old.k < pictures script.now }
-        requires sent { start_of script.now self.old.k + length (planned_change script.now self.old.k) ≤
-            given }
-        ensures weaving { IsWeaving script.now self.new given }
-        ensures next { self.new.k ≡ self.old.k + 1 }
-    {
-        let pictures = script.pictures();
-        self.k += 1;
-        self.start = u32::MAX;
-        if self.k < pictures {
-            self.prepare(script);
+        if k > 0 {
+            self.now.draw_until(script, k - 1);
+            self.before.draw_like(script, k - 1, &self.now);
         }
+        self.now.draw_until(script, k);
+        self.change
+            .plan(script, k, planned.preset, &self.before, &self.now);
     }
 
     /// Moves to the first change that is not finished after `given` packs.
@@ -118,7 +107,11 @@ impl ChangeAtHand {
             if given < planned.start + planned.need {
                 return;
             }
-            self.advance(script, given);
+            self.k += 1;
+            self.start = u32::MAX;
+            if self.k < pictures {
+                self.prepare(script);
+            }
         }
     }
 
@@ -140,25 +133,6 @@ impl ChangeAtHand {
         }
         Some(write(&self.change.get((given - self.start) as usize)))
     }
-}
-
-// Draws picture `k` on `now`, and the previous picture on `before`.
-fn draw(script: &Script, k: u32, before: &mut Canvas, now: &mut Canvas)
-    requires picture { k < pictures script.now }
-    requires before { StandsBefore script.now (k - 1) before.old }
-    requires now { StandsBefore script.now (k - 1) now.old }
-    ensures before { 0 < k → IsPicture script.now (k - 1) before.new }
-    ensures now { IsPicture script.now k now.new }
-    ensures before_stands { StandsBefore script.now k before.new }
-    ensures now_stands { StandsBefore script.now k now.new }
-{
-    if k == 0 {
-        now.draw_until(script, k);
-        return;
-    }
-    now.draw_until(script, k - 1);
-    before.draw_like(script, k - 1, now);
-    now.draw_until(script, k);
 }
 
 /// Returns the packs of a script one after another.

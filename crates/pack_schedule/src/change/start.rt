@@ -20,63 +20,7 @@ pub(crate) struct Choice {
     pub(crate) need: u32,
 }
 
-impl Choice {
-    // The shorter choice, or this one if both are equal.
-    fn or_colour(self, colour: u8, need: u32) -> Choice
-        ensures preset { result.preset ≡ (if nat_lt need self.need then Some colour else self.preset) }
-        ensures need { result.need ≡ (if nat_lt need self.need then need else self.need) }
-    {
-        if need < self.need {
-            Choice {
-                preset: Some(colour),
-                need,
-            }
-        } else {
-            self
-        }
-    }
-}
-
-// The length of the change that begins with a preset colour.
-fn colour_length(script: &Script, k: u32, beside: u32, counts: &TileCounts, colour: u8) -> u32
-    requires beside { beside ≡ length (settings script.now k) }
-    requires few_beside { beside ≤ 3 }
-    requires colours { counts.now.whole
-        ≡ slice_index counts.now.single colour + tile_steps script.now k (Some colour) }
-    requires few { counts.now.whole ≤ most_tile_steps }
-    requires colour { colour < colour_count }
-    ensures value { result ≡ planned_length script.now k (Some colour) }
-    ensures few { result ≤ most_change }
-{
-    1 + beside + (counts.whole - counts.single[usize::from(colour)])
-}
-
-// The preferred start: no preset, or colour 0 for the first picture.
-fn first_choice(script: &Script, k: u32, beside: u32, counts: &TileCounts) -> Choice
-    requires beside { beside ≡ length (settings script.now k) }
-    requires few_beside { beside ≤ 3 }
-    requires stands { 0 < k → counts.now.stands ≡ tile_steps script.now k None }
-    requires colours { (c : ℕ) → c < colour_count
-        → counts.now.whole ≡ slice_index counts.now.single c + tile_steps script.now k (Some c) }
-    requires few { (counts.now.stands ≤ most_tile_steps) × (counts.now.whole ≤ most_tile_steps) }
-    ensures preset { result.preset ≡ preferred k }
-    ensures need { result.need ≡ planned_length script.now k result.preset }
-    ensures few { result.need ≤ most_change }
-{
-    if k == 0 {
-        Choice {
-            preset: Some(0),
-            need: colour_length(script, k, beside, counts, 0),
-        }
-    } else {
-        Choice {
-            preset: None,
-            need: beside + counts.stands,
-        }
-    }
-}
-
-// The first of the shortest starts.
+// The first of the shortest starts. A preset saves the instructions of the tiles that have only its colour.
 fn choose(script: &Script, k: u32, beside: u32, counts: &TileCounts) -> Choice
     requires beside { beside ≡ length (settings script.now k) }
     requires few_beside { beside ≤ 3 }
@@ -88,9 +32,26 @@ fn choose(script: &Script, k: u32, beside: u32, counts: &TileCounts) -> Choice
     ensures need { result.need ≡ planned_length script.now k result.preset }
     ensures few { result.need ≤ most_change }
 {
-    let mut choice = first_choice(script, k, beside, counts);
-    for colour in 0..COLOURS as u8 {
-        choice = choice.or_colour(colour, colour_length(script, k, beside, counts, colour));
+    let with_preset = 1 + beside + counts.whole;
+    let mut choice = if k == 0 {
+        Choice {
+            preset: Some(0),
+            need: with_preset - counts.single[0],
+        }
+    } else {
+        Choice {
+            preset: None,
+            need: beside + counts.stands,
+        }
+    };
+    for colour in 0..COLOURS {
+        let need = with_preset - counts.single[colour];
+        if need < choice.need {
+            choice = Choice {
+                preset: Some(colour as u8),
+                need,
+            };
+        }
     }
     choice
 }

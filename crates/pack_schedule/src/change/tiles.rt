@@ -146,21 +146,12 @@ fn weigh(tile: &Tile) -> Weighed
     ensures weight { result.weight ≡ weight tile.now }
 {
     plans_are_shortest();
-    let weight = weight(tile);
-    let single = single_colour(tile);
-    Weighed { weight, single }
-}
-
-fn single_colour(tile: &Tile) -> Option<u8>
-    ensures tile { IsTilePixels tile.now }
-    ensures colour { MatchOption result ((c : ℕ) → tile.now ≢ replicate tile_pixels c)
-        (λ c. (c < colour_count) × (tile.now ≡ replicate tile_pixels c)) }
-{
     let pixels = tile.pixels();
-    if pixels[1..PIXELS] == pixels[0..PIXELS - 1] {
-        return Some(pixels[0]);
+    let is_single = pixels[1..PIXELS] == pixels[0..PIXELS - 1];
+    Weighed {
+        weight: weight(tile),
+        single: is_single.then_some(pixels[0]),
     }
-    None
 }
 
 // The number of instructions for tile `i` of picture `k` on `now` after the previous picture on `before`. It stores the
