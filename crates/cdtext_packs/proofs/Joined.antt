@@ -1,7 +1,7 @@
 -- Strings in a row, a zero byte after each.
-use Rattle.std.proofs.Common.{◌≡◌, ℕ, zero, suc, ◌+◌, ◌<◌, ◌≤◌, List, [], ◌∷◌, ◌++◌, length, get_or, take, map, sym, ap, ◌∙◌, arith}
+use Rattle.std.proofs.Common.{◌≡◌, ℕ, zero, suc, ◌+◌, ◌<◌, ◌≤◌, Vec, Global, List, [], ◌∷◌, ◌++◌, length, get_or, take, map, refl, sym, ap, ◌∙◌, arith}
 use Rattle.std.proofs.lemmas.Grind.{flat_map-append}
-use Rattle.std.proofs.lemmas.List.{append_assoc, append-nil, length-append, get_or_append_left, get_or-append-add, take_more}
+use Rattle.std.proofs.lemmas.List.{append_assoc, append-nil, length-append, length-map, get_or-map, get_or_append_left, get_or-append-add, take_more}
 use Rattle.std.proofs.lemmas.List.FromFn.{get_or-map-range_with_len, length-map-range_with_len}
 use Rattle.bit_lists.specs.Counting.{below}
 use Rattle.cdtext_packs.specs.Writing.{joined, holders}
@@ -32,6 +32,34 @@ joined_more xs i bytes more inside are grown =
     grown ∙ append_assoc bytes string (0 ∷ []) ∙ ap (λ (l : List ℕ). l ++ (string ++ 0 ∷ [])) are
     ∙ sym (ap joined (take_more xs i [] inside) ∙ flat_map-append (λ s. s ++ 0 ∷ []) (take i xs) (string ∷ [])
     ∙ ap (λ (l : List ℕ). joined (take i xs) ++ l) (append-nil (string ++ 0 ∷ [])))
+
+pub length-joined_more : (xs : List (List ℕ)) (i : ℕ) → i < length xs
+    → length (joined (take (i + 1) xs)) ≡ length (joined (take i xs)) + (length (get_or xs i []) + 1)
+length-joined_more xs i inside =
+    let bytes = joined (take i xs) in
+    let string = get_or xs i [] in
+    let more = ap length (joined_more xs i bytes ((bytes ++ string) ++ 0 ∷ []) inside refl refl) in
+    let one = length-append (bytes ++ string) (0 ∷ []) in
+    let two = length-append bytes string in
+    omega arith
+
+-- a string of a list by its vector
+pub record IsStringAt (xs : List (List ℕ)) (i : ℕ) (string : List ℕ) : Type 0 where
+  pub inside : i < length xs
+  pub string_is : string ≡ get_or xs i []
+
+pub string_at : (vectors : List (Vec ℕ Global)) (xs : List (List ℕ)) (i : ℕ) (vector : Vec ℕ Global)
+    → map (λ v. v.items) vectors ≡ xs → i < length vectors → vector ≡ get_or vectors i vector
+    → IsStringAt xs i vector.items
+string_at vectors xs i vector are below is =
+    let size = length-map vectors (λ v. v.items) in
+    let same = ap length are in
+    record {
+      inside = omega arith;
+      string_is =
+          ap (λ v. v.items) is ∙ sym (get_or-map (λ v. v.items) vectors i vector [] below)
+          ∙ ap (λ (ys : List (List ℕ)). get_or ys i []) are;
+    }
 
 -- the byte after so many bytes of string i
 pub holders-at : (first : ℕ) (xs : List (List ℕ)) (i offset : ℕ) → i < length xs

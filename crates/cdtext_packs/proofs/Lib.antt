@@ -20,3 +20,4 @@ pub mod Finished
 pub mod Repeats
 pub mod EmptyBlocks
 pub mod LineSizes
+pub mod Filled

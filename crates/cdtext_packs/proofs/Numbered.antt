@@ -1,7 +1,6 @@
 -- Packs that are numbered one after another.
 use Rattle.std.proofs.Common.{◌≡◌, ℕ, ◌+◌, ◌-◌, ◌*◌, ◌/◌, ◌<◌, ◌≤◌, Bool, true, false, if◌then◌else◌, inl, inr, min, drop, replicate, ◌==◌, ◌≢◌, ◌⊎◌, get_or, slice_index_or, List, [], ◌∷◌, ◌++◌, length, map, flat_map, take, sym, ap, ◌∙◌, arith}
-use Rattle.std.proofs.lemmas.List.{length-append, length-map, append_assoc, append-nil, take-append-le, take-replicate, drop-replicate, take_all, take_more, nil_from_length}
-use Rattle.std.proofs.Math.Seq.{take-append-add}
+use Rattle.std.proofs.lemmas.List.{length-append, length-drop, length-map, length-take, append_assoc, append-nil, take-append-le, take_all, take_more, nil_from_length}
 use Rattle.std.proofs.lemmas.Bool.{cases_Bool, cases_lt, cond-true, cond-false, eq-eqb, ne_eqb}
 use Rattle.std.proofs.lemmas.List.Folds.{length-flat_map-take}
 use Rattle.std.proofs.lemmas.Grind.{flat_map-append}
@@ -70,26 +69,27 @@ pushed_more old f first k number is =
     ∙ ap (λ (packs : List (List ℕ)). old ++ packs) (sym (numbered-append first (map f (below k)) (f k ∷ [])))
     ∙ ap (λ (xs : List Content). old ++ numbered first xs) (sym more)
 
--- a part of twelve bytes or fewer, filled with zeros
-pub filled_part : (rest : List ℕ) (n : ℕ) → n ≡ min (length rest) 12
-    → take n rest ++ drop n (replicate 12 0) ≡ take 12 (rest ++ replicate 12 0)
-filled_part rest n is = elim (cases_lt (length rest) 12) [
-  | inl short ↦
-      let all : n ≡ length rest = omega arith in
-      let size : length rest + (12 - length rest) ≡ 12 = omega arith in
-      ap (λ (k : ℕ). take k rest ++ drop k (replicate 12 0)) all
-      ∙ ap (λ (xs : List ℕ). xs ++ drop (length rest) (replicate 12 0))
-      (take_all (length rest) rest (omega arith))
-      ∙ ap (λ (xs : List ℕ). rest ++ xs)
-      (drop-replicate (length rest) 12 0 ∙ sym (take-replicate (12 - length rest) 12 0 (omega arith)))
-      ∙ sym (take-append-add rest (replicate 12 0) (12 - length rest))
-      ∙ ap (λ (k : ℕ). take k (rest ++ replicate 12 0)) size
-  | inr long ↦
-      let twelve : n ≡ 12 = omega arith in
-      ap (λ (k : ℕ). take k rest ++ drop k (replicate 12 0)) twelve
-      ∙ append-nil (take 12 rest)
-      ∙ sym (take-append-le 12 rest (replicate 12 0) long)
-]
+-- a part of twelve bytes, or of fewer at the end
+pub part_of_twelve : (bytes : List ℕ) (k start end : ℕ) → start ≡ 12 * k → start < length bytes
+    → end ≡ min (length bytes) (start + 12)
+    → twelve (take (end - start) (drop start bytes)) 0 ≡ twelve bytes k
+part_of_twelve bytes k start end from inside to =
+    let rest : List ℕ = drop start bytes in
+    let zeros : List ℕ = replicate 12 0 in
+    let size : length rest ≡ length bytes - start = length-drop start bytes in
+    let same : take 12 (take (end - start) rest ++ zeros) ≡ take 12 (rest ++ zeros) =
+    elim (cases_lt (length rest) 12) [
+      | inl short ↦ ap (λ (xs : List ℕ). take 12 (xs ++ zeros)) (take_all (end - start) rest (omega arith))
+      | inr long ↦
+          let twelve_bytes : end - start ≡ 12 = omega arith in
+          let whole : length (take (end - start) rest) ≡ 12 =
+          length-take (end - start) rest ∙ omega arith in
+          take-append-le 12 (take (end - start) rest) zeros (omega arith)
+          ∙ take_all 12 (take (end - start) rest) (omega arith)
+          ∙ ap (λ (n : ℕ). take n rest) twelve_bytes
+          ∙ sym (take-append-le 12 rest zeros long)
+    ] in
+    same ∙ ap (λ (n : ℕ). take 12 (drop n bytes ++ zeros)) from
 
 -- the track of a string by its place
 pub track_is : (first place track : ℕ)
@@ -138,29 +138,6 @@ pub length-contents : (texts : Texts) → 0 < length (contents texts)
 length-contents texts some =
     ap length (contents_full texts some)
     ∙ length-append (flat_map (kind_contents texts) kinds) (size_contents texts)
-
--- how many packs the first kinds need, with the three size packs
-pub count_more : (texts : Texts) (count n i : ℕ) (d : TextKind) → i < 7
-    → count ≡ 3 + length (flat_map (kind_contents texts) (take i kinds))
-    → n ≡ length (kind_contents texts (get_or kinds i d))
-    → count + n ≡ 3 + length (flat_map (kind_contents texts) (take (i + 1) kinds))
-count_more texts count n i d below is next =
-    let more =
-    ap length (flat_map-kinds_more (kind_contents texts) i d below)
-    ∙ length-append (flat_map (kind_contents texts) (take i kinds))
-    (kind_contents texts (get_or kinds i d)) in
-    omega arith
-
-pub count_whole : (texts : Texts) (count i : ℕ) → has_no_text texts ≡ false → i ≡ 7
-    → count ≡ 3 + length (flat_map (kind_contents texts) (take i kinds))
-    → count ≡ length (contents texts)
-count_whole texts count i some end is =
-    let all = ap (λ (k : ℕ). length (flat_map (kind_contents texts) (take k kinds))) end in
-    let whole =
-    ap length
-    (cond-false (has_no_text texts) [] (flat_map (kind_contents texts) kinds ++ size_contents texts) some)
-    ∙ length-append (flat_map (kind_contents texts) kinds) (size_contents texts) in
-    omega arith
 
 -- the packs of the first kinds leave room for those of the next kind
 pub kind_fits : (texts : Texts) (all : List (List ℕ)) (i : ℕ) (d : TextKind) → 0 < length (contents texts)

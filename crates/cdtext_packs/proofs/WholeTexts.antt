@@ -1,6 +1,7 @@
 -- Texts with a string of each kind for the album and each track.
-use Rattle.std.proofs.Common.{◌≡◌, ℕ, ◌+◌, ◌-◌, ◌≤◌, List, length, Option, All, inr, ap, ◌∙◌, arith}
-use Rattle.cdtext_packs.specs.Texts.{Texts, IsString, AreTexts, strings_of}
+use Rattle.std.proofs.Common.{◌≡◌, ℕ, zero, suc, ◌+◌, ◌-◌, ◌≤◌, Bool, true, if◌then◌else◌, List, [], length, replicate, Option, All, inl, inr, refl, sym, ap, subst, ◌∙◌, arith}
+use Rattle.std.proofs.lemmas.Bool.{and_from}
+use Rattle.cdtext_packs.specs.Texts.{Texts, IsString, AreTexts, no_texts, texts_with, unless_empty, strings_of, are_empty, has_no_text}
 use Rattle.cdtext_packs.specs.Reading.{kind_texts, all_texts}
 use Rattle.cdtext_packs.specs.declared.kinds.TextKind.{TextKind}
 use Rattle.cdtext_packs.specs.declared.kinds.TextKind.TheVariants as kind
@@ -80,3 +81,44 @@ texts_of_kinds kept n texts size t0 t1 t2 t3 t4 t5 t6 =
   where
     same : (k : TextKind) → kind_texts kept (n + 2) k ≡ kind_texts kept (texts.last - texts.first + 2) k
     same k = ap (λ (m : ℕ). kind_texts kept (m + 2) k) size
+
+-- texts with only empty strings are no texts
+empty_strings : (n : ℕ) → are_empty (replicate n []) ≡ true
+empty_strings zero = refl
+empty_strings (suc n) = empty_strings n
+
+pub none_with : (first : ℕ) (title performer songwriter code : List (List ℕ)) → are_empty title ≡ true
+    → are_empty performer ≡ true → are_empty songwriter ≡ true → are_empty code ≡ true
+    → unless_empty (texts_with first title performer songwriter code) ≡ no_texts
+none_with first title performer songwriter code t p s c =
+    let none = empty_strings (length title) in
+    let all : has_no_text (texts_with first title performer songwriter code) ≡ true =
+    and_from _ _ t (and_from _ _ p (and_from _ _ s (and_from _ _ none (and_from _ _ none (and_from _ _ none
+    (and_from _ _ c refl)))))) in
+    ap (λ (b : Bool). if b then no_texts else texts_with first title performer songwriter code) all
+
+-- the strings of a kind are at most those of the album and of 99 tracks
+pub record AreFewStrings (xs : List (List ℕ)) : Type 0 where
+  pub count : length xs ≤ 100
+  pub each : All IsString xs
+
+none_are_few : AreFewStrings []
+none_are_few = record { count = omega arith; each = λ i d inside. absurd (omega arith) }
+
+no_texts_are_few : (k : TextKind) → AreFewStrings (strings_of k no_texts)
+no_texts_are_few kind.Title = none_are_few
+no_texts_are_few kind.Performer = none_are_few
+no_texts_are_few kind.Songwriter = none_are_few
+no_texts_are_few kind.Composer = none_are_few
+no_texts_are_few kind.Arranger = none_are_few
+no_texts_are_few kind.Message = none_are_few
+no_texts_are_few kind.Code = none_are_few
+
+pub strings_fit : (texts : Texts) (k : TextKind) → AreTexts texts → AreFewStrings (strings_of k texts)
+strings_fit texts k are = elim are [
+  | inl none ↦ subst (λ (t : Texts). AreFewStrings (strings_of k t)) (sym none) (no_texts_are_few k)
+  | inr tracks ↦ record {
+    count = omega (arith, tracks.count k, tracks.first, tracks.last, tracks.limit);
+    each = tracks.strings k;
+  }
+]

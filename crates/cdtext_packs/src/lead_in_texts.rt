@@ -4,7 +4,7 @@ ghost use Rattle.raw_subcode.specs.Channels.{symbols_of};
 ghost use Rattle.raw_subcode.specs.Sizes.{block_bytes};
 ghost use Rattle.cdg_io.specs.Run.{run_state};
 ghost use Rattle.disc_time.specs.Counts.{most_lead_in};
-ghost use Rattle.cdtext_packs.specs.LeadIn.{lead_in_packs, lead_in_slot, lead_in_symbols};
+ghost use Rattle.cdtext_packs.specs.LeadIn.{lead_in_packs, lead_in_symbols};
 ghost use Rattle.cdtext_packs.specs.TextSteps.{fresh_texts, offered, text_next, HasRead};
 
 use crate::pack::TextPack;
@@ -128,19 +128,14 @@ pub fn lead_in_symbols(packs: &[TextPack], l: u32) -> [u8; BLOCK_BYTES]
     ensures bound { All (λ s. s < 64) result }
 {
     let mut symbols = [0; BLOCK_BYTES];
+    if packs.is_empty() {
+        return symbols;
+    }
     for k in 0..SLOTS_A_BLOCK {
-        let slot = slot_symbols(packs, SLOTS_A_BLOCK * l as usize + k);
-        symbols[SYMBOLS_A_SLOT * k..SYMBOLS_A_SLOT * k + SYMBOLS_A_SLOT].copy_from_slice(&slot);
+        let pack = &packs[(SLOTS_A_BLOCK * l as usize + k) % packs.len()];
+        symbols[SYMBOLS_A_SLOT * k..SYMBOLS_A_SLOT * k + SYMBOLS_A_SLOT].copy_from_slice(
+            &text_symbols(&pack.bytes()),
+        );
     }
     symbols
-}
-
-fn slot_symbols(packs: &[TextPack], j: usize) -> [u8; SYMBOLS_A_SLOT]
-    ensures symbols { result ≡ lead_in_slot packs.now j }
-    ensures bound { All (λ s. s < 64) result }
-{
-    if packs.is_empty() {
-        return [0; SYMBOLS_A_SLOT];
-    }
-    text_symbols(&packs[j % packs.len()].bytes())
 }

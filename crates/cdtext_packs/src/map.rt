@@ -2,12 +2,12 @@
 ghost use Rattle.std.specs.Prelude.{replicate, ◌≡◌, ◌≤◌, ◌+◌, ◌-◌, length, None, IfOk, All, ◌<◌, ◌*◌, ◌∷◌, ◌++◌, [], List, ℕ, MatchResult, slice_index_or, map};
 ghost use Rattle.disc_time.specs.Counts.{most_tracks, most_text_bytes};
 ghost use Rattle.cdtext_packs.specs.Packs.{most_text_packs};
-ghost use Rattle.cdtext_packs.specs.Texts.{no_texts, strings_of, text_of, texts_with, has_no_text, unless_empty, AreTexts, IsString, are_empty};
+ghost use Rattle.cdtext_packs.specs.Texts.{no_texts, strings_of, text_of, texts_with, unless_empty, AreTexts, IsString, are_empty};
 ghost use Rattle.cdtext_packs.specs.Reading.{first_short, all_texts, meant};
-ghost use Rattle.cdtext_packs.specs.Writing.{joined, holders};
+ghost use Rattle.cdtext_packs.specs.Writing.{joined, holders, kind_contents, most_kind_packs};
 
 use crate::kinds::TextKind;
-use crate::pack::TextPack;
+use crate::pack::{TEXT_BYTES, TextPack};
 use crate::reading::kind_texts;
 use std::alloc::{AllocError, Global};
 use std::marker::Model;
@@ -43,12 +43,6 @@ impl Strings {
         Ok(())
     }
 
-    pub(crate) fn len(&self) -> usize
-        ensures { result ≡ length self.now }
-    {
-        self.items.len()
-    }
-
     /// The string at a place, or an empty string past the end.
     pub(crate) fn get(&self, place: usize) -> &[u8]
         ensures { result.now ≡ slice_index_or self.now place [] }
@@ -63,8 +57,8 @@ impl Strings {
     pub(crate) fn meant<'a>(&'a self, string: &'a [u8]) -> &'a [u8]
         ensures { result.now ≡ meant self.now string.now }
     {
-        if string.len() == 1 && string[0] == b'\t' && self.len() > 0 {
-            self.get(self.len() - 1)
+        if string.len() == 1 && string[0] == b'\t' && self.items.len() > 0 {
+            self.get(self.items.len() - 1)
         } else {
             string
         }
@@ -77,27 +71,13 @@ impl Strings {
         self.items.iter().all(|string| string.is_empty())
     }
 
-    /// The length of `joined`.
-    pub(crate) fn joined_len(&self) -> usize
-        requires count { length self.now ≤ most_tracks + 1 }
-        requires strings { All IsString self.now }
-        ensures value { result ≡ length (joined self.now) }
-        ensures bound { result ≤ (most_text_bytes + 1) * length self.now }
-    {
-        let mut len = 0;
-        for place in 0..self.len() {
-            len += self.get(place).len() + 1;
-        }
-        len
-    }
-
     /// The bytes of all strings, with a zero byte after each.
     pub(crate) fn joined(&self, alloc: Global) -> Result<Vec<u8>, AllocError>
         ensures { IfOk result (λ bytes. bytes.items ≡ joined self.now) }
     {
         let mut bytes = Vec::new(alloc);
-        for place in 0..self.len() {
-            bytes.extend_from_slice(self.get(place))?;
+        for string in &self.items {
+            bytes.extend_from_slice(string)?;
             bytes.push(0)?;
         }
         Ok(bytes)
@@ -110,8 +90,8 @@ impl Strings {
         ensures place { result.0 < length self.now }
     {
         let mut offset = at;
-        for place in 0..self.len() {
-            let len = self.get(place).len();
+        for place in 0..self.items.len() {
+            let len = self.items[place].len();
             if offset <= len {
                 return (place, offset);
             }
@@ -186,8 +166,15 @@ impl TextMap {
         ensures { IfOk result
             (λ map. map ≡ unless_empty (texts_with first titles performers songwriters codes)) }
     {
-        let count = titles.len();
-        let map = TextMap {
+        if titles.are_empty()
+            && performers.are_empty()
+            && songwriters.are_empty()
+            && codes.are_empty()
+        {
+            return Ok(TextMap::empty(alloc));
+        }
+        let count = titles.items.len();
+        Ok(TextMap {
             first,
             last: first + (count - 2) as u8,
             title: titles,
@@ -197,12 +184,7 @@ impl TextMap {
             arranger: empty_strings(alloc, count)?,
             message: empty_strings(alloc, count)?,
             code: codes,
-        };
-        if map.has_no_text() {
-            drop(map);
-            return Ok(TextMap::empty(alloc));
-        }
-        Ok(map)
+        })
     }
 
     /// The texts of kept packs, for the album and each track from the first to the last.
@@ -284,16 +266,22 @@ impl TextMap {
         }
     }
 
-    pub(crate) fn has_no_text(&self) -> bool
-        ensures { result ≡ has_no_text self.now }
+    /// The number of packs of a kind. There are none if all its strings are empty.
+    pub(crate) fn kind_packs(&self, kind: TextKind) -> u32
+        ensures value { result ≡ length (kind_contents self.now kind) }
+        ensures bound { result ≤ most_kind_packs }
     {
-        self.title.are_empty()
-            && self.performer.are_empty()
-            && self.songwriter.are_empty()
-            && self.composer.are_empty()
-            && self.arranger.are_empty()
-            && self.message.are_empty()
-            && self.code.are_empty()
+        // A law: it limits the number and the length of the strings.
+        self.texts_are_of_tracks();
+        let strings = self.strings(kind);
+        if strings.are_empty() {
+            return 0;
+        }
+        let mut bytes = 0;
+        for string in &strings.items {
+            bytes += string.len() + 1;
+        }
+        ((bytes + (TEXT_BYTES - 1)) / TEXT_BYTES) as u32
     }
 }
 

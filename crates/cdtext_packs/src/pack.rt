@@ -113,32 +113,16 @@ impl TextPack {
         self.bytes[3] < 16
     }
 
-    /// The pack with this head and text.
-    pub(crate) fn new(
-        kind: u8,
-        track: u8,
-        number: u8,
-        position: u8,
-        text: &[u8; TEXT_BYTES],
-    ) -> TextPack
-        ensures { result ≡ sealed (kind ∷ track ∷ number ∷ position ∷ text.now) }
+    /// The pack with this head and text. Zeros follow a text of fewer than twelve bytes.
+    pub(crate) fn new(kind: u8, track: u8, number: u8, position: u8, text: &[u8]) -> TextPack
+        requires { length text.now ≤ text_bytes }
+        ensures { result ≡ sealed (kind ∷ track ∷ number ∷ position ∷ twelve text.now 0) }
     {
-        let mut content = [
-            kind, track, number, position, 0, 0, 0, 0, 0, 0, 0, 0, 0, 0, 0, 0,
-        ];
-        content[HEAD_BYTES..].copy_from_slice(text);
-        TextPack::sealed(&content)
-    }
-
-    // The pack of sixteen bytes, with their CRC.
-    fn sealed(content: &[u8; CHECKED_BYTES]) -> TextPack
-        ensures { result ≡ sealed content.now }
-    {
-        let check = crc16(content);
         let mut bytes = [0; PACK_BYTES];
-        bytes[..CHECKED_BYTES].copy_from_slice(content);
-        bytes[CHECKED_BYTES] = (check / 256) as u8;
-        bytes[CHECKED_BYTES + 1] = (check % 256) as u8;
+        bytes[..HEAD_BYTES].copy_from_slice(&[kind, track, number, position]);
+        bytes[HEAD_BYTES..HEAD_BYTES + text.len()].copy_from_slice(text);
+        let check = crc16(&bytes[..CHECKED_BYTES]);
+        bytes[CHECKED_BYTES..].copy_from_slice(&check.to_be_bytes());
         TextPack { bytes }
     }
 }
@@ -148,45 +132,23 @@ pub fn pack_all(alloc: Global, map: &TextMap) -> Result<Vec<TextPack>, PackStop>
     ensures { MatchResult result (λ packs. (packs.items ≡ packs_of map.now)
         × (length packs.items ≤ most_text_packs)) (IsPackStop map.now) }
 {
-    let packs = packs_needed(map);
+    let mut packs = 0;
+    for kind in KINDS {
+        packs += map.kind_packs(kind);
+    }
+    if packs == 0 {
+        return Ok(Vec::new(alloc));
+    }
+    packs += u32::from(SIZE_PACKS);
     if packs > MOST_PACKS {
         return Err(PackStop::TooMany { packs });
     }
     let mut all = Vec::with_capacity(alloc, packs as usize)?;
-    if packs > 0 {
-        for kind in KINDS {
-            push_kind(alloc, &mut all, map, kind)?;
-        }
-        push_sizes(&mut all, map)?;
-    }
-    Ok(all)
-}
-
-fn packs_needed(map: &TextMap) -> u32
-    ensures { result ≡ length (contents map.now) }
-{
-    if map.has_no_text() {
-        return 0;
-    }
-    let mut count = u32::from(SIZE_PACKS);
     for kind in KINDS {
-        count += kind_packs(map, kind);
+        push_kind(alloc, &mut all, map, kind)?;
     }
-    count
-}
-
-fn kind_packs(map: &TextMap, kind: TextKind) -> u32
-    ensures value { result ≡ length (kind_contents map.now kind) }
-    ensures bound { result ≤ most_kind_packs }
-{
-    // A law: it limits the number and the length of the strings.
-    map.texts_are_of_tracks();
-    let strings = map.strings(kind);
-    if strings.are_empty() {
-        0
-    } else {
-        ((strings.joined_len() + (TEXT_BYTES - 1)) / TEXT_BYTES) as u32
-    }
+    push_sizes(&mut all, map)?;
+    Ok(all)
 }
 
 // Appends the packs of a kind.
@@ -200,12 +162,20 @@ fn push_kind(
     ensures { IfOk result (λ _. packs.new.items ≡ packs.old.items
         ++ numbered (length packs.old.items) (kind_contents map.now kind)) }
 {
-    let first = map.first();
     let strings = map.strings(kind);
     let bytes = strings.joined(alloc)?;
-    for k in 0..kind_packs(map, kind) as usize {
+    for k in 0..map.kind_packs(kind) as usize {
+        let start = TEXT_BYTES * k;
+        let (place, offset) = strings.holder(start);
+        let track = if place == 0 {
+            0
+        } else {
+            map.first() + (place - 1) as u8
+        };
+        let position = offset.min(MOST_POSITION) as u8;
+        let text = &bytes[start..bytes.len().min(start + TEXT_BYTES)];
         let number = packs.len() as u8;
-        packs.push(text_pack(first, kind, strings, &bytes, k, number))?;
+        packs.push(TextPack::new(kind.pack_type(), track, number, position, text))?;
     }
     Ok(())
 }
@@ -220,7 +190,9 @@ fn push_sizes(packs: &mut Vec<TextPack>, map: &TextMap) -> Result<(), AllocError
     let count = packs.len() as u8;
     let bytes = size_bytes(map, count + (SIZE_PACKS - 1));
     for d in 0..SIZE_PACKS {
-        packs.push(TextPack::new(SIZE_TYPE, d, count + d, 0, &twelve(&bytes, usize::from(d))))?;
+        let start = TEXT_BYTES * usize::from(d);
+        let text = &bytes[start..start + TEXT_BYTES];
+        packs.push(TextPack::new(SIZE_TYPE, d, count + d, 0, text))?;
     }
     Ok(())
 }
@@ -234,64 +206,15 @@ fn size_bytes(map: &TextMap, last: u8) -> [u8; SIZE_BYTES]
     bytes[FIRST_TRACK] = map.first();
     bytes[LAST_TRACK] = map.last();
     // From byte 4 on: the number of packs of each type from 80 to 8F.
-    bytes[4] = count_of(map, TextKind::Title);
-    bytes[5] = count_of(map, TextKind::Performer);
-    bytes[6] = count_of(map, TextKind::Songwriter);
-    bytes[7] = count_of(map, TextKind::Composer);
-    bytes[8] = count_of(map, TextKind::Arranger);
-    bytes[9] = count_of(map, TextKind::Message);
-    bytes[CODE_COUNT] = count_of(map, TextKind::Code);
+    bytes[4] = map.kind_packs(TextKind::Title) as u8;
+    bytes[5] = map.kind_packs(TextKind::Performer) as u8;
+    bytes[6] = map.kind_packs(TextKind::Songwriter) as u8;
+    bytes[7] = map.kind_packs(TextKind::Composer) as u8;
+    bytes[8] = map.kind_packs(TextKind::Arranger) as u8;
+    bytes[9] = map.kind_packs(TextKind::Message) as u8;
+    bytes[CODE_COUNT] = map.kind_packs(TextKind::Code) as u8;
     bytes[SIZE_COUNT] = SIZE_PACKS;
     bytes[LAST_NUMBER] = last;
     bytes[LANGUAGE] = ENGLISH;
     bytes
-}
-
-// The number of packs of a kind, as a byte.
-fn count_of(map: &TextMap, kind: TextKind) -> u8
-    requires { length (flat_map (kind_contents map.now) kinds) ≤ most_text_packs - size_packs }
-    ensures { result ≡ length (kind_contents map.now kind) }
-{
-    kind_packs(map, kind) as u8
-}
-
-// Pack k of a kind. `bytes` are its joined strings.
-fn text_pack(
-    first: u8,
-    kind: TextKind,
-    strings: &Strings,
-    bytes: &[u8],
-    k: usize,
-    number: u8,
-) -> TextPack
-    requires bytes { bytes.now ≡ joined strings.now }
-    requires inside { text_bytes * k < length bytes.now }
-    requires tracks { first + length strings.now ≤ most_tracks + 2 }
-    ensures { result ≡ sealed (content_bytes number (text_content first (type_of kind) strings.now k)) }
-{
-    let (place, offset) = strings.holder(TEXT_BYTES * k);
-    let track = if place == 0 {
-        0
-    } else {
-        first + (place - 1) as u8
-    };
-    TextPack::new(
-        kind.pack_type(),
-        track,
-        number,
-        offset.min(MOST_POSITION) as u8,
-        &twelve(bytes, k),
-    )
-}
-
-// The twelve bytes from 12 k on, with zeros past the end.
-fn twelve(bytes: &[u8], k: usize) -> [u8; TEXT_BYTES]
-    requires { text_bytes * k < length bytes.now }
-    ensures { result ≡ twelve bytes.now k }
-{
-    let rest = &bytes[TEXT_BYTES * k..];
-    let len = rest.len().min(TEXT_BYTES);
-    let mut part = [0; TEXT_BYTES];
-    part[..len].copy_from_slice(&rest[..len]);
-    part
 }

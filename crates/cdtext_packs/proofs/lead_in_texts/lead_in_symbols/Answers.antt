@@ -1,25 +1,38 @@
-use Rattle.std.proofs.Common.{◌≡◌, ◌*◌, ◌<◌, length, take, All, sym, ◌∙◌, subst, rules}
+use Rattle.std.proofs.Common.{◌≡◌, ◌≢◌, ◌+◌, ◌*◌, ◌%◌, ◌<◌, ℕ, [], length, take, All, refl, sym, ap, ◌∙◌, subst, rules, slice_index_or}
+use Rattle.std.proofs.lemmas.List.{get_or_read_under}
 use Rattle.std.proofs.lemmas.List.Elements.{All-append}
-use Rattle.cdtext_packs.proofs.Slots.{slots_more, slot_written, length-written}
+use Rattle.cdtext_packs.specs.LeadIn.{lead_in_slot, pack_symbols}
+use Rattle.cdtext_packs.proofs.Slots.{none_symbols, some_slot, slots_more, slot_written, length-written}
 use Rattle.cdtext_packs.proofs.lead_in_texts.lead_in_symbols.Goals as goal
+
+pub returns-then-is_empty-clause-symbols : goal.returns-then-is_empty-clause-symbols
+returns-then-is_empty-clause-symbols c = sym (none_symbols c.args.packs.now c.args.l (search rules))
 
 pub loop-k-preserved : goal.loop-k-preserved
 loop-k-preserved c =
+    let packs = c.args.packs.now in
     let k = c.loop-k.k in
-    let size : length c.slot_symbols-slot.result ≡ 24 = search rules in
-    let copied : c.copy_from_slice.new.self ≡ c.slot_symbols-slot.result = search rules in
+    let j : ℕ = 4 * c.args.l + k in
+    let slot = c.text_symbols.result in
+    let size : length slot ≡ 24 = search rules in
+    let copied : c.copy_from_slice.new.self ≡ slot = c.copy_from_slice.ensures.after in
+    let some : length packs ≢ 0 = search rules in
+    let pack : c.bytes.result ≡ slice_index_or packs (j % length packs) [] =
+    c.bytes.ensures
+    ∙ get_or_read_under packs (j % length packs) (length packs) c.index-packs-l.result [] c.index-packs-l.is
+    (search rules) refl in
+    let is : slot ≡ lead_in_slot packs j =
+    c.text_symbols.ensures.symbols ∙ ap pack_symbols pack ∙ sym (some_slot packs j some) in
+    let before = take (24 * k) c.loop-k.symbols in
     let written =
-    slot_written c.loop-k.symbols c.copy_from_slice.new.self c.slot_symbols-slot.result k
-    c.loop-k.invariant.size size copied c.loop-k-test.true in
+    slot_written c.loop-k.symbols c.copy_from_slice.new.self slot k c.loop-k.invariant.size size copied
+    c.loop-k-test.true in
     record {
       size =
-          length-written c.loop-k.symbols c.copy_from_slice.new.self c.slot_symbols-slot.result k
-          c.loop-k.invariant.size size copied c.loop-k-test.true;
-      slots =
-          written
-          ∙ slots_more c.args.packs.now c.args.l k (take (24 * k) c.loop-k.symbols) c.slot_symbols-slot.result
-          c.loop-k.invariant.slots c.slot_symbols-slot.ensures.symbols;
+          length-written c.loop-k.symbols c.copy_from_slice.new.self slot k c.loop-k.invariant.size size
+          copied c.loop-k-test.true;
+      slots = written ∙ slots_more packs c.args.l k before slot c.loop-k.invariant.slots is;
       bound =
-          subst (All (λ s. s < 64)) (sym written) (All-append (λ s. s < 64) (take (24 * k) c.loop-k.symbols)
-          c.slot_symbols-slot.result c.loop-k.invariant.bound c.slot_symbols-slot.ensures.bound);
+          subst (All (λ s. s < 64)) (sym written) (All-append (λ s. s < 64) before slot
+          c.loop-k.invariant.bound c.text_symbols.ensures.bound);
     }

@@ -1,40 +1,62 @@
-use Rattle.std.proofs.Common.{◌≡◌, length, ap, ◌∙◌, arith}
+use Rattle.std.proofs.Common.{◌≡◌, length, ap, ◌∙◌, arith, rules}
 use Rattle.cdtext_packs.specs.Writing.{contents, packs_of}
-use Rattle.cdtext_packs.proofs.Numbered.{kind_fits, kinds_more, kinds_counted, packs_done, packs_none, length-contents, length-numbered}
+use Rattle.cdtext_packs.proofs.Filled.{all_counted, none_counted, some_counted}
+use Rattle.cdtext_packs.proofs.Numbered.{kind_fits, kinds_more, kinds_counted, packs_done, packs_none, length-numbered}
 use Rattle.cdtext_packs.proofs.pack.pack_all.Goals as goal
-use Rattle.cdtext_packs.proofs.pack.pack_all.Goals.{then-packs-gt0+else-loop-kind-test+in_ok-push_sizes, else-packs-gt0}
+
+pub returns-then-packs-eq0 : goal.returns-then-packs-eq0
+returns-then-packs-eq0 c =
+    let map = c.args.map.now in
+    let counted =
+    all_counted map c.loop-kind.packs c.loop-kind.kind-index (omega arith) c.loop-kind.invariant.count in
+    let none = none_counted map c.loop-kind.packs counted c.if-packs-eq0.true in
+    (packs_none map c.new.result.items (omega arith) c.new.ensures.items, search rules)
+
+pub returns-then-packs-gt-MOST_PACKS : goal.returns-then-packs-gt-MOST_PACKS
+returns-then-packs-gt-MOST_PACKS c =
+    let map = c.args.map.now in
+    let counted =
+    all_counted map c.loop-kind.packs c.loop-kind.kind-index (omega arith) c.loop-kind.invariant.count in
+    let whole = some_counted map c.loop-kind.packs counted (omega arith) in
+    (omega arith, omega arith)
 
 pub push_kind-requires : goal.push_kind-requires
 push_kind-requires c =
-    kind_fits c.args.map.now c.loop-kind.all.items c.loop-kind.kind-index _ (omega arith) (omega arith)
-    c.loop-kind-test.true c.loop-kind.invariant
+    let map = c.args.map.now in
+    let counted =
+    all_counted map c.loop-kind.packs c.loop-kind.kind-index (omega arith) c.loop-kind.invariant.count in
+    let whole = some_counted map c.loop-kind.packs counted (omega arith) in
+    kind_fits map c.loop-kind-2.all.items c.loop-kind-2.kind-index _ (omega arith) (omega arith)
+    c.loop-kind-2-test.true c.loop-kind-2.invariant
 
-pub loop-kind-preserved : goal.loop-kind-preserved
-loop-kind-preserved c =
-    kinds_more c.args.map.now c.loop-kind.all.items c.push_kind.new.packs.items c.loop-kind.kind-index _
-    c.loop-kind-test.true c.loop-kind.invariant c.in_ok-push_kind.ensures
+pub loop-kind-2-preserved : goal.loop-kind-2-preserved
+loop-kind-2-preserved c =
+    kinds_more c.args.map.now c.loop-kind-2.all.items c.push_kind.new.packs.items c.loop-kind-2.kind-index _
+    c.loop-kind-2-test.true c.loop-kind-2.invariant c.in_ok-push_kind.ensures
 
 pub push_sizes-requires-clause-before : goal.push_sizes-requires-clause-before
 push_sizes-requires-clause-before c =
-    kinds_counted c.args.map.now c.loop-kind.all.items c.loop-kind.kind-index (omega arith)
-    c.loop-kind.invariant
+    kinds_counted c.args.map.now c.loop-kind-2.all.items c.loop-kind-2.kind-index (omega arith)
+    c.loop-kind-2.invariant
 
 pub push_sizes-requires-clause-few : goal.push_sizes-requires-clause-few
 push_sizes-requires-clause-few c =
+    let map = c.args.map.now in
+    let counted =
+    all_counted map c.loop-kind.packs c.loop-kind.kind-index (omega arith) c.loop-kind.invariant.count in
     let size =
-    kinds_counted c.args.map.now c.loop-kind.all.items c.loop-kind.kind-index (omega arith)
-    c.loop-kind.invariant in
-    let whole = length-contents c.args.map.now (omega arith) in
+    kinds_counted map c.loop-kind-2.all.items c.loop-kind-2.kind-index (omega arith)
+    c.loop-kind-2.invariant in
     omega arith
 
 pub returns : goal.returns
 returns c =
-    let is : c.if-packs-gt0.all.items ≡ packs_of c.args.map.now = elim c.if-packs-gt0.branch [
-      | then-packs-gt0+else-loop-kind-test+in_ok-push_sizes w ↦
-          packs_done c.args.map.now w.loop-kind.all.items c.if-packs-gt0.all.items w.loop-kind.kind-index
-          (omega arith) (omega arith) w.loop-kind.invariant (cc (w.in_ok-push_sizes.ensures))
-      | else-packs-gt0 w ↦
-          packs_none c.args.map.now c.if-packs-gt0.all.items (omega arith) (cc (c.in_ok-all.ensures.items))
-    ] in
-    let size = ap length is ∙ length-numbered 0 (contents c.args.map.now) in
+    let map = c.args.map.now in
+    let counted =
+    all_counted map c.loop-kind.packs c.loop-kind.kind-index (omega arith) c.loop-kind.invariant.count in
+    let whole = some_counted map c.loop-kind.packs counted (omega arith) in
+    let is : c.push_sizes.new.packs.items ≡ packs_of map =
+    packs_done map c.loop-kind-2.all.items c.push_sizes.new.packs.items c.loop-kind-2.kind-index (omega arith)
+    (omega arith) c.loop-kind-2.invariant c.in_ok-push_sizes.ensures in
+    let size = ap length is ∙ length-numbered 0 (contents map) in
     (is, omega arith)
