@@ -1,8 +1,9 @@
 -- What a spreader gives for a list of packs.
-use Rattle.std.proofs.Common.{◌≡◌, ◌≢◌, ℕ, zero, suc, ◌+◌, ◌-◌, ◌*◌, ◌/◌, ◌%◌, ◌<◌, ◌≤◌, cond, ltb, List, [], ◌∷◌, ◌++◌, length, get_or, map, drop, replicate, refl, sym, ap, ap₂, ◌∙◌, arith, append_assoc, length-append, length-drop, Some, inl, inr}
+use Rattle.std.proofs.Common.{◌≡◌, ◌≢◌, ℕ, zero, suc, ◌+◌, ◌-◌, ◌*◌, ◌/◌, ◌%◌, ◌<◌, ◌≤◌, cond, ltb, List, [], ◌∷◌, ◌++◌, length, get_or, map, drop, replicate, refl, sym, ap, ap₂, ◌∙◌, arith, append_assoc, length-append, length-drop, Option, Some, None, unwrap_or, slice_get, inl, inr}
 use Rattle.std.specs.List.{All, concat, range_with_len, AllByRecursion}
 use Rattle.std.proofs.lemmas.Bool.{cases_lt, lt-ltb, le-ltb}
-use Rattle.std.proofs.lemmas.List.{get_or_append_left, get_or-append_right, length-replicate, drop-append-le, drop-drop, get_or-drop, get_or-replicate}
+use Rattle.std.proofs.lemmas.List.{get_or_append_left, get_or-append_right, length-replicate, drop-append-le, drop-drop, get_or-drop, get_or-replicate, get_or_default}
+use Rattle.std.proofs.lemmas.Option.{unwrap_or-slice_get}
 use Rattle.std.proofs.lemmas.List.Elements.{All-append, All-replicate}
 use Rattle.rw_code.specs.Codeword.{IsCodeword}
 use Rattle.std.proofs.lemmas.List.FromFn.{length-map-range_with_len, get_or-map-range_with_len, fill_by_all}
@@ -61,6 +62,42 @@ last_symbol h rest p position =
           (λ t. cond t 0 (get_or (get_or (h ++ p ∷ rest) (length h - back) []) (swapped position) 0))
           (le-ltb (length h) back late))
     ]
+
+-- the symbol from the pack that is so many before the last, or from zeros
+pub symbol_back : (packs : List (List ℕ)) (found : Option (List ℕ)) (symbols : List ℕ) (back position : ℕ)
+    → found ≡ cond (ltb back (length packs)) (slice_get packs (length packs - back - 1)) None
+    → symbols ≡ unwrap_or found (replicate 24 0) → position % 8 ≡ back → position < 24
+    → get_or symbols (swapped position) 0 ≡ spread_symbol packs position
+unfolding spread_symbol
+symbol_back packs found symbols back position found_is is at lt =
+    let zeros : List ℕ = replicate 24 0 in
+    let n : ℕ = length packs - back - 1 in
+    let value : get_or symbols (swapped position) 0
+    ≡ cond (ltb back (length packs)) (get_or (get_or packs n []) (swapped position) 0) 0 =
+    elim (cases_lt back (length packs)) [
+      | inl late ↦
+          let test = lt-ltb back (length packs) late in
+          let pack : symbols ≡ get_or packs n [] =
+          is
+          ∙ ap (λ (o : Option (List ℕ)). unwrap_or o zeros)
+          (found_is ∙ ap (λ t. cond t (slice_get packs n) None) test)
+          ∙ unwrap_or-slice_get packs n zeros
+          ∙ get_or_default packs n zeros [] (omega (arith, late)) in
+          ap (λ (xs : List ℕ). get_or xs (swapped position) 0) pack
+          ∙ sym (ap (λ t. cond t (get_or (get_or packs n []) (swapped position) 0) 0) test)
+      | inr early ↦
+          let test = le-ltb back (length packs) early in
+          let none : symbols ≡ zeros =
+          is
+          ∙ ap (λ (o : Option (List ℕ)). unwrap_or o zeros)
+          (found_is ∙ ap (λ t. cond t (slice_get packs n) None) test) in
+          ap (λ (xs : List ℕ). get_or xs (swapped position) 0) none
+          ∙ get_or-replicate 24 (swapped position) 0 0 (swapped-lt position lt)
+          ∙ sym (ap (λ t. cond t (get_or (get_or packs n []) (swapped position) 0) 0) test)
+    ] in
+    value
+    ∙ ap (λ (k : ℕ). cond (ltb k (length packs))
+    (get_or (get_or packs (length packs - k - 1) []) (swapped position) 0) 0) (sym at)
 
 -- the packs kept are the last seven of all
 kept : (h : List (List ℕ)) (p : List ℕ) → spread_next (last_seven h) p ≡ last_seven (h ++ p ∷ [])
