@@ -1,5 +1,5 @@
 // A tile: 6 by 12 numbers of colours.
-ghost use Rattle.std.specs.Prelude.{◌≡◌, ◌<◌, ◌↔◌, ℕ, List, slice_index, All, MatchOption, IsTrue};
+ghost use Rattle.std.specs.Prelude.{◌≡◌, ◌<◌, ℕ, List, slice_index, All, MatchOption};
 ghost use Rattle.cdg_instructions.specs.Instruction.{IsTilePixels};
 ghost use Rattle.cdg_instructions.specs.Sizes.{tile_pixels};
 
@@ -32,7 +32,12 @@ impl Tile {
             (¬ All (λ pixel. pixel < 16) pixels.now)
             (λ t. All (λ pixel. pixel < 16) pixels.now × (t ≡ pixels.now)) }
     {
-        if are_colours(pixels) {
+        // No early exit, so that the loop can be vectorized.
+        let mut are_colours = true;
+        for pixel in pixels {
+            are_colours &= *pixel < 16;
+        }
+        if are_colours {
             Some(Tile { pixels: *pixels })
         } else {
             None
@@ -57,15 +62,4 @@ impl Tile {
     {
         &self.pixels
     }
-}
-
-// Whether all numbers are below 16. The loop has no early exit, so that the compiler can vectorize it.
-fn are_colours(pixels: &[u8; PIXELS]) -> bool
-    ensures { IsTrue result ↔ ((k : ℕ) → k < tile_pixels → slice_index pixels.now k < 16) }
-{
-    let mut all = true;
-    for pixel in pixels {
-        all &= *pixel < 16;
-    }
-    all
 }
