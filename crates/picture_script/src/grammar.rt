@@ -1,8 +1,8 @@
 // The commands of a script: the reader accepts a line, or refuses it with the first reason.
 ghost use Rattle.std.specs.Prelude.{◌≡◌, ◌<◌, ◌+◌, ◌&&◌, List, Some, Err, IfOk, IfErr, ◌≢◌, ◌∷◌, [], length, MatchOption, None, if◌then◌else◌, IfSome, All, map, true};
 ghost use Rattle.picture_script.specs.Script.{Drawing, Rect, Colour, Row, Show};
-ghost use Rattle.text_lines.specs.Text.{words_in, without_blanks, is_some_bytes};
-ghost use Rattle.picture_script.specs.ScriptGrammar.{is_in_range, checked_line, checked_words, colour_line, border_line, fill_line, rect_line, row_line, show_line, IsColourNumber, IsWrongAs, small_number, numbers_in, colour_in};
+ghost use Rattle.text_lines.specs.Text.{words_in, without_blanks};
+ghost use Rattle.picture_script.specs.ScriptGrammar.{is_in_range, checked_line, checked_words, colour_line, border_line, fill_line, rect_line, row_line, show_line, IsColourNumber, IsWrongAs, numbers_in};
 ghost use Rattle.picture_script.specs.Reader.{Followed, Takes};
 ghost use Rattle.picture_script.specs.Sizes.{small_number_values};
 ghost use Rattle.cdg_instructions.specs.Sizes.{colour_values};
@@ -16,15 +16,6 @@ use crate::script::{MOST_PICTURES, ScriptLine};
 use cdg_instructions::{COLOURS, WINDOW_HEIGHT, WINDOW_WIDTH};
 use text_lines::{after_word, next_word, number, time};
 
-// The value of a word of one to three decimal digits.
-fn small_number(word: &[u8]) -> Option<u16>
-    ensures value { result ≡ small_number word.now }
-    ensures below { IfSome result (λ n. n < small_number_values) }
-{
-    let value = number(word, 1, 3)?;
-    Some(value as u16)
-}
-
 /// The numbers in the words of a line, if it has exactly `N` words.
 pub(crate) fn numbers<const N: usize>(line: &[u8]) -> Option<[u16; N]>
     ensures value { result ≡ numbers_in N (words_in line.now) }
@@ -35,7 +26,7 @@ pub(crate) fn numbers<const N: usize>(line: &[u8]) -> Option<[u16; N]>
     let mut rest = line;
     for i in 0..N {
         let (word, after) = next_word(rest)?;
-        numbers[i] = small_number(word)?;
+        numbers[i] = number(word, 1, 3)? as u16;
         rest = after;
     }
     match next_word(rest) {
@@ -44,39 +35,22 @@ pub(crate) fn numbers<const N: usize>(line: &[u8]) -> Option<[u16; N]>
     }
 }
 
-// The colour in a word of four hexadecimal digits. The first digit is 0.
-#[tactic(auto, unfolding(crate::specs::ScriptGrammar::colour_in))]
-fn colour(word: &[u8]) -> Option<u16>
-    ensures value { result ≡ colour_in word.now }
-    ensures below { IfSome result (λ value. value < colour_values) }
-{
-    if word.len() != 4 || word[0] != b'0' {
-        return None;
-    }
-    let mut bytes = [0; 2];
-    match hex::decode_to_slice(word, &mut bytes) {
-        Ok(()) => Some(u16::from_be_bytes(bytes)),
-        Err(_) => None,
-    }
-}
-
-// Whether a word is one or more hexadecimal digits.
-fn is_pixels(word: &[u8]) -> bool
-    ensures { result ≡ (is_some_bytes word.now && list_all is_ascii_hexdigit word.now) }
-{
-    !word.is_empty() && word.iter().all(|byte| byte.is_ascii_hexdigit())
-}
-
-/// The number and the value of a `colour` line.
+/// The number and the value of a `colour` line. A value has four hexadecimal digits, and the first one is 0.
 pub(crate) fn colour_words(words: &[u8]) -> Option<(u16, u16)>
     ensures value { MatchOption result (colour_line (words_in words.now) ≡ None)
         (λ said. colour_line (words_in words.now) ≡ Some (Colour said.0 said.1)) }
     ensures below { IfSome result (λ said. said.1 < colour_values) }
 {
     let (number_word, colour_word) = two_words(words)?;
-    let number = small_number(number_word)?;
-    let value = colour(colour_word)?;
-    Some((number, value))
+    let number = number(number_word, 1, 3)? as u16;
+    if colour_word.len() != 4 || colour_word[0] != b'0' {
+        return None;
+    }
+    let mut bytes = [0; 2];
+    match hex::decode_to_slice(colour_word, &mut bytes) {
+        Ok(()) => Some((number, u16::from_be_bytes(bytes))),
+        Err(_) => None,
+    }
 }
 
 /// The place and the digits of a `row` line.
@@ -86,10 +60,11 @@ pub(crate) fn row_words(words: &[u8]) -> Option<(u16, u16, &[u8])>
     ensures digits { IfSome result (λ said. list_all is_ascii_hexdigit said.2.now ≡ true) }
     ensures below { IfSome result (λ said. (said.0 < small_number_values) × (said.1 < small_number_values)) }
 {
-    let (x_word, y_word, pixels) = three_words(words)?;
-    let x = small_number(x_word)?;
-    let y = small_number(y_word)?;
-    if !is_pixels(pixels) {
+    let (x_word, rest) = next_word(words)?;
+    let (y_word, pixels) = two_words(rest)?;
+    let x = number(x_word, 1, 3)? as u16;
+    let y = number(y_word, 1, 3)? as u16;
+    if pixels.is_empty() || !pixels.iter().all(|byte| byte.is_ascii_hexdigit()) {
         return None;
     }
     Some((x, y, pixels))
@@ -120,16 +95,6 @@ fn two_words(line: &[u8]) -> Option<(&[u8], &[u8])>
     }
 }
 
-// The words of a line, if it has exactly three.
-fn three_words(line: &[u8]) -> Option<(&[u8], &[u8], &[u8])>
-    ensures { MatchOption result (length (words_in line.now) ≢ 3)
-        (λ found. words_in line.now ≡ found.0.now ∷ found.1.now ∷ found.2.now ∷ []) }
-{
-    let (first, rest) = next_word(line)?;
-    let (second, third) = two_words(rest)?;
-    Some((first, second, third))
-}
-
 impl ScriptReader {
     fn take_colour(&mut self, words: &[u8]) -> Result<(), ScriptWhy>
         requires { (before : List Drawing) × Followed before self.old }
@@ -146,26 +111,6 @@ impl ScriptReader {
             number: number as u8,
             value,
         });
-        Ok(())
-    }
-
-    fn take_border(&mut self, words: &[u8]) -> Result<(), ScriptWhy>
-        requires { (before : List Drawing) × Followed before self.old }
-        ensures { (before : List Drawing) → Followed before self.old
-            → Takes before (checked_line before (border_line (words_in words.now))) self.new result }
-    {
-        let colour = colour_number(words)?;
-        self.take_drawing(ScriptLine::BorderColour { colour });
-        Ok(())
-    }
-
-    fn take_fill(&mut self, words: &[u8]) -> Result<(), ScriptWhy>
-        requires { (before : List Drawing) × Followed before self.old }
-        ensures { (before : List Drawing) → Followed before self.old
-            → Takes before (checked_line before (fill_line (words_in words.now))) self.new result }
-    {
-        let colour = colour_number(words)?;
-        self.take_drawing(ScriptLine::Filled { colour });
         Ok(())
     }
 
@@ -249,9 +194,13 @@ impl ScriptReader {
         if let Some(words) = after_word(line, b"colour") {
             self.take_colour(words)
         } else if let Some(words) = after_word(line, b"border") {
-            self.take_border(words)
+            let colour = colour_number(words)?;
+            self.take_drawing(ScriptLine::BorderColour { colour });
+            Ok(())
         } else if let Some(words) = after_word(line, b"fill") {
-            self.take_fill(words)
+            let colour = colour_number(words)?;
+            self.take_drawing(ScriptLine::Filled { colour });
+            Ok(())
         } else if let Some(words) = after_word(line, b"rect") {
             self.take_rect(words)
         } else if let Some(words) = after_word(line, b"row") {
@@ -286,19 +235,11 @@ fn colour_number(words: &[u8]) -> Result<u8, ScriptWhy>
     ensures border { IfErr result (IsWrongAs border_line words.now) }
     ensures fill { IfErr result (IsWrongAs fill_line words.now) }
 {
-    match words {
-        [b' ', digit] if digit.is_ascii_digit() => Ok(*digit - b'0'),
-        _ => any_colour_number(words),
+    if let [b' ', digit] = words
+        && digit.is_ascii_digit()
+    {
+        return Ok(*digit - b'0');
     }
-}
-
-// The same for all other spellings.
-#[inline(never)]
-fn any_colour_number(words: &[u8]) -> Result<u8, ScriptWhy>
-    ensures ok { IfOk result (IsColourNumber words.now) }
-    ensures border { IfErr result (IsWrongAs border_line words.now) }
-    ensures fill { IfErr result (IsWrongAs fill_line words.now) }
-{
     let Some(numbers) = numbers::<1>(words) else {
         return Err(ScriptWhy::BadArgument);
     };
