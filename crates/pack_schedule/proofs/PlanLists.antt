@@ -1,6 +1,6 @@
 -- The lists that make up a planned change.
 use Rattle.std.proofs.Common.{◌≡◌, ℕ, zero, suc, ◌+◌, ◌-◌, ◌/◌, ◌%◌, ◌<◌, ◌⊎◌, inl, inr, Bool, true, false, List, [], ◌∷◌, ◌++◌, map, All, replicate, refl, ap, ap₂, sym, subst, ◌∙◌, arith, append_assoc, append-nil}
-use Rattle.std.specs.Prelude.{Option, Some, flat_map, ◌==◌, if◌then◌else◌, not, slice_index}
+use Rattle.std.specs.Prelude.{Option, Some, None, MatchOption, IsSome, flat_map, ◌==◌, if◌then◌else◌, not, slice_index}
 use Rattle.std.specs.Bool.{Decides}
 use Rattle.std.specs.Str.{bytes_eq}
 use Rattle.std.proofs.lemmas.Slice.Eq.{bytes_eq-Decides}
@@ -216,3 +216,16 @@ planned_whole script k start one two new a b d =
 pub all_colour : (k colour : ℕ) (start : Option ℕ) → start ≡ Some colour → IsStart k start
     → All (λ p. p < 16) (replicate 72 colour)
 all_colour k colour start is h = (colour_is_tile colour (start_small k colour (subst (IsStart k) is h))).below
+
+-- the tile of one colour
+pub is_made : (pixels : List ℕ) (made : Option (List ℕ))
+    → MatchOption made (¬ All (λ p. p < 16) pixels) (λ t. All (λ p. p < 16) pixels × (t ≡ pixels))
+    → All (λ p. p < 16) pixels → IsSome made
+is_made pixels None told all = absurd (told all)
+is_made pixels (Some tile) told all = refl
+
+pub made_is : (pixels : List ℕ) (made : Option (List ℕ)) (tile : List ℕ)
+    → MatchOption made (¬ All (λ p. p < 16) pixels) (λ t. All (λ p. p < 16) pixels × (t ≡ pixels))
+    → made ≡ Some tile → tile ≡ pixels
+made_is pixels None tile told is = absurd (cc)
+made_is pixels (Some other) tile told is = let same : other ≡ tile = cc in sym same ∙ told.1

@@ -13,7 +13,6 @@ ghost use Rattle.cdg_instructions.specs.Instruction.{IsTilePixels};
 ghost use Rattle.picture_script.specs.DrawnRows.{KeepsRows};
 
 use crate::change::ChangeList;
-use arrayvec::ArrayVec;
 use cdg_instructions::{COLOURS, Instr, PIXELS, Tile, WINDOW_COLUMNS, WINDOW_ROWS, WINDOW_TILES};
 use picture_script::{Canvas, Script};
 use tile_author::{
@@ -314,49 +313,19 @@ impl ChangeList {
         ensures few { length self.new ≤ length self.old + most_steps }
     {
         let new = now.tile(row, column);
-        if preset.is_none() {
-            if let Some(instr) = light_plan(&new, row, column) {
-                self.push(instr);
-                return;
+        let old = match preset {
+            Some(colour) => Tile::new(&[colour; PIXELS]).unwrap(),
+            None => {
+                if let Some(instr) = light_plan(&new, row, column) {
+                    self.push(instr);
+                    return;
+                }
+                before.tile(row, column)
             }
+        };
+        let instrs = plan(&old, &new, row, column);
+        for instr in instrs.as_slice() {
+            self.push(*instr);
         }
-        let old = old_tile(script, k, preset, before, row, column);
-        self.push_all(&plan(&old, &new, row, column));
-    }
-
-    // Appends the instructions of a tile.
-    fn push_all(&mut self, instrs: &ArrayVec<Instr, MOST_STEPS>)
-        requires { length self.old ≤ most_tile_steps }
-        ensures whole { self.new ≡ self.old ++ instrs.now.items }
-        ensures few { length self.new ≤ length self.old + most_steps }
-    {
-        for i in 0..instrs.len() {
-            self.push(instrs[i]);
-        }
-    }
-}
-
-fn old_tile(
-    script: &Script,
-    k: u32,
-    preset: Option<u8>,
-    before: &Canvas,
-    row: u8,
-    column: u8,
-) -> Tile
-    requires before { 0 < k → IsPicture script.now (k - 1) before.now }
-    requires start { IsStart k preset }
-    requires row_first { 1 ≤ row }
-    requires row_last { row ≤ window_rows }
-    requires column_first { 1 ≤ column }
-    requires column_last { column ≤ window_columns }
-    ensures { result ≡ tiles_before script.now k preset row column }
-{
-    match preset {
-        Some(colour) => match Tile::new(&[colour; PIXELS]) {
-            Some(tile) => tile,
-            None => unreachable!(),
-        },
-        None => before.tile(row, column),
     }
 }
