@@ -5,3 +5,4 @@ pub mod Gaps
 pub mod Need
 pub mod Tracks
 pub mod SheetPlaces
+pub mod Frames

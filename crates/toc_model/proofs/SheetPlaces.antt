@@ -104,6 +104,16 @@ begin_later : (sheet : CueSheet) (k : ℕ) → 0 < k
     ≡ 150 + pregaps_to sheet k + postgaps_to sheet k + first_index_time (track_of sheet k)
 begin_later sheet k some = let other : (k == 0) ≡ false = grind arith in cond-false (k == 0) _ _ other
 
+pub begin_at_start : (sheet : CueSheet) (k begin : ℕ) → k ≡ 0 → begin ≡ 0 → begin ≡ track_begin sheet k
+begin_at_start sheet k begin zero none = omega (arith, ap (track_begin sheet) zero, begin_first sheet)
+
+pub begin_after_gaps : (sheet : CueSheet) (k begin gaps time : ℕ) → (k ≡ 0 → ⊥)
+    → gaps ≡ pregaps_to sheet k + postgaps_to sheet k → time ≡ first_index_time (track_of sheet k)
+    → begin ≡ 150 + gaps + time
+    → begin ≡ track_begin sheet k
+begin_after_gaps sheet k begin gaps time later sum first is =
+    omega (arith, begin_later sheet k (omega arith), sum, first, is)
+
 begin_le_music : (sheet : CueSheet) (k : ℕ) → IsSheet sheet → k < length sheet.tracks → HasMusic sheet k
     → track_begin sheet k ≤ music_begin (place_of sheet k)
 begin_le_music sheet k good lt music =

@@ -1,6 +1,6 @@
 -- The track of a block, and the pauses.
-use Rattle.std.proofs.Common.{◌≡◌, ℕ, ◌-◌, ◌≤◌, ◌<◌, true, false, List, length, get_or, ap, sym, ◌∙◌, arith, inl, inr}
-use Rattle.std.specs.Prelude.{reverse, find, unwrap_or, nat_le, nat_lt, ◌&&◌, Option, max}
+use Rattle.std.proofs.Common.{◌≡◌, ℕ, ◌-◌, ◌≤◌, ◌<◌, true, false, List, length, get_or, ap, sym, ◌∙◌, arith, inl, inr, refl}
+use Rattle.std.specs.Prelude.{reverse, find, unwrap_or, nat_le, nat_lt, ◌&&◌, Option, max, Bool}
 use Rattle.std.specs.List.{list_any}
 use Rattle.std.specs.List.Sorted.{IsPartitionPoint, IsNonDecreasingBy}
 use Rattle.std.proofs.lemmas.List.{get_or_default}
@@ -31,6 +31,18 @@ track_of_begun layout tracks block n place is point low high at =
     at ∙ (sym (ap (λ (o : Option TrackPlace). unwrap_or o no_place) found)
     ∙ sym (ap (λ (ts : List TrackPlace).
     unwrap_or (find (λ (p : TrackPlace). nat_le p.begin block) (reverse ts)) no_place) is))
+
+-- the track that was found among the tracks of a layout
+pub track_found : (layout : DiscLayout) (tracks items : List TrackPlace) (block n : ℕ) (place : TrackPlace)
+    → layout.tracks ≡ tracks → items ≡ tracks
+    → IsPartitionPoint (λ (p : TrackPlace). nat_le p.begin block ≡ true)
+    (λ (p : TrackPlace). nat_le p.begin block ≡ false) items n
+    → 0 < length tracks → (get_or tracks 0 no_place).begin ≡ 0 → n ≤ length items
+    → place ≡ get_or tracks (n - 1) place → place ≡ track_at layout block
+track_found layout tracks items block n place is same point some first high at =
+    let here = rw same at point in
+    let begun : 1 ≤ n = some_begun tracks block n here some first in
+    track_of_begun layout tracks block n place is here begun (omega (arith, ap length same)) at
 
 later : (block m a n b : ℕ) → m ≤ n → a ≤ b → block < m - max 150 (m - a) → block < n - max 150 (n - b)
 later block m a n b music begins low = omega arith
@@ -96,3 +108,27 @@ next_pause layout tracks block n next is point begins music lt at =
                 before free
           ]))
     ]
+
+and_true : (a : Bool) → a ≡ (a && true)
+and_true true = refl
+and_true false = refl
+
+-- the next track's music is still to come, so its pause needs only to have begun
+pub next_pause_begun : (layout : DiscLayout) (tracks : List TrackPlace) (block n : ℕ) (next : TrackPlace)
+    (music begin pause : ℕ)
+    → layout.tracks ≡ tracks
+    → IsPartitionPoint (λ (p : TrackPlace). nat_le (music_begin p) block ≡ true)
+    (λ (p : TrackPlace). nat_le (music_begin p) block ≡ false) tracks n
+    → IsNonDecreasingBy (λ (p : TrackPlace). p.begin) tracks → IsNonDecreasingBy music_begin tracks
+    → n < length tracks → next ≡ get_or tracks n next → music ≡ music_begin next → begin ≡ next.begin
+    → pause ≡ max (music - begin) 150 → nat_le (music - pause) block ≡ p_bit layout block
+next_pause_begun layout tracks block n next music begin pause is point begins order lt at at_music at_begin
+    long =
+    let far : nat_le (music_begin next) block ≡ false =
+    ap (λ (p : TrackPlace). nat_le (music_begin p) block) at ∙ point.1 n next (omega arith) lt in
+    let before : nat_lt block (music_begin next) ≡ true = grind (arith, far) in
+    let same : music - pause ≡ music_begin next - max 150 (music_begin next - next.begin) = omega arith in
+    ap (λ k. nat_le k block) same
+    ∙ (and_true _ ∙ ap (λ b. nat_le (music_begin next - max 150 (music_begin next - next.begin)) block && b)
+    (sym before)
+    ∙ next_pause layout tracks block n next is point begins order lt at)

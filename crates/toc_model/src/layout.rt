@@ -1,14 +1,14 @@
 // The layout of a disc.
 ghost use Rattle.std.specs.Prelude.{◌≡◌, ◌<◌, ◌≤◌, ◌+◌, ◌*◌, length, slice_index_or, IfOk};
-ghost use Rattle.disc_time.specs.Counts.{most_lead_in, most_program, most_tracks};
+ghost use Rattle.disc_time.specs.Counts.{most_lead_in, most_program};
 ghost use Rattle.disc_time.specs.Fields.{control_values};
 ghost use Rattle.q_channel.specs.QFrame.{IsValid, IsValidPoint};
 ghost use Rattle.toc_model.specs.Places.{DiscLayout, audio_need, layout_of, program_blocks};
-ghost use Rattle.toc_model.specs.Layout.{IsLayout, disc_entries, entry_copies, p_bit, program_frame, toc_entries, toc_frame, track_at};
+ghost use Rattle.toc_model.specs.Layout.{IsLayout, disc_entries, entry_copies, p_bit, program_frame, toc_entries, toc_frame};
 ghost use Rattle.q_channel.specs.declared.frame.TocPoint.TheVariants.{First};
 ghost use Rattle.toc_model.specs.Answers.{IsBlockCount};
 
-use crate::place::{Place, catalogue, gaps, need, places};
+use crate::place::{Place, gaps, places};
 use cue_sheet::Sheet;
 use disc_time::{CATALOGUE_DIGITS, MOST_PROGRAM, Msf, PAUSE_BLOCKS, TIME_COUNT};
 use q_channel::{QFrame, TocPoint};
@@ -61,7 +61,9 @@ pub fn count_blocks(sheet: &Sheet, length: u32) -> Result<u32, LayoutStop>
     requires { length ≤ most_program }
     ensures { IsBlockCount sheet.now length result }
 {
-    let need = need(sheet);
+    let last = sheet.tracks() - 1;
+    let (_, time) = sheet.index(last, sheet.indices(last) - 1);
+    let need = time + 1;
     if need > length {
         return Err(LayoutStop::LengthShort { need });
     }
@@ -126,8 +128,12 @@ impl Layout {
     {
         // A law: a layout is in order if its sheet is in order.
         sheet.tracks_are_in_order();
+        let catalogue = match sheet.catalogue() {
+            Some(digits) => digits.as_array().copied(),
+            None => None,
+        };
         Ok(Layout {
-            catalogue: catalogue(sheet),
+            catalogue,
             tracks: places(alloc, sheet)?,
             blocks: PAUSE_BLOCKS + length + gaps(sheet),
         })
@@ -147,19 +153,21 @@ impl Layout {
         ensures frame { result ≡ program_frame self.now block }
         ensures valid { IsValid result }
     {
-        let place = self.track_at(block);
-        match block % CODE_PERIOD {
-            CATALOGUE_TURN => place.catalogue_frame(block, &self.catalogue),
-            ISRC_TURN => place.isrc_frame(block),
+        let begun = self.tracks.partition_point(|place| place.begin <= block);
+        let place = &self.tracks[begun - 1];
+        match (block % CODE_PERIOD, self.catalogue, place.isrc) {
+            (CATALOGUE_TURN, Some(digits), _) => QFrame::Catalogue {
+                control: place.control,
+                digits,
+                frame: Msf::of_block(block).frame(),
+            },
+            (ISRC_TURN, _, Some(code)) if place.index_at(block) != 0 => QFrame::Isrc {
+                control: place.control,
+                code,
+                frame: Msf::of_block(block).frame(),
+            },
             _ => place.time_frame(block),
         }
-    }
-
-    fn track_at(&self, block: u32) -> &Place
-        ensures { result.now ≡ track_at self.now block }
-    {
-        let begun = self.tracks.partition_point(|place| place.begin() <= block);
-        &self.tracks[begun - 1]
     }
 
     /// The P bit of a program block. It is set in the pause before the music of a track, for at least two seconds.
@@ -170,10 +178,13 @@ impl Layout {
         let past = self
             .tracks
             .partition_point(|place| place.music_begin() <= block);
-        match self.tracks.get(past) {
-            Some(next) => next.is_paused(block),
-            None => false,
-        }
+        let Some(next) = self.tracks.get(past) else {
+            return false;
+        };
+        // The music of the next track is still to come.
+        let music = next.music_begin();
+        let pause = (music - next.begin).max(PAUSE_BLOCKS);
+        music - pause <= block
     }
 
     /// The number of lead-in blocks that repeat each entry of the table of contents three times. `toc_need` computes it
@@ -209,31 +220,26 @@ impl Layout {
     {
         let count = self.tracks.len();
         if k < count {
-            return (self.tracks[k].control(), self.tracks[k].entry());
+            let track = &self.tracks[k];
+            let number = track.number;
+            let start = Msf::of_block(track.music_begin());
+            return (track.control, TocPoint::Track { number, start });
         }
         let first = &self.tracks[0];
         let last = &self.tracks[count - 1];
-        let control = last.control();
         match k - count {
-            0 => (
-                first.control(),
-                TocPoint::First {
-                    track: first.number(),
-                    kind: 0, // CD-DA
-                },
-            ),
-            1 => (
-                control,
-                TocPoint::Last {
-                    track: last.number(),
-                },
-            ),
-            _ => (
-                control,
-                TocPoint::LeadOut {
-                    start: Msf::of_block(self.blocks),
-                },
-            ),
+            0 => {
+                let track = first.number;
+                (first.control, TocPoint::First { track, kind: 0 }) // CD-DA
+            }
+            1 => {
+                let track = last.number;
+                (last.control, TocPoint::Last { track })
+            }
+            _ => {
+                let start = Msf::of_block(self.blocks);
+                (last.control, TocPoint::LeadOut { start })
+            }
         }
     }
 }

@@ -1,20 +1,22 @@
-use Rattle.std.proofs.Common.{arith, ap, sym, ◌∙◌, ◌≡◌, ◌+◌, ℕ, subst}
+use Rattle.std.proofs.Common.{arith, ap, sym, ◌∙◌, ◌≡◌, ◌≤◌, ◌+◌, ℕ, List, length, subst}
 use Rattle.std.specs.Prelude.{map}
+use Rattle.std.proofs.lemmas.List.{take_all}
 use Rattle.cue_sheet.specs.CueSheet.{track_of}
-use Rattle.toc_model.specs.Places.{TrackPlace, blocks_before, place_of}
+use Rattle.toc_model.specs.Places.{TrackPlace, blocks_before, place_of, track_begin}
 use Rattle.toc_model.specs.Layout.{IsPlace}
+use Rattle.toc_model.proofs.Codes.{code_parts, copied_array, copied_none}
 use Rattle.toc_model.proofs.Gaps.{pregaps_to-more}
-use Rattle.toc_model.proofs.SheetPlaces.{IsPlace-of, same_place}
+use Rattle.toc_model.proofs.SheetPlaces.{IsPlace-of, begin_after_gaps, begin_at_start, same_place}
 use Rattle.toc_model.proofs.place.track_place.Goals as goal
-use Rattle.toc_model.proofs.place.track_place.Goals.{In_ok-lines}
+use Rattle.toc_model.proofs.place.track_place.Goals.{After-control, in-Some, in-None, then-k-eq0, else-k-eq0}
 
-same : (c : In_ok-lines)
+same : (c : After-control)
     → (let place : TrackPlace = record {
       number = c.first.result + c.args.k;
       control = c.control.result;
-      isrc = c.isrc.result;
-      begin = c.begin.result;
-      lines = c.in_ok-lines.field-0.items;
+      isrc = c.match-isrc.isrc;
+      begin = c.if-k-eq0.begin;
+      lines = c.loop-j.lines.items;
     } in
     place)
     ≡ place_of c.args.sheet.now c.args.k
@@ -23,14 +25,35 @@ same c =
     let k = c.args.k in
     let number : c.first.result + c.args.k ≡ (track_of c.args.sheet.now c.args.k).number =
     omega (arith, c.first.ensures.number, c.tracks_are_in_order.ensures.next k c.requires.track) in
+    let isrc : c.match-isrc.isrc ≡ (track_of c.args.sheet.now c.args.k).isrc =
+    elim c.match-isrc.branch [
+      | in-Some w ↦
+          copied_array c.isrc.result w.in-Some.code w.as_array.result _ _ 12 c.isrc.ensures.code w.in-Some.is
+          (code_parts w.in-Some.code.now w.in-Some.ensures.characters).0 w.as_array.ensures.cases
+          (w.isrc-is ∙ w.copied-isrc.ensures)
+      | in-None w ↦ copied_none c.isrc.result _ _ c.isrc.ensures.code w.in-None.is w.isrc-is
+    ] in
+    let begin : c.if-k-eq0.begin ≡ track_begin c.args.sheet.now c.args.k =
+    elim c.if-k-eq0.branch [
+      | then-k-eq0 w ↦ begin_at_start c.args.sheet.now c.args.k _ w.if-k-eq0.true w.begin-is
+      | else-k-eq0 w ↦
+          begin_after_gaps c.args.sheet.now c.args.k _ c.args.gaps w.index.result.1 w.if-k-eq0.false
+          c.requires.gaps (ap (λ (l : ℕ × ℕ). l.1) w.index.ensures.line) w.begin-is
+    ] in
     let before : 150 + c.args.gaps + c.pregap.result ≡ blocks_before c.args.sheet.now c.args.k =
     omega (arith, pregaps_to-more sheet k c.requires.track, c.requires.gaps, c.pregap.ensures.gap) in
-    same_place sheet k _ c.control.result c.isrc.result c.begin.result c.in_ok-lines.field-0.items
-    number c.control.ensures.control c.isrc.ensures c.begin.ensures
-    (c.in_ok-lines.ensures
+    let whole : length (track_of c.args.sheet.now c.args.k).indices ≤ c.loop-j.j =
+    omega (arith, c.indices-count.ensures.count) in
+    same_place sheet k _ c.control.result c.match-isrc.isrc c.if-k-eq0.begin c.loop-j.lines.items
+    number c.control.ensures.control isrc begin
+    (c.loop-j.invariant
+    ∙ (ap
+    (λ (lines : List (ℕ × ℕ)).
+    map (λ (line : ℕ × ℕ). (line.0, 150 + c.args.gaps + c.pregap.result + line.1)) lines)
+    (take_all c.loop-j.j (track_of c.args.sheet.now c.args.k).indices whole)
     ∙ ap
     (λ (b : ℕ). map (λ (line : ℕ × ℕ). (line.0, b + line.1)) (track_of c.args.sheet.now c.args.k).indices)
-    before)
+    before))
 
 pub returns : goal.returns
 returns c = same c

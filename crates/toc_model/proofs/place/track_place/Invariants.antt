@@ -1,7 +1,7 @@
 use Rattle.std.proofs.Common.{◌≡◌, ℕ, ◌+◌, take}
 use Rattle.std.specs.Prelude.{map}
 use Rattle.cue_sheet.specs.CueSheet.{track_of}
-use Rattle.toc_model.proofs.place.lines.Given as goal
+use Rattle.toc_model.proofs.place.track_place.Given as goal
 
 abbrev pub invariant-loop-j : goal.invariant-loop-j
 invariant-loop-j l =
