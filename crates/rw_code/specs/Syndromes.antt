@@ -26,18 +26,21 @@ pub record IsEntry (position symbol lanes : ℕ) : Type 0 where
   pub later : (j : ℕ) → j < 2 → 4 ≤ position → lane (4 + j) lanes ≡ 0
   pub bound : lanes < 2 ^ 36
 
+-- the sum of the four sums over all symbols, each times the power of alpha with its exponent
+abbrev pub weighted : ℕ → ℕ → ℕ → ℕ → ℕ → ℕ
+weighted lanes zeroth first second third =
+    let in_zeroth = product (alpha_power zeroth) (lane 0 lanes) in
+    let in_first = product (alpha_power first) (lane 1 lanes) in
+    let in_second = product (alpha_power second) (lane 2 lanes) in
+    let in_third = product (alpha_power third) (lane 3 lanes) in
+    bit_xor (bit_xor (bit_xor in_zeroth in_first) in_second) in_third
+
 -- the lanes of the four sums over all symbols
 pub record AreLanes (lanes : ℕ) (sums : Sums) : Type 0 where
   pub zeroth : sums.zeroth ≡ lane 0 lanes
   pub first : sums.first ≡ lane 1 lanes
   pub second : sums.second ≡ lane 2 lanes
   pub third : sums.third ≡ lane 3 lanes
-
--- the four sums, each times the power of alpha with its exponent
-abbrev pub weighted : Sums → ℕ → ℕ → ℕ → ℕ → ℕ
-weighted sums zeroth first second third =
-    let two = bit_xor (product (alpha_power zeroth) sums.zeroth) (product (alpha_power first) sums.first) in
-    bit_xor (bit_xor two (product (alpha_power second) sums.second)) (product (alpha_power third) sums.third)
 
 -- ---- Wrong symbols. An error is the sum of a wrong symbol and the right one.
 

@@ -76,7 +76,7 @@ impl Pack {
         }
         // A column has the exponents of the coefficients of a polynomial, which is 1 at one of 1, α, α² and α³, and 0 at
         // the other three.
-        let sums = Syndromes::of(&word).sums();
+        let sums = Syndromes::of(&word);
         let word = word
             .with(20, sums.weighted(13, 37, 36, 10))
             .with(21, sums.weighted(40, 22, 8, 36))

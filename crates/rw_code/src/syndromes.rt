@@ -50,6 +50,18 @@ impl Syndromes {
         }
     }
 
+    /// The sum of the four sums over all symbols, each times the power of α with its exponent.
+    #[inline]
+    pub(crate) fn weighted(self, zeroth: u32, first: u32, second: u32, third: u32) -> Sym
+        ensures { result ≡ weighted self.lanes zeroth first second third }
+    {
+        Sym::alpha(zeroth)
+            .mul(self.lane(0))
+            .add(Sym::alpha(first).mul(self.lane(1)))
+            .add(Sym::alpha(second).mul(self.lane(2)))
+            .add(Sym::alpha(third).mul(self.lane(3)))
+    }
+
     // One of the six sums.
     #[inline]
     fn lane(self, j: u32) -> Sym
@@ -57,20 +69,6 @@ impl Syndromes {
         ensures { result ≡ lane j self.lanes }
     {
         Sym::new(((self.lanes >> (6 * j)) % 64) as u8).unwrap()
-    }
-}
-
-impl Sums {
-    /// The sum of the four, each times the power of α with its exponent.
-    #[inline]
-    pub(crate) fn weighted(&self, zeroth: u32, first: u32, second: u32, third: u32) -> Sym
-        ensures { result ≡ weighted self.now zeroth first second third }
-    {
-        Sym::alpha(zeroth)
-            .mul(self.zeroth)
-            .add(Sym::alpha(first).mul(self.first))
-            .add(Sym::alpha(second).mul(self.second))
-            .add(Sym::alpha(third).mul(self.third))
     }
 }
 

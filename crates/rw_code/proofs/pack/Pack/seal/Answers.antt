@@ -13,9 +13,9 @@ invariant_of-result c =
     let placed : c.with-word.result
     ≡ set (set (set (set (replicate 24 0) 0 a) 1 b) 2 c.add-high.result) 3 c.add-low.result =
     cc in
-    sealed a b _ _ _ _ _ _ c.of.result.lanes c.with-word.result c.loop-i.word _ _ _ c.with-word-2.result
-    c.sums-sums.result high low placed c.loop-i.invariant.size c.loop-i.invariant.four
-    c.loop-i.invariant.rest c.of.ensures c.sums-sums.ensures c.weighted.ensures c.weighted-2.ensures
+    sealed a b _ _ _ _ _ _ c.of-sums.result.lanes c.with-word.result c.loop-i.word _ _ _ c.with-word-2.result
+    high low placed c.loop-i.invariant.size c.loop-i.invariant.four
+    c.loop-i.invariant.rest c.of-sums.ensures c.weighted.ensures c.weighted-2.ensures
     c.weighted-3.ensures c.weighted-4.ensures c.with-4.ensures c.with-5.ensures c.with-6.ensures
     c.with-word-2.ensures c.words_have_24_symbols.ensures
 
