@@ -1,6 +1,6 @@
 -- What the code reads and writes of lines.
 use Rattle.std.proofs.Common.{◌≡◌, ◌≢◌, ℕ, zero, suc, ◌+◌, ◌-◌, ◌*◌, ◌/◌, ◌^◌, ◌<◌, ◌≤◌, Bool, true, false, List, [], ◌∷◌, ◌++◌, length, take, drop, map, get_or, refl, sym, ap, ap₂, ◌∙◌, inl, inr, bit_xor, arith}
-use Rattle.std.specs.Prelude.{slice_index, ◌==◌, ◌&&◌, if◌then◌else◌, Some, None, bit_and, max}
+use Rattle.std.specs.Prelude.{slice_index, ◌==◌, ◌&&◌, if◌then◌else◌, Option, Some, None, unwrap_or, bit_and, max}
 use Rattle.std.specs.Int.{bit_at}
 use Rattle.std.proofs.lemmas.Nat.Bits.{shr_and_one, bit_at-lt}
 use Rattle.std.proofs.lemmas.Bool.{false≢true}
@@ -23,15 +23,19 @@ binary zero h = refl
 binary (suc zero) h = refl
 binary (suc (suc n)) h = absurd (omega arith)
 
-pub bit_read : (ms : List ℕ) (v s j : ℕ) → Some s ≡ entry ms v
-    → bit_and (s / 2 ^ j) 1 ≡ (if has_bit j (selection ms v) then 1 else 0)
-bit_read ms v s j h =
+no_entry : (ms : List ℕ) (v : ℕ) → None ≡ entry ms v → is_combination ms v ≡ true → ⊥
+no_entry ms v none h = false≢true (sym (not_made ms v none) ∙ h)
+
+pub bit_read : (ms : List ℕ) (v j : ℕ) (x : Option ℕ) → x ≡ entry ms v → is_combination ms v ≡ true
+    → bit_and (unwrap_or x 0 / 2 ^ j) 1 ≡ (if has_bit j (selection ms v) then 1 else 0)
+bit_read ms v j (Some s) h is_made =
     shr_and_one s j
     ∙ binary (bit_at s j) (bit_at-lt s j)
     ∙ ap (λ n. if bit_at n j == 1 then 1 else 0) (sym (made ms v s h).1)
+bit_read ms v j None h is_made = absurd (no_entry ms v h is_made)
 
-pub no_entry : (ms : List ℕ) (v : ℕ) → None ≡ entry ms v → is_combination ms v ≡ true → ⊥
-no_entry ms v none h = false≢true (sym (not_made ms v none) ∙ h)
+pub bit_small : (n j : ℕ) → bit_and (n / 2 ^ j) 1 < 2
+bit_small n j = omega (arith, shr_and_one n j, bit_at-lt n j)
 
 pub difference_is_made : (pixels : List ℕ) (p : ℕ) → p < length pixels
     → is_combination (basis pixels) (bit_xor (slice_index pixels 0) (slice_index pixels p)) ≡ true

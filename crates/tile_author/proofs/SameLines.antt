@@ -1,10 +1,8 @@
 -- A line of pixels that is as the line before it.
-use Rattle.std.proofs.Common.{◌≡◌, ℕ, zero, suc, ◌+◌, ◌-◌, ◌*◌, ◌<◌, ◌≤◌, Bool, true, List, [], ◌∷◌, ◌++◌, length, take, drop, get_or, refl, sym, ap, ap₂, ◌∙◌, bit_xor, arith}
+use Rattle.std.proofs.Common.{◌≡◌, ℕ, zero, suc, ◌+◌, ◌-◌, ◌*◌, ◌<◌, ◌≤◌, Bool, true, List, [], ◌∷◌, ◌++◌, length, take, refl, sym, ap, ap₂, ◌∙◌, bit_xor, arith}
 use Rattle.std.specs.Prelude.{slice_index, if◌then◌else◌}
-use Rattle.std.proofs.lemmas.List.{take_all, take_more, get_or-take, get_or-drop, length-take}
+use Rattle.std.proofs.lemmas.List.{take_all, take_more, get_or-take, length-take}
 use Rattle.std.specs.Int.Bits.{xor_self}
-use Rattle.std.specs.Str.{bytes_eq}
-use Rattle.std.proofs.lemmas.Slice.Eq.{bytes_eq-Decides}
 use Rattle.bit_lists.specs.Bits.{has_bit, number_of}
 use Rattle.tile_author.specs.Plan.{is_combination, basis, basis_from, differences_from_first, selection, tile_lines}
 use Rattle.tile_author.specs.Table.{basis_of_lines}
@@ -45,19 +43,6 @@ pub whole_lines : (pixels : List ℕ) (line i : ℕ) → i ≡ 6
 unfolding basis_of_lines
 whole_lines pixels line i h = let e : 6 * line + i ≡ 6 * (line + 1) = omega (arith, h) in
     ap (basis_of pixels) e
-
--- what equal parts of the pixels say
-pub equal_parts : (pixels : List ℕ) (a b : ℕ) (r : Bool) → b ≡ a + 6
-    → r ≡ bytes_eq (take (b - a) (drop a pixels)) (take (b + 6 - b) (drop b pixels)) → r ≡ true → (i : ℕ)
-    → i < 6
-    → slice_index pixels (a + i) ≡ slice_index pixels (b + i)
-equal_parts pixels a b r after e holds i i_lt =
-    let one : ℕ = b - a in
-    let two : ℕ = b + 6 - b in
-    let same = (bytes_eq-Decides (take one (drop a pixels)) (take two (drop b pixels))).0 (sym e ∙ holds) in
-    sym (get_or-take one (drop a pixels) i 0 (omega arith) ∙ get_or-drop a pixels i 0)
-    ∙ ap (λ xs. get_or xs i 0) same
-    ∙ get_or-take two (drop b pixels) i 0 (omega arith) ∙ get_or-drop b pixels i 0
 
 basis_from-snoc : (ms ds : List ℕ) (d : ℕ)
     → basis_from ms (ds ++ d ∷ [])

@@ -28,6 +28,10 @@ small_at [] j h = omega arith
 small_at (x ∷ w) zero h = All-head (λ n. n < 16) x w h
 small_at (x ∷ w) (suc j) h = small_at w j (All-tail (λ n. n < 16) x w h)
 
+pub difference_small : (w : List ℕ) (p : ℕ) → All (λ n. n < 16) w
+    → bit_xor (slice_index w 0) (slice_index w p) < 16
+difference_small w p h = small_xor (slice_index w 0) (slice_index w p) (small_at w 0 h) (small_at w p h)
+
 basis_from-small : (ms ds : List ℕ) → All (λ n. n < 16) ms → All (λ n. n < 16) ds
     → All (λ n. n < 16) (basis_from ms ds)
 unfolding basis_from

@@ -1,12 +1,11 @@
 // A basis of the differences between pixels.
-ghost use Rattle.std.specs.Prelude.{◌≡◌, ◌==◌, ℕ, ◌+◌, ◌-◌, ◌*◌, ◌<◌, ◌≤◌, ◌++◌, map, max, true, [], ◌∷◌, List, length, slice_index, slice_index_or, None, if◌then◌else◌, IsTrue, false};
+ghost use Rattle.std.specs.Prelude.{◌≡◌, ℕ, ◌+◌, ◌-◌, ◌*◌, ◌<◌, ◌≤◌, ◌++◌, map, max, [], ◌∷◌, List, length, slice_index, IsTrue, false};
 ghost use Rattle.cdg_instructions.specs.Instruction.{IsTilePixels};
-ghost use Rattle.bit_lists.specs.Bits.{has_bit};
 ghost use Rattle.bit_lists.specs.Counting.{below};
-ghost use Rattle.tile_author.specs.Plan.{is_combination, selection, basis, tile_lines, planned, weight};
-ghost use Rattle.tile_author.specs.Table.{entry, IsBasis, basis_of_lines};
+ghost use Rattle.tile_author.specs.Plan.{is_combination, basis, tile_lines, planned, weight};
+ghost use Rattle.tile_author.specs.Table.{IsBasis, basis_of_lines};
 ghost use Rattle.tile_author.specs.Sizes.{most_steps, number_count};
-ghost use Rattle.cdg_instructions.specs.Sizes.{tile_height, tile_pixels, tile_width};
+ghost use Rattle.cdg_instructions.specs.Sizes.{tile_height, tile_width};
 
 use arrayvec::ArrayVec;
 use cdg_instructions::{Instr, PIXELS, TILE_HEIGHT, TILE_WIDTH};
@@ -49,7 +48,12 @@ impl Basis {
             members: ArrayVec::new(),
             selections,
         };
-        if is_one_colour(pixels) {
+        // No early exit, so that the loop can be vectorized.
+        let mut is_one_colour = true;
+        for pixel in pixels {
+            is_one_colour &= *pixel == pixels[0];
+        }
+        if is_one_colour {
             return basis;
         }
         basis.offer_line(pixels, 0);
@@ -69,7 +73,16 @@ impl Basis {
         ensures { self.new ≡ basis_of_lines (line + 1) pixels.now }
     {
         for i in 0..TILE_WIDTH {
-            self.offer(pixels[0] ^ pixels[TILE_WIDTH * line + i]);
+            let difference = pixels[0] ^ pixels[TILE_WIDTH * line + i];
+            if self.selections[usize::from(difference)].is_some() {
+                continue;
+            }
+            if self.members.is_empty() {
+                self.selections[usize::from(difference)] = Some(1);
+                self.members.push(difference);
+            } else {
+                self.take_further(difference);
+            }
         }
     }
 
@@ -83,60 +96,6 @@ impl Basis {
         self.members.len().max(1)
     }
 
-    // The selection of members whose combination is a number. Bit j selects member j.
-    #[inline]
-    fn selection(&self, number: u8) -> Option<u8>
-        requires { number < number_count }
-        ensures { result ≡ entry self.now number }
-    {
-        self.selections[number as usize]
-    }
-
-    // The selection for a number after a further member is added.
-    fn grown(&self, member: u8, number: u8) -> Option<u8>
-        requires member { member < number_count }
-        requires number { number < number_count }
-        requires room { length self.now < most_steps }
-        requires independent { is_combination self.now member ≡ false }
-        ensures { result ≡ entry (self.now ++ member ∷ []) number }
-    {
-        let bit = 1 << self.members.len();
-        match self.selection(number) {
-            Some(selection) => Some(selection),
-            None => match self.selection(member ^ number) {
-                Some(selection) => Some(bit + selection),
-                None => None,
-            },
-        }
-    }
-
-    // All selections after a further member is added.
-    fn selections_with(&self, member: u8) -> [Option<u8>; NUMBERS]
-        requires member { member < number_count }
-        requires room { length self.now < most_steps }
-        requires independent { is_combination self.now member ≡ false }
-        ensures { (number : ℕ) → number < number_count
-            → slice_index_or result number None ≡ entry (self.now ++ member ∷ []) number }
-    {
-        let mut selections = [None; NUMBERS];
-        for i in 0..NUMBERS {
-            selections[i] = self.grown(member, i as u8);
-        }
-        selections
-    }
-
-    // Adds the first member. Its combinations are 0 and itself.
-    #[inline]
-    fn take_first(&mut self, member: u8)
-        requires none { self.old ≡ [] }
-        requires member { member < number_count }
-        requires independent { is_combination self.old member ≡ false }
-        ensures { self.new ≡ self.old ++ member ∷ [] }
-    {
-        self.selections[usize::from(member)] = Some(1);
-        self.members.push(member);
-    }
-
     // Adds a further member. It is not inlined, since few tiles have more than two colours.
     #[inline(never)]
     fn take_further(&mut self, member: u8)
@@ -144,52 +103,18 @@ impl Basis {
         requires independent { is_combination self.old member ≡ false }
         ensures { self.new ≡ self.old ++ member ∷ [] }
     {
-        let selections = self.selections_with(member);
+        let bit = 1 << self.members.len();
+        let mut selections = [None; NUMBERS];
+        for number in 0..NUMBERS {
+            let other = self.selections[usize::from(member) ^ number];
+            selections[number] = match (self.selections[number], other) {
+                (Some(selection), _) => Some(selection),
+                (None, Some(selection)) => Some(bit + selection),
+                (None, None) => None,
+            };
+        }
         self.selections = selections;
         self.members.push(member);
-    }
-
-    // Adds a number as a member, unless it is a combination of members.
-    #[inline]
-    #[tactic(auto, using(crate::proofs::Growth::is_some_entry))]
-    fn offer(&mut self, number: u8)
-        requires { number < number_count }
-        ensures { self.new ≡ (if is_combination self.old number then self.old else self.old ++ number ∷ []) }
-    {
-        if self.selection(number).is_some() {
-            return;
-        }
-        if self.members.is_empty() {
-            self.take_first(number);
-        } else {
-            self.take_further(number);
-        }
-    }
-
-    // Member j, or 0 past the last one.
-    fn member(&self, j: usize) -> u8
-        ensures { result ≡ slice_index self.now j }
-    {
-        if j < self.members.len() {
-            self.members[j]
-        } else {
-            0
-        }
-    }
-
-    // 1 if member j is selected for a number, and 0 otherwise.
-    #[inline]
-    fn bit(&self, number: u8, j: usize) -> u8
-        requires number { number < number_count }
-        requires made { is_combination self.now number ≡ true }
-        requires member { j < most_steps }
-        ensures value { result ≡ (if has_bit j (selection self.now number) then 1 else 0) }
-        ensures below { result < 2 }
-    {
-        match self.selection(number) {
-            Some(selection) => selection >> j & 1,
-            None => 0,
-        }
     }
 
     // The six bits of a line in the instruction for member j.
@@ -202,7 +127,9 @@ impl Basis {
     {
         let mut bits = 0;
         for i in 0..TILE_WIDTH {
-            bits = 2 * bits + self.bit(pixels[0] ^ pixels[TILE_WIDTH * line + i], j);
+            let difference = pixels[0] ^ pixels[TILE_WIDTH * line + i];
+            let selection = self.selections[usize::from(difference)].unwrap_or(0);
+            bits = 2 * bits + (selection >> j & 1);
         }
         bits
     }
@@ -243,8 +170,8 @@ impl Basis {
         requires member { j < most_steps }
         ensures { result ≡ planned draws row column pixels.now j }
     {
-        let colour0 = ground(pixels, j);
-        let colour1 = colour0 ^ self.member(j);
+        let colour0 = if j == 0 { pixels[0] } else { 0 };
+        let colour1 = colour0 ^ self.members.get(j).copied().unwrap_or(0);
         let lines = self.lines(pixels, j);
         if draws && j == 0 {
             Instr::SetTile {
@@ -285,14 +212,7 @@ impl Basis {
     }
 }
 
-// Colour 0 of instruction j: the first pixel for the first instruction, and 0 for the others.
-fn ground(pixels: &[u8; PIXELS], j: usize) -> u8
-    ensures { result ≡ (if j == 0 then slice_index pixels.now 0 else 0) }
-{
-    if j == 0 { pixels[0] } else { 0 }
-}
-
-// Whether a line equals the previous line.
+// Whether a line equals the previous line. The loop has no early exit, so that it can be vectorized.
 #[inline]
 fn is_line_before(pixels: &[u8; PIXELS], line: usize) -> bool
     requires first { 0 < line }
@@ -301,35 +221,9 @@ fn is_line_before(pixels: &[u8; PIXELS], line: usize) -> bool
         → slice_index pixels.now (tile_width * line + i)
         ≡ slice_index pixels.now (tile_width * (line - 1) + i) }
 {
-    let start = TILE_WIDTH * line;
-    four(pixels, start - 6) == four(pixels, start)
-        && four(pixels, start - 4) == four(pixels, start + 2)
-}
-
-// Four pixels as one number, for a fast comparison.
-#[inline]
-fn four(pixels: &[u8; PIXELS], first: usize) -> u32
-    requires { first + 4 ≤ tile_pixels }
-    ensures { result ≡ slice_index pixels.now first + 256 * (slice_index pixels.now (first + 1)
-        + 256 * (slice_index pixels.now (first + 2) + 256 * slice_index pixels.now (first + 3))) }
-{
-    u32::from_le_bytes([
-        pixels[first],
-        pixels[first + 1],
-        pixels[first + 2],
-        pixels[first + 3],
-    ])
-}
-
-// Whether all pixels have the same colour. The loop has no early exit, so it can be vectorized.
-fn is_one_colour(pixels: &[u8; PIXELS]) -> bool
-    ensures { IsTrue result → (i : ℕ) → i < tile_pixels
-        → slice_index pixels.now i ≡ slice_index pixels.now 0 }
-{
-    let first = pixels[0];
     let mut same = true;
-    for pixel in pixels {
-        same &= *pixel == first;
+    for i in 0..TILE_WIDTH {
+        same &= pixels[TILE_WIDTH * line + i] == pixels[TILE_WIDTH * (line - 1) + i];
     }
     same
 }

@@ -1,12 +1,12 @@
 //! Shortest lists of instructions that turn one tile into another.
 #![tactic(auto)]
 
-ghost use Rattle.std.specs.Prelude.{◌≡◌, ◌≢◌, ◌↔◌, ◌==◌, ℕ, ◌<◌, ◌≤◌, List, [], ◌∷◌, IfSome, IsSome, length, replicate, slice_index, bit_xor, ◌^◌, true};
+ghost use Rattle.std.specs.Prelude.{◌≡◌, ◌≢◌, ◌↔◌, ℕ, ◌<◌, ◌≤◌, List, [], ◌∷◌, IfSome, IsSome, MatchOption, length, replicate, slice_index, bit_xor, ◌^◌, true, false};
 ghost use Rattle.std.specs.List.{list_all};
 ghost use Rattle.cdg_instructions.specs.Instruction.{IsTilePixels};
 ghost use Rattle.cdg_instructions.specs.Sizes.{colour_count, column_values, row_values, screen_columns, screen_rows, tile_pixels};
 ghost use Rattle.cdg_instructions.specs.Drawing.{Turns, IsLeast};
-ghost use Rattle.tile_author.specs.Plan.{basis, combination, delta, is_combination, plan, selection, steps, weight};
+ghost use Rattle.tile_author.specs.Plan.{are_equal, basis, combination, delta, is_combination, plan, selection, steps, weight};
 ghost use Rattle.tile_author.specs.Table.{are_independent};
 ghost use Rattle.tile_author.specs.Sizes.{most_steps};
 
@@ -35,7 +35,14 @@ pub fn steps_of_weight(old: &Tile, new: &Tile, drawn: u8) -> u8
         → IsLeast row column old.now new.now result }
     ensures most { result ≤ most_steps }
 {
-    count(old.pixels(), new.pixels(), drawn)
+    let Some(changes) = changes(old, new) else {
+        return 0;
+    };
+    if drawn == 1 {
+        return 1;
+    }
+    let combined = Basis::of(&changes).weight() as u8;
+    drawn.min(combined)
 }
 
 /// A shortest list of tile instructions of this place that turns the old tile into the new one.
@@ -46,7 +53,19 @@ pub fn plan(old: &Tile, new: &Tile, row: u8, column: u8) -> ArrayVec<Instr, 4>
     ensures turns { Turns row column old.now new.now result.items }
     ensures count { length result.items ≡ steps old.now new.now }
 {
-    list(old.pixels(), new.pixels(), row, column)
+    let Some(changes) = changes(old, new) else {
+        return ArrayVec::new();
+    };
+    let drawn = Basis::of(new.pixels());
+    if drawn.weight() == 1 {
+        return drawn.instructions(new.pixels(), true, row, column);
+    }
+    let combined = Basis::of(&changes);
+    if drawn.weight() <= combined.weight() {
+        drawn.instructions(new.pixels(), true, row, column)
+    } else {
+        combined.instructions(&changes, false, row, column)
+    }
 }
 
 /// The single instruction that draws a tile of weight 1 over any other tile, or `None` for a heavier tile.
@@ -75,66 +94,24 @@ pub fn weight(new: &Tile) -> u8
     Basis::of(new.pixels()).weight() as u8
 }
 
-// The length of the plan for these pixels. The new ones have this weight.
-fn count(old: &[u8; PIXELS], new: &[u8; PIXELS], drawn: u8) -> u8
-    requires old { IsTilePixels old.now }
-    requires new { IsTilePixels new.now }
-    requires drawn { drawn ≡ weight new.now }
-    ensures value { result ≡ steps old.now new.now }
-    ensures most { result ≤ most_steps }
+// The values to combine with the old pixels, or `None` for equal tiles.
+fn changes(old: &Tile, new: &Tile) -> Option<[u8; PIXELS]>
+    ensures changes { MatchOption result (are_equal old.now new.now ≡ true)
+        (λ changes. (are_equal old.now new.now ≡ false) × (changes ≡ delta old.now new.now)
+        × IsTilePixels changes) }
+    ensures old { IsTilePixels old.now }
+    ensures new { IsTilePixels new.now }
 {
-    let changes = changes(old, new);
-    if is_blank(&changes) {
-        return 0;
-    }
-    if drawn == 1 {
-        return 1;
-    }
-    let combined = Basis::of(&changes).weight() as u8;
-    drawn.min(combined)
-}
-
-// The plan for these pixels.
-fn list(old: &[u8; PIXELS], new: &[u8; PIXELS], row: u8, column: u8) -> ArrayVec<Instr, MOST_STEPS>
-    requires old { IsTilePixels old.now }
-    requires new { IsTilePixels new.now }
-    ensures { result.items ≡ plan row column old.now new.now }
-{
-    let changes = changes(old, new);
-    if is_blank(&changes) {
-        return ArrayVec::new();
-    }
-    let drawn = Basis::of(new);
-    if drawn.weight() == 1 {
-        return drawn.instructions(new, true, row, column);
-    }
-    let combined = Basis::of(&changes);
-    if drawn.weight() <= combined.weight() {
-        drawn.instructions(new, true, row, column)
-    } else {
-        combined.instructions(&changes, false, row, column)
-    }
-}
-
-// The values to combine with the old pixels.
-fn changes(old: &[u8; PIXELS], new: &[u8; PIXELS]) -> [u8; PIXELS]
-    requires old { IsTilePixels old.now }
-    requires new { IsTilePixels new.now }
-    ensures value { result ≡ delta old.now new.now }
-    ensures tile { IsTilePixels result }
-{
+    let (old, new) = (old.pixels(), new.pixels());
     let mut changes = [0; PIXELS];
     for i in 0..PIXELS {
         changes[i] = old[i] ^ new[i];
     }
-    changes
-}
-
-// Whether all these values are 0.
-fn is_blank(changes: &[u8; PIXELS]) -> bool
-    ensures { result ≡ list_all (λ d. d == 0) changes.now }
-{
-    changes.iter().all(|change| *change == 0)
+    if changes.iter().all(|change| *change == 0) {
+        None
+    } else {
+        Some(changes)
+    }
 }
 
 /// A law: if each of some independent numbers is a combination of given numbers, there are at least as many given ones.
