@@ -1,10 +1,16 @@
 -- Tiles that are the same before and after.
-use Rattle.std.proofs.Common.{◌≡◌, ◌≢◌, ℕ, zero, suc, ◌+◌, ◌-◌, ◌*◌, ◌/◌, ◌%◌, ◌<◌, ◌≤◌, Bool, true, false, List, [], ◌∷◌, map, length, get_or, refl, ap, ap₂, sym, subst, ◌∙◌, arith, below_more, bit_xor}
+use Rattle.std.proofs.Common.{◌≡◌, ◌≢◌, ℕ, zero, suc, ◌+◌, ◌-◌, ◌*◌, ◌/◌, ◌%◌, ◌<◌, ◌≤◌, Bool, true, false, List, [], ◌∷◌, map, length, get_or, replicate, refl, ap, ap₂, sym, subst, ◌∙◌, arith, below_more, bit_xor}
 use Rattle.std.specs.Prelude.{Option, Some, None, not, slice_index, slice_set, nat_lt, if◌then◌else◌}
 use Rattle.std.specs.Option.{is_some}
 use Rattle.std.specs.Int.Bits.{xor_self}
+use Rattle.std.specs.Cmp.{booleans_Decides}
+use Rattle.std.specs.Cmp.Lexicographic.{pointwise}
+use Rattle.std.proofs.Math.Bool.{beq}
+use Rattle.std.proofs.Math.ListN.{length-set}
+use Rattle.std.proofs.lemmas.Slice.Eq.{slice_eq-Decides}
+use Rattle.std.proofs.lemmas.Bool.{false≢true}
 use Rattle.std.proofs.lemmas.Bool.Decides.{nat_tests}
-use Rattle.std.proofs.lemmas.List.{get_or_default, get_or-set_other, get_or-set_same}
+use Rattle.std.proofs.lemmas.List.{get_or-replicate, get_or_default, get_or-set_other, get_or-set_same}
 use Rattle.bit_lists.specs.Counting.{below}
 use Rattle.cdg_instructions.specs.Sizes.{tile_pixels}
 use Rattle.cdg_instructions.specs.declared.instr.Instr.{Instr}
@@ -16,8 +22,9 @@ use Rattle.picture_script.proofs.Drawn.{picture_tile_is}
 use Rattle.picture_script.proofs.Parts.{tile_pixel, tile_size}
 use Rattle.pack_schedule.specs.Change.{settings, IsStart, tiles_before}
 use Rattle.pack_schedule.specs.PlannedChange.{planned_length, tile_steps, first_least, chosen_start}
-use Rattle.pack_schedule.specs.SameTiles.{IsRowTold, SameRow, SameTiles}
+use Rattle.pack_schedule.specs.SameTiles.{AreToldTiles, IsRowTold, SameRow, SameTiles}
 use Rattle.pack_schedule.specs.Weights.{IsWeighed, AreWeights, not_weighed}
+use Rattle.pack_schedule.specs.declared.change.tiles.ToldTiles.{ToldTiles}
 use Rattle.pack_schedule.specs.declared.change.tiles.Weighed.{Weighed}
 use Rattle.pack_schedule.proofs.Counting.{steps_so_far, none_so_far, one_more_tile, all_tiles}
 use Rattle.pack_schedule.proofs.SettingLaws.{zero_all}
@@ -124,6 +131,44 @@ row_told old new rows columns r whole marks in_rows in_columns before here =
     let mark = get_or-set_same columns r marks [] in_columns in
     subst (λ w. IsRowTold old new (r + 1) w (get_or (slice_set columns r marks) r [])) (sym row)
     (subst (IsRowTold old new (r + 1) whole) (sym mark) here))
+
+-- the marks of the first rows; the later ones are not compared yet
+abbrev pub AreToldSoFar : List ℕ → List ℕ → ℕ → ToldTiles → Type 0
+AreToldSoFar old new r told = (length told.rows ≡ 16) × (length told.columns ≡ 16)
+    × ((m : ℕ) → r ≤ m → m < 16 → get_or told.rows m false ≡ true)
+    × ((m : ℕ) → m < r → IsRowTold old new (m + 1) (get_or told.rows m false) (get_or told.columns m []))
+
+pub drawn_told : (old new : List ℕ) (r : ℕ) (told : ToldTiles) (whole : Bool) (marks : List Bool) → r < 16
+    → AreToldSoFar old new r told → IsRowTold old new (r + 1) whole marks
+    → AreToldSoFar old new (r + 1)
+    (record { rows = slice_set told.rows r whole; columns = slice_set told.columns r marks })
+drawn_told old new r told whole marks lt h here = (
+  simp length-set h.0,
+  simp length-set h.1,
+  λ m le m_lt.
+      get_or-set_other told.rows r m whole false (λ e. omega (arith, e, le)) ∙ h.2 m (omega arith) m_lt,
+  row_told old new told.rows told.columns r whole marks (omega (arith, h.0, lt)) (omega (arith, h.1, lt)) h.3
+      here,
+)
+
+pub undrawn_told : (old new : List ℕ) (r : ℕ) (told : ToldTiles) → r < 16 → AreToldSoFar old new r told
+    → SameRow old new (r + 1) → AreToldSoFar old new (r + 1) told
+undrawn_told old new r told lt h same = (
+  h.0,
+  h.1,
+  λ m le m_lt. h.2 m (omega arith) m_lt,
+  below_more (λ m. IsRowTold old new (m + 1) (get_or told.rows m false) (get_or told.columns m [])) r h.3
+      (λ _. same, λ is. absurd (false≢true (sym is ∙ h.2 r (omega arith) lt))),
+)
+
+pub all_told : (old new : List ℕ) (told : ToldTiles) (all : Bool) → AreToldTiles old new told
+    → all ≡ pointwise beq told.rows (replicate 16 true) → all ≡ true → SameTiles old new
+all_told old new told all h tests holds =
+    let rows : told.rows ≡ replicate 16 true =
+    (slice_eq-Decides booleans_Decides told.rows (replicate 16 true) all tests).0 holds in
+    let row : (m : ℕ) → m < 16 → get_or told.rows m false ≡ true =
+    λ m lt. ap (λ marks. get_or marks m false) rows ∙ get_or-replicate {A = Bool} 16 m true false lt in
+    all_rows old new 16 (omega arith) (λ m lt. (h m lt).0 (row m lt))
 
 -- a picture whose tiles all stand
 same_so_far : (script : List Drawing) (k : ℕ) (before now : Board) → IsPicture script (k - 1) before

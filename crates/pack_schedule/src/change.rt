@@ -1,6 +1,6 @@
 // The change of a picture: a memory preset if it begins with one, then its settings, then its tiles. The instructions
 // are counted before they are written.
-ghost use Rattle.std.specs.Prelude.{◌≡◌, ◌<◌, ◌≤◌, ◌-◌, [], length, ◌+◌, ◌++◌, ◌∷◌, map, slice_index, if◌then◌else◌};
+ghost use Rattle.std.specs.Prelude.{◌≡◌, ◌<◌, ◌≤◌, ◌-◌, [], length, ◌+◌, ◌++◌, ◌∷◌, map, slice_index};
 ghost use Rattle.picture_script.specs.Board.{IsPicture};
 ghost use Rattle.pack_schedule.specs.Change.{preset_of, IsStart, most_change, settings};
 ghost use Rattle.pack_schedule.specs.PlannedChange.{planned_from};

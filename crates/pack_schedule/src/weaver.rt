@@ -1,6 +1,6 @@
 // The packs of a program: the packs of the changes, and idle packs between them.
 ghost use Rattle.std.specs.Prelude.{◌<◌, ◌-◌};
-ghost use Rattle.picture_script.specs.Board.{IsPicture, StandsBefore};
+ghost use Rattle.picture_script.specs.Board.{StandsBefore};
 ghost use Rattle.picture_script.specs.Script.{pictures};
 
 use crate::change::ChangeList;

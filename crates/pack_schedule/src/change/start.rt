@@ -1,16 +1,14 @@
 // Chooses the start with the shortest change of a picture.
-ghost use Rattle.std.specs.Prelude.{◌≡◌, ◌<◌, ◌≤◌, ◌+◌, ◌-◌, ℕ, length, slice_index, Some, None, nat_lt, if◌then◌else◌};
+ghost use Rattle.std.specs.Prelude.{◌≡◌, ◌<◌, ◌≤◌, ◌+◌, ◌-◌, ℕ, length, slice_index, Some, None};
 ghost use Rattle.cdg_instructions.specs.Sizes.{colour_count};
 ghost use Rattle.picture_script.specs.Board.{IsPicture};
 ghost use Rattle.pack_schedule.specs.Weights.{AreWeights};
 ghost use Rattle.pack_schedule.specs.Change.{most_change, most_tile_steps, settings};
-ghost use Rattle.pack_schedule.specs.PlannedChange.{tile_steps, planned_length, preferred, chosen_start};
+ghost use Rattle.pack_schedule.specs.PlannedChange.{tile_steps, planned_length, chosen_start};
 
 use crate::change::count_settings;
-use crate::change::tiles::{
-    TileCounts, Weighed, are_undrawn, count_tiles, is_same_picture, same_tiles,
-};
-use cdg_instructions::{COLOURS, WINDOW_TILES};
+use crate::change::tiles::{TileCounts, Weighed, are_undrawn, count_tiles, same_tiles};
+use cdg_instructions::{COLOURS, WINDOW_ROWS, WINDOW_TILES};
 use picture_script::{Canvas, Script};
 
 /// A start, which is a preset colour or none, and the number of instructions of the change with this start.
@@ -81,7 +79,7 @@ pub(crate) fn choose_start(
         };
     }
     let same = same_tiles(script, k, &drawn, before, now);
-    if k > 0 && is_same_picture(&same, before, now) {
+    if k > 0 && same.rows == [true; WINDOW_ROWS] {
         return Choice {
             preset: None,
             need: beside,

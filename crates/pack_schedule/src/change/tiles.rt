@@ -1,5 +1,5 @@
 // The tiles of a picture: their number of instructions for all starts at once, and the instructions for one start.
-ghost use Rattle.std.specs.Prelude.{◌≡◌, ◌≢◌, ◌<◌, ◌≤◌, ◌+◌, ◌-◌, ◌++◌, ℕ, List, length, slice_index, replicate, Some, None, ◌/◌, ◌%◌, slice_index_or, MatchOption, true, false, IsTrue, ◌↔◌};
+ghost use Rattle.std.specs.Prelude.{◌≡◌, ◌≢◌, ◌<◌, ◌≤◌, ◌+◌, ◌-◌, ◌++◌, ℕ, List, length, slice_index, replicate, Some, None, ◌/◌, ◌%◌, slice_index_or, true, false, IsTrue, ◌↔◌};
 ghost use Rattle.cdg_instructions.specs.Sizes.{colour_count, tile_pixels, window_columns, window_rows, window_tiles};
 ghost use Rattle.tile_author.specs.Sizes.{most_steps};
 ghost use Rattle.tile_author.specs.Plan.{plan, steps, weight};
@@ -7,9 +7,8 @@ ghost use Rattle.picture_script.specs.Board.{IsPicture, tile_of};
 ghost use Rattle.picture_script.specs.Script.{picture_tile};
 ghost use Rattle.pack_schedule.specs.Change.{most_tile_steps, tiles_before, IsStart};
 ghost use Rattle.pack_schedule.specs.PlannedChange.{planned_tiles, tile_steps};
-ghost use Rattle.pack_schedule.specs.SameTiles.{AreToldTiles, IsRowTold, SameRow, SameTiles};
+ghost use Rattle.pack_schedule.specs.SameTiles.{AreToldTiles};
 ghost use Rattle.pack_schedule.specs.Weights.{AreWeights, IsWeighed, IsWeighedAt, not_weighed};
-ghost use Rattle.cdg_instructions.specs.Instruction.{IsTilePixels};
 ghost use Rattle.picture_script.specs.DrawnRows.{KeepsRows};
 
 use crate::change::ChangeList;
@@ -53,32 +52,17 @@ pub(crate) fn same_tiles(
     ensures { AreToldTiles before.now.pixels now.now.pixels result }
 {
     let mut told = ToldTiles {
-        rows: [false; WINDOW_ROWS],
+        rows: [true; WINDOW_ROWS],
         columns: [[false; WINDOW_COLUMNS]; WINDOW_ROWS],
     };
     for r in 0..WINDOW_ROWS {
-        told.rows[r] = tell_row(r, drawn[r], before, now, &mut told.columns[r]);
+        if drawn[r] {
+            let columns = before.shared_columns(now, r as u8 + 1);
+            told.rows[r] = are_all(&columns);
+            told.columns[r] = columns;
+        }
     }
     told
-}
-
-// Compares a row: whether all its tiles are equal, and otherwise which columns. A row on which no line drew is equal.
-fn tell_row(
-    r: usize,
-    drawn: bool,
-    before: &Canvas,
-    now: &Canvas,
-    columns: &mut [bool; WINDOW_COLUMNS],
-) -> bool
-    requires row { r < window_rows }
-    requires stays { drawn ≡ false → SameRow before.now.pixels now.now.pixels (r + 1) }
-    ensures { IsRowTold before.now.pixels now.now.pixels (r + 1) result columns.new }
-{
-    if !drawn {
-        return true;
-    }
-    *columns = before.shared_columns(now, r as u8 + 1);
-    are_all(columns)
 }
 
 // Whether all columns are marked. The loop has no early end, so the compiler can vectorize it.
@@ -111,19 +95,6 @@ pub(crate) fn is_same_tile(
 {
     let r = usize::from(row) - 1;
     same.rows[r] || same.columns[r][usize::from(column) - 1]
-}
-
-/// Whether all tiles are equal on two canvases with these equal tiles.
-pub(crate) fn is_same_picture(same: &ToldTiles, before: &Canvas, now: &Canvas) -> bool
-    requires { AreToldTiles before.now.pixels now.now.pixels same.now }
-    ensures { IsTrue result → SameTiles before.now.pixels now.now.pixels }
-{
-    for r in 0..WINDOW_ROWS {
-        if !same.rows[r] {
-            return false;
-        }
-    }
-    true
 }
 
 /// The number of instructions for a tile after a preset: 0 after its single colour, and its weight after other colours.
