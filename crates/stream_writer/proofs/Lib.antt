@@ -17,3 +17,4 @@ pub mod Symbols
 pub mod Carrying
 pub mod SameBytes
 pub mod Prefixes
+pub mod MadeBlocks

@@ -13,7 +13,9 @@ use Rattle.cue_sheet.specs.CueSheet.{CueSheet, IsSheet, IsText, is_catalogue_num
 use Rattle.cue_sheet.specs.declared.fault.CueText.{CueText}
 use Rattle.cue_sheet.specs.declared.fault.CueText.TheVariants.{Title, Performer, Songwriter}
 use Rattle.cdtext_packs.specs.Texts.{Texts, IsString, texts_with, unless_empty}
-use Rattle.stream_writer.specs.SheetTexts.{code_at, for_each, sheet_texts, texts_of_sheet}
+use Rattle.cdtext_packs.specs.declared.kinds.TextKind.{TextKind}
+use Rattle.cdtext_packs.specs.declared.kinds.TextKind.TheVariants as kind
+use Rattle.stream_writer.specs.SheetTexts.{code_at, for_each, sheet_texts, string_at, texts_of_sheet}
 
 text_string : (s : List ℕ) → IsText s → IsString s
 text_string s text = record {
@@ -35,7 +37,7 @@ track sheet Title k is inside = (is.tracks k inside).title
 track sheet Performer k is inside = (is.tracks k inside).performer
 track sheet Songwriter k is inside = (is.tracks k inside).songwriter
 
-pub text_is_string : (sheet : CueSheet) (kind : CueText) (place : ℕ) → IsSheet sheet
+text_is_string : (sheet : CueSheet) (kind : CueText) (place : ℕ) → IsSheet sheet
     → place ≤ length sheet.tracks
     → IsString (text_at kind sheet place)
 text_is_string sheet kind place is inside =
@@ -137,7 +139,7 @@ code_is_string : (code : Option (List ℕ)) → ForSome code (λ c. IsTrue (is_c
 code_is_string None is = empty_string
 code_is_string (Some code) is = code_string code (is code refl)
 
-pub code_at_string : (sheet : CueSheet) (place : ℕ) → IsSheet sheet → place ≤ length sheet.tracks
+code_at_string : (sheet : CueSheet) (place : ℕ) → IsSheet sheet → place ≤ length sheet.tracks
     → IsString (code_at sheet place)
 code_at_string sheet place is inside =
     cond_both (place == 0) (unwrap_or sheet.catalogue []) (unwrap_or (track_of sheet (place - 1)).isrc [])
@@ -145,6 +147,16 @@ code_at_string sheet place is inside =
     (λ _. catalogue_is_string sheet.catalogue is.catalogue)
     (λ later. let some : place ≢ 0 = eqb-false place 0 later in
     code_is_string (track_of sheet (place - 1)).isrc ((is.tracks (place - 1) (omega arith)).isrc))
+
+pub string_at_string : (sheet : CueSheet) (k : TextKind) (place : ℕ) → IsSheet sheet
+    → place ≤ length sheet.tracks → IsString (string_at k sheet place)
+string_at_string sheet kind.Title place is inside = text_is_string sheet Title place is inside
+string_at_string sheet kind.Performer place is inside = text_is_string sheet Performer place is inside
+string_at_string sheet kind.Songwriter place is inside = text_is_string sheet Songwriter place is inside
+string_at_string sheet kind.Composer place is inside = empty_string
+string_at_string sheet kind.Arranger place is inside = empty_string
+string_at_string sheet kind.Message place is inside = empty_string
+string_at_string sheet kind.Code place is inside = code_at_string sheet place is inside
 
 pub length-for_each : (sheet : CueSheet) (f : ℕ → List ℕ) (strings : List (List ℕ))
     → strings ≡ for_each sheet f

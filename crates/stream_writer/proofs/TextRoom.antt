@@ -1,6 +1,6 @@
 -- How many text packs a sheet has, and whether a lead-in has room for them.
-use Rattle.std.proofs.Common.{◌≡◌, ◌⊎◌, ℕ, zero, suc, ◌+◌, ◌*◌, ◌/◌, ◌<◌, ◌≤◌, Bool, true, false, List, [], ◌∷◌, ◌++◌, length, map, flat_map, replicate, max, refl, sym, ap, subst, ◌∙◌, inl, inr, arith}
-use Rattle.std.specs.Prelude.{◌==◌, ◌&&◌, if◌then◌else◌}
+use Rattle.std.proofs.Common.{◌≡◌, ◌≢◌, ◌⊎◌, ℕ, zero, suc, ◌+◌, ◌*◌, ◌/◌, ◌<◌, ◌≤◌, Bool, true, false, List, [], ◌∷◌, ◌++◌, length, map, flat_map, replicate, max, refl, sym, ap, subst, ◌∙◌, inl, inr, arith}
+use Rattle.std.specs.Prelude.{◌&&◌, if◌then◌else◌}
 use Rattle.std.specs.List.{enumerate_from, list_all}
 use Rattle.std.proofs.lemmas.Bool.{cases_lt, cases_Bool, and_parts, and_from, eq-eqb, ne_eqb}
 use Rattle.std.proofs.lemmas.Grind.{flat_map-append}
@@ -68,18 +68,21 @@ emptiness (s ∷ rest) = elim (cases_lt 0 (length s)) [
 
 -- The packs that strings fill.
 
-pub packs_filled : (strings : List (List ℕ)) (count bytes : ℕ) → count ≡ length strings
-    → bytes ≡ length (joined strings) → (if bytes == count then 0 else (bytes + 11) / 12) ≡ pack_count strings
+pub none_fill : (strings : List (List ℕ)) (count bytes : ℕ) → count ≡ length strings
+    → bytes ≡ length (joined strings) → bytes ≡ count → 0 ≡ pack_count strings
 unfolding Emptiness
-packs_filled strings count bytes counted is = elim (emptiness strings) [
-  | inl e ↦
-      ap (λ (b : Bool). if b then 0 else (bytes + 11) / 12)
-      (eq-eqb bytes count (omega (arith, e.1, is, counted)))
-      ∙ sym (ap (λ (b : Bool). if b then 0 else (length (joined strings) + 11) / 12) e.0)
+none_fill strings count bytes counted is same = elim (emptiness strings) [
+  | inl e ↦ sym (ap (λ (b : Bool). if b then 0 else (length (joined strings) + 11) / 12) e.0)
+  | inr m ↦ absurd (omega (arith, m.1, is, counted, same))
+]
+
+pub some_fill : (strings : List (List ℕ)) (count bytes : ℕ) → count ≡ length strings
+    → bytes ≡ length (joined strings) → bytes ≢ count → (bytes + 11) / 12 ≡ pack_count strings
+unfolding Emptiness
+some_fill strings count bytes counted is differ = elim (emptiness strings) [
+  | inl e ↦ absurd (differ (omega (arith, e.1, is, counted)))
   | inr m ↦
-      ap (λ (b : Bool). if b then 0 else (bytes + 11) / 12)
-      (ne_eqb bytes count (λ same. omega (arith, m.1, is, counted, same)))
-      ∙ ap (λ n. (n + 11) / 12) is
+      ap (λ n. (n + 11) / 12) is
       ∙ sym (ap (λ (b : Bool). if b then 0 else (length (joined strings) + 11) / 12) m.0)
 ]
 

@@ -4,6 +4,8 @@ use Rattle.bit_lists.specs.Counting.{below}
 use Rattle.cue_sheet.specs.CueSheet.{CueSheet, track_of, text_at}
 use Rattle.cue_sheet.specs.declared.fault.CueText.TheVariants.{Title, Performer, Songwriter}
 use Rattle.cdtext_packs.specs.Texts.{Texts, unless_empty}
+use Rattle.cdtext_packs.specs.declared.kinds.TextKind.{TextKind}
+use Rattle.cdtext_packs.specs.declared.kinds.TextKind.TheVariants as kind
 
 -- for the album and each track in order
 abbrev pub for_each : CueSheet → (ℕ → List ℕ) → List (List ℕ)
@@ -13,6 +15,16 @@ for_each sheet string = map string (below (length sheet.tracks + 1))
 abbrev pub code_at : CueSheet → ℕ → List ℕ
 code_at sheet place = if place == 0 then unwrap_or sheet.catalogue []
     else unwrap_or (track_of sheet (place - 1)).isrc []
+
+-- the string of a kind for the album or a track, empty if there is none
+abbrev pub string_at : TextKind → CueSheet → ℕ → List ℕ
+string_at kind.Title sheet place = text_at Title sheet place
+string_at kind.Performer sheet place = text_at Performer sheet place
+string_at kind.Songwriter sheet place = text_at Songwriter sheet place
+string_at kind.Composer sheet place = []
+string_at kind.Arranger sheet place = []
+string_at kind.Message sheet place = []
+string_at kind.Code sheet place = code_at sheet place
 
 -- the texts of a sheet, maybe with only empty strings
 abbrev pub sheet_texts : CueSheet → Texts

@@ -1,14 +1,14 @@
 // The texts of a cue sheet, their packs, and whether a lead-in has room for them.
 ghost use Rattle.std.specs.Prelude.{◌≡◌, ◌+◌, ◌≤◌, length, IfOk, All, ◌<◌, [], IsOkAnd, ◌-◌, ◌/◌, ◌==◌, IfErr, OnOk, if◌then◌else◌};
-ghost use Rattle.cue_sheet.specs.CueSheet.{text_at, IsSheet};
+ghost use Rattle.cue_sheet.specs.CueSheet.{IsSheet};
 ghost use Rattle.cdtext_packs.specs.Texts.{IsString};
-ghost use Rattle.stream_writer.specs.SheetTexts.{for_each, code_at, texts_of_sheet};
+ghost use Rattle.stream_writer.specs.SheetTexts.{for_each, string_at, texts_of_sheet};
 ghost use Rattle.stream_writer.specs.Needs.{text_packs, HasRoom};
 ghost use Rattle.cdtext_packs.specs.Packs.{text_bytes};
 ghost use Rattle.cdtext_packs.specs.Writing.{pack_count};
 ghost use Rattle.stream_writer.specs.Stops.{IsLeadInRefusal};
 
-use cdtext_packs::{MOST_PACKS, Strings, TEXT_BYTES, TextMap, TextPack, pack_all};
+use cdtext_packs::{MOST_PACKS, Strings, TEXT_BYTES, TextKind, TextMap, TextPack, pack_all};
 use cue_sheet::{CueText, Sheet};
 use std::alloc::{AllocError, Global};
 use toc_model::toc_need;
@@ -18,48 +18,39 @@ use toc_model::toc_need;
 pub fn texts_of_sheet(alloc: Global, sheet: &Sheet) -> Result<TextMap, AllocError>
     ensures { IfOk result (λ map. map ≡ texts_of_sheet sheet.now) }
 {
-    let titles = sheet_strings(alloc, sheet, CueText::Title)?;
-    let performers = sheet_strings(alloc, sheet, CueText::Performer)?;
-    let songwriters = sheet_strings(alloc, sheet, CueText::Songwriter)?;
-    let codes = sheet_codes(alloc, sheet)?;
+    let titles = sheet_strings(alloc, sheet, TextKind::Title)?;
+    let performers = sheet_strings(alloc, sheet, TextKind::Performer)?;
+    let songwriters = sheet_strings(alloc, sheet, TextKind::Songwriter)?;
+    let codes = sheet_strings(alloc, sheet, TextKind::Code)?;
     TextMap::of_strings(alloc, sheet.first(), titles, performers, songwriters, codes)
 }
 
-fn sheet_strings(alloc: Global, sheet: &Sheet, kind: CueText) -> Result<Strings, AllocError>
-    ensures strings { IfOk result (λ strings. strings ≡ for_each sheet.now (text_at kind sheet.now)) }
+// The strings of a kind for the album and each track.
+fn sheet_strings(alloc: Global, sheet: &Sheet, kind: TextKind) -> Result<Strings, AllocError>
+    ensures strings { IfOk result (λ strings. strings ≡ for_each sheet.now (string_at kind sheet.now)) }
     ensures count { IfOk result (λ strings. length strings ≡ length sheet.now.tracks + 1) }
     ensures each { IfOk result (All IsString) }
     ensures sheet { IsSheet sheet.now }
 {
     let mut strings = Strings::new(alloc);
     for place in 0..sheet.tracks() + 1 {
-        strings.push(sheet.text(kind, place).to_vec(alloc)?)?;
+        strings.push(string_at(sheet, kind, place).to_vec(alloc)?)?;
     }
     Ok(strings)
 }
 
-// The catalogue number and the codes of the tracks.
-fn sheet_codes(alloc: Global, sheet: &Sheet) -> Result<Strings, AllocError>
-    ensures strings { IfOk result (λ strings. strings ≡ for_each sheet.now (code_at sheet.now)) }
-    ensures count { IfOk result (λ strings. length strings ≡ length sheet.now.tracks + 1) }
-    ensures each { IfOk result (All IsString) }
-{
-    let mut strings = Strings::new(alloc);
-    for place in 0..sheet.tracks() + 1 {
-        strings.push(code_at(sheet, place).to_vec(alloc)?)?;
-    }
-    Ok(strings)
-}
-
-/// The code of the album or a track, empty if there is none.
-pub(crate) fn code_at(sheet: &Sheet, place: usize) -> &[u8]
+// The string of a kind for the album or a track, empty if there is none.
+fn string_at(sheet: &Sheet, kind: TextKind, place: usize) -> &[u8]
     requires { place ≤ length sheet.now.tracks }
-    ensures { result.now ≡ code_at sheet.now place }
+    ensures { result.now ≡ string_at kind sheet.now place }
 {
-    let code = if place == 0 {
-        sheet.catalogue()
-    } else {
-        sheet.isrc(place - 1)
+    let code = match kind {
+        TextKind::Title => return sheet.text(CueText::Title, place),
+        TextKind::Performer => return sheet.text(CueText::Performer, place),
+        TextKind::Songwriter => return sheet.text(CueText::Songwriter, place),
+        TextKind::Composer | TextKind::Arranger | TextKind::Message => None,
+        TextKind::Code if place == 0 => sheet.catalogue(),
+        TextKind::Code => sheet.isrc(place - 1),
     };
     match code {
         Some(code) => code,
@@ -93,7 +84,7 @@ pub enum LeadInStop {
     LeadInShort { need: u32 },
 }
 
-const SIZE_PACKS: usize = 3;
+const SIZE_PACKS: u32 = 3;
 
 /// Checks that a lead-in, if there is one, has room for the texts of a sheet and for its table of contents. It
 /// allocates nothing.
@@ -122,51 +113,28 @@ pub fn judge_lead_in(sheet: &Sheet, lead_in: u32) -> Result<(), LeadInStop>
 fn count_text_packs(sheet: &Sheet) -> u32
     ensures { result ≡ length (text_packs sheet.now) }
 {
-    let filled = text_packs_of(sheet, CueText::Title)
-        + text_packs_of(sheet, CueText::Performer)
-        + text_packs_of(sheet, CueText::Songwriter)
-        + code_packs(sheet);
+    let filled = kind_packs(sheet, TextKind::Title)
+        + kind_packs(sheet, TextKind::Performer)
+        + kind_packs(sheet, TextKind::Songwriter)
+        + kind_packs(sheet, TextKind::Code);
     if filled == 0 {
         return 0;
     }
-    (filled + SIZE_PACKS) as u32
+    filled + SIZE_PACKS
 }
 
-fn text_packs_of(sheet: &Sheet, kind: CueText) -> usize
-    ensures packs { result ≡ pack_count (for_each sheet.now (text_at kind sheet.now)) }
-    ensures bound { result ≤ 560000000 }
-    ensures sheet { IsSheet sheet.now }
-{
-    let strings = sheet.tracks() + 1;
-    let mut bytes = 0;
-    for place in 0..strings {
-        bytes += sheet.text(kind, place).len() + 1;
-    }
-    filled_packs(strings, bytes)
-}
-
-// The number of packs for the catalogue number and the codes of the tracks.
-fn code_packs(sheet: &Sheet) -> usize
-    ensures packs { result ≡ pack_count (for_each sheet.now (code_at sheet.now)) }
+// The number of packs of a kind. There are none if all its strings are empty.
+fn kind_packs(sheet: &Sheet, kind: TextKind) -> u32
+    ensures packs { result ≡ pack_count (for_each sheet.now (string_at kind sheet.now)) }
     ensures bound { result ≤ 560000000 }
 {
     let strings = sheet.tracks() + 1;
     let mut bytes = 0;
     for place in 0..strings {
-        bytes += code_at(sheet, place).len() + 1;
+        bytes += string_at(sheet, kind, place).len() + 1;
     }
-    filled_packs(strings, bytes)
-}
-
-// The number of packs for strings with `bytes` bytes, including a zero byte after each. Empty strings need none.
-fn filled_packs(strings: usize, bytes: usize) -> usize
-    requires { bytes ≤ 6710886500 }
-    ensures { result ≡ (if bytes == strings then 0
-        else (bytes + (text_bytes - 1)) / text_bytes) }
-{
     if bytes == strings {
-        0
-    } else {
-        (bytes + TEXT_BYTES - 1) / TEXT_BYTES
+        return 0;
     }
+    ((bytes + (TEXT_BYTES - 1)) / TEXT_BYTES) as u32
 }

@@ -8,9 +8,9 @@ ghost use Rattle.cdg_io.specs.Change.{change, from_to};
 ghost use Rattle.cdg_io.specs.Moves.{AppendsPrefix};
 ghost use Rattle.raw_subcode.specs.Sizes.{slots_a_block, block_bytes, symbols_a_slot};
 ghost use Rattle.rw_interleave.specs.Interleave.{whole_packs};
-ghost use Rattle.toc_model.specs.Layout.{toc_frame, p_bit, program_frame};
+ghost use Rattle.toc_model.specs.Layout.{toc_frame};
 ghost use Rattle.cdtext_packs.specs.LeadIn.{lead_in_symbols};
-ghost use Rattle.stream_writer.specs.Blocks.{lead_in_block, IsBuilt, built_block, carrying_block, bits_of_frame};
+ghost use Rattle.stream_writer.specs.Blocks.{lead_in_block, IsBuilt, built_block, bits_of_frame};
 ghost use Rattle.rw_code.specs.Packs.{idle_pack};
 ghost use Rattle.stream_writer.specs.Given.{CarriesComing, ComesAfterBlocks, PutsPart, PutsProgram, PutsStream, PutsStreamPart, framing_of, AreQuiet, ComesLater, TakesPack, TakesPacks};
 ghost use Rattle.q_channel.specs.QFrame.{IsValid};
@@ -120,38 +120,6 @@ fn built(p: bool, frame: &QFrame, symbols: &[u8; BLOCK_BYTES]) -> [u8; BLOCK_BYT
     Block::build(p, &encode(frame), symbols).bytes()
 }
 
-// Block `l` of `n` lead-in blocks.
-#[tactic(auto, unfolding(crate::specs::Blocks::lead_in_block))]
-pub(crate) fn lead_in_block(
-    layout: &Layout,
-    packs: &[TextPack],
-    l: u32,
-    n: u32,
-) -> [u8; BLOCK_BYTES]
-    requires block { l < n }
-    requires lead_in { n ≤ most_lead_in }
-    ensures bytes { result ≡ lead_in_block layout.now packs.now n l }
-    ensures built { IsBuilt result false (toc_frame layout.now n l) (lead_in_symbols packs.now l) }
-{
-    built(false, &layout.toc_frame(l, n), &lead_in_symbols(packs, l))
-}
-
-// Program block `b` with these symbols. It is inlined like `built`.
-#[inline(always)]
-#[tactic(auto, unfolding(crate::specs::Blocks::carrying_block))]
-pub(crate) fn program_block(
-    layout: &Layout,
-    b: u32,
-    symbols: &[u8; BLOCK_BYTES],
-) -> [u8; BLOCK_BYTES]
-    requires block { b < layout.now.blocks }
-    requires symbols { All (λ s. s < symbol_values) symbols.now }
-    ensures bytes { result ≡ carrying_block layout.now b symbols.now }
-    ensures built { IsBuilt result (p_bit layout.now b) (program_frame layout.now b) symbols.now }
-{
-    built(layout.p_bit(b), &layout.program_frame(b), symbols)
-}
-
 fn put_lead_in<K: Sink>(
     layout: &Layout,
     texts: &[TextPack],
@@ -169,7 +137,8 @@ fn put_lead_in<K: Sink>(
     ensures cause { HasCause (K.faults out.old) (K.faults out.new) result }
 {
     for l in 0..lead_in {
-        let block = lead_in_block(layout, texts, l, lead_in);
+        let frame = layout.toc_frame(l, lead_in);
+        let block = built(false, &frame, &lead_in_symbols(texts, l));
         put_all(out, &block)?;
     }
     Ok(())
@@ -198,7 +167,7 @@ fn put_program<P: PackSource, K: Sink>(
     for b in 0..blocks {
         let mut symbols = [0; BLOCK_BYTES];
         next_symbols(source, spread, &mut quiet, &mut symbols);
-        let block = program_block(layout, b, &symbols);
+        let block = built(layout.p_bit(b), &layout.program_frame(b), &symbols);
         put_all(out, &block)?;
     }
     Ok(())

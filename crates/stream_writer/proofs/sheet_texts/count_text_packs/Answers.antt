@@ -14,14 +14,14 @@ sum sheet = pack_count (for_each sheet (text_at Title sheet))
 pub returns-then-filled-eq0 : goal.returns-then-filled-eq0
 returns-then-filled-eq0 c =
     let all : ℕ =
-    c.text_packs_of.result + c.text_packs_of-2.result + c.text_packs_of-3.result + c.code_packs.result in
+    c.kind_packs.result + c.kind_packs-2.result + c.kind_packs-3.result + c.kind_packs-4.result in
     let is : all ≡ sum c.args.sheet.now =
     omega (
       arith,
-      c.text_packs_of.ensures.packs,
-      c.text_packs_of-2.ensures.packs,
-      c.text_packs_of-3.ensures.packs,
-      c.code_packs.ensures.packs,
+      c.kind_packs.ensures.packs,
+      c.kind_packs-2.ensures.packs,
+      c.kind_packs-3.ensures.packs,
+      c.kind_packs-4.ensures.packs,
     ) in
     let counted = packs_counted c.args.sheet.now all is in
     elim counted [ inl none ↦ omega (arith, none.1) | inr some ↦ omega (arith, some.0, c.if-filled-eq0.true) ]
@@ -29,14 +29,14 @@ returns-then-filled-eq0 c =
 pub returns : goal.returns
 returns c =
     let all : ℕ =
-    c.text_packs_of.result + c.text_packs_of-2.result + c.text_packs_of-3.result + c.code_packs.result in
+    c.kind_packs.result + c.kind_packs-2.result + c.kind_packs-3.result + c.kind_packs-4.result in
     let is : all ≡ sum c.args.sheet.now =
     omega (
       arith,
-      c.text_packs_of.ensures.packs,
-      c.text_packs_of-2.ensures.packs,
-      c.text_packs_of-3.ensures.packs,
-      c.code_packs.ensures.packs,
+      c.kind_packs.ensures.packs,
+      c.kind_packs-2.ensures.packs,
+      c.kind_packs-3.ensures.packs,
+      c.kind_packs-4.ensures.packs,
     ) in
     let counted = packs_counted c.args.sheet.now all is in
     elim counted [ inl none ↦ absurd (c.if-filled-eq0.false none.0) | inr some ↦ omega (arith, some.1) ]

@@ -1,5 +1,6 @@
 use Rattle.std.proofs.Common.{◌≡◌, ◌*◌, ◌+◌, refl, subst, ◌∙◌, arith}
 use Rattle.stream_writer.specs.Given.{ComesLater}
+use Rattle.stream_writer.proofs.MadeBlocks.{program_made}
 use Rattle.stream_writer.proofs.Pieces.{on_err}
 use Rattle.stream_writer.proofs.Slots.{none_later, later_more}
 use Rattle.stream_writer.proofs.Quiet.{start_quiet}
@@ -20,27 +21,35 @@ pub returns-in_err-put_all-clause-part : goal.returns-in_err-put_all-clause-part
 returns-in_err-put_all-clause-part g c =
     let so_far = c.loop-b.invariant in
     let layout = c.args.layout.now in
+    let made =
+    program_made layout c.loop-b.b c.p_bit.result c.program_frame.result c.next_symbols.new.symbols
+    c.built-block.result c.p_bit.ensures c.program_frame.ensures.frame c.built-block.ensures.bytes
+    c.built-block.ensures.built in
     on_err c.from_residual.result _
     (part_more layout (g.P.PackSource.comes c.args.source.now) (g.P.PackSource.comes c.loop-b.source)
     c.loop-b.b (g.K.Sink.held c.args.out.now) (g.K.Sink.held c.loop-b.out) _
-    c.loop-b.spread c.next_symbols.new.spread c.next_symbols.new.symbols c.program_block-block.result
+    c.loop-b.spread c.next_symbols.new.spread c.next_symbols.new.symbols c.built-block.result
     so_far.done (omega (arith, c.blocks-blocks.ensures.blocks)) so_far.later
     c.next_symbols.ensures.symbols
-    c.program_block-block.ensures.bytes c.in_err-put_all.ensures.part
+    made.bytes c.in_err-put_all.ensures.part
     (g.P.PackSource.comes c.next_symbols.new.source) c.next_symbols.ensures.later)
 
 pub loop-b-preserved : goal.loop-b-preserved
 loop-b-preserved g c =
     let so_far = c.loop-b.invariant in
     let layout = c.args.layout.now in
+    let made =
+    program_made layout c.loop-b.b c.p_bit.result c.program_frame.result c.next_symbols.new.symbols
+    c.built-block.result c.p_bit.ensures c.program_frame.ensures.frame c.built-block.ensures.bytes
+    c.built-block.ensures.built in
     record {
       done =
           block_more layout (g.P.PackSource.comes c.args.source.now) (g.P.PackSource.comes c.loop-b.source)
           c.loop-b.b (g.K.Sink.held c.args.out.now) (g.K.Sink.held c.loop-b.out) _
-          c.loop-b.spread c.next_symbols.new.spread c.next_symbols.new.symbols c.program_block-block.result
+          c.loop-b.spread c.next_symbols.new.spread c.next_symbols.new.symbols c.built-block.result
           so_far.done so_far.later
           c.next_symbols.ensures.symbols
-          c.program_block-block.ensures.bytes c.program_block-block.ensures.built c.in_ok-put_all.ensures.ok;
+          made.bytes made.built c.in_ok-put_all.ensures.ok;
       quiet = c.next_symbols.ensures.quiet;
       later =
           later_more (g.P.PackSource.comes c.args.source.now) (g.P.PackSource.comes c.loop-b.source)
