@@ -54,7 +54,7 @@ extern "C" {
 #endif
 
 #define RIBJASPER_VERSION_MAJOR 1
-#define RIBJASPER_VERSION_MINOR 11
+#define RIBJASPER_VERSION_MINOR 12
 #define RIBJASPER_VERSION_PATCH 0
 
 /* This is the version of this header as one number. */
