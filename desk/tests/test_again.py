@@ -150,7 +150,7 @@ class AgainTest(FolderTest):
             beside = self.write(f"b.{ending}", bytes((294 if ending == "c2" else 588) * (DISC.end - 150)))
             ran = desk("damage", stream, "--again", beside, "--force")
             self.assertEqual(ran.status, 3)
-            self.assertIn("is read here", ran.errors)
+            self.assertIn("is an input", ran.errors)
             self.assertFalse(re.search(rb"[^\0]", beside.read_bytes()))
 
 

@@ -71,7 +71,7 @@ class TableTest(unittest.TestCase):
     def test_what_nobody_thought_of(self) -> None:
         kind, message, status = called(KeyError("x\ny"))
         self.assertEqual((kind, status, "\n" in message), (Fault, 8, False))
-        self.assertIn("a fault of the desk", message)
+        self.assertIn("an internal error of the desk", message)
 
     def test_failures_stay(self) -> None:
         for failure in (Missing("this needs x"), Refusal("a", "b"), Unwritten("a", "b")):

@@ -40,7 +40,7 @@ class CallsTest(FolderTest):
             if path.is_file()
         }
 
-    def refuses(self, *words: Word, why: str = "is read here", status: int = 3) -> Ran:
+    def refuses(self, *words: Word, why: str = "is an input", status: int = 3) -> Ran:
         """A call that is refused, and after which all is as it was."""
         before = self.content()
         ran = desk(*words)
@@ -87,7 +87,7 @@ class SameFileTest(CallsTest):
         for words in calls:
             forces: tuple[tuple[str, ...], ...] = ((), ("--force",))
             for force in forces:
-                why = "is read here" if words[0] != "report" else "is the folder that is read"
+                why = "is an input" if words[0] != "report" else "is the folder with the dumps"
                 errors = self.refuses(*words, *force, why=why).errors
                 self.assertEqual(len(errors.splitlines()), 1, errors)
 
@@ -168,11 +168,11 @@ class CompanionsTest(CallsTest):
             "rip.c2": ("damage", self.dump, "--again"),
         }
         for name, words in calls.items():
-            self.refuses(*words, self.folder / name, "--force", why="is read here and would be overwritten")
+            self.refuses(*words, self.folder / name, "--force", why="is an input and would be overwritten")
             ran = desk(*words, self.folder / name)
             self.assertEqual(ran.status, 3)
             os.link(self.folder / name, self.folder / "other")
-            self.refuses(*words, self.folder / "other", "--force", why="is read here as")
+            self.refuses(*words, self.folder / "other", "--force", why="is an input as")
             (self.folder / "other").unlink()
         os.link(self.folder / "rip.cue", self.folder / "linked.raw")
         others: tuple[tuple[Word, ...], ...] = (
@@ -184,9 +184,9 @@ class CompanionsTest(CallsTest):
             before = self.content()
             ran = desk(*words, "--force")
             self.assertEqual((ran.status, self.content()), (3, before), words)
-            self.assertIn("is read here", ran.errors)
+            self.assertIn("is an input", ran.errors)
         (self.folder / "linked.raw").unlink()
-        self.refuses("texts", self.dump, "--packs", self.folder / "rip.cue", "--force", why="is read here")
+        self.refuses("texts", self.dump, "--packs", self.folder / "rip.cue", "--force", why="is an input")
 
     def test_other_names_are_outputs(self) -> None:
         self.assertEqual(desk("sheet", self.dump, "-o", self.folder / "new.cue").status, 0)

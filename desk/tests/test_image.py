@@ -221,7 +221,7 @@ class ImageTest(FolderTest):
         refused("is neither a stream", stream=self.sheet)
         refused("is a .cdg file, not a raw stream", stream=self.write("a.cdg", bytes(24 * 50)))
         self.disc = self.folder / "a"
-        refused("a.cue: is read here and would be overwritten")
+        refused("a.cue: is an input and would be overwritten")
 
 
 if __name__ == "__main__":

@@ -66,9 +66,9 @@ class OutputTest(FolderTest):
         os.mkdir(self.path("folder"))
         for name in ("in", "hard", "soft", "softer", "folder/../in"):
             for force in (False, True):
-                self.refused("is read here", [path], [(self.path(name), ANY)], force=force)
-        self.refused("is read here", [other], [(other, ANY)])
-        self.refused("is read here", [path, other], [(self.path("new"), ANY), (path, ANY)])
+                self.refused("is an input", [path], [(self.path(name), ANY)], force=force)
+        self.refused("is an input", [other], [(other, ANY)])
+        self.refused("is an input", [path, other], [(self.path("new"), ANY), (path, ANY)])
 
     def test_an_output_that_is_read_meanwhile(self) -> None:
         """Whoever opens it to read, and by whichever name; nothing appears."""
@@ -81,7 +81,7 @@ class OutputTest(FolderTest):
                     outputs.write(path, b"other")
                     with open(self.path(name), "rb") as file:
                         file.read()
-                self.assertIn("is read here", str(caught.exception))
+                self.assertIn("is an input", str(caught.exception))
                 self.assertEqual((path.read_bytes(), new.exists()), (b"dump", False))
         with self.assertRaises(Failure), Outputs([], [(path, ANY)]) as outputs:
             path.read_text()

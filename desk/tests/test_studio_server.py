@@ -182,7 +182,7 @@ class ServerTest(StudioTest):
         with self.served(studio) as server, mock.patch.object(studio, "undo", side_effect=ZeroDivisionError("x")):
             found = self.ask(server, "undo", {})
             self.assertEqual(found.status, 500)
-            self.assertIn("a fault of the desk", found.table["error"])
+            self.assertIn("an internal error of the desk", found.table["error"])
             self.assertEqual(self.ask(server, "song").status, 200)
 
     def test_the_sound_in_parts(self) -> None:

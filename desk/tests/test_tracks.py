@@ -244,7 +244,7 @@ class TracksTest(FolderTest):
         image = self.image()
         ran = desk("sums", "--tracks", self.folder / "disc.cue", "--dat", image, "--force")
         self.assertEqual(ran.status, 3)
-        self.assertIn("is read here", ran.errors)
+        self.assertIn("is an input", ran.errors)
         self.assertEqual(image.read_bytes(), self.whole)
 
 

@@ -421,7 +421,7 @@ class Outputs:
 def _is_read(output: Output, read: str) -> Refusal:
     """Why an output that is read too is refused."""
     same = "" if read == output.target.name else f" as {shown(read)}"
-    return Refusal(output.name, f"is read here{same} and would be overwritten")
+    return Refusal(output.name, f"is an input{same} and would be overwritten")
 
 
 def stem_of(name: Name) -> str:

@@ -45,7 +45,7 @@ class PairFiles:
 
     def writes(self) -> list[tuple[str, Kind]]:
         if self.is_there and self.intro and not self.is_packed:
-            raise Refusal(self.sound, "is read here, and --intro would change it; -o names another pair")
+            raise Refusal(self.sound, "is an input, and --intro would change it; -o names another pair")
         if self.is_packed:
             return [(self.packed, kinds.ZIP)]
         return [(self.cdg, kinds.CDG)] + [(self.sound, kinds.SOUND)] * (not self.is_there)

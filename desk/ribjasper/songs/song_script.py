@@ -286,7 +286,7 @@ def without_missing(song: Song, wishes: Wishes) -> list[str]:
     song.title, song.performer = spelled(song.title, "the title"), spelled(song.performer, "the performer")
     song.singers = [spelled(name, "the singers") for name in song.singers]
     if not song.lines:
-        raise Refusal(song.path, f"no font here has its letters; --font names another than {font.paths[0]}")
+        raise Refusal(song.path, f"no installed font has its letters; --font names a font other than {font.paths[0]}")
     return list(dict.fromkeys(notes))
 
 
