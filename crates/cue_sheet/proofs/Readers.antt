@@ -17,8 +17,7 @@ text_of_track Title t = refl
 text_of_track Performer t = refl
 text_of_track Songwriter t = refl
 
--- a track in memory is the track of its place
-pub track_of_place : (album : Section) (tracks : List Track) (sheet : CueSheet) (k : ℕ) (t : Track)
+track_of_place : (album : Section) (tracks : List Track) (sheet : CueSheet) (k : ℕ) (t : Track)
     → sheet_value album tracks ≡ sheet → k < length sheet.tracks → t ≡ get_or tracks k t
     → track_value t ≡ track_of sheet k
 track_of_place album tracks sheet k t is lt at =
@@ -28,13 +27,21 @@ track_of_place album tracks sheet k t is lt at =
     get_or-map track_value tracks k t no_track size ∙ ap track_value (sym at) in
     sym found ∙ ap (λ s. track_of s k) is
 
-pub good_place : (album : Section) (tracks : List Track) (sheet : CueSheet) (k : ℕ) (t : Track)
+good_place : (album : Section) (tracks : List Track) (sheet : CueSheet) (k : ℕ) (t : Track)
     → sheet_value album tracks ≡ sheet → k < length sheet.tracks → t ≡ get_or tracks k t
     → IsSheet (sheet_value album tracks)
     → IsTrack (track_value t)
 good_place album tracks sheet k t is lt at good =
     let whole : IsSheet sheet = subst IsSheet is good in
     subst IsTrack (sym (track_of_place album tracks sheet k t is lt at)) (whole.tracks k lt)
+
+-- a track in memory is the track of its place, and its values are in range
+pub found_track : (album : Section) (tracks : List Track) (sheet : CueSheet) (k : ℕ) (t : Track)
+    → sheet_value album tracks ≡ sheet → k < length sheet.tracks → t ≡ get_or tracks k t
+    → IsSheet (sheet_value album tracks)
+    → (track_value t ≡ track_of sheet k) × IsTrack (track_value t)
+found_track album tracks sheet k t is lt at good =
+    (track_of_place album tracks sheet k t is lt at, good_place album tracks sheet k t is lt at good)
 
 pub first_range : (album : Section) (tracks : List Track) (t : Track)
     → t ≡ get_or tracks 0 t → IsSheet (sheet_value album tracks) → (1 ≤ t.number) × (t.number ≤ 99)

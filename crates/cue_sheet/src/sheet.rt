@@ -3,10 +3,10 @@ ghost use Rattle.std.specs.Prelude.{◌≡◌, ◌≤◌, ◌<◌, All, IfSome, 
 ghost use Rattle.disc_time.specs.Counts.{most_tracks, time_count};
 ghost use Rattle.disc_time.specs.Fields.{control_values};
 ghost use Rattle.text_lines.specs.Text.{most_text_bytes};
-ghost use Rattle.cue_sheet.specs.CueSheet.{CueSheet, IsSheet, IsText, IsTrack, is_capital_code, is_catalogue_number, track_of, text_at, index_line_of};
+ghost use Rattle.cue_sheet.specs.CueSheet.{CueSheet, IsSheet, IsText, is_capital_code, is_catalogue_number, track_of, text_at, index_line_of};
 ghost use Rattle.cue_sheet.specs.Grammar.{read_cue};
 ghost use Rattle.cue_sheet.specs.SheetBytes.{HasByteTexts};
-ghost use Rattle.cue_sheet.specs.Views.{sheet_value, track_value};
+ghost use Rattle.cue_sheet.specs.Views.{sheet_value};
 
 use crate::fault::{CueStop, CueText};
 use crate::reader::{Section, SheetReader, Track};
@@ -60,15 +60,6 @@ impl Sheet {
         let _album = &self.album;
     }
 
-    // Track k, counted from 0.
-    fn track(&self, k: usize) -> &Track
-        requires { k < length self.now.tracks }
-        ensures track { track_value result.now ≡ track_of self.now k }
-        ensures good { IsTrack (track_value result.now) }
-    {
-        &self.tracks[k]
-    }
-
     /// The first track's number, 1 to 99.
     pub fn first(&self) -> u8
         ensures number { result ≡ (track_of self.now 0).number }
@@ -98,7 +89,7 @@ impl Sheet {
         if place == 0 {
             return self.album.text(kind);
         }
-        self.track(place - 1).section.text(kind)
+        self.tracks[place - 1].section.text(kind)
     }
 
     /// The ISRC of track k, from 0: two capital letters, three capital letters or digits, and seven digits, in ASCII.
@@ -107,7 +98,7 @@ impl Sheet {
         ensures code { option_copied result ≡ (track_of self.now k).isrc }
         ensures characters { IfSome result (λ code. IsTrue (is_capital_code code.now)) }
     {
-        match &self.track(k).section.isrc {
+        match &self.tracks[k].section.isrc {
             Some(code) => Some(code),
             None => None,
         }
@@ -119,7 +110,7 @@ impl Sheet {
         ensures control { result ≡ (track_of self.now k).control }
         ensures bound { result < control_values }
     {
-        self.track(k).section.control.unwrap_or(0)
+        self.tracks[k].section.control.unwrap_or(0)
     }
 
     /// The length of the gap before track k, counted from 0, in blocks, 75 a second: below 450,000.
@@ -128,7 +119,7 @@ impl Sheet {
         ensures gap { result ≡ (track_of self.now k).pregap }
         ensures bound { result < time_count }
     {
-        self.track(k).section.pregap.unwrap_or(0)
+        self.tracks[k].section.pregap.unwrap_or(0)
     }
 
     /// The length of the gap after track k, counted from 0, in blocks, 75 a second: below 450,000.
@@ -137,7 +128,7 @@ impl Sheet {
         ensures gap { result ≡ (track_of self.now k).postgap }
         ensures bound { result < time_count }
     {
-        self.track(k).section.postgap.unwrap_or(0)
+        self.tracks[k].section.postgap.unwrap_or(0)
     }
 
     /// The number of index lines of track k, counted from 0: 1 to 100.
@@ -146,7 +137,7 @@ impl Sheet {
         ensures count { result ≡ length (track_of self.now k).indices }
         ensures some { 1 ≤ result }
     {
-        self.track(k).section.indices.len()
+        self.tracks[k].section.indices.len()
     }
 
     /// The number, 0 to 99, and the file time of index line j of track k, both counted from 0. The time is in blocks,
@@ -157,7 +148,7 @@ impl Sheet {
         ensures line { result ≡ index_line_of (track_of self.now k) j }
         ensures bound { (result.0 ≤ 99) × (result.1 < time_count) }
     {
-        self.track(k).section.indices[j]
+        self.tracks[k].section.indices[j]
     }
 }
 
