@@ -94,7 +94,8 @@ pub fn weight(new: &Tile) -> u8
     Basis::of(new.pixels()).weight() as u8
 }
 
-// The values to combine with the old pixels, or `None` for equal tiles.
+// The values to combine with the old pixels, or `None` for equal tiles. Always inlined, so that they are not copied.
+#[inline(always)]
 fn changes(old: &Tile, new: &Tile) -> Option<[u8; PIXELS]>
     ensures changes { MatchOption result (are_equal old.now new.now ≡ true)
         (λ changes. (are_equal old.now new.now ≡ false) × (changes ≡ delta old.now new.now)
