@@ -27,6 +27,13 @@ pub new-becomes : (pixels : List ℕ) (n : ℕ) → pixels ≡ replicate n 0 →
 unfolding pixel_of
 new-becomes pixels n h size x y x_lt y_lt = rw h (get_or-replicate {A = ℕ} n (288 * y + x) 0 0 (omega arith))
 
+-- the colours of an empty canvas
+pub no_colour : (n : ℕ) → get_or {A = ℕ} (replicate 16 0) n 0 ≡ 0
+no_colour n = elim (cases_lt n 16) [
+  | inl lt ↦ get_or-replicate {A = ℕ} 16 n 0 0 lt
+  | inr past ↦ get_or_past {X = ℕ} (replicate 16 0) n 0 (omega (arith, length-replicate {A = ℕ} 16 0))
+]
+
 pub all-becomes : (pixels : List ℕ) (colour : ℕ) → ((k : ℕ) → k < 55296 → get_or pixels k 0 ≡ colour)
     → ArePixelsOf pixels (λ x y. colour)
 unfolding pixel_of

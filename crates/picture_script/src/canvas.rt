@@ -26,14 +26,6 @@ impl Model for Window {
 }
 
 impl Window {
-    /// A window whose pixels are all 0.
-    pub(crate) fn new(alloc: Global) -> Result<Window, AllocError>
-        ensures { IfOk result (λ w. ArePixelsOf w (λ x y. 0)) }
-    {
-        let pixels = vec![in alloc; 0; WINDOW_PIXELS]?;
-        Ok(Window { pixels })
-    }
-
     /// The colour number of a pixel.
     pub(crate) fn get(&self, x: usize, y: usize) -> u8
         requires width { x < window_width }
@@ -181,8 +173,9 @@ impl Canvas {
         ensures blank { IfOk result IsBlank }
         ensures at { IfOk result (λ c. c.at ≡ None) }
     {
+        let pixels = vec![in alloc; 0; WINDOW_PIXELS]?;
         Ok(Canvas {
-            window: Window::new(alloc)?,
+            window: Window { pixels },
             border: 0,
             colours: [0; COLOURS],
             at: None,
@@ -253,33 +246,6 @@ impl Canvas {
         }
     }
 
-    // Draws the lines of a script between two places. The lines before them have been drawn.
-    fn draw_lines(&mut self, script: &Script, from: usize, to: usize)
-        requires order { from ≤ to }
-        requires lines { to ≤ length script.now }
-        requires before { IsDrawn (drawn_by (take from script.now)) self.old }
-        ensures drawn { IsDrawn (drawn_by (take to script.now)) self.new }
-    {
-        for i in from..to {
-            self.draw(script.lines[i], &script.pixels);
-        }
-    }
-
-    // Draws the lines up to a line that fills the window. The pixels of the lines before it are skipped.
-    fn draw_fill(&mut self, script: &Script, from: usize, place: usize, colour: u8)
-        requires order { from ≤ place }
-        requires place { place < length script.now }
-        requires fill { slice_index_or script.now place (Fill 0) ≡ Fill colour }
-        requires colour { colour < colour_count }
-        requires before { IsDrawn (drawn_by (take from script.now)) self.old }
-        ensures drawn { IsDrawn (drawn_by (take (place + 1) script.now)) self.new }
-    {
-        for i in from..place {
-            self.set(script.lines[i]);
-        }
-        self.window.clear(colour);
-    }
-
     /// Draws picture `k` of a script: the lines before its show line that have not been drawn yet. Pixels that a later
     /// line fills are skipped.
     ///
@@ -290,17 +256,20 @@ impl Canvas {
         ensures picture { IsPicture script.now k self.new }
         ensures at { self.new.at ≡ Some k }
     {
-        let from = match self.at {
+        let mut from = match self.at {
             Some(drawn) => script.place(drawn),
             None => 0,
         };
         let to = script.place(k);
-        match script.last_fill(from, to) {
-            Some((place, colour)) => {
-                self.draw_fill(script, from, place, colour);
-                self.draw_lines(script, place + 1, to);
+        if let Some((place, colour)) = script.last_fill(from, to) {
+            for i in from..place {
+                self.set(script.lines[i]);
             }
-            None => self.draw_lines(script, from, to),
+            self.window.clear(colour);
+            from = place + 1;
+        }
+        for i in from..to {
+            self.draw(script.lines[i], &script.pixels);
         }
         self.at = Some(k);
     }

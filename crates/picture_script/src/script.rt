@@ -169,18 +169,9 @@ impl Script {
         if k == 0 || k >= self.pictures() {
             return [true; WINDOW_ROWS];
         }
-        self.rows_between(self.place(k - 1), self.place(k))
-    }
-
-    // The rows on which the lines between two places draw.
-    fn rows_between(&self, from: usize, to: usize) -> [bool; WINDOW_ROWS]
-        requires order { from ≤ to }
-        requires lines { to ≤ length self.now }
-        ensures leaves { LeavesRows self.now from to result }
-        ensures marks { MarksRows self.now from to result }
-    {
+        let from = self.place(k - 1);
         let mut rows = [false; WINDOW_ROWS];
-        for i in from..to {
+        for i in from..self.place(k) {
             mark_line(&mut rows, self.lines[i]);
         }
         rows
