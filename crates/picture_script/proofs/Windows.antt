@@ -27,6 +27,13 @@ pub new-becomes : (pixels : List ℕ) (n : ℕ) → pixels ≡ replicate n 0 →
 unfolding pixel_of
 new-becomes pixels n h size x y x_lt y_lt = rw h (get_or-replicate {A = ℕ} n (288 * y + x) 0 0 (omega arith))
 
+-- the colours of an empty canvas
+pub no_colour : (n : ℕ) → get_or {A = ℕ} (replicate 16 0) n 0 ≡ 0
+no_colour n = elim (cases_lt n 16) [
+  | inl lt ↦ get_or-replicate {A = ℕ} 16 n 0 0 lt
+  | inr past ↦ get_or_past {X = ℕ} (replicate 16 0) n 0 (omega (arith, length-replicate {A = ℕ} 16 0))
+]
+
 pub all-becomes : (pixels : List ℕ) (colour : ℕ) → ((k : ℕ) → k < 55296 → get_or pixels k 0 ≡ colour)
     → ArePixelsOf pixels (λ x y. colour)
 unfolding pixel_of
@@ -173,3 +180,15 @@ row-filled items old new len x y count colour same written whole full within dow
           grind (arith, nat_tests)
       | inr past ↦ grind (arith, nat_tests)
     ]
+
+-- one row more of a rectangle
+pub row_more : (old now next : List ℕ) (x y width j colour : ℕ)
+    → ArePixelsOf now
+    (λ x' y'. if is_within x width x' && is_within y j y' then colour else pixel_of old x' y')
+    → ArePixelsOf next (λ x' y'. if y' == y + j && is_within x width x' then colour else pixel_of now x' y')
+    → ArePixelsOf next
+    (λ x' y'. if is_within x width x' && is_within y (j + 1) y' then colour else pixel_of old x' y')
+row_more old now next x y width j colour before row x' y' x'_lt y'_lt =
+    let e = before x' y' x'_lt y'_lt in
+    let f = row x' y' x'_lt y'_lt in
+    elim (cases_eq y' (y + j)) [ inl same ↦ grind (arith, nat_tests) | inr apart ↦ grind (arith, nat_tests) ]

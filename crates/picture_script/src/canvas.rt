@@ -26,14 +26,6 @@ impl Model for Window {
 }
 
 impl Window {
-    /// A window whose pixels are all 0.
-    pub(crate) fn new(alloc: Global) -> Result<Window, AllocError>
-        ensures { IfOk result (λ w. ArePixelsOf w (λ x y. 0)) }
-    {
-        let pixels = vec![in alloc; 0; WINDOW_PIXELS]?;
-        Ok(Window { pixels })
-    }
-
     /// The colour number of a pixel.
     pub(crate) fn get(&self, x: usize, y: usize) -> u8
         requires width { x < window_width }
@@ -45,6 +37,7 @@ impl Window {
     }
 
     /// Compares the columns of twelve pixels in a row of tiles, which begins at `start`, with those of another window.
+    /// The inner loop has no early exit, so it can be vectorized.
     pub(crate) fn equal_columns(&self, other: &Window, start: usize) -> [bool; WINDOW_WIDTH]
         requires { start + tile_height * window_width ≤ window_pixels }
         ensures { (x : ℕ) → x < window_width → slice_index_or result x false ≡ true
@@ -53,12 +46,9 @@ impl Window {
         let mut equal = [true; WINDOW_WIDTH];
         for j in 0..TILE_HEIGHT {
             let line = start + WINDOW_WIDTH * j;
-            let end = line + WINDOW_WIDTH;
-            compare_line(
-                &self.pixels[line..end],
-                &other.pixels[line..end],
-                &mut equal,
-            );
+            for x in 0..WINDOW_WIDTH {
+                equal[x] &= self.pixels[line + x] == other.pixels[line + x];
+            }
         }
         equal
     }
@@ -96,18 +86,6 @@ impl Window {
         self.pixels.fill(colour);
     }
 
-    // Sets pixels of a row to one colour.
-    fn fill_row(&mut self, x: usize, y: usize, width: usize, colour: u8)
-        requires width { x + width ≤ window_width }
-        requires height { y < window_height }
-        requires range { colour < colour_count }
-        ensures { ArePixelsOf self.new (λ x' y'.
-            if y' == y && is_within x width x' then colour else pixel_of self.old x' y') }
-    {
-        let start = WINDOW_WIDTH * y + x;
-        self.pixels[start..start + width].fill(colour);
-    }
-
     /// Sets the pixels of a rectangle to one colour.
     pub(crate) fn fill(&mut self, x: usize, y: usize, width: usize, height: usize, colour: u8)
         requires width { x + width ≤ window_width }
@@ -117,7 +95,8 @@ impl Window {
             if is_within x width x' && is_within y height y' then colour else pixel_of self.old x' y') }
     {
         for j in 0..height {
-            self.fill_row(x, y + j, width, colour);
+            let start = WINDOW_WIDTH * (y + j) + x;
+            self.pixels[start..start + width].fill(colour);
         }
     }
 
@@ -132,18 +111,6 @@ impl Window {
     {
         let start = WINDOW_WIDTH * y + x;
         self.pixels[start..start + colours.len()].copy_from_slice(colours);
-    }
-}
-
-// Clears the mark of each pixel that differs in two lines. The loop has no early exit, so it can be vectorized.
-fn compare_line(line: &[u8], other: &[u8], equal: &mut [bool; WINDOW_WIDTH])
-    requires line { length line.now ≡ window_width }
-    requires other { length other.now ≡ window_width }
-    ensures { (x : ℕ) → x < window_width → slice_index_or equal.new x false ≡ true
-        ↔ (slice_index_or equal.old x false ≡ true) × (slice_index line.now x ≡ slice_index other.now x) }
-{
-    for x in 0..WINDOW_WIDTH {
-        equal[x] &= line[x] == other[x];
     }
 }
 
@@ -170,8 +137,8 @@ impl Model for Canvas {
 }
 
 impl Canvas {
-    ghost use Rattle.std.specs.Prelude.{◌≡◌, ◌<◌, ◌≤◌, ◌+◌, ◌-◌, ◌*◌, ℕ, List, length, slice_index, slice_index_or, true, false, IfOk, ◌↔◌, Some, None, take};
-    ghost use Rattle.picture_script.specs.Script.{Drawing, Fill, Picture, drawn, drawn_by, pictures, picture_tile};
+    ghost use Rattle.std.specs.Prelude.{◌≡◌, ◌<◌, ◌≤◌, ◌+◌, ◌-◌, ◌*◌, ℕ, List, length, slice_index, slice_index_or, true, false, IfOk, ◌↔◌, Some, None};
+    ghost use Rattle.picture_script.specs.Script.{Drawing, Picture, drawn, pictures, picture_tile};
     ghost use Rattle.picture_script.specs.Board.{Board, pixel_of, tile_of, AreColours, IsBlank, IsPicture, IsDrawn, IsSet, StandsBefore};
     ghost use Rattle.picture_script.specs.Lines.{said, is_kept};
     ghost use Rattle.cdg_instructions.specs.Sizes.{colour_count, colour_values, window_columns, window_height, window_rows, window_width};
@@ -181,8 +148,9 @@ impl Canvas {
         ensures blank { IfOk result IsBlank }
         ensures at { IfOk result (λ c. c.at ≡ None) }
     {
+        let pixels = vec![in alloc; 0; WINDOW_PIXELS]?;
         Ok(Canvas {
-            window: Window::new(alloc)?,
+            window: Window { pixels },
             border: 0,
             colours: [0; COLOURS],
             at: None,
@@ -253,33 +221,6 @@ impl Canvas {
         }
     }
 
-    // Draws the lines of a script between two places. The lines before them have been drawn.
-    fn draw_lines(&mut self, script: &Script, from: usize, to: usize)
-        requires order { from ≤ to }
-        requires lines { to ≤ length script.now }
-        requires before { IsDrawn (drawn_by (take from script.now)) self.old }
-        ensures drawn { IsDrawn (drawn_by (take to script.now)) self.new }
-    {
-        for i in from..to {
-            self.draw(script.lines[i], &script.pixels);
-        }
-    }
-
-    // Draws the lines up to a line that fills the window. The pixels of the lines before it are skipped.
-    fn draw_fill(&mut self, script: &Script, from: usize, place: usize, colour: u8)
-        requires order { from ≤ place }
-        requires place { place < length script.now }
-        requires fill { slice_index_or script.now place (Fill 0) ≡ Fill colour }
-        requires colour { colour < colour_count }
-        requires before { IsDrawn (drawn_by (take from script.now)) self.old }
-        ensures drawn { IsDrawn (drawn_by (take (place + 1) script.now)) self.new }
-    {
-        for i in from..place {
-            self.set(script.lines[i]);
-        }
-        self.window.clear(colour);
-    }
-
     /// Draws picture `k` of a script: the lines before its show line that have not been drawn yet. Pixels that a later
     /// line fills are skipped.
     ///
@@ -290,17 +231,20 @@ impl Canvas {
         ensures picture { IsPicture script.now k self.new }
         ensures at { self.new.at ≡ Some k }
     {
-        let from = match self.at {
+        let mut from = match self.at {
             Some(drawn) => script.place(drawn),
             None => 0,
         };
         let to = script.place(k);
-        match script.last_fill(from, to) {
-            Some((place, colour)) => {
-                self.draw_fill(script, from, place, colour);
-                self.draw_lines(script, place + 1, to);
+        if let Some((place, colour)) = script.last_fill(from, to) {
+            for i in from..place {
+                self.set(script.lines[i]);
             }
-            None => self.draw_lines(script, from, to),
+            self.window.clear(colour);
+            from = place + 1;
+        }
+        for i in from..to {
+            self.draw(script.lines[i], &script.pixels);
         }
         self.at = Some(k);
     }

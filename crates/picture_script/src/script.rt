@@ -1,7 +1,7 @@
 // A script: the lines that draw its pictures, and the times of the pictures.
 ghost use Rattle.std.specs.Prelude.{◌≡◌, ◌<◌, ◌≤◌, ◌+◌, ◌/◌, ◌⊎◌, ℕ, List, false, true, length, slice_index_or};
 ghost use Rattle.picture_script.specs.Script.{Picture, drawn};
-ghost use Rattle.picture_script.specs.DrawnRows.{DrawsOn, KeepsRows, LeavesRows, MarksRows, TellsRows};
+ghost use Rattle.picture_script.specs.DrawnRows.{DrawsOn, KeepsRows, TellsRows};
 ghost use Rattle.picture_script.specs.Lines.{is_kept, said};
 ghost use Rattle.cdg_instructions.specs.Sizes.{tile_height, window_rows};
 
@@ -169,18 +169,9 @@ impl Script {
         if k == 0 || k >= self.pictures() {
             return [true; WINDOW_ROWS];
         }
-        self.rows_between(self.place(k - 1), self.place(k))
-    }
-
-    // The rows on which the lines between two places draw.
-    fn rows_between(&self, from: usize, to: usize) -> [bool; WINDOW_ROWS]
-        requires order { from ≤ to }
-        requires lines { to ≤ length self.now }
-        ensures leaves { LeavesRows self.now from to result }
-        ensures marks { MarksRows self.now from to result }
-    {
+        let from = self.place(k - 1);
         let mut rows = [false; WINDOW_ROWS];
-        for i in from..to {
+        for i in from..self.place(k) {
             mark_line(&mut rows, self.lines[i]);
         }
         rows

@@ -1,5 +1,5 @@
 use Rattle.picture_script.specs.DrawnRows.{LeavesRows, MarksRows}
-use Rattle.picture_script.proofs.script.Script.rows_between.Given as goal
+use Rattle.picture_script.proofs.script.Script.drawn_rows.Given as goal
 
 abbrev pub invariant-loop-i : goal.invariant-loop-i
 invariant-loop-i l = record {

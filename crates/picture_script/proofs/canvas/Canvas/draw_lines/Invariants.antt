@@ -1,7 +1,0 @@
-use Rattle.std.specs.Prelude.{take}
-use Rattle.picture_script.specs.Script.{drawn_by}
-use Rattle.picture_script.specs.Board.{IsDrawn}
-use Rattle.picture_script.proofs.canvas.Canvas.draw_lines.Given as goal
-
-abbrev pub invariant-loop-i : goal.invariant-loop-i
-invariant-loop-i l = IsDrawn (drawn_by (take l.i l.script)) l.self
