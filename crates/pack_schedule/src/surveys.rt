@@ -1,5 +1,5 @@
 // When the change of each picture of a script is sent, and which picture is the first late one.
-ghost use Rattle.std.specs.Prelude.{◌≡◌, ◌<◌, ◌≤◌, ◌+◌, ◌-◌, ◌*◌, ℕ, [], length, slice_index_or, IfOk, IfErr, IsTrue, OnOk, ◌↔◌, vec_capacity, vec_len, nat_le};
+ghost use Rattle.std.specs.Prelude.{◌≡◌, ◌<◌, ◌≤◌, ◌+◌, ◌-◌, ◌*◌, ℕ, length, slice_index_or, IfOk, IfErr, IsTrue, ◌↔◌, nat_le};
 ghost use Rattle.disc_time.specs.Counts.{time_count};
 ghost use Rattle.raw_subcode.specs.Sizes.{slots_a_block};
 ghost use Rattle.picture_script.specs.Script.{pictures, ready_time};
@@ -106,49 +106,22 @@ pub fn survey_in(room: SurveyRoom, script: &Script, blocks: u32) -> Result<Surve
     ensures planned { IfOk result (IsSurvey script.now) }
     ensures late { IfErr result (IsLatePicture script.now) }
 {
-    // A law: the times of pictures rise, so no picture is held past the end.
+    // Laws: the times of pictures rise, so no picture is held past the end, and a late picture needs the reported packs.
     script.times_rise_and_colours_are_in_range();
+    needs_are_fewest();
     let SurveyRoom {
         mut before,
         mut now,
         mut planned,
     } = room;
-    let answer = survey_on(script, &mut before, &mut now, &mut planned);
-    drop(before);
-    drop(now);
-    match answer {
-        Ok(()) => Ok(Survey { planned }),
-        Err(late) => {
-            drop(planned);
-            Err(late)
-        }
-    }
-}
-
-// Plans the changes in order, on two empty canvases.
-fn survey_on(
-    script: &Script,
-    before: &mut Canvas,
-    now: &mut Canvas,
-    planned: &mut Vec<PlannedChange>,
-) -> Result<(), LatePicture>
-    requires before { Stands script.now 0 before.old }
-    requires now { Stands script.now 0 now.old }
-    requires none { (planned.old.items ≡ []) × (vec_len planned.old ≡ 0) }
-    requires room { pictures script.now ≤ vec_capacity planned.old }
-    ensures planned { OnOk result (IsSurvey script.now planned.new.items) }
-    ensures late { IfErr result (IsLatePicture script.now) }
-{
-    // A law: a late picture needs the reported packs.
-    needs_are_fewest();
     let pictures = script.pictures();
     let mut weights = [NOT_WEIGHED; WINDOW_TILES];
     for k in 0..pictures {
-        let change = plan_in_time(script, k, before, now, &mut weights)?;
+        let change = plan_in_time(script, k, &before, &mut now, &mut weights)?;
         planned.push_reserved(change);
-        before.draw_like(script, k, now);
+        before.draw_like(script, k, &now);
     }
-    Ok(())
+    Ok(Survey { planned })
 }
 
 // The planned change of picture `k`, if it is in time. The picture is drawn on `now`.

@@ -4,7 +4,7 @@ use Rattle.picture_script.specs.Script.{pictures}
 use Rattle.pack_schedule.specs.Weights.{AreWeights}
 use Rattle.pack_schedule.specs.Survey.{ArePlanned}
 use Rattle.pack_schedule.specs.Weaving.{Stands}
-use Rattle.pack_schedule.proofs.surveys.survey_on.Given as goal
+use Rattle.pack_schedule.proofs.surveys.survey_in.Given as goal
 
 abbrev pub invariant-loop-k : goal.invariant-loop-k
 invariant-loop-k l =
