@@ -37,7 +37,7 @@ track sheet Title k is inside = (is.tracks k inside).title
 track sheet Performer k is inside = (is.tracks k inside).performer
 track sheet Songwriter k is inside = (is.tracks k inside).songwriter
 
-text_is_string : (sheet : CueSheet) (kind : CueText) (place : ℕ) → IsSheet sheet
+pub text_is_string : (sheet : CueSheet) (kind : CueText) (place : ℕ) → IsSheet sheet
     → place ≤ length sheet.tracks
     → IsString (text_at kind sheet place)
 text_is_string sheet kind place is inside =
@@ -139,7 +139,7 @@ code_is_string : (code : Option (List ℕ)) → ForSome code (λ c. IsTrue (is_c
 code_is_string None is = empty_string
 code_is_string (Some code) is = code_string code (is code refl)
 
-code_at_string : (sheet : CueSheet) (place : ℕ) → IsSheet sheet → place ≤ length sheet.tracks
+pub code_at_string : (sheet : CueSheet) (place : ℕ) → IsSheet sheet → place ≤ length sheet.tracks
     → IsString (code_at sheet place)
 code_at_string sheet place is inside =
     cond_both (place == 0) (unwrap_or sheet.catalogue []) (unwrap_or (track_of sheet (place - 1)).isrc [])

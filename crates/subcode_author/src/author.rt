@@ -44,16 +44,10 @@ pub(crate) fn plan_script(
     // The error is `NoMemory` exactly if a request for memory failed, so never for a late picture.
     ensures wants { TellsFault AuthorStop.NoMemory heap.old heap.new result }
 {
-    let room = take_room(heap, script.pictures())?;
+    let pictures = script.pictures();
+    let room = heap.asked(|alloc| SurveyRoom::start(alloc, pictures))?;
     let planned = survey_in(room, script, blocks)?;
     Ok(planned)
-}
-
-fn take_room(heap: &mut Heap, pictures: u32) -> Result<SurveyRoom, AllocError>
-    ensures room { IfOk result (IsRoomFor pictures) }
-    ensures counted { HasCause heap.old heap.new result }
-{
-    heap.asked(|alloc| SurveyRoom::start(alloc, pictures))
 }
 
 /// Everything that `write_stream` needs, allocated.
