@@ -101,18 +101,27 @@ marks_more P marks i told inside before here =
       (λ p. same ∙ here.1 p),
     ))
 
+line_at : (xs ys : List ℕ) (start x : ℕ) → xs ≡ ys → x < 288
+    → get_or (take (start + 288 - start) (drop start xs)) x 0 ≡ get_or ys (start + x) 0
+line_at xs ys start x same lt =
+    get_or-take (start + 288 - start) (drop start xs) x 0 (omega arith)
+    ∙ get_or-drop start xs x 0
+    ∙ ap (λ zs. get_or zs (start + x) 0) same
+
 -- one line more of the columns
-pub column_more : (a b : List ℕ) (start j : ℕ) (old new : List Bool)
+pub column_more : (a b here there : List ℕ) (start j : ℕ) (old new : List Bool) → here ≡ a → there ≡ b
     → ((x : ℕ) → x < 288 → get_or old x false ≡ true
     ↔ ((m : ℕ) → m < j → get_or a (start + x + 288 * m) 0 ≡ get_or b (start + x + 288 * m) 0))
     → ((x : ℕ) → x < 288 → get_or new x false ≡ true
-    ↔ (get_or old x false ≡ true) × (get_or a (start + 288 * j + x) 0 ≡ get_or b (start + 288 * j + x) 0))
+    ↔ (get_or old x false ≡ true)
+    × (get_or (take (start + 288 * j + 288 - (start + 288 * j)) (drop (start + 288 * j) here)) x 0
+    ≡ get_or (take (start + 288 * j + 288 - (start + 288 * j)) (drop (start + 288 * j) there)) x 0))
     → (x : ℕ) → x < 288 → get_or new x false ≡ true
     ↔ ((m : ℕ) → m < j + 1 → get_or a (start + x + 288 * m) 0 ≡ get_or b (start + x + 288 * m) 0)
-column_more a b start j old new before more x lt =
+column_more a b here there start j old new here_is there_is before more x lt =
     let place : start + 288 * j + x ≡ start + x + 288 * j = omega arith in
-    let at_a = ap (λ n. get_or a n 0) place in
-    let at_b = ap (λ n. get_or b n 0) place in (
+    let at_a = line_at here a (start + 288 * j) x here_is lt ∙ ap (λ n. get_or a n 0) place in
+    let at_b = line_at there b (start + 288 * j) x there_is lt ∙ ap (λ n. get_or b n 0) place in (
       (λ told.
           let both = (more x lt).0 told in
           below_more (λ m. get_or a (start + x + 288 * m) 0 ≡ get_or b (start + x + 288 * m) 0) j

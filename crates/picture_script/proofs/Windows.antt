@@ -180,15 +180,3 @@ row-filled items old new len x y count colour same written whole full within dow
           grind (arith, nat_tests)
       | inr past ↦ grind (arith, nat_tests)
     ]
-
--- one row more of a rectangle
-pub row_more : (old now next : List ℕ) (x y width j colour : ℕ)
-    → ArePixelsOf now
-    (λ x' y'. if is_within x width x' && is_within y j y' then colour else pixel_of old x' y')
-    → ArePixelsOf next (λ x' y'. if y' == y + j && is_within x width x' then colour else pixel_of now x' y')
-    → ArePixelsOf next
-    (λ x' y'. if is_within x width x' && is_within y (j + 1) y' then colour else pixel_of old x' y')
-row_more old now next x y width j colour before row x' y' x'_lt y'_lt =
-    let e = before x' y' x'_lt y'_lt in
-    let f = row x' y' x'_lt y'_lt in
-    elim (cases_eq y' (y + j)) [ inl same ↦ grind (arith, nat_tests) | inr apart ↦ grind (arith, nat_tests) ]

@@ -37,7 +37,6 @@ impl Window {
     }
 
     /// Compares the columns of twelve pixels in a row of tiles, which begins at `start`, with those of another window.
-    /// The inner loop has no early exit, so it can be vectorized.
     pub(crate) fn equal_columns(&self, other: &Window, start: usize) -> [bool; WINDOW_WIDTH]
         requires { start + tile_height * window_width ≤ window_pixels }
         ensures { (x : ℕ) → x < window_width → slice_index_or result x false ≡ true
@@ -46,9 +45,12 @@ impl Window {
         let mut equal = [true; WINDOW_WIDTH];
         for j in 0..TILE_HEIGHT {
             let line = start + WINDOW_WIDTH * j;
-            for x in 0..WINDOW_WIDTH {
-                equal[x] &= self.pixels[line + x] == other.pixels[line + x];
-            }
+            let end = line + WINDOW_WIDTH;
+            compare_line(
+                &self.pixels[line..end],
+                &other.pixels[line..end],
+                &mut equal,
+            );
         }
         equal
     }
@@ -86,6 +88,18 @@ impl Window {
         self.pixels.fill(colour);
     }
 
+    // Sets pixels of a row to one colour.
+    fn fill_row(&mut self, x: usize, y: usize, width: usize, colour: u8)
+        requires width { x + width ≤ window_width }
+        requires height { y < window_height }
+        requires range { colour < colour_count }
+        ensures { ArePixelsOf self.new (λ x' y'.
+            if y' == y && is_within x width x' then colour else pixel_of self.old x' y') }
+    {
+        let start = WINDOW_WIDTH * y + x;
+        self.pixels[start..start + width].fill(colour);
+    }
+
     /// Sets the pixels of a rectangle to one colour.
     pub(crate) fn fill(&mut self, x: usize, y: usize, width: usize, height: usize, colour: u8)
         requires width { x + width ≤ window_width }
@@ -95,8 +109,7 @@ impl Window {
             if is_within x width x' && is_within y height y' then colour else pixel_of self.old x' y') }
     {
         for j in 0..height {
-            let start = WINDOW_WIDTH * (y + j) + x;
-            self.pixels[start..start + width].fill(colour);
+            self.fill_row(x, y + j, width, colour);
         }
     }
 
@@ -111,6 +124,18 @@ impl Window {
     {
         let start = WINDOW_WIDTH * y + x;
         self.pixels[start..start + colours.len()].copy_from_slice(colours);
+    }
+}
+
+// Clears the mark of each pixel that differs in two lines. The loop has no early exit, so it can be vectorized.
+fn compare_line(line: &[u8], other: &[u8], equal: &mut [bool; WINDOW_WIDTH])
+    requires line { length line.now ≡ window_width }
+    requires other { length other.now ≡ window_width }
+    ensures { (x : ℕ) → x < window_width → slice_index_or equal.new x false ≡ true
+        ↔ (slice_index_or equal.old x false ≡ true) × (slice_index line.now x ≡ slice_index other.now x) }
+{
+    for x in 0..WINDOW_WIDTH {
+        equal[x] &= line[x] == other[x];
     }
 }
 
@@ -137,8 +162,8 @@ impl Model for Canvas {
 }
 
 impl Canvas {
-    ghost use Rattle.std.specs.Prelude.{◌≡◌, ◌<◌, ◌≤◌, ◌+◌, ◌-◌, ◌*◌, ℕ, List, length, slice_index, slice_index_or, true, false, IfOk, ◌↔◌, Some, None};
-    ghost use Rattle.picture_script.specs.Script.{Drawing, Picture, drawn, pictures, picture_tile};
+    ghost use Rattle.std.specs.Prelude.{◌≡◌, ◌<◌, ◌≤◌, ◌+◌, ◌-◌, ◌*◌, ℕ, List, length, slice_index, slice_index_or, true, false, IfOk, ◌↔◌, Some, None, take};
+    ghost use Rattle.picture_script.specs.Script.{Drawing, Fill, Picture, drawn, drawn_by, pictures, picture_tile};
     ghost use Rattle.picture_script.specs.Board.{Board, pixel_of, tile_of, AreColours, IsBlank, IsPicture, IsDrawn, IsSet, StandsBefore};
     ghost use Rattle.picture_script.specs.Lines.{said, is_kept};
     ghost use Rattle.cdg_instructions.specs.Sizes.{colour_count, colour_values, window_columns, window_height, window_rows, window_width};

@@ -1,7 +1,7 @@
 // A script: the lines that draw its pictures, and the times of the pictures.
 ghost use Rattle.std.specs.Prelude.{◌≡◌, ◌<◌, ◌≤◌, ◌+◌, ◌/◌, ◌⊎◌, ℕ, List, false, true, length, slice_index_or};
 ghost use Rattle.picture_script.specs.Script.{Picture, drawn};
-ghost use Rattle.picture_script.specs.DrawnRows.{DrawsOn, KeepsRows, TellsRows};
+ghost use Rattle.picture_script.specs.DrawnRows.{DrawsOn, KeepsRows, LeavesRows, MarksRows, TellsRows};
 ghost use Rattle.picture_script.specs.Lines.{is_kept, said};
 ghost use Rattle.cdg_instructions.specs.Sizes.{tile_height, window_rows};
 
