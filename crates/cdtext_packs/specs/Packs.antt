@@ -3,7 +3,7 @@
 use Rattle.std.specs.Prelude.{ℕ, ◌+◌, ◌*◌, ◌/◌, ◌%◌, Bool, not, ◌&&◌, List, [], ◌∷◌, ◌++◌, take, drop, slice_index, ◌==◌, nat_lt}
 use Rattle.bit_lists.specs.Check.{check_of}
 
--- the most packs of a disc: the number of a pack is a byte
+-- the maximum number of text packs on a disc: the number of a pack is one byte
 abbrev pub most_text_packs : ℕ
 most_text_packs = 256
 

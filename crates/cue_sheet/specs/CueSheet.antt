@@ -9,8 +9,8 @@ use Rattle.text_lines.specs.Text.{most_text_bytes}
 use Rattle.cue_sheet.specs.declared.fault.CueText.{CueText}
 use Rattle.cue_sheet.specs.declared.fault.CueText.TheVariants.{Title, Performer, Songwriter}
 
--- a track: its number, its control bits, its code, the lengths of its two gaps in blocks, its index lines by number
--- and file time, and its texts
+-- a track: its number, its control bits, its ISRC, the lengths of its two gaps in blocks, its index lines (each a number
+-- and a time in blocks), and its texts
 pub record CueTrack : Type 0 where
   pub number : ℕ
   pub control : ℕ

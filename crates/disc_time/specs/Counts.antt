@@ -18,7 +18,7 @@ pause_blocks = 150
 abbrev pub time_count : ℕ
 time_count = 450000
 
--- the last block whose time can be written: that at 99:59:74
+-- the number of the last block whose time can be written: 99:59:74
 abbrev pub last_block : ℕ
 last_block = 449999
 
@@ -26,7 +26,8 @@ last_block = 449999
 abbrev pub most_lead_in : ℕ
 most_lead_in = time_count
 
--- the most blocks of a program: the lead-out begins behind them, at a block whose time the table of contents writes
+-- the maximum number of blocks in a program. The lead-out begins at the next block, and a time for this block must exist:
+-- 99:59:74 at most.
 abbrev pub most_program : ℕ
 most_program = last_block
 

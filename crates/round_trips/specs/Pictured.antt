@@ -21,7 +21,7 @@ pub record IsScheduledStream (form : Form) (lead_in : ℕ) (script : List Drawin
   pub schedule : IsSchedule script blocks packs
   pub order : AreTimesInOrder script
 
--- The time is between the ready time and the hold time of picture k.
+-- The time, in blocks, is from the ready time to the hold time of picture k.
 pub record IsHeldAt (script : List Drawing) (k time : ℕ) : Type 0 where
   pub picture : k < pictures script
   pub ready : ready_time script k ≤ time

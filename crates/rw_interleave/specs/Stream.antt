@@ -16,7 +16,7 @@ abbrev pub word_count : Form → ℕ → ℕ
 word_count Cooked blocks = slots_a_block * blocks
 word_count _ blocks = whole_packs blocks
 
--- word n of the program symbols: in a cooked stream its symbols are adjacent, otherwise they are interleaved
+-- word n of the program symbols: in a cooked stream, its symbols are next to each other; otherwise they are spread
 abbrev pub form_word : Form → List ℕ → ℕ → List ℕ
 form_word Cooked symbols n = map (λ i. slice_index symbols (word_symbols * n + i)) (below word_symbols)
 form_word _ symbols n = word_of symbols n
@@ -35,8 +35,8 @@ bad_count found = count_by is_none found
 abbrev pub all_packs : Form → ℕ → List (List ℕ) → List (List ℕ)
 all_packs form blocks packs = packs ++ replicate (word_count form blocks - length packs) idle_pack
 
--- `others` contains each word of `symbols` with at most two wrong symbols; each further word has at most two nonzero
--- symbols.
+-- `others` contains each word of `symbols` with at most two wrong symbols. Each further word of `others` has at most two
+-- symbols that are not 0.
 pub record IsDamaged (symbols : List ℕ) (form : Form) (others : List ℕ) : Type 0 where
   pub size : length others ≡ length symbols
   pub words : (n : ℕ) → n < whole_packs (length symbols / block_bytes)

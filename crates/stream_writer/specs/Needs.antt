@@ -7,7 +7,7 @@ use Rattle.stream_writer.specs.SheetTexts.{texts_of_sheet}
 use Rattle.cdtext_packs.specs.Packs.{most_text_packs}
 use Rattle.cdtext_packs.specs.Writing.{packs_of}
 
--- the sheet has a layout for this audio file
+-- The audio file is long enough for the sheet, and the program is not longer than a disc allows.
 abbrev pub HasLayout : CueSheet → ℕ → Type 0
 HasLayout sheet audio = (audio_need sheet ≤ audio) × (program_blocks sheet audio ≤ most_program)
 
@@ -20,7 +20,7 @@ text_packs sheet = packs_of (texts_of_sheet sheet)
 abbrev pub lead_in_need : CueSheet → ℕ
 lead_in_need sheet = max (3 * (length sheet.tracks + 3)) ((length (text_packs sheet) + 3) / 4)
 
--- a lead-in, if there is one, has room for the texts and the table of contents
+-- If there is a lead-in, it has room for the texts and the table of contents.
 abbrev pub HasRoom : CueSheet → ℕ → Type 0
 HasRoom sheet lead_in = 0 < lead_in
     → (length (text_packs sheet) ≤ most_text_packs) × (lead_in_need sheet ≤ lead_in)

@@ -10,11 +10,11 @@ pub use Rattle.stream_writer.specs.Needs.{HasLayout, HasRoom, IsLeadInShort, IsT
 use Rattle.subcode_author.specs.declared.stops.AuthorStop.{AuthorStop}
 use Rattle.subcode_author.specs.declared.stops.AuthorStop.TheVariants.{LengthShort, DiscTooLong, PastEnd, TextTooLong, LeadInShort, Late, WriteFault, NoMemory}
 
--- the sheet has a layout with this audio, and no picture is held past the end of the program
+-- The sheet fits the audio file (`HasLayout`), and no picture is held after the end of the program.
 abbrev pub HoldsPictures : CueSheet → List Drawing → ℕ → Type 0
 HoldsPictures sheet script audio = HasLayout sheet audio × ¬ IsPastEnd script (program_blocks sheet audio)
 
--- every picture can be ready in time
+-- Every picture can be complete at its ready time.
 abbrev pub AreReady : List Drawing → Type 0
 AreReady script = (k : ℕ) → k < pictures script → CanBeReady script k
 

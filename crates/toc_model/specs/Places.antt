@@ -67,11 +67,11 @@ unfoldable pub greatest : List ℕ → ℕ
 greatest [] = 0
 greatest (x ∷ xs) = max x (greatest xs)
 
--- the greatest time of a track
+-- the greatest time of an index line of a track, in blocks from the beginning of the audio file
 abbrev pub latest_time : CueTrack → ℕ
 latest_time track = greatest (map (λ (line : ℕ × ℕ). line.1) track.indices)
 
--- the length of the audio that the index lines need: one more than the greatest of their times
+-- the number of blocks of audio that the index lines of a sheet need: one more than the greatest of their times
 unfoldable pub audio_need : CueSheet → ℕ
 audio_need sheet = greatest (map latest_time sheet.tracks) + 1
 
