@@ -15,7 +15,7 @@ pub record Change (A : Type 0) : Type 0 where
 abbrev pub change : {A O : Type 0} → (O → A) → O → O → Change A
 change see before after = record { before = see before; after = see after }
 
--- from one value to another
+-- the change from one value to another
 abbrev pub from_to : {A : Type 0} → A → A → Change A
 from_to before after = record { before = before; after = after }
 
@@ -29,7 +29,7 @@ pub record Passed : Type 0 where
   pub left : Change Bytes
   pub held : Change Bytes
 
--- what is seen of an input and of an output
+-- the bytes of an input and of an output, before and after a call, from the states of both
 abbrev pub passed : {S K : Type 0} → (S → Bytes) → (K → Bytes) → S × K → S × K → Passed
 passed left held before after = record {
   left = change left before.0 after.0;
@@ -41,7 +41,7 @@ pub record Fed (S : Type 0) : Type 0 where
   pub left : Change Bytes
   pub state : Change S
 
--- what is seen of an input and of the stage that is fed with it
+-- the bytes of an input and the state of its stage, before and after a call, from the states of both
 abbrev pub fed : {I S : Type 0} → (I → Bytes) → I × S → I × S → Fed S
 fed left before after = record {
   left = change left before.0 after.0;
@@ -54,7 +54,7 @@ pub record Moved (S : Type 0) : Type 0 where
   pub state : Change S
   pub held : Change Bytes
 
--- what is seen of an input, of a stage and of an output
+-- the bytes of an input, the state of a stage and the bytes of an output, before and after a call
 abbrev pub moved : {I S K : Type 0} → (I → Bytes) → (K → Bytes) → I × S × K → I × S × K → Moved S
 moved left held before after = record {
   left = change left before.0 after.0;

@@ -131,7 +131,7 @@ standing_after start instrs =
       v = offsets.1;
     }
 
--- the rows and numbers are complete and in their ranges: no instructions leave the state as it is
+-- The state has all its rows and numbers: an empty list of instructions leaves it as it is.
 abbrev pub IsWholeStanding : Standing → Type 0
 IsWholeStanding now = standing_after now [] ≡ now
 

@@ -22,18 +22,18 @@ pixmap_row now y =
 unfoldable pub pixmap : Standing → List ℕ
 pixmap now = pixmap_header ++ flat_map (pixmap_row now) (below screen_height)
 
--- the line of colour and level k
+-- the line of text with colour k and level k
 unfoldable pub state_row : Standing → ℕ → List ℕ
 state_row now k =
     codes "colour " ++ digits 2 k ++ codes " " ++ hex_digits 4 (slice_index now.colours k) ++ codes " level "
     ++ digits 2 (slice_index now.levels k) ++ line_feed
 
--- the lines of the border and of the offsets
+-- the lines of text with the border and the offsets
 abbrev pub state_head : Standing → List ℕ
 state_head now =
     codes "border " ++ digits 2 now.border ++ line_feed
     ++ codes "offset " ++ digits 1 now.h ++ codes " " ++ digits 2 now.v ++ line_feed
 
--- the state of a screen: the border, the offsets, and the sixteen colours and levels
+-- the state of a screen as text: the border, the offsets, and the sixteen colours and levels
 unfoldable pub state_text : Standing → List ℕ
 state_text now = state_head now ++ flat_map (state_row now) (below colour_count)

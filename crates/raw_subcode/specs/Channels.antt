@@ -22,11 +22,11 @@ q_bits block = map (channel_bit 1) block
 abbrev pub symbols_of : List ℕ → List ℕ
 symbols_of block = map (λ byte. byte % 64) block
 
--- the bits of symbols, the highest first
+-- the bits of some symbols, the highest bit of each symbol first
 abbrev pub symbol_bits : List ℕ → List Bool
 symbol_bits symbols = flat_map (bits_of 6) symbols
 
--- the planar form has twelve bytes for each channel, with its bits in order
+-- `planar` is the planar form of the block: twelve bytes for each channel, with its bits in order.
 pub record IsPlanarForm (block planar : List ℕ) : Type 0 where
   pub size : length planar ≡ block_bytes
   pub bit : (channel k j : ℕ) → channel < 8 → k < 12 → j < 8 →

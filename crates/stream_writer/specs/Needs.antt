@@ -25,12 +25,13 @@ abbrev pub HasRoom : CueSheet → ℕ → Type 0
 HasRoom sheet lead_in = 0 < lead_in
     → (length (text_packs sheet) ≤ most_text_packs) × (lead_in_need sheet ≤ lead_in)
 
--- there is a lead-in, and its texts need this many packs, more than 256
+-- There is a lead-in, and its texts need `packs` packs, which are more than 256.
 abbrev pub IsTextTooLong : CueSheet → ℕ → ℕ → Type 0
 IsTextTooLong sheet lead_in packs =
     (0 < lead_in) × (most_text_packs < packs) × (packs ≡ length (text_packs sheet))
 
--- there is a lead-in, its texts have at most 256 packs, and it is too short for them or for the table of contents
+-- There is a lead-in, its texts have at most 256 packs, and the lead-in is too short for the texts or the table of
+-- contents.
 abbrev pub IsLeadInShort : CueSheet → ℕ → ℕ → Type 0
 IsLeadInShort sheet lead_in need =
     (0 < lead_in) × (length (text_packs sheet) ≤ most_text_packs) × (lead_in < need)
