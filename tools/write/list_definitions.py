@@ -49,10 +49,13 @@ SAID = {
     "Packs are recovered": "This part is about `convert`. In its clause, `disc` is a cue sheet, a picture script, and the numbers of blocks of the"
     " lead-in and of the audio. `stream` has the bytes of an authored stream of this disc, which `IsAuthored` of part II defines. `packs` is the"
     " list of all packs in this stream, each a list of 24 symbols. This part needs only one field of `IsAuthored`, `carries`. The field states"
-    " that the program symbols of `stream` contain exactly these packs, and that their number follows from the number of blocks.",
-    "Pictures are shown": "This part is about `screen`. An authored stream contains a schedule of the script of its disc. Any program may have made this stream.",
+    " that the program symbols of `stream` contain exactly these packs, and that their number follows from the number of blocks. `Spells c"
+    " (texts words.now)` says that the command line is the command c with its options.",
+    "Pictures are shown": "This part is about `screen`. An authored stream contains a schedule of the script of its disc. Any program may have made this stream."
+    " `HasFraming` says that a stream has the P bits, the Q frames and the text packs of a disc. `IsScriptText` says that a text is this"
+    " picture script by the grammar in [FORMATS](FORMATS.md), and is not too long.",
     "The stream that is written, and late pictures": "This part is about `author`: which stream it writes, and when it reports a late"
-    " picture.",
+    " picture. `IsSheetText` says the same of a cue sheet as `IsScriptText` says of a script.",
 }
 
 # What each clause of the headline states, in place of the comment above it in the code.
