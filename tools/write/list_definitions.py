@@ -69,7 +69,7 @@ STATED = {
     " changes, or it reports the first late picture and writes nothing. The clause says nothing about a call in which a read or a write"
     " fails or memory runs out.",
     "late": "The clause `late` states: if `author` reports a picture as late, even the shortest list of instructions that draws this picture"
-    " has more instructions than there are free packs for it.",
+    " has more instructions than the number of free packs that `author` reports.",
 }
 
 # The types whose variants the introduction shows, with their crates.

@@ -7,7 +7,7 @@ use Rattle.cdg_instructions.specs.declared.instr.Instr.TheVariants.{MemoryPreset
 use Rattle.cdg_instructions.specs.Sizes.{colour_count, last_column, last_row, screen_height, screen_width, tile_height, tile_width, window_bottom, window_right}
 
 -- the state of a screen: the memory as 216 rows of 300 pixels from the top left, the border, sixteen colours, sixteen
--- levels, and the offsets h (across) and v (down) in pixels
+-- levels of transparency, and the offsets h (across) and v (down) in pixels
 pub record Standing : Type 0 where
   pub memory : List (List ℕ)
   pub border : ℕ

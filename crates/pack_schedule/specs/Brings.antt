@@ -66,7 +66,7 @@ pub record IsChange (script : List Drawing) (k : ℕ) (instrs : List Instr) : Ty
 abbrev pub IsNeed : List Drawing → ℕ → ℕ → Type 0
 IsNeed script k need = (instrs : List Instr) × IsChange script k instrs × (length instrs ≡ need)
 
--- Picture k is late: it needs `need` instructions, more than the `free` packs that are free for it.
+-- Picture k needs `need` instructions, which are more than `free`, the number of free packs that `author` reports.
 pub record CannotBeReady (script : List Drawing) (k need free : ℕ) : Type 0 where
   pub fewest : IsNeed script k need
   pub more : free < need
