@@ -46,79 +46,93 @@ LIBRARY = ("block_survey", "rw_mend", "mended_stream", "disc_plan", "live_player
 
 # The introduction of a part whose claims name something that the part does not show.
 SAID = {
-    "Packs are recovered": "This part is about `convert`. In its clause, `disc` is a cue sheet and a script with the numbers of blocks of the"
-    " lead-in and of the audio. `stream` is the bytes of an authored stream of this disc. `packs` is the list of packs in this stream, each a"
-    " list of 24 symbols. Part II defines `IsAuthored`. Two of its facts matter in this part, and both are in its field `carries`: the packs"
-    " are spread over the program symbols of `stream`, and their number follows from the number of blocks.",
-    "Pictures are shown": "This part is about `screen`. An authored stream contains a schedule of its script, and any program may have made it.",
+    "Packs are recovered": "This part is about `convert`. In its clause, `disc` is a cue sheet, a picture script, and the numbers of blocks of the"
+    " lead-in and of the audio. `stream` has the bytes of an authored stream of this disc, which `IsAuthored` of part II defines. `packs` is the"
+    " list of all packs in this stream, each a list of 24 symbols. This part needs only one field of `IsAuthored`, `carries`. The field states"
+    " that the program symbols of `stream` contain exactly these packs, and that their number follows from the number of blocks. `Spells c"
+    " (texts words.now)` says that the command line is the command c with its options.",
+    "Pictures are shown": "This part is about `screen`. An authored stream contains a schedule of the script of its disc. Any program may have made this stream."
+    " `HasFraming` says that a stream has the P bits, the Q frames and the text packs of a disc. `IsScriptText` says that a text is this"
+    " picture script by the grammar in [FORMATS](FORMATS.md), and is not too long.",
     "The stream that is written, and late pictures": "This part is about `author`: which stream it writes, and when it reports a late"
-    " picture.",
+    " picture. `IsSheetText` says the same of a cue sheet as `IsScriptText` says of a script.",
 }
 
 # What each clause of the headline states, in place of the comment above it in the code.
 STATED = {
     "gives_back": "The clause `gives_back` states: if the input of `convert` is a copy of an authored stream with at most two wrong symbols in"
-    " each word, `convert` recovers every scheduled pack.",
+    " each word, `convert` writes every pack of this stream. The clause says nothing about a call in which a read or a write fails.",
     "shows": "The clause `shows` states: if the input of `screen` is a copy of an authored stream with at most two wrong symbols in each word,"
-    " `screen` shows each picture of the script from its ready time to its hold time.",
+    " `screen` shows each picture of the script from its ready time to its hold time. The clause says"
+    " nothing about a call in which a read or a write fails or memory runs out.",
     "authors": "The clause `authors` states: if a sheet and a script fit on the disc, `author` writes the authored stream with the planned"
-    " changes, or reports the first late picture and writes nothing.",
+    " changes, or it reports the first late picture and writes nothing. The clause says nothing about a call in which a read or a write"
+    " fails or memory runs out.",
     "late": "The clause `late` states: if `author` reports a picture as late, even the shortest list of instructions that draws this picture"
-    " is longer than the number of packs that are free for it.",
+    " has more instructions than the number of free packs that `author` reports.",
 }
+
+# The types whose variants the introduction shows, with their crates.
+SHOWN_TYPES = {"Form": "raw_subcode", "Status": "cdg_cmd", "Instr": "cdg_instructions"}
 
 ROMAN = "I II III IV V VI VII VIII IX".split()
 
 # How a clause is read. The signature of `run` and the variants of the named types come from the code.
 KEY = """
-The caller chooses the types of the inputs and outputs of `run`: `S` and `T` are types of inputs (*sources*), and `K` and `E` are types of
-outputs (*sinks*). A clause `ensures name { .. }` is a statement that is true after every call. Clauses and definitions use these signs:
+`alloc` is the heap, and `words` has the words of the command line. `first` and `second` are the two inputs, for example the
+cue sheet and the script of `author`. `out` is the output, and `err` is the error output. The caller chooses the types of the inputs
+(*sources*), `S` and `T`, and of the outputs (*sinks*), `K` and `E`. In the code, a clause is written `ensures name { .. }`. Clauses and
+definitions use these signs:
 
 | Sign | Meaning |
 |---|---|
-| `first.old`, `first.new` | These are an argument that the call may change, before and after the call. |
-| `words.now` | This is an argument that the call only reads. |
+| `first.old`, `first.new` | These are the argument `first` before and after the call. The call may change it. |
+| `words.now` | This is the argument `words`, which the call only reads. |
 | `result` | This is the return value of the call. |
-| `x.0`, `x.1`, `x.name` | These are parts of a tuple, by their place, and a part of a record, by its name. |
-| `S.left first.old` | These are the bytes that can still be read from a source: `Some` list if they are known, otherwise `None`. |
-| `K.held out.old` | These are the bytes that were written to a sink, if they are known. |
-| `S.faults`, `S.ends` | These are the number of reads that failed, and the number of reads that reported the end. |
-| `S.Source` | This is one value with the bytes and the counts of a source. |
+| `x.0`, `x.1`, `x.name` | The first two are the first and the second part of a tuple. The third is the part `name` of a record. |
+| `S.left first.old` | These are the unread bytes of a source before the call: `Some` list, or `None` if the bytes are not known. |
+| `K.held out.old` | These are the bytes that were written to a sink before the call: `Some` list, or `None` if the bytes are not known. |
 | `(x : A) → P`, `(x y : A) → P` | For every x (and every y) of A, P is true. |
 | `(x : A) × P` | There is an x of A for which P is true. |
 | `a ≡ b`, `a ≢ b` | The first means that a equals b, the second that a does not equal b. |
 | `a → b` | If a is true, b is true. Between types, it is the type of functions from a to b. |
-| `a × b`, `a ⊎ b`, `¬ a`, `a ↔ b` | These mean: a and b; a or b; not a; a if and only if b. |
+| `a × b`, `a ⊎ b`, `¬ a` | These mean: a and b; a or b; not a. |
 | `⊤`, `⊥` | The first statement is always true, the second is always false. |
 | `λ x. e` | This is the function that maps x to e. |
 | `ℕ`, `a - b` | ℕ is the type of natural numbers. If a - b would be negative, it is 0. |
 | `[]`, `x ∷ xs`, `xs ++ ys` | These are the empty list, the list with x in front of xs, and two lists joined. |
 | `record`, `pub name : A` | A record has named fields. If the fields are statements, the record states all of them together; otherwise it is a value with several parts. |
-| `record { name = e; .. }` | This is the value whose parts are these. |
+| `record { name = e; .. }` | This is a record whose part `name` is e, and so on. |
 | `abbrev`, `unfoldable` | Both define a name for the right side of the definition. They differ only for the checker. |
-| `data`, `name : A → B ..` | This defines a statement that is true in one of these ways and in no other; or a value of one of these kinds. |
+| `data`, `name : A → B ..` | This defines a type by a list of its kinds of values. If the type is a statement, the list has the only ways in which it is true. |
 | `{A : Type 0}` | This is an argument that the checker finds by itself. |
-| `f x y`, `f : A → B → C` | This is the function f, applied to x and y. Its arguments have the types A and B, and its result has the type C. |
-| `f [] = ..`, `f _ = ..` | A definition by cases has a line for each form of the argument, and the first line that fits is used; `_` fits every argument. |
+| `f x y`, `f : A → B → C` | The first is the function f, applied to x and y. The second says that the arguments of f have the types A and B, and the result has the type C. |
+| `f [] = ..`, `f _ = ..` | A definition by cases has a line for each form of the argument. The first line that fits the argument is used, and `_` fits every argument. |
 | `Type 0` | A value of this type is a statement or a type. |
 | `ℕ × ℕ`, `(a, b)` | These are the type of pairs of numbers, and a pair. |
-| `record old { name = e }` | This is the value `old`, with e as its part `name`. |
-| `let x = e in d` | This is d, in which x means e. |
+| `record old { name = e }` | This is a copy of the record `old` whose part `name` is e. |
+| `let x = e in d` | This is d, where x means e. |
 
-The lines that begin with `--` use some words in a special sense. Bytes are *put* if they were written to an output, and *taken* if they were
-read from an input. A *text* may be any list of bytes that is written. *Told* means reported. A pack is *whole* if its last symbol was read;
-this symbol is seven slots after the slot in which the pack begins. A picture *stands* while the screen shows it. The *framing* of a stream is
-its P bits, its Q frames and its text packs. A stream is *cooked* if the 24 symbols of each word are next to each other. A word is *nearly
-zero* if at most two of its symbols are not 0. *So many* means the number in the argument.
+In the lines that begin with `--`, a *text* may be any list of bytes that is written. A stream is *cooked* if the 24 symbols of each word are
+next to each other. Numbers of packs, pictures and pixels count from 0.
+""".strip()
 
-`slice_index xs n` is element n of a list, counted from 0. If the list has no such element, it is 0. `pixel_at` and `word_of` depend on this.
+# What only the whole document uses.
+WHOLE_KEY = """
+The parts IV to IX use further signs: `S.faults` and `S.ends` are the number of reads that failed and that reported the end; `S.Source` is one
+value with the bytes and the counts of a source; `a ↔ b` means a if and only if b.
+
+They also use some words in a special sense. Bytes are *put* if they were written to an output, and *taken* if they were read from an input.
+*Told* means reported. A pack is *whole* if its last symbol was read; this symbol is seven slots after the slot in which the pack begins. A
+picture *stands* while the screen shows it. The *framing* of a stream is its P bits, its Q frames and its text packs. A word is *nearly zero*
+if at most two of its symbols are not 0. *So many* means the number in the argument.
 """.strip()
 
 # What the words of the standard library mean.
 WORDS = {
     "All": "This says that a statement is true for each element of a list.",
     "AllByRecursion": "This says that a statement is true for each element of a list.",
-    "Appends": "This says: if the contents of an output are known, exactly these bytes were appended to them.",
+    "Appends": "This says: if the contents of an output are known, a call appended exactly these bytes to them.",
     "Bool": "This type has the truth values `true` and `false`.",
     "Consumes": "This says: if the contents of an input are known, exactly these bytes were removed from their front.",
     "Contains": "This says that the list has this element.",
@@ -127,7 +141,7 @@ WORDS = {
     "Global": "This is the heap.",
     "IfErr": "This says: if the result is `Err`, this statement is true for its reason.",
     "IfOk": "This says: if the result is `Ok`, this statement is true for its value.",
-    "IfSome": "This says: if there is a value, this statement is true for it.",
+    "IfSome": "This says: if an option is `Some` value, a statement is true for this value.",
     "IsAtEnd": "This says: if the contents of an input are known, nothing is left of them.",
     "IsErr": "This says that the result is `Err`.",
     "IsErrOf": "This says that the result is `Err` with this reason.",
@@ -165,10 +179,10 @@ WORDS = {
     "enumerate_from": "This function pairs each element with its number, counted from n.",
     "false": "This is the truth value of a false statement.",
     "filter": "This function returns the elements for which another function is true, in their order.",
-    "filter_map": "This function applies a function to each element, and keeps the values that exist.",
+    "filter_map": "This function applies a function to each element, and keeps the values of the results that are `Some`.",
     "find": "This function returns the first element for which another function is true, if there is one.",
     "flat_map": "This function applies a function to each element, and joins the lists that it returns.",
-    "fold": "This function applies a function to a value and each element of a list, one after another.",
+    "fold": "This function starts with a value. For each element of a list, in order, it replaces the value by a function of the value and the element.",
     "is_ascii_digit": "This function returns whether a character is one of 0 to 9.",
     "is_ascii_hexdigit": "This function returns whether a character is one of 0 to 9, a to f, A to F.",
     "is_ascii_uppercase": "This function returns whether a character is one of A to Z.",
@@ -198,7 +212,7 @@ WORDS = {
     "replicate": "This function returns a list of n equal elements.",
     "reverse": "This function returns a list in reverse order.",
     "slice_cmp": "This function compares two lists in lexicographic order.",
-    "slice_index": "This function returns element n of a list, counted from 0; or 0 if there is none.",
+    "slice_index": "This function returns element n of a list, counted from 0; or 0 if there is none. `pixel_at` and `word_of` depend on this 0.",
     "slice_index_or": "This function returns element n of a list, counted from 0; or another value if there is none.",
     "slice_range": "This function returns the elements of a list between two indices.",
     "slice_set": "This function replaces the value at index n of a list.",
@@ -369,6 +383,12 @@ class Book:
                 return where, name
         sys.exit(f"tools/write/list_definitions.py: there is no definition {name}")
 
+    def origin(self, where: str, name: str) -> Target:
+        """The definition that a name means, where a module exports a definition of another one."""
+        while where in self.modules and name not in self.modules[where].blocks and name in self.modules[where].imports:
+            where, name = self.modules[where].imports[name]
+        return where, name
+
     def cites(self, lines: list[str], names: Names, own: Module | None = None) -> list[Target]:
         """The definitions that some lines cite, in order; words of std and types of the code are noted."""
         cited: list[Target] = []
@@ -379,7 +399,7 @@ class Book:
                 if own and word in own.blocks:
                     cited.append((f"{own.crate}.specs.{own.name}", word))
                 elif word in names:
-                    where, name = names[word]
+                    where, name = self.origin(*names[word])
                     if where.startswith("std."):
                         self.words.add(name)
                     elif ".declared." in where:
@@ -462,7 +482,7 @@ class Book:
         out = [SAID[title], ""] if title in SAID else []
         if put_off:
             where = ", ".join(f"`{target[1]}` ({later[target]})" for target in put_off)
-            out += [f"This part uses further definitions. Another part, given in parentheses, shows them: {where}.", ""]
+            out += [f"This part also uses these definitions of other parts: {where}.", ""]
         for comment, lines in claims:
             out += [" ".join(comment), ""] if comment else []
             out += ["```", *lines, "```", ""]
@@ -507,15 +527,15 @@ class Book:
         out = [
             "# Definitions",
             "",
-            "This document shows the most important proved statement of Ribjasper, the *headline*, as it is in the code. It is for readers who",
-            "want to judge whether the headline says what they expect. The checker proves that the program meets its clauses, but only a reader",
-            "can judge what a clause means. [PROVED](PROVED.md#the-headline) explains the headline in words.",
+            "This document shows the most important proved statement of Ribjasper, the *headline*, as it is in the code. The document is for readers",
+            "who want to judge whether the headline says what they expect. The headline consists of four *clauses* of the function `run`, which",
+            "performs one command of the program. A clause is a statement that is true after every call of a function. The checker proves the",
+            "clauses, but only a reader can judge what they mean. [PROVED](PROVED.md#the-headline) explains the headline in words.",
             "",
-            "This document shows parts I to III of the definitions. Each part begins with clauses of the function `run`, and then shows",
-            "definitions that these clauses use. A line that begins with `--` explains the next definition. Parts I and II",
-            f"({first + second} lines) say that packs and pictures are recovered from a stream. Part III ({third} lines) says which stream is",
-            "written, and when a picture is late. The clauses also use some definitions of parts IV to VII, and each part names those that it",
-            "uses. `make definitions` writes all nine parts to `docs/DEFINITIONS-WHOLE.md`.",
+            "The definitions have nine parts, and this document shows parts I to III. Each part begins with clauses of `run`, and then shows the",
+            f"definitions that these clauses use. A line that begins with `--` explains the next definition. Parts I and II ({first + second} lines) say that",
+            f"packs and pictures are recovered from a stream. Part III ({third} lines) says which stream is written, and when a picture is late. Each",
+            "part lists the definitions that it uses from other parts. `make definitions` writes all nine parts to `docs/DEFINITIONS-WHOLE.md`.",
             "",
             "All definitions are copied from the code. `tools/write/list_definitions.py` writes this document, and `make check` compares it with",
             "the code.",
@@ -526,13 +546,14 @@ class Book:
         out += [f"| {ROMAN[k]}. {title} | {number} | {count} |" for k, (title, number, count) in enumerate(counts)]
         others = "; ".join(f"{ROMAN[k]}. {title}" for k, (title, _) in enumerate(PARTS) if k >= len(counts))
         out += ["", f"These parts are not in this document: {others}."] if others else []
-        out += ["", "## How to read them", "", "The function `run` performs one command of the program. It has these arguments:", "", "```", *signature(), "```", "", KEY, ""]
-        for crate, name in (("raw_subcode", "Form"), ("cdg_cmd", "Status"), ("cdg_instructions", "Instr")):
-            out += [f"The type `{name}` has these variants:", "", "```", *variants(crate, name), "```", ""]
+        out += ["", "## How to read the definitions", "", "The function `run` has these arguments:", "", "```", *signature(), "```", "", KEY, "", *([WHOLE_KEY, ""] if is_whole else [])]
+        for name, crate in SHOWN_TYPES.items():
+            out += [f"The type `{name}` of the crate `{crate}` has these variants:", "", "```", *variants(crate, name), "```", ""]
         out += ["The definitions also use these words of the standard library:", "", "| Word | Meaning |", "|---|---|"]
         out += [f"| `{word}` | {WORDS[word]} |" for word in sorted(self.words) if word in WORDS]
-        types = sorted({f"`{it.split('.')[-1]}` ({it.split('.')[0]})" for it in self.types})
-        out += ["", f"The definitions also use these types of the code, each from the crate in parentheses: {', '.join(types)}."]
+        types = sorted({f"`{it.split('.')[-1]}` ({it.split('.')[0]})" for it in self.types if it.split(".")[-1] not in SHOWN_TYPES})
+        if types:
+            out += ["", f"The definitions also use these types of the code, each from the crate in parentheses: {', '.join(types)}."]
         out += ["", *parts]
         if is_whole:
             out += ["## What no part reaches", "", "These definitions are steps of proofs, or are about calls below `run`:", "", *self.rest()]

@@ -114,7 +114,7 @@ LacksMemory (Author lead_in length) call = AuthorsWith lead_in length call NoMem
 LacksMemory (Press lead_in length) call = PressesWith lead_in length call NoMemory
 LacksMemory command call = ⊤
 
--- The status is `Done` and this holds, or a read or a write failed, or memory ran out. Nothing is stated about those three.
+-- The status is `Done` and the statement `holds` is true; or a read or a write failed, or memory ran out.
 abbrev pub OnDone : Type 0 → Status → Type 0
 OnDone holds Done = holds
 OnDone holds (ReadFault which) = ⊤
@@ -122,7 +122,7 @@ OnDone holds WriteFault = ⊤
 OnDone holds NoMemory = ⊤
 OnDone holds _ = ⊥
 
--- The status is `Done` and exactly this text was written, or a read or a write failed.
+-- The status is `Done` and exactly the bytes `text` were written; or a read or a write failed.
 abbrev pub GivesBack : List ℕ → Change Bytes → Status → Type 0
 GivesBack text out Done = Appends out.before out.after text
 GivesBack text out (ReadFault which) = ⊤

@@ -19,12 +19,12 @@ use Rattle.cdg_cmd.specs.declared.status.Status.{Status}
 use Rattle.cdg_cmd.specs.declared.status.Status.TheVariants.{Done, Damaged, Usage, Refused, Late, ReadFault, WriteFault, NoMemory}
 use Rattle.rw_code.specs.Packs.{idle_pack}
 
--- the sheet and the script have a place on the disc: only a picture can be refused
+-- The sheet and the script fit on the disc, except that a picture may be late.
 pub record HavePlace (disc : Disc) : Type 0 where
   pub pictures : HoldsPictures disc.sheet disc.script disc.audio
   pub room : HasRoom disc.sheet disc.lead_in
 
--- An authored stream was written; or nothing was written and the status is the first picture that cannot be ready; or a
+-- The stream of the planned changes was written; or nothing was written, and the status names the first late picture; or a
 -- read or a write failed, or memory ran out.
 abbrev pub WritesOrIsLate : Disc → Change Bytes → Status → Type 0
 WritesOrIsLate disc out Done = AreReady disc.script × PutsAuthored disc out
@@ -37,18 +37,18 @@ WritesOrIsLate disc out (Damaged n) = ⊥
 WritesOrIsLate disc out Usage = ⊥
 WritesOrIsLate disc out (Refused why) = ⊥
 
--- A stream of whole units of a form. In each word, its program symbols differ from those of a raw stream in at most two.
+-- `bytes` is a copy of the raw stream `stream` in this form: whole units, with at most two wrong symbols in each word.
 pub record IsDamagedCopy (form : Form) (lead_in : ℕ) (stream bytes : List ℕ) : Type 0 where
   pub few : length bytes ≤ most_units * unit_size form
   pub whole : length bytes % unit_size form ≡ 0
   pub damaged : IsDamaged (program_symbols Raw stream lead_in) form (program_symbols form bytes lead_in)
 
--- the packs that `convert` writes for a schedule: from a cooked stream, seven idle packs follow
+-- the packs that `convert` writes: the packs of the stream, and for a cooked stream seven idle packs after them
 abbrev pub written_packs : Form → List (List ℕ) → List (List ℕ)
 written_packs Cooked packs = packs ++ replicate packs_kept_back idle_pack
 written_packs _ packs = packs
 
--- The pixmap of a screen that shows picture k was written, or a read or a write failed, or memory ran out.
+-- A pixmap of a screen that shows picture k was written; or a read or a write failed, or memory ran out.
 abbrev pub PutsPicture : List Drawing → ℕ → Change Bytes → Status → Type 0
 PutsPicture script k out status = OnDone ((text : List ℕ) × IsPictureText script k text
     × Appends out.before out.after text) status

@@ -15,7 +15,7 @@ IsOfPlace row column (XorTile colour0 colour1 r c lines) = (r ≡ row) × (c ≡
     × InTileRange colour0 colour1 r c lines
 IsOfPlace row column _ = ⊥
 
--- colour 0 or 1 of pixel i of line j of a tile, by the bit of that pixel, the leftmost at bit 5
+-- the colour of pixel i in line j of a tile: `colour1` if its bit is set, otherwise `colour0`; bit 5 is the leftmost pixel
 abbrev pub tile_colour : ℕ → ℕ → List ℕ → ℕ → ℕ → ℕ
 tile_colour colour0 colour1 lines i j = if has_bit (5 - i) (slice_index lines j) then colour1 else colour0
 

@@ -74,11 +74,11 @@ Means word (ColoursHigh colours) = IsGraphics word 31 × (colours ≡ map (table
 Means word (XorTile colour0 colour1 row column lines) = IsGraphics word 38
     × IsTile word colour0 colour1 row column lines
 
--- the two symbols of a colour of the table
+-- the two symbols of a colour of twelve bits
 abbrev pub colour_symbols : ℕ → List ℕ
 colour_symbols colour = colour / 64 ∷ colour % 64 ∷ []
 
--- the content of a tile instruction
+-- the content of an instruction that draws a tile
 abbrev pub tile_symbols : ℕ → ℕ → ℕ → ℕ → List ℕ → List ℕ
 tile_symbols colour0 colour1 row column lines = colour0 ∷ colour1 ∷ row ∷ column ∷ lines
 
@@ -86,8 +86,8 @@ tile_symbols colour0 colour1 row column lines = colour0 ∷ colour1 ∷ row ∷ 
 abbrev pub scroll_symbols : ℕ → ℕ → ℕ → ℕ → ℕ → List ℕ
 scroll_symbols colour across h down v = colour ∷ (16 * across + h) ∷ (16 * down + v) ∷ replicate 13 0
 
--- symbols 0 and 1, then the content, of the codeword that is written; Idle is 24 zeros; nothing is written for Foreign
--- and Unknown
+-- symbols 0, 1 and 4 to 19 of the codeword that is written for an instruction. For `Foreign` and `Unknown`, no codeword is
+-- written.
 abbrev pub written_symbols : Instr → List ℕ
 written_symbols Idle = replicate 18 0
 written_symbols (MemoryPreset colour repeat) = 9 ∷ 1 ∷ colour ∷ repeat ∷ replicate 14 0
@@ -103,16 +103,16 @@ written_symbols (XorTile colour0 colour1 row column lines) =
     9 ∷ 38 ∷ tile_symbols colour0 colour1 row column lines
 written_symbols _ = []
 
--- symbols 0, 1 and 4 to 19 of a word, without the parity
+-- symbols 0, 1 and 4 to 19 of a word: all but the parity symbols
 abbrev pub message_of : List ℕ → List ℕ
 message_of word = take 2 word ++ content_of word
 
--- the codeword that is written for an instruction has these symbols
+-- The word is the codeword that is written for the instruction.
 pub record IsWritten (instr : Instr) (word : List ℕ) : Type 0 where
   pub codeword : IsCodeword word
   pub message : message_of word ≡ written_symbols instr
 
--- the ranges of the fields of a tile instruction
+-- The fields of an instruction that draws a tile are in their ranges.
 pub record InTileRange (colour0 colour1 row column : ℕ) (lines : List ℕ) : Type 0 where
   pub colour0_below : colour0 < 16
   pub colour1_below : colour1 < 16
@@ -121,7 +121,7 @@ pub record InTileRange (colour0 colour1 row column : ℕ) (lines : List ℕ) : T
   pub lines_count : length lines ≡ tile_height
   pub lines_below : All (λ line. line < 64) lines
 
--- the ranges of the fields of a scroll
+-- The fields of a scroll are in their ranges.
 pub record InScrollRange (colour across h down v : ℕ) : Type 0 where
   pub colour_below : colour < 16
   pub across_most : across ≤ 2
@@ -129,7 +129,7 @@ pub record InScrollRange (colour across h down v : ℕ) : Type 0 where
   pub down_most : down ≤ 2
   pub v_most : v ≤ 11
 
--- the fields of the instruction are in their ranges
+-- The fields of the instruction are in their ranges.
 abbrev pub InRange : Instr → Type 0
 InRange (MemoryPreset colour repeat) = (colour < 16) × (repeat < 16)
 InRange (BorderPreset colour) = colour < 16

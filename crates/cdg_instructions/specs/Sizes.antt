@@ -2,15 +2,15 @@
 -- names of src/sizes.rt.
 use Rattle.std.specs.Prelude.{ℕ}
 
--- the width of a tile in pixels: a line of a tile is a symbol, with a bit for each of six pixels (IEC 60908)
+-- the width of a tile in pixels: one symbol holds one line of a tile, with one bit for each pixel (IEC 60908)
 abbrev pub tile_width : ℕ
 tile_width = 6
 
--- the lines of a tile: twelve symbols follow the tile's row and column (IEC 60908)
+-- the height of a tile in pixels: an instruction has a symbol for each line, after the row and column (IEC 60908)
 abbrev pub tile_height : ℕ
 tile_height = 12
 
--- the pixels of a tile
+-- the number of pixels in a tile
 abbrev pub tile_pixels : ℕ
 tile_pixels = 72
 
@@ -38,11 +38,11 @@ last_row = 17
 abbrev pub last_column : ℕ
 last_column = 49
 
--- the width in pixels of the memory, and with it of the screen: fifty columns of six
+-- the width of the memory and of the screen in pixels: fifty columns of tiles, each six pixels wide
 abbrev pub screen_width : ℕ
 screen_width = 300
 
--- the height in pixels of the memory, and with it of the screen: eighteen rows of twelve
+-- the height of the memory and of the screen in pixels: eighteen rows of tiles, each twelve pixels high
 abbrev pub screen_height : ℕ
 screen_height = 216
 
@@ -50,11 +50,11 @@ screen_height = 216
 abbrev pub screen_pixels : ℕ
 screen_pixels = 64800
 
--- the columns of tiles of the window: all but one at each side, which the border hides
+-- the number of columns of tiles in the window: all but the first and the last, which the border hides
 abbrev pub window_columns : ℕ
 window_columns = 48
 
--- the rows of tiles of the window: all but the first and the last, which the border hides
+-- the number of rows of tiles in the window: all but the first and the last, which the border hides
 abbrev pub window_rows : ℕ
 window_rows = 16
 
@@ -62,11 +62,11 @@ window_rows = 16
 abbrev pub window_tiles : ℕ
 window_tiles = 768
 
--- the width in pixels of the window: all but a column of tiles at each side
+-- the width of the window in pixels: all columns of tiles but the first and the last
 abbrev pub window_width : ℕ
 window_width = 288
 
--- the height in pixels of the window: all but the first and the last row of tiles
+-- the height of the window in pixels: all rows of tiles but the first and the last
 abbrev pub window_height : ℕ
 window_height = 192
 
@@ -74,19 +74,19 @@ window_height = 192
 abbrev pub window_pixels : ℕ
 window_pixels = 55296
 
--- the last pixel of the window from the left of the screen
+-- the last column of pixels in the window, counted from 0 at the left of the screen
 abbrev pub window_right : ℕ
 window_right = 293
 
--- the last pixel of the window from the top of the screen
+-- the last row of pixels in the window, counted from 0 at the top of the screen
 abbrev pub window_bottom : ℕ
 window_bottom = 203
 
--- the colours of the table: the number of a colour has four bits (IEC 60908)
+-- the number of colours in the colour table: a colour number has four bits (IEC 60908)
 abbrev pub colour_count : ℕ
 colour_count = 16
 
--- how many values a colour of the table can have: four bits each of red, green and blue
+-- the number of values of a colour in the table, which has four bits each for red, green and blue
 abbrev pub colour_values : ℕ
 colour_values = 4096
 

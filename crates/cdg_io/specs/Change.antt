@@ -2,7 +2,7 @@
 use Rattle.std.specs.Prelude.{ℕ, List, Option}
 use Rattle.cdg_io.specs.Causes.{Count}
 
--- the unread bytes of an input, or the bytes written to an output, if they are known
+-- the unread bytes of an input, or the bytes written to an output; or `None` if they are not known
 abbrev pub Bytes : Type 0
 Bytes = Option (List ℕ)
 
@@ -11,11 +11,11 @@ pub record Change (A : Type 0) : Type 0 where
   pub before : A
   pub after : A
 
--- a property of an object before and after a call
+-- the property `see` of an object, before and after a call
 abbrev pub change : {A O : Type 0} → (O → A) → O → O → Change A
 change see before after = record { before = see before; after = see after }
 
--- from one value to another
+-- the change from one value to another
 abbrev pub from_to : {A : Type 0} → A → A → Change A
 from_to before after = record { before = before; after = after }
 
@@ -29,7 +29,7 @@ pub record Passed : Type 0 where
   pub left : Change Bytes
   pub held : Change Bytes
 
--- what is seen of an input and of an output
+-- the bytes of an input and of an output, before and after a call, from the states of both
 abbrev pub passed : {S K : Type 0} → (S → Bytes) → (K → Bytes) → S × K → S × K → Passed
 passed left held before after = record {
   left = change left before.0 after.0;
@@ -41,7 +41,7 @@ pub record Fed (S : Type 0) : Type 0 where
   pub left : Change Bytes
   pub state : Change S
 
--- what is seen of an input and of the stage that is fed with it
+-- the bytes of an input and the state of its stage, before and after a call, from the states of both
 abbrev pub fed : {I S : Type 0} → (I → Bytes) → I × S → I × S → Fed S
 fed left before after = record {
   left = change left before.0 after.0;
@@ -54,7 +54,7 @@ pub record Moved (S : Type 0) : Type 0 where
   pub state : Change S
   pub held : Change Bytes
 
--- what is seen of an input, of a stage and of an output
+-- the bytes of an input, the state of a stage and the bytes of an output, before and after a call
 abbrev pub moved : {I S K : Type 0} → (I → Bytes) → (K → Bytes) → I × S × K → I × S × K → Moved S
 moved left held before after = record {
   left = change left before.0 after.0;

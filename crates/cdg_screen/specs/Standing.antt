@@ -6,8 +6,8 @@ use Rattle.cdg_instructions.specs.declared.instr.Instr.{Instr}
 use Rattle.cdg_instructions.specs.declared.instr.Instr.TheVariants.{MemoryPreset, BorderPreset, SetTile, XorTile, ScrollPreset, ScrollCopy, Transparency, ColoursLow, ColoursHigh}
 use Rattle.cdg_instructions.specs.Sizes.{colour_count, last_column, last_row, screen_height, screen_width, tile_height, tile_width, window_bottom, window_right}
 
--- the state of a screen: the memory as 216 rows of 300 pixels from the top left, the border, sixteen colours and
--- levels, and the offsets of the screen
+-- the state of a screen: the memory as 216 rows of 300 pixels from the top left, the border, sixteen colours, sixteen
+-- levels of transparency, and the offsets h (across) and v (down) in pixels
 pub record Standing : Type 0 where
   pub memory : List (List ℕ)
   pub border : ℕ
@@ -16,11 +16,11 @@ pub record Standing : Type 0 where
   pub h : ℕ
   pub v : ℕ
 
--- pixel (x, y) of rows
+-- element x of row y: the colour number of pixel (x, y), or 0 outside the rows
 unfoldable pub pixel_at : List (List ℕ) → ℕ → ℕ → ℕ
 pixel_at rows x y = slice_index (slice_index_or rows y []) x
 
--- the rows of the memory, by what pixel (x, y) is
+-- the rows of the memory, if the function `pixel` returns the colour number of each pixel
 unfoldable pub rows_of : (ℕ → ℕ → ℕ) → List (List ℕ)
 rows_of pixel = map (λ y. map (λ x. pixel x y) (below screen_width)) (below screen_height)
 
@@ -28,11 +28,11 @@ rows_of pixel = map (λ y. map (λ x. pixel x y) (below screen_width)) (below sc
 abbrev pub rows_in : List ℕ → List (List ℕ)
 rows_in pixels = rows_of (λ x y. slice_index pixels (screen_width * y + x))
 
--- sixteen numbers, by what number k is
+-- the list of the sixteen values of a function for 0 to 15
 unfoldable pub sixteen : (ℕ → ℕ) → List ℕ
 sixteen number = map number (below colour_count)
 
--- a screen of zeros, as at the start
+-- the state of a screen at the start: all is 0
 abbrev pub blank : Standing
 blank = record {
   memory = rows_of (λ x y. 0);
@@ -43,33 +43,33 @@ blank = record {
   v = 0;
 }
 
--- whether the tile of a row and column is in the memory and contains the pixel
+-- whether the tile at this row and column is in the memory and contains pixel (x, y)
 abbrev pub covers : ℕ → ℕ → ℕ → ℕ → Bool
 covers row column x y =
     nat_le row last_row && nat_le column last_column && x / tile_width == column && y / tile_height == row
 
--- The source of a pixel in a scroll, plus the size in that direction, which avoids negative numbers. A move of 1 is
--- right or down by one tile, and a move of 2 is left or up.
+-- the place from which a scroll moves a pixel to x, plus `size` to avoid negative numbers. Direction 1 moves right or down
+-- by one tile, and direction 2 left or up.
 abbrev pub source : ℕ → ℕ → ℕ → ℕ → ℕ
 source size step direction x =
     if direction == 1 then x + size - step else (if direction == 2 then x + size + step else x + size)
 
--- the source column of a pixel, plus the width of the memory
+-- the column from which a scroll moves a pixel to column x, plus the width of the memory
 abbrev pub source_x : ℕ → ℕ → ℕ
 source_x across x = source screen_width tile_width across x
 
--- the source row of a pixel, plus the height of the memory
+-- the row from which a scroll moves a pixel to row y, plus the height of the memory
 abbrev pub source_y : ℕ → ℕ → ℕ
 source_y down y = source screen_height tile_height down y
 
--- whether the source is in the memory
+-- whether `from`, a source plus `size`, is in the memory
 abbrev pub is_inside : ℕ → ℕ → Bool
 is_inside size from = nat_le size from && nat_lt from (2 * size)
 
--- In the next five definitions the last instruction is the first of the list, and `start` is the state before all of
--- them.
+-- In the next five definitions, the list `before` has the last instruction first, and `start` is the state before all
+-- instructions.
 
--- pixel (x, y) of the memory
+-- pixel (x, y) of the memory after a list of instructions that has the last one first
 abbrev pub memory_from : (ℕ → ℕ → ℕ) → List Instr → ℕ → ℕ → ℕ
 memory_from start [] x y = start x y
 memory_from start (MemoryPreset colour repeat ∷ before) x y = colour
@@ -89,13 +89,13 @@ memory_from start (ScrollCopy colour across h down v ∷ before) x y =
     memory_from start before (source_x across x % screen_width) (source_y down y % screen_height)
 memory_from start (_ ∷ before) x y = memory_from start before x y
 
--- the border: the last colour that it was set to
+-- the border after a list of instructions that has the last one first: the last colour to which it was set
 abbrev pub border_from : ℕ → List Instr → ℕ
 border_from start [] = start
 border_from start (BorderPreset colour ∷ before) = colour
 border_from start (_ ∷ before) = border_from start before
 
--- colour k of the table: the last value that it was set to
+-- colour k of the table after a list of instructions that has the last one first: the last value to which it was set
 abbrev pub colour_from : (ℕ → ℕ) → List Instr → ℕ → ℕ
 colour_from start [] k = start k
 colour_from start (ColoursLow colours ∷ before) k =
@@ -104,20 +104,20 @@ colour_from start (ColoursHigh colours ∷ before) k =
     let old = colour_from start before k in if nat_lt k 8 then old else slice_index colours (k - 8)
 colour_from start (_ ∷ before) k = colour_from start before k
 
--- level k: the last value that it was set to
+-- level k after a list of instructions that has the last one first: the last value to which it was set
 abbrev pub level_from : (ℕ → ℕ) → List Instr → ℕ → ℕ
 level_from start [] k = start k
 level_from start (Transparency levels ∷ before) k = slice_index levels k
 level_from start (_ ∷ before) k = level_from start before k
 
--- both offsets, across and down
+-- the offsets across and down after a list of instructions that has the last one first
 abbrev pub offsets_from : ℕ × ℕ → List Instr → ℕ × ℕ
 offsets_from start [] = start
 offsets_from start (ScrollPreset colour across h down v ∷ before) = (h, v)
 offsets_from start (ScrollCopy colour across h down v ∷ before) = (h, v)
 offsets_from start (_ ∷ before) = offsets_from start before
 
--- the state after the instructions, in order, from this state
+-- the state after the instructions, if `start` is the state before them; `before` has the last instruction first
 abbrev pub standing_after : Standing → List Instr → Standing
 standing_after start instrs =
     let before = reverse instrs in
@@ -131,11 +131,11 @@ standing_after start instrs =
       v = offsets.1;
     }
 
--- the rows and numbers are complete and in their ranges: no instructions leave the state as it is
+-- The state has all its rows and numbers: an empty list of instructions leaves it as it is.
 abbrev pub IsWholeStanding : Standing → Type 0
 IsWholeStanding now = standing_after now [] ≡ now
 
--- pixel (x, y) of the screen: in the window the memory, moved by the offsets, and outside the border
+-- pixel (x, y) of the screen: inside the window, a pixel of the memory, moved by the offsets; elsewhere, the border
 abbrev pub screen_pixel : Standing → ℕ → ℕ → ℕ
 screen_pixel now x y =
     if nat_le tile_width x && nat_le x window_right && nat_le tile_height y && nat_le y window_bottom

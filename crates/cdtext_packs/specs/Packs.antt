@@ -3,27 +3,27 @@
 use Rattle.std.specs.Prelude.{ℕ, ◌+◌, ◌*◌, ◌/◌, ◌%◌, Bool, not, ◌&&◌, List, [], ◌∷◌, ◌++◌, take, drop, slice_index, ◌==◌, nat_lt}
 use Rattle.bit_lists.specs.Check.{check_of}
 
--- the most packs of a disc: the number of a pack is a byte
+-- the maximum number of text packs on a disc: the number of a pack is one byte
 abbrev pub most_text_packs : ℕ
 most_text_packs = 256
 
--- the bytes of a pack: those of its head and its text, and the two of their check
+-- the number of bytes in a pack: its head, its text, and two bytes of check
 abbrev pub text_pack_bytes : ℕ
 text_pack_bytes = 18
 
--- the bytes of its head: type, track, number, position
+-- the number of bytes in the head of a pack: type, track, number, position
 abbrev pub head_bytes : ℕ
 head_bytes = 4
 
--- the bytes of its text
+-- the number of bytes of text in a pack
 abbrev pub text_bytes : ℕ
 text_bytes = 12
 
--- the bytes of its head and its text, of which the check is
+-- the number of bytes that the check covers: head and text
 abbrev pub checked_bytes : ℕ
 checked_bytes = 16
 
--- how many size packs there are
+-- the number of size packs
 abbrev pub size_packs : ℕ
 size_packs = 3
 

@@ -9,8 +9,8 @@ use Rattle.text_lines.specs.Text.{most_text_bytes}
 use Rattle.cue_sheet.specs.declared.fault.CueText.{CueText}
 use Rattle.cue_sheet.specs.declared.fault.CueText.TheVariants.{Title, Performer, Songwriter}
 
--- a track: its number, its control bits, its code, the lengths of its two gaps in blocks, its index lines by number
--- and file time, and its texts
+-- a track: its number, its control bits, its ISRC, the lengths of its two gaps in blocks, its index lines (each a number
+-- and a time in blocks), and its texts
 pub record CueTrack : Type 0 where
   pub number : ℕ
   pub control : ℕ
@@ -84,7 +84,7 @@ no_track = record {
 abbrev pub track_of : CueSheet → ℕ → CueTrack
 track_of sheet k = slice_index_or sheet.tracks k no_track
 
--- index line j of a track, its number and its file time
+-- index line j of a track: its number and its file time in blocks
 abbrev pub index_line_of : CueTrack → ℕ → ℕ × ℕ
 index_line_of track j = slice_index_or track.indices j (0, 0)
 
@@ -105,23 +105,24 @@ abbrev pub text_at : CueText → CueSheet → ℕ → List ℕ
 text_at kind sheet place = if place == 0 then album_text kind sheet
     else track_text kind (track_of sheet (place - 1))
 
--- a text has no byte below 20 hexadecimal and no byte 7F, and is no longer than a sheet
+-- The text has no byte below 20 hexadecimal and no byte 7F, and is at most as long as a sheet may be.
 pub record IsText (s : List ℕ) : Type 0 where
   pub short : length s ≤ most_text_bytes
   pub plain : All (λ b. (32 ≤ b) × (b ≢ 127)) s
 
--- a catalogue number: thirteen digits
+-- whether a text is a catalogue number: thirteen digits
 abbrev pub is_catalogue_number : List ℕ → Bool
 is_catalogue_number s = length s == catalogue_digits && list_all is_ascii_digit s
 
--- a track's code: two letters, three letters or digits, seven digits, the letters capital ones
+-- whether a text is an ISRC: two letters, three letters or digits, and seven digits, with capital letters
 abbrev pub is_capital_code : List ℕ → Bool
 is_capital_code s =
     length s == isrc_characters && list_all is_ascii_uppercase (take 2 s)
     && list_all (λ c. is_ascii_digit c || is_ascii_uppercase c) (take 3 (drop 2 s))
     && list_all is_ascii_digit (drop 5 s)
 
--- the index lines of a track: their numbers go up by one from 0 or 1 and include 1, and their times do not fall
+-- The index lines of a track are in order: their numbers go up by one from 0 or 1 and include 1, and their times do not
+-- fall.
 pub record AreIndices (indices : List (ℕ × ℕ)) : Type 0 where
   pub first : (slice_index_or indices 0 (0, 0)).0 ≤ 1
   pub has_one : 1 < (slice_index_or indices 0 (0, 0)).0 + length indices
@@ -132,8 +133,8 @@ pub record AreIndices (indices : List (ℕ × ℕ)) : Type 0 where
   pub order : (i j : ℕ) → i ≤ j → j < length indices
       → (slice_index_or indices i (0, 0)).1 ≤ (slice_index_or indices j (0, 0)).1
 
--- a track: its number 1 to 99, its control of four bits, its gaps below 100 minutes, its index lines in order, its code
--- and its texts in form
+-- The track is valid: its number is from 1 to 99, its control has four bits, its gaps are below 100 minutes, its index
+-- lines are in order, and its ISRC and its texts are valid.
 pub record IsTrack (track : CueTrack) : Type 0 where
   pub number : (1 ≤ track.number) × (track.number ≤ most_tracks)
   pub control : track.control < control_values
@@ -144,8 +145,8 @@ pub record IsTrack (track : CueTrack) : Type 0 where
   pub performer : IsText track.performer
   pub songwriter : IsText track.songwriter
 
--- a sheet has 1 to 99 tracks, whose numbers go up by one, and a track's times are not below those of the tracks
--- before it
+-- The sheet is valid: it has 1 to 99 tracks, whose numbers go up by one. The times of a track are not below those of the
+-- tracks before it.
 pub record IsSheet (sheet : CueSheet) : Type 0 where
   pub catalogue : ForSome sheet.catalogue (λ number. IsTrue (is_catalogue_number number))
   pub title : IsText sheet.title

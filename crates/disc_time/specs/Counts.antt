@@ -14,23 +14,24 @@ blocks_a_minute = 4500
 abbrev pub pause_blocks : ℕ
 pause_blocks = 150
 
--- how many times can be written: 00:00:00 to 99:59:74, since minutes have two decimal digits
+-- the number of times that can be written: 00:00:00 to 99:59:74, since minutes have two decimal digits
 abbrev pub time_count : ℕ
 time_count = 450000
 
--- the last block whose time can be written: that at 99:59:74
+-- the number of the last block whose time can be written: 99:59:74
 abbrev pub last_block : ℕ
 last_block = 449999
 
--- the most blocks of a lead-in: its blocks have times of their own, of which each is another
+-- the maximum number of blocks in a lead-in: each of them has a different time
 abbrev pub most_lead_in : ℕ
 most_lead_in = time_count
 
--- the most blocks of a program: the lead-out begins behind them, at a block whose time the table of contents writes
+-- the maximum number of blocks in a program. The lead-out begins at the next block, and a time for this block must exist:
+-- 99:59:74 at most.
 abbrev pub most_program : ℕ
 most_program = last_block
 
--- the most tracks of a disc: their numbers are two decimal digits, from 01 on
+-- the maximum number of tracks on a disc: their numbers have two decimal digits, from 01 on
 abbrev pub most_tracks : ℕ
 most_tracks = 99
 

@@ -12,8 +12,8 @@ use Rattle.cdg_instructions.specs.declared.instr.Instr.TheVariants.{MemoryPreset
 abbrev pub window_places : List (ℕ × ℕ)
 window_places = flat_map (λ r. map (λ c. (r + 1, c + 1)) (below window_columns)) (below window_rows)
 
--- the instructions that set the border and both halves of the colours: all of them for the first picture, and those
--- that differ from the previous picture for a later one
+-- the instructions that set the border and both halves of the colours: all three for the first picture; for a later one,
+-- only those whose values differ from the previous picture
 abbrev pub settings : List Drawing → ℕ → List Instr
 settings script zero = BorderPreset (picture_border script 0) ∷ ColoursLow (low_colours script 0) ∷
     ColoursHigh (high_colours script 0) ∷ []
@@ -50,12 +50,12 @@ IsStart k (Some colour) = colour < colour_count
 IsStart zero None = ⊥
 IsStart (suc k) None = ⊤
 
--- the instruction of a start, if it has one
+-- the instruction that sets the memory to the colour of a start, if it has one
 abbrev pub preset_of : Option ℕ → List Instr
 preset_of (Some colour) = MemoryPreset colour 0 ∷ []
 preset_of None = []
 
--- the tiles before picture k: those of the previous picture, or of the preset colour
+-- the pixels of a tile before its plan for picture k: the colour of the start, or those of the previous picture
 abbrev pub tiles_before : List Drawing → ℕ → Option ℕ → ℕ → ℕ → List ℕ
 tiles_before script k (Some colour) row column = replicate tile_pixels colour
 tiles_before script k None row column = picture_tile script (k - 1) row column

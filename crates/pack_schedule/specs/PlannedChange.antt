@@ -7,7 +7,7 @@ use Rattle.pack_schedule.specs.Change.{settings, window_places, preset_of, tiles
 use Rattle.cdg_instructions.specs.Sizes.{colour_count}
 use Rattle.cdg_instructions.specs.declared.instr.Instr.{Instr}
 
--- the plans of all tiles of the window
+-- the instructions of the plans of all tiles in the window
 unfoldable pub planned_tiles : List Drawing → ℕ → Option ℕ → List Instr
 planned_tiles script k start = flat_map (λ p. plan p.0 p.1 (tiles_before script k start p.0 p.1)
     (picture_tile script k p.0 p.1)) window_places
@@ -17,27 +17,27 @@ unfoldable pub tile_steps : List Drawing → ℕ → Option ℕ → ℕ
 tile_steps script k start =
     sum_by (λ p. steps (tiles_before script k start p.0 p.1) (picture_tile script k p.0 p.1)) window_places
 
--- the change with this start and the plan of each tile
+-- the list for picture k with a start: a colour to which the memory is set first, or `None` for no such instruction
 unfoldable pub planned_from : List Drawing → ℕ → Option ℕ → List Instr
 planned_from script k start = preset_of start ++ settings script k ++ planned_tiles script k start
 
--- the number of instructions of the change with this start
+-- the number of instructions of `planned_from` with this start
 unfoldable pub planned_length : List Drawing → ℕ → Option ℕ → ℕ
 planned_length script k start =
     length (preset_of start) + length (settings script k) + tile_steps script k start
 
--- the first start with the least number, with a preferred start before all others
+-- the value with the least `number`, from `best` and a list; of equal ones, `best` or else the first of the list
 unfoldable pub first_least : {X : Type 0} → (X → ℕ) → X → List X → X
 first_least number best [] = best
 first_least number best (x ∷ rest) =
     first_least number (if nat_lt (number x) (number best) then x else best) rest
 
--- the preferred start: none, or colour 0 for the first picture
+-- the preferred start: colour 0 for the first picture, and none for a later one
 abbrev pub preferred : ℕ → Option ℕ
 preferred zero = Some 0
 preferred (suc k) = None
 
--- the start of the planned change: the preferred one, unless another has a shorter change
+-- the start of the planned change: the preferred one, unless the list with another start is shorter
 unfoldable pub chosen_start : List Drawing → ℕ → Option ℕ
 chosen_start script k = first_least (planned_length script k) (preferred k) (map Some (below colour_count))
 

@@ -10,25 +10,25 @@ use Rattle.pack_schedule.specs.Change.{IsOrderedChange}
 use Rattle.cdg_instructions.specs.declared.instr.Instr.{Instr}
 use Rattle.cdg_instructions.specs.declared.instr.Instr.TheVariants.{Idle}
 
--- the first pack of the change of picture k: the first one that is incomplete at the hold time of the previous picture
+-- the number of the first pack for picture k; if k > 0, this pack is the first one incomplete at the previous hold time
 abbrev pub start_of : List Drawing → ℕ → ℕ
 start_of script zero = 0
 start_of script (suc k) = whole_packs (hold_time script k)
 
--- this many packs are complete at the ready time of picture k
+-- If the list for picture k has `need` packs, it is complete at the ready time of this picture.
 abbrev pub IsInTime : List Drawing → ℕ → ℕ → Type 0
 IsInTime script k need = start_of script k + need + packs_kept_back ≤ slots_a_block * ready_time script k
 
--- the packs that are free for picture k
+-- the number of packs that are free for picture k: from its start on, and complete at its ready time
 abbrev pub free_packs : List Drawing → ℕ → ℕ
 free_packs script k = whole_packs (ready_time script k) - start_of script k
 
--- picture k can be ready: the packs that it needs are complete at its ready time
+-- Picture k can be complete at its ready time: the packs that it needs are complete then.
 abbrev pub CanBeReady : List Drawing → ℕ → Type 0
 CanBeReady script k = (need : ℕ) × IsNeed script k need × IsInTime script k need
 
--- For each picture, the packs contain a list of instructions of this kind, after its start and complete at its ready time.
--- All other packs are idle.
+-- For each picture, the packs contain a list of instructions for which `IsOne` is true. The list begins at the start of the
+-- picture and is complete at its ready time. All other packs are idle.
 pub record IsScheduleOf (IsOne : List Drawing → ℕ → List Instr → Type 0) (script : List Drawing) (blocks : ℕ)
     (packs : List (List ℕ)) : Type 0 where
   pub count : length packs ≡ whole_packs blocks
@@ -44,7 +44,7 @@ pub record IsScheduleOf (IsOne : List Drawing → ℕ → List Instr → Type 0)
       → (n < start_of script k) ⊎ (start_of script k + length (slice_index_or changes k []) ≤ n)) →
       slice_index_or packs n [] ≡ idle_pack
 
--- a schedule contains a change of each picture, so no list that shows the picture is shorter
+-- The packs are a schedule of the script: they contain a change of each picture, which is a shortest list that draws it.
 abbrev pub IsSchedule : List Drawing → ℕ → List (List ℕ) → Type 0
 IsSchedule script blocks packs = IsScheduleOf IsChange script blocks packs
 
@@ -52,7 +52,7 @@ IsSchedule script blocks packs = IsScheduleOf IsChange script blocks packs
 abbrev pub IsOrderedSchedule : List Drawing → ℕ → List (List ℕ) → Type 0
 IsOrderedSchedule script blocks packs = IsScheduleOf IsOrderedChange script blocks packs
 
--- picture k is the first late picture
+-- Picture k is the first late picture. It needs `need` packs, and `free` packs are free for it.
 pub record IsLate (script : List Drawing) (k need free : ℕ) : Type 0 where
   pub picture : k < pictures script
   pub need_is : IsNeed script k need

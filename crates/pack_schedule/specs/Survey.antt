@@ -33,7 +33,7 @@ IsSurvey script planned = ArePlanned script (pictures script) planned
 abbrev pub IsWithin : List Drawing → ℕ → Type 0
 IsWithin script blocks = (k : ℕ) → k < pictures script → hold_time script k ≤ blocks
 
--- the last picture is held for longer
+-- The hold time of the last picture is after the end of a program of `blocks` blocks.
 abbrev pub IsPastEnd : List Drawing → ℕ → Type 0
 IsPastEnd script blocks = (0 < pictures script) × (blocks < hold_time script (pictures script - 1))
 

@@ -19,7 +19,7 @@ pub record ArePassedBy (woven : Woven) (packs : ℕ) : Type 0 where
       → (start_of woven.script k + length (planned_change woven.script k) ≤ woven.given)
       ⊎ (woven.given + packs ≤ start_of woven.script k)
 
--- pack n: the written instruction of the planned change at this place, or an idle pack
+-- Pack n is the codeword of the planned instruction at this place. If no change has an instruction here, the pack is idle.
 pub record IsPackAt (script : List Drawing) (n : ℕ) (pack : List ℕ) : Type 0 where
   pub changed : (k : ℕ) → k < pictures script → start_of script k ≤ n
       → n < start_of script k + length (planned_change script k) →
@@ -28,6 +28,6 @@ pub record IsPackAt (script : List Drawing) (n : ℕ) (pack : List ℕ) : Type 0
       → (n < start_of script k) ⊎ (start_of script k + length (planned_change script k) ≤ n))
       → pack ≡ idle_pack
 
--- the packs, in order
+-- The packs are those of the planned changes: `IsPackAt` is true for each pack n.
 abbrev pub ArePacks : List Drawing → List (List ℕ) → Type 0
 ArePacks script packs = (n : ℕ) → n < length packs → IsPackAt script n (slice_index_or packs n [])

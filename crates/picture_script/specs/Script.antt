@@ -3,7 +3,7 @@ use Rattle.std.specs.Prelude.{ℕ, zero, suc, ◌+◌, ◌-◌, ◌*◌, Bool, L
 use Rattle.bit_lists.specs.Counting.{below}
 use Rattle.cdg_instructions.specs.Sizes.{tile_height, tile_pixels, tile_width}
 
--- the commands of a script
+-- a line of a script: a command and its values, in the order of `drawn` below; times are in blocks
 pub data Drawing : Type 0 where
   Colour : ℕ → ℕ → Drawing
   Border : ℕ → Drawing
@@ -12,24 +12,24 @@ pub data Drawing : Type 0 where
   Row : ℕ → ℕ → List ℕ → Drawing
   Show : ℕ → ℕ → Drawing
 
--- the ready and hold time of a show line
+-- the ready and hold time of a line in blocks, if it is a show line
 abbrev pub shown_times : Drawing → Option (ℕ × ℕ)
 shown_times (Show ready hold) = Some (ready, hold)
 shown_times _ = None
 
--- the ready and hold times of the pictures, in order
+-- the ready and hold times of all pictures in blocks, in order
 unfoldable pub shows : List Drawing → List (ℕ × ℕ)
 shows script = filter_map shown_times script
 
--- the number of pictures of a script
+-- the number of pictures in a script
 abbrev pub pictures : List Drawing → ℕ
 pictures script = length (shows script)
 
--- the ready time of picture k
+-- the ready time of picture k in blocks; k counts from 0
 abbrev pub ready_time : List Drawing → ℕ → ℕ
 ready_time script k = (slice_index_or (shows script) k (0, 0)).0
 
--- the hold time of picture k
+-- the hold time of picture k in blocks; k counts from 0
 abbrev pub hold_time : List Drawing → ℕ → ℕ
 hold_time script k = (slice_index_or (shows script) k (0, 0)).1
 
@@ -40,7 +40,7 @@ lines_before (Show ready hold ∷ rest) zero = []
 lines_before (Show ready hold ∷ rest) (suc k) = Show ready hold ∷ lines_before rest k
 lines_before (line ∷ rest) k = line ∷ lines_before rest k
 
--- whether a line of pixels from x on covers the pixel
+-- whether x is one of the `count` numbers from `first` on
 abbrev pub is_within : ℕ → ℕ → ℕ → Bool
 is_within first count x = nat_le first x && nat_lt x (first + count)
 
@@ -50,11 +50,11 @@ pub record Picture : Type 0 where
   pub border : ℕ
   pub colour : ℕ → ℕ
 
--- the picture before any line
+-- the picture before the first line: all is 0
 abbrev pub blank_picture : Picture
 blank_picture = record { pixel = λ x y. 0; border = 0; colour = λ n. 0 }
 
--- the picture after a line
+-- the picture `old` after one more line of the script
 abbrev pub drawn : Picture → Drawing → Picture
 drawn old (Colour number value) = record old { colour = λ n. if number == n then value else old.colour n }
 drawn old (Border colour) = record old { border = colour }
@@ -68,19 +68,19 @@ drawn old (Row left top colours) = record old {
 }
 drawn old (Show ready hold) = old
 
--- the picture after all lines
+-- the picture that some lines of a script draw
 abbrev pub drawn_by : List Drawing → Picture
 drawn_by lines = fold drawn blank_picture lines
 
--- the pixels of picture k, as the lines before its show line draw them
+-- the colour number of pixel (x, y) of picture k, as the lines before its show line draw it
 unfoldable pub picture_pixel : List Drawing → ℕ → ℕ → ℕ → ℕ
 picture_pixel script k x y = (drawn_by (lines_before script k)).pixel x y
 
--- the border of picture k
+-- the colour number of the border of picture k
 unfoldable pub picture_border : List Drawing → ℕ → ℕ
 picture_border script k = (drawn_by (lines_before script k)).border
 
--- colour n of the table of picture k
+-- the value (twelve bits) of colour `number` in the colour table of picture k
 unfoldable pub picture_colour : List Drawing → ℕ → ℕ → ℕ
 picture_colour script k number = (drawn_by (lines_before script k)).colour number
 

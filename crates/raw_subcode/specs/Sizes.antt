@@ -1,7 +1,7 @@
 -- The sizes of blocks, sectors and slots, and the longest stream. Code calls them by the names of src/sizes.rt.
 use Rattle.std.specs.Prelude.{ℕ}
 
--- the symbols of a slot: those of a pack, 24 of six bits (IEC 60908)
+-- the number of symbols in a slot: as many as in a pack (IEC 60908)
 abbrev pub symbols_a_slot : ℕ
 symbols_a_slot = 24
 
@@ -13,15 +13,15 @@ slots_a_block = 4
 abbrev pub block_bytes : ℕ
 block_bytes = 96
 
--- the bytes of audio of a sector: a 75th of a second of 44,100 samples, of two channels of two bytes
+-- the number of bytes of audio in a sector: 1/75 second of 44,100 samples a second, each of two channels with two bytes
 abbrev pub audio_bytes : ℕ
 audio_bytes = 2352
 
--- the bytes of a sector: its audio and then its block
+-- the number of bytes in a sector: its audio and then its block
 abbrev pub sector_bytes : ℕ
 sector_bytes = 2448
 
--- the maximum number of units (blocks or sectors) of a stream: room for the longest lead-in (450,000 blocks) and the longest
--- program (449,999 blocks), with at most six digits
+-- the maximum number of units (blocks or sectors) in a stream: enough for the longest lead-in (450,000 blocks) and the
+-- longest program (449,999 blocks). The number of each unit, counted from 0, has at most six digits.
 abbrev pub most_units : ℕ
 most_units = 1000000

@@ -12,7 +12,7 @@ use Rattle.stream_stages.specs.declared.played.Played.{Played}
 use Rattle.stream_stages.specs.declared.played.PlayStop.{PlayStop}
 use Rattle.stream_stages.specs.declared.played.PlayStop.TheVariants.{ReadFault, WriteFault}
 
--- The stream differs by such damage from a stream whose packs are a schedule of the script.
+-- The bytes are a damaged copy of a stream whose packs are a schedule of the script.
 pub record IsScheduledStream (form : Form) (lead_in : ℕ) (script : List Drawing)
     (bytes : List ℕ) : Type 0 where
   pub blocks : ℕ
@@ -21,7 +21,7 @@ pub record IsScheduledStream (form : Form) (lead_in : ℕ) (script : List Drawin
   pub schedule : IsSchedule script blocks packs
   pub order : AreTimesInOrder script
 
--- The time is between the ready time and the hold time of picture k.
+-- The time, in blocks, is from the ready time to the hold time of picture k.
 pub record IsHeldAt (script : List Drawing) (k time : ℕ) : Type 0 where
   pub picture : k < pictures script
   pub ready : ready_time script k ≤ time
@@ -31,7 +31,7 @@ pub record IsHeldAt (script : List Drawing) (k time : ℕ) : Type 0 where
 abbrev pub IsPictureText : List Drawing → ℕ → List ℕ → Type 0
 IsPictureText script k text = (now : Standing) × ShowsPicture script k now × (text ≡ pixmap now)
 
--- If no read and no write failed, no word was bad, and picture k was written.
+-- No word was bad and picture k was written; or a read or a write failed.
 abbrev pub GivesPicture : List Drawing → ℕ → Result Played PlayStop → Option (List ℕ) → Option (List ℕ)
     → Type 0
 GivesPicture script k (Ok played) held held' = (played.bad ≡ 0)

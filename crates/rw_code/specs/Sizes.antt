@@ -1,7 +1,7 @@
 -- The symbols of a word, and their values. Code calls them by the names of src/word.rt.
 use Rattle.std.specs.Prelude.{ℕ}
 
--- the symbols of a word (IEC 60908)
+-- the number of symbols in a word (IEC 60908)
 abbrev pub word_symbols : ℕ
 word_symbols = 24
 
@@ -9,6 +9,6 @@ word_symbols = 24
 abbrev pub last_position : ℕ
 last_position = 23
 
--- how many values a symbol has: it is six bits
+-- the number of values of a symbol, which has six bits
 abbrev pub symbol_values : ℕ
 symbol_values = 64

@@ -1,11 +1,11 @@
--- Where the symbols of the packs stand among the program symbols.
+-- The places of the symbols of each pack among the program symbols.
 use Rattle.std.specs.Prelude.{◌≡◌, ◌≢◌, ℕ, ◌+◌, ◌-◌, ◌*◌, ◌%◌, ◌<◌, List, [], length, map, All, slice_index, slice_index_or, ◌==◌, if◌then◌else◌}
 use Rattle.bit_lists.specs.Counting.{below}
 use Rattle.raw_subcode.specs.Sizes.{block_bytes, slots_a_block, symbols_a_slot}
 use Rattle.rw_code.specs.Sizes.{word_symbols}
 use Rattle.rw_code.specs.Codeword.{IsCodeword}
 
--- the slots that the symbols of a pack are spread over (IEC 60908)
+-- the number of slots over which the symbols of a pack are spread (IEC 60908)
 abbrev pub span : ℕ
 span = 8
 
@@ -13,7 +13,7 @@ span = 8
 abbrev pub packs_kept_back : ℕ
 packs_kept_back = 7
 
--- a and b in each other's place
+-- the number i, except that a and b are exchanged: b for a, and a for b
 abbrev pub exchanged : ℕ → ℕ → ℕ → ℕ
 exchanged a b i = if i == a then b else (if i == b then a else i)
 
@@ -21,19 +21,19 @@ exchanged a b i = if i == a then b else (if i == b then a else i)
 unfoldable pub swapped : ℕ → ℕ
 swapped i = exchanged 1 18 (exchanged 2 5 (exchanged 3 23 i))
 
--- the place of symbol i of pack n: slot n and up to seven slots later
+-- the place of symbol i of pack n in the list of program symbols: it is in slot n or up to seven slots later
 abbrev pub place : ℕ → ℕ → ℕ
 place n i = symbols_a_slot * (n + swapped i % span) + swapped i
 
--- the symbols at the places of pack n
+-- word n of the program symbols: the symbols at the 24 places of pack n
 unfoldable pub word_of : List ℕ → ℕ → List ℕ
 word_of symbols n = map (λ i. slice_index symbols (place n i)) (below word_symbols)
 
--- how many packs of so many slots are whole
+-- the number of packs that are complete in the first `slots` slots
 abbrev pub whole_of_slots : ℕ → ℕ
 whole_of_slots slots = slots - packs_kept_back
 
--- the number of packs all of whose symbols are in the first `blocks` blocks; each block has four slots
+-- the number of packs whose 24 symbols are all in the first `blocks` blocks
 abbrev pub whole_packs : ℕ → ℕ
 whole_packs blocks = slots_a_block * blocks - packs_kept_back
 

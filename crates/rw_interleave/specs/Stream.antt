@@ -16,27 +16,27 @@ abbrev pub word_count : Form → ℕ → ℕ
 word_count Cooked blocks = slots_a_block * blocks
 word_count _ blocks = whole_packs blocks
 
--- word n of the program symbols: in a cooked stream its symbols are adjacent, otherwise they are interleaved
+-- word n of the program symbols: in a cooked stream, its symbols are next to each other; otherwise they are spread
 abbrev pub form_word : Form → List ℕ → ℕ → List ℕ
 form_word Cooked symbols n = map (λ i. slice_index symbols (word_symbols * n + i)) (below word_symbols)
 form_word _ symbols n = word_of symbols n
 
--- what is found for each word of the program symbols
+-- `found` has the result of the correction of each word of the program symbols.
 pub record IsRecovered (form : Form) (symbols : List ℕ) (found : List (Option (List ℕ))) : Type 0 where
   pub count : length found ≡ word_count form (length symbols / block_bytes)
   pub each : (n : ℕ) → n < word_count form (length symbols / block_bytes)
       → IsFinding (form_word form symbols n) (slice_index_or found n None)
 
--- the words for which nothing is found
+-- the number of bad words: those for which nothing was found
 abbrev pub bad_count : List (Option (List ℕ)) → ℕ
 bad_count found = count_by is_none found
 
--- packs as words of a form: in a cooked stream of so many blocks zeros follow them
+-- the packs of a stream of `blocks` blocks as its words: in a cooked stream, idle packs follow them
 abbrev pub all_packs : Form → ℕ → List (List ℕ) → List (List ℕ)
 all_packs form blocks packs = packs ++ replicate (word_count form blocks - length packs) idle_pack
 
--- `others` contains each word of `symbols` with at most two wrong symbols; each further word has at most two nonzero
--- symbols.
+-- `others` contains each word of `symbols` with at most two wrong symbols. Each further word of `others` has at most two
+-- symbols that are not 0.
 pub record IsDamaged (symbols : List ℕ) (form : Form) (others : List ℕ) : Type 0 where
   pub size : length others ≡ length symbols
   pub words : (n : ℕ) → n < whole_packs (length symbols / block_bytes)
@@ -46,26 +46,26 @@ pub record IsDamaged (symbols : List ℕ) (form : Form) (others : List ℕ) : Ty
 
 -- Symbols that differ in bursts
 
--- the most symbols of a burst
+-- the maximum number of symbols in a burst
 abbrev pub most_burst : ℕ
 most_burst = 16
 
--- the fewest symbols between two bursts: as many as the eight slots have that a pack is spread over
+-- the minimum number of symbols between two bursts: as many as the eight slots of a pack have
 abbrev pub least_gap : ℕ
 least_gap = 192
 
--- bursts by their first place and size, from a place on: each has at most so many symbols, and each but the first
--- begins at least so many places after the one before has ended
+-- Each burst (its first place and its size) begins at `place` or later and has at most `most_burst` symbols. At least
+-- `least_gap` symbols lie between two bursts.
 abbrev pub AreBurstsFrom : ℕ → List (ℕ × ℕ) → Type 0
 AreBurstsFrom place [] = ⊤
 AreBurstsFrom place (burst ∷ rest) = (place ≤ burst.0) × (burst.1 ≤ most_burst)
     × AreBurstsFrom (burst.0 + burst.1 + least_gap) rest
 
--- whether a burst holds the place
+-- whether a place is in a burst
 abbrev pub is_in_burst : ℕ → ℕ × ℕ → Bool
 is_in_burst place burst = nat_le burst.0 place && nat_lt place (burst.0 + burst.1)
 
--- the symbols are equal outside such bursts
+-- The two lists of symbols have equal lengths, and are equal outside some bursts.
 pub record DiffersInBursts (symbols others : List ℕ) : Type 0 where
   pub size : length others ≡ length symbols
   pub bursts : List (ℕ × ℕ)

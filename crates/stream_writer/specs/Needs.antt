@@ -7,7 +7,7 @@ use Rattle.stream_writer.specs.SheetTexts.{texts_of_sheet}
 use Rattle.cdtext_packs.specs.Packs.{most_text_packs}
 use Rattle.cdtext_packs.specs.Writing.{packs_of}
 
--- the sheet has a layout for this audio file
+-- The audio file is long enough for the sheet, and the program is not longer than a disc allows.
 abbrev pub HasLayout : CueSheet → ℕ → Type 0
 HasLayout sheet audio = (audio_need sheet ≤ audio) × (program_blocks sheet audio ≤ most_program)
 
@@ -20,17 +20,18 @@ text_packs sheet = packs_of (texts_of_sheet sheet)
 abbrev pub lead_in_need : CueSheet → ℕ
 lead_in_need sheet = max (3 * (length sheet.tracks + 3)) ((length (text_packs sheet) + 3) / 4)
 
--- a lead-in, if there is one, has room for the texts and the table of contents
+-- If there is a lead-in, it has room for the texts and the table of contents.
 abbrev pub HasRoom : CueSheet → ℕ → Type 0
 HasRoom sheet lead_in = 0 < lead_in
     → (length (text_packs sheet) ≤ most_text_packs) × (lead_in_need sheet ≤ lead_in)
 
--- there is a lead-in, and its texts need this many packs, more than 256
+-- There is a lead-in, and its texts need `packs` packs, which are more than 256.
 abbrev pub IsTextTooLong : CueSheet → ℕ → ℕ → Type 0
 IsTextTooLong sheet lead_in packs =
     (0 < lead_in) × (most_text_packs < packs) × (packs ≡ length (text_packs sheet))
 
--- there is a lead-in, its texts have at most 256 packs, and it is too short for them or for the table of contents
+-- There is a lead-in, its texts have at most 256 packs, and the lead-in is too short for the texts or the table of
+-- contents.
 abbrev pub IsLeadInShort : CueSheet → ℕ → ℕ → Type 0
 IsLeadInShort sheet lead_in need =
     (0 < lead_in) × (length (text_packs sheet) ≤ most_text_packs) × (lead_in < need)

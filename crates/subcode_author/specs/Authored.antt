@@ -11,7 +11,7 @@ use Rattle.pack_schedule.specs.Woven.{ArePacks}
 use Rattle.stream_writer.specs.Framing.{HasFraming}
 pub use Rattle.stream_writer.specs.Needs.{text_packs, lead_in_need}
 
--- The parts of a disc: a cue sheet, a picture script, and the numbers of blocks of the lead-in and of the audio file.
+-- a disc: its cue sheet, its picture script, and the lengths of its lead-in and of its audio file in blocks
 pub record Disc : Type 0 where
   pub sheet : CueSheet
   pub script : List Drawing
@@ -27,15 +27,15 @@ disc_of sheet script lead_in audio = record {
   audio = audio;
 }
 
--- An authored stream of a disc, made by any program: its packs are a schedule of the script, and its blocks have the
--- frames of the sheet.
+-- The bytes are an authored stream of the disc: its packs are a schedule of the script, and its P bits, Q frames and
+-- CD-TEXT are those of the sheet.
 pub record IsAuthored (disc : Disc) (bytes : List ℕ) (packs : List (List ℕ)) : Type 0 where
   pub schedule : IsSchedule disc.script (program_blocks disc.sheet disc.audio) packs
   pub framing : HasFraming (layout_of disc.sheet disc.audio) (text_packs disc.sheet) disc.lead_in bytes
   pub carries : Carries (program_blocks disc.sheet disc.audio) (program_symbols Raw bytes disc.lead_in) packs
   pub enough : 0 < disc.lead_in → lead_in_need disc.sheet ≤ disc.lead_in
 
--- The authored stream that `author_stream` writes: its packs are those of the planned changes.
+-- The bytes are the stream that `author` writes: an authored stream whose packs are those of the planned changes.
 pub record IsWrittenStream (disc : Disc) (bytes : List ℕ) (packs : List (List ℕ)) : Type 0 where
   pub authored : IsAuthored disc bytes packs
   pub planned : ArePacks disc.script packs

@@ -7,31 +7,31 @@ use Rattle.cdg_instructions.specs.Sizes.{tile_height, tile_pixels, tile_width}
 use Rattle.cdg_instructions.specs.declared.instr.Instr.{Instr}
 use Rattle.cdg_instructions.specs.declared.instr.Instr.TheVariants.{SetTile, XorTile}
 
--- whether a number is the exclusive or of some members: without the first one, or with it
+-- whether a number is a combination: the exclusive or of some (or none) of these members
 unfoldable pub is_combination : List ℕ → ℕ → Bool
 is_combination [] number = number == 0
 is_combination (first ∷ rest) number =
     is_combination rest number || is_combination rest (bit_xor first number)
 
--- the members, followed by the numbers that are not combinations of previous members
+-- the list `members`, followed by each number that is not a combination of the members before it
 unfoldable pub basis_from : List ℕ → List ℕ → List ℕ
 basis_from members [] = members
 basis_from members (number ∷ rest) =
     basis_from (if is_combination members number then members else members ++ number ∷ []) rest
 
--- the differences of the pixels from the first pixel
+-- the difference (exclusive or) of each pixel from the first pixel
 unfoldable pub differences_from_first : List ℕ → List ℕ
 differences_from_first pixels = map (bit_xor (slice_index pixels 0)) pixels
 
--- the differences that are not combinations of previous ones
+-- the differences from the first pixel that are not combinations of previous ones
 unfoldable pub basis : List ℕ → List ℕ
 basis pixels = basis_from [] (differences_from_first pixels)
 
--- the number of instructions that draw the pixels on a tile of one colour
+-- the number of instructions that draw these pixels, or that combine them with the old pixels
 unfoldable pub weight : List ℕ → ℕ
 weight pixels = max 1 (length (basis pixels))
 
--- the selection for a number: bit j selects member j for the combination that equals the number
+-- the combination of members that equals a number: bit j is 1 if member j is one of them
 unfoldable pub selection : List ℕ → ℕ → ℕ
 selection [] number = 0
 selection (first ∷ rest) number =
@@ -44,15 +44,15 @@ combination [] chosen = 0
 combination (first ∷ rest) chosen =
     bit_xor (if has_bit 0 chosen then first else 0) (combination rest (chosen / 2))
 
--- for each pixel, whether member j is selected for its difference
+-- for each pixel, whether member j of the basis is in the combination that equals its difference from the first pixel
 unfoldable pub member_bits : List ℕ → ℕ → List Bool
 member_bits pixels j = map (λ d. has_bit j (selection (basis pixels) d)) (differences_from_first pixels)
 
--- the same as twelve lines of six bits; the leftmost bit is the highest
+-- `member_bits` as twelve lines of six bits; the leftmost pixel is the highest bit
 unfoldable pub tile_lines : List ℕ → ℕ → List ℕ
 tile_lines pixels j = map number_of (parts tile_height tile_width (member_bits pixels j))
 
--- instruction j, from 0, of those that draw the pixels, or that combine them with the old pixels
+-- instruction j (from 0) of a plan: it draws the pixels if `draws` is true, otherwise it combines them with the old ones
 unfoldable pub planned : Bool → ℕ → ℕ → List ℕ → ℕ → Instr
 planned draws row column pixels j =
     let colour0 = if j == 0 then slice_index pixels 0 else 0 in
@@ -61,15 +61,15 @@ planned draws row column pixels j =
     if draws && j == 0 then SetTile colour0 colour1 row column lines
     else XorTile colour0 colour1 row column lines
 
--- the values to combine with the old pixels
+-- the differences of a tile: for each pixel, the exclusive or of its old and its new colour number
 unfoldable pub delta : List ℕ → List ℕ → List ℕ
 delta old new = map (λ p. bit_xor (slice_index old p) (slice_index new p)) (below tile_pixels)
 
--- whether the new pixels are the old ones
+-- whether the old and the new pixels of a tile are equal
 unfoldable pub are_equal : List ℕ → List ℕ → Bool
 are_equal old new = list_all (λ d. d == 0) (delta old new)
 
--- no instructions for equal tiles; instructions that draw the new tile, unless it is shorter to combine the differences
+-- the plan of a tile: nothing if unchanged; else draw it, or combine the differences with the old pixels if this is shorter
 unfoldable pub plan : ℕ → ℕ → List ℕ → List ℕ → List Instr
 plan row column old new =
     let d = delta old new in
@@ -79,6 +79,6 @@ plan row column old new =
     then map (planned true row column new) (below (weight new))
     else map (planned false row column d) (below (weight d)))
 
--- the length of that plan
+-- the number of instructions in the plan of a tile
 unfoldable pub steps : List ℕ → List ℕ → ℕ
 steps old new = if are_equal old new then 0 else min (weight new) (weight (delta old new))

@@ -4,8 +4,8 @@ use Rattle.bit_lists.specs.Counting.{below}
 use Rattle.disc_time.specs.Counts.{pause_blocks}
 use Rattle.cue_sheet.specs.CueSheet.{CueTrack, CueSheet, track_of, index_line_of}
 
--- a track on the disc: its number, its control bits, its code, the block at which it begins, and its index lines by
--- number and block
+-- a track on the disc: its number, its control bits, its ISRC, the block at which it begins, and its index lines (each a
+-- number and a block)
 pub record TrackPlace : Type 0 where
   pub number : ℕ
   pub control : ℕ
@@ -23,24 +23,25 @@ pub record DiscLayout : Type 0 where
 abbrev pub no_place : TrackPlace
 no_place = record { number = 0; control = 0; isrc = None; begin = 0; lines = [] }
 
--- the sum of the pregaps of the first tracks
+-- the sum of the pregaps of the first `count` tracks, in blocks
 unfoldable pub pregaps_to : CueSheet → ℕ → ℕ
 pregaps_to sheet count = sum_by (λ (t : CueTrack). t.pregap) (take count sheet.tracks)
 
--- the sum of the postgaps of the first tracks
+-- the sum of the postgaps of the first `count` tracks, in blocks
 unfoldable pub postgaps_to : CueSheet → ℕ → ℕ
 postgaps_to sheet count = sum_by (λ (t : CueTrack). t.postgap) (take count sheet.tracks)
 
--- the block of file time 0 for track k, from 0: two seconds, the gaps of the previous tracks and the track's own pregap
--- come first
+-- the block of file time 0 for track k (from 0): before it are two seconds, the gaps of the previous tracks and the pregap
+-- of track k
 abbrev pub blocks_before : CueSheet → ℕ → ℕ
 blocks_before sheet k = pause_blocks + pregaps_to sheet (k + 1) + postgaps_to sheet k
 
--- the file time of the first index line of a track
+-- the file time of the first index line of a track, in blocks
 abbrev pub first_index_time : CueTrack → ℕ
 first_index_time track = (index_line_of track 0).1
 
--- the block at which track k begins: block 0 for the first track, the pregap for each other track
+-- the block at which track k begins: block 0 for the first track, for each other track the first block of its pregap or,
+-- without a pregap, of its first index line
 abbrev pub track_begin : CueSheet → ℕ → ℕ
 track_begin sheet k = if k == 0 then 0
     else pause_blocks + pregaps_to sheet k + postgaps_to sheet k + first_index_time (track_of sheet k)
@@ -67,15 +68,15 @@ unfoldable pub greatest : List ℕ → ℕ
 greatest [] = 0
 greatest (x ∷ xs) = max x (greatest xs)
 
--- the greatest time of a track
+-- the greatest time of an index line of a track, in blocks from the beginning of the audio file
 abbrev pub latest_time : CueTrack → ℕ
 latest_time track = greatest (map (λ (line : ℕ × ℕ). line.1) track.indices)
 
--- the length of the audio that the index lines need: one more than the greatest of their times
+-- the number of blocks of audio that the index lines of a sheet need: one more than the greatest of their times
 unfoldable pub audio_need : CueSheet → ℕ
 audio_need sheet = greatest (map latest_time sheet.tracks) + 1
 
--- the disc of a sheet and an audio length
+-- the layout of the disc for a sheet and an audio file of `audio` blocks
 abbrev pub layout_of : CueSheet → ℕ → DiscLayout
 layout_of sheet audio = record {
   catalogue = sheet.catalogue;
