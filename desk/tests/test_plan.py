@@ -93,7 +93,7 @@ class Latin1Test(FolderTest):
     def test_warns_of_texts_alone(self) -> None:
         sheet = self.write("a.cue", "REM \u00fcber\n" + SHEET.replace("Song", "S\u00f6ng"))
         ran = self.plan(sheet)
-        self.assertIn('a.cue: line 2: TITLE "S\u00f6ng" goes onto the disc in UTF-8', ran.errors)
+        self.assertIn('a.cue: line 2: TITLE "S\u00f6ng" is written to the disc in UTF-8', ran.errors)
         self.assertNotIn("line 1", ran.errors)
 
     def test_writes_the_bytes_of_latin_1(self) -> None:

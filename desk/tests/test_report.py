@@ -329,12 +329,12 @@ class ReportTest(FolderTest):
 
         with mock.patch("ribjasper.dumps.workers.examine", end):
             ran = self.report("--no-pictures", "--jobs", "3", status=3)
-        self.assertIn("dump-005: could not be looked at", ran.errors)
+        self.assertIn("dump-005: could not be examined", ran.errors)
         self.assertIn("a worker process ended unexpectedly; the files that were open are tried again", ran.errors)
         rows = {row["file"][-3:]: row for row in self.table()}
         self.assertEqual(len(rows), 12)
         self.assertEqual([name for name, row in rows.items() if row["status"] == "unread"], ["005"])
-        self.assertIn("could not be looked at", rows["005"]["why"])
+        self.assertIn("could not be examined", rows["005"]["why"])
         self.report("--no-pictures")
         self.assertEqual([row["status"] for row in self.table() if row["status"] == "unread"], [])
 
@@ -449,7 +449,7 @@ class ClusterTest(FolderTest):
         errors = running.communicate(timeout=100)[1].decode()
         self.assertEqual(running.returncode, 3, errors)
         self.assertEqual(len(errors.splitlines()), 1, errors)
-        self.assertIn(f"{address}: the scheduler went away", errors)
+        self.assertIn(f"{address}: the scheduler or all of its workers disappeared", errors)
 
     def test_no_scheduler(self) -> None:
         (self.folder / "dumps").mkdir()
@@ -459,7 +459,7 @@ class ClusterTest(FolderTest):
             "report", self.folder / "dumps", "-o", self.folder / "out", "--no-pictures", "--cluster", address
         )
         self.assertEqual(ran.status, 3)
-        self.assertIn(f"{address}: no scheduler answers", ran.errors)
+        self.assertIn(f"{address}: no scheduler responds", ran.errors)
 
 
 if __name__ == "__main__":

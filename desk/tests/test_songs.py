@@ -308,7 +308,7 @@ class UltraStarTest(SongTest):
         found = [[(round(one.start, 3), round(one.end, 3)) for one in line.syllables] for line in song.lines]
         self.assertEqual(found, [[(1.0, 1.8), (2.2, 2.8)], [(4.2, 5.0)]])
         self.assertEqual(song.notes, [])
-        self.assertIn("line 2: the tempo 0 is no number", self.refused("#BPM:150\nB 16 0\n: 0 4 60 a\nE\n", "a.txt"))
+        self.assertIn("line 2: the tempo 0 is not a number", self.refused("#BPM:150\nB 16 0\n: 0 4 60 a\nE\n", "a.txt"))
 
     def test_notes(self) -> None:
         song = self.song(ULTRASTAR, "a.txt")
