@@ -94,8 +94,8 @@ definitions use these signs:
 | `words.now` | This is the value of the argument `words`. The call only reads this argument, so its value does not change. |
 | `result` | This is the return value of the call. |
 | `x.0`, `x.1`, `x.name` | `x.0` is the first part of the tuple x, and `x.1` is the second part. `x.name` is the field `name` of the record x. |
-| `S.left first.old` | This says which bytes of the input `first` are unread before the call. It is `Some` list of bytes, or `None` if the bytes are not known. |
-| `K.held out.old` | This says which bytes were written to the output `out` before the call. It is `Some` list of bytes, or `None` if the bytes are not known. |
+| `S.left first.old` | This is the list of the bytes of the input `first` that are unread before the call: `Some` with this list, or `None` if the bytes are not known. |
+| `K.held out.old` | This is the list of the bytes that were written to the output `out` before the call: `Some` with this list, or `None` if the bytes are not known. |
 | `(x : A) → P`, `(x y : A) → P` | `(x : A) → P` means that P is true for every x of type A. `(x y : A) → P` means that P is true for every x and every y of type A. |
 | `(x : A) × P` | This means that P is true for at least one x of type A. |
 | `a ≡ b`, `a ≢ b` | `a ≡ b` means that a and b are equal. `a ≢ b` means that a and b are different. |
@@ -108,7 +108,7 @@ definitions use these signs:
 | `record`, `pub name : A` | `record` defines a type with named fields, and `pub name : A` is a field of the type A. If the fields are statements, the record is the statement that all of them are true. |
 | `record { name = e; .. }` | This is a record in which the field `name` has the value e, and so on. |
 | `abbrev`, `unfoldable` | Each of these words begins the definition of a name. The name means the right side of the definition. The two words differ only for the checker. |
-| `data`, `name : A → B ..` | `data` defines a type by a list of the kinds of its values. `name : A → B ..` is one kind: values that are called `name` and consist of parts of the types A, B and so on. If the type is a statement, the list has the only ways in which the statement is true. |
+| `data`, `name : A → B ..` | `data` defines a type by a list of the kinds of its values. `name : A → B ..` is one kind: its values are written as `name`, followed by a part of the type A and so on. The last type after the colon is the defined type. If the defined type is a statement, the list has the only ways in which the statement is true. |
 | `{A : Type 0}` | This is an argument that is not written in a call, because the checker finds it. |
 | `f x y`, `f : A → B → C` | `f x y` is the result of the function f for the arguments x and y. `f : A → B → C` says that f has two arguments, of the types A and B, and a result of the type C. |
 | `f [] = ..`, `f _ = ..` | A definition by cases has one line for each form of the argument, for example the form `[]`. The form `_` fits every argument. The first line that fits the argument defines the result. |
@@ -136,7 +136,7 @@ if at most two of its symbols are not 0. *So many* means the number in the argum
 WORDS = {
     "All": "`All P xs` says that the statement P is true for each element of the list xs.",
     "AllByRecursion": "This says that a statement is true for each element of a list.",
-    "Appends": "`Appends old new xs` says: if `old` is `Some` list, `new` is `Some` of this list, followed by xs. So xs are the bytes that were written.",
+    "Appends": "`Appends old new xs` says: if `old` is `Some` list, `new` is this list followed by the list xs. So the bytes xs were written between `old` and `new`.",
     "Bool": "This is the type of the truth values `true` and `false`.",
     "Consumes": "This says: if the contents of an input are known, exactly these bytes were removed from their front.",
     "Contains": "This says that the list has this element.",
@@ -145,7 +145,7 @@ WORDS = {
     "Global": "This is the heap.",
     "IfErr": "This says: if the result is `Err`, this statement is true for its reason.",
     "IfOk": "This says: if the result is `Ok`, this statement is true for its value.",
-    "IfSome": "`IfSome x P` says: if x is `Some` value, the statement P is true for this value.",
+    "IfSome": "`IfSome x P` says: if the option x has a value, the statement P is true for this value.",
     "IsAtEnd": "This says: if the contents of an input are known, nothing is left of them.",
     "IsErr": "This says that the result is `Err`.",
     "IsErrOf": "This says that the result is `Err` with this reason.",
@@ -549,7 +549,7 @@ class Book:
             out += ["", "| Part | Definitions | Lines |", "|---|---|---|"]
             out += [f"| {ROMAN[k]}. {title} | {number} | {count} |" for k, (title, number, count) in enumerate(counts)]
         others = "; ".join(f"{ROMAN[k]}. {title}" for k, (title, _) in enumerate(PARTS) if k >= len(counts))
-        out += ["", f"These parts are not in this document: {others}."] if others else []
+        out += ["", f"These parts are only in `docs/DEFINITIONS-WHOLE.md`: {others}."] if others else []
         out += ["", "## How to read the definitions", "", "The function `run` has these arguments:", "", "```", *signature(), "```", "", KEY, "", *([WHOLE_KEY, ""] if is_whole else [])]
         named = ", ".join(f"`{name}` (crate `{crate}`)" for name, crate in SHOWN_TYPES.items())
         out += [f"The definitions use these types of the code: {named}. A type has these kinds of values (*variants*):", "", "```"]
