@@ -46,30 +46,34 @@ LIBRARY = ("block_survey", "rw_mend", "mended_stream", "disc_plan", "live_player
 
 # The introduction of a part whose claims name something that the part does not show.
 SAID = {
-    "Packs are recovered": "This part is about `convert`. In its clause, `disc` is a cue sheet, a picture script, and the numbers of blocks of the"
-    " lead-in and of the audio. `stream` has the bytes of an authored stream of this disc, which `IsAuthored` of part II defines. `packs` is the"
-    " list of all packs in this stream, each a list of 24 symbols. This part needs only one field of `IsAuthored`, `carries`. The field states"
-    " that the program symbols of `stream` contain exactly these packs, and that their number follows from the number of blocks. `Spells c"
-    " (texts words.now)` says that the command line is the command c with its options.",
-    "Pictures are shown": "This part is about `screen`. An authored stream contains a schedule of the script of its disc. Any program may have made this stream."
-    " `HasFraming` says that a stream has the P bits, the Q frames and the text packs of a disc. `IsScriptText` says that a text is this"
-    " picture script by the grammar in [FORMATS](FORMATS.md), and is not too long.",
-    "The stream that is written, and late pictures": "This part is about `author`: which stream it writes, and when it reports a late"
-    " picture. `IsSheetText` says the same of a cue sheet as `IsScriptText` says of a script.",
+    "Packs are recovered": "This part is about the command `convert`. Its clause uses these variables: `form` is the form of the input, and `all` is"
+    " the list of the bytes of the input. `disc` has a cue sheet, a picture script, the number of blocks of the lead-in, and the number of blocks"
+    " of the audio. `stream` is the list of the bytes of an authored stream of this disc; part II defines authored streams (`IsAuthored`). `packs`"
+    " is the list of all packs in `stream`, and each pack is a list of 24 symbols. This part needs only the field `carries` of `IsAuthored`. The"
+    " field states that the blocks of `stream` after the lead-in contain exactly these packs, and that the number of these blocks determines the"
+    " number of packs. `Spells c (texts words.now)` says that the words of the command line are those of the command c.",
+    "Pictures are shown": "This part is about the command `screen`. Its clause holds for every authored stream, regardless of the program that made the"
+    " stream. `HasFraming` (part IV) says that a stream has the P bits, the Q frames and the text packs (packs of CD-TEXT) of a disc. `IsScriptText"
+    " text script` (part VI) says that `text` has at most 64 MiB, and that the grammar of picture scripts in [FORMATS](FORMATS.md) reads `text` as"
+    " the script `script`.",
+    "The stream that is written, and late pictures": "This part is about the command `author`: which stream it writes, and when it reports a late"
+    " picture. `IsSheetText text sheet` says that `text` has at most 64 MiB, and that the grammar of cue sheets in [FORMATS](FORMATS.md) reads `text`"
+    " as the cue sheet `sheet`.",
 }
 
 # What each clause of the headline states, in place of the comment above it in the code.
 STATED = {
-    "gives_back": "The clause `gives_back` states: if the input of `convert` is a copy of an authored stream with at most two wrong symbols in"
-    " each word, `convert` writes every pack of this stream. The clause says nothing about a call in which a read or a write fails.",
-    "shows": "The clause `shows` states: if the input of `screen` is a copy of an authored stream with at most two wrong symbols in each word,"
-    " `screen` shows each picture of the script from its ready time to its hold time. The clause says"
-    " nothing about a call in which a read or a write fails or memory runs out.",
-    "authors": "The clause `authors` states: if a sheet and a script fit on the disc, `author` writes the authored stream with the planned"
-    " changes, or it reports the first late picture and writes nothing. The clause says nothing about a call in which a read or a write"
-    " fails or memory runs out.",
-    "late": "The clause `late` states: if `author` reports a picture as late, even the shortest list of instructions that draws this picture"
-    " has more instructions than the number of free packs that `author` reports.",
+    "gives_back": "The clause `gives_back` is about a copy of an authored stream. The copy has at most two wrong symbols in each word. The clause states:"
+    " if this copy is the input of `convert`, `convert` writes every pack of the authored stream. The clause says nothing about a call in which a read"
+    " or a write fails.",
+    "shows": "The clause `shows` is about a copy of an authored stream. The copy has at most two wrong symbols in each word. The clause states: if this"
+    " copy is the input of `screen`, `screen` shows each picture of the script from its ready time to its hold time. The clause says nothing about a"
+    " call in which a read or a write fails or memory runs out.",
+    "authors": "The clause `authors` states: if a cue sheet and a script are valid and fit on the disc, `author` either writes the authored stream with"
+    " the planned changes, or reports the first late picture and writes nothing. The clause says nothing about a call in which a read or a write fails"
+    " or memory runs out.",
+    "late": "The clause `late` states: if `author` reports a picture as late, even a shortest list of instructions that draws this picture has more"
+    " instructions than the number of free packs that `author` reports.",
 }
 
 # The types whose variants the introduction shows, with their crates.
@@ -79,42 +83,42 @@ ROMAN = "I II III IV V VI VII VIII IX".split()
 
 # How a clause is read. The signature of `run` and the variants of the named types come from the code.
 KEY = """
-`alloc` is the heap, and `words` has the words of the command line. `first` and `second` are the two inputs, for example the
-cue sheet and the script of `author`. `out` is the output, and `err` is the error output. The caller chooses the types of the inputs
-(*sources*), `S` and `T`, and of the outputs (*sinks*), `K` and `E`. In the code, a clause is written `ensures name { .. }`. Clauses and
+`alloc` is the heap, and `words` is the list of the words of the command line. `first` and `second` are the two inputs; for `author`, they
+are the cue sheet and the script. `out` is the output, and `err` is the error output. The caller chooses the types `S` and `T` of the inputs
+(*sources*), and the types `K` and `E` of the outputs (*sinks*). In the code, a clause is written `ensures name { .. }`. Clauses and
 definitions use these signs:
 
 | Sign | Meaning |
 |---|---|
-| `first.old`, `first.new` | These are the argument `first` before and after the call. The call may change it. |
-| `words.now` | This is the argument `words`, which the call only reads. |
+| `first.old`, `first.new` | `first.old` is the value of the argument `first` before the call, and `first.new` is its value after the call. |
+| `words.now` | This is the value of the argument `words`. The call only reads this argument, so its value does not change. |
 | `result` | This is the return value of the call. |
-| `x.0`, `x.1`, `x.name` | The first two are the first and the second part of a tuple. The third is the part `name` of a record. |
-| `S.left first.old` | These are the unread bytes of a source before the call: `Some` list, or `None` if the bytes are not known. |
-| `K.held out.old` | These are the bytes that were written to a sink before the call: `Some` list, or `None` if the bytes are not known. |
-| `(x : A) → P`, `(x y : A) → P` | For every x (and every y) of A, P is true. |
-| `(x : A) × P` | There is an x of A for which P is true. |
-| `a ≡ b`, `a ≢ b` | The first means that a equals b, the second that a does not equal b. |
-| `a → b` | If a is true, b is true. Between types, it is the type of functions from a to b. |
-| `a × b`, `a ⊎ b`, `¬ a` | These mean: a and b; a or b; not a. |
-| `⊤`, `⊥` | The first statement is always true, the second is always false. |
-| `λ x. e` | This is the function that maps x to e. |
-| `ℕ`, `a - b` | ℕ is the type of natural numbers. If a - b would be negative, it is 0. |
-| `[]`, `x ∷ xs`, `xs ++ ys` | These are the empty list, the list with x in front of xs, and two lists joined. |
-| `record`, `pub name : A` | A record has named fields. If the fields are statements, the record states all of them together; otherwise it is a value with several parts. |
-| `record { name = e; .. }` | This is a record whose part `name` is e, and so on. |
-| `abbrev`, `unfoldable` | Both define a name for the right side of the definition. They differ only for the checker. |
-| `data`, `name : A → B ..` | This defines a type by a list of its kinds of values. If the type is a statement, the list has the only ways in which it is true. |
-| `{A : Type 0}` | This is an argument that the checker finds by itself. |
-| `f x y`, `f : A → B → C` | The first is the function f, applied to x and y. The second says that the arguments of f have the types A and B, and the result has the type C. |
-| `f [] = ..`, `f _ = ..` | A definition by cases has a line for each form of the argument. The first line that fits the argument is used, and `_` fits every argument. |
-| `Type 0` | A value of this type is a statement or a type. |
-| `ℕ × ℕ`, `(a, b)` | These are the type of pairs of numbers, and a pair. |
-| `record old { name = e }` | This is a copy of the record `old` whose part `name` is e. |
-| `let x = e in d` | This is d, where x means e. |
+| `x.0`, `x.1`, `x.name` | `x.0` is the first part of the tuple x, and `x.1` is the second part. `x.name` is the field `name` of the record x. |
+| `S.left first.old` | This is the list of the bytes of the input `first` that are unread before the call: `Some` with this list, or `None` if the bytes are not known. |
+| `K.held out.old` | This is the list of the bytes that were written to the output `out` before the call: `Some` with this list, or `None` if the bytes are not known. |
+| `(x : A) → P`, `(x y : A) → P` | `(x : A) → P` means that P is true for every x of type A. `(x y : A) → P` means that P is true for every x and every y of type A. |
+| `(x : A) × P` | This means that P is true for at least one x of type A. |
+| `a ≡ b`, `a ≢ b` | `a ≡ b` means that a and b are equal. `a ≢ b` means that a and b are different. |
+| `a → b` | Between statements, this means: if a is true, b is true. Between types, this is the type of functions from a to b. |
+| `a × b`, `a ⊎ b`, `¬ a` | `a × b` means that a and b are true. `a ⊎ b` means that a or b is true. `¬ a` means that a is false. |
+| `⊤`, `⊥` | `⊤` is a statement that is always true. `⊥` is a statement that is always false. |
+| `λ x. e` | This is the function that returns e for the argument x. |
+| `ℕ`, `a - b` | `ℕ` is the type of the natural numbers 0, 1, 2 and so on. If b is greater than a, `a - b` is 0. |
+| `[]`, `x ∷ xs`, `xs ++ ys` | `[]` is the empty list. `x ∷ xs` is the list that begins with x and continues with the list xs. `xs ++ ys` is the list xs, followed by the list ys. |
+| `record`, `pub name : A` | `record` defines a type with named fields, and `pub name : A` is a field of the type A. If the fields are statements, the record is the statement that all of them are true. |
+| `record { name = e; .. }` | This is a record in which the field `name` has the value e, and so on. |
+| `abbrev`, `unfoldable` | Each of these words begins the definition of a name. The name means the right side of the definition. The two words differ only for the checker. |
+| `data`, `name : A → B ..` | `data` defines a type by a list of the kinds of its values. `name : A → B ..` is one kind: its values are written as `name`, followed by a part of the type A and so on. The last type after the colon is the defined type. If the defined type is a statement, the list has the only ways in which the statement is true. |
+| `{A : Type 0}` | This is an argument that is not written in a call, because the checker finds it. |
+| `f x y`, `f : A → B → C` | `f x y` is the result of the function f for the arguments x and y. `f : A → B → C` says that f has two arguments, of the types A and B, and a result of the type C. |
+| `f [] = ..`, `f _ = ..` | A definition by cases has one line for each form of the argument, for example the form `[]`. The form `_` fits every argument. The first line that fits the argument defines the result. |
+| `Type 0` | This is the type of all statements, and of all types of values. |
+| `ℕ × ℕ`, `(a, b)` | `ℕ × ℕ` is the type of pairs of numbers. `(a, b)` is the pair with the parts a and b. |
+| `record old { name = e }` | This is a copy of the record `old` in which the field `name` has the value e. |
+| `let x = e in d` | This is the value of d if x means e. |
 
-In the lines that begin with `--`, a *text* may be any list of bytes that is written. A stream is *cooked* if the 24 symbols of each word are
-next to each other. Numbers of packs, pictures and pixels count from 0.
+In the lines that begin with `--`, *text* may mean any list of bytes that a call writes. A stream has the form *cooked* if the 24 symbols of each
+word are next to each other. The numbers of packs, pictures and pixels begin with 0.
 """.strip()
 
 # What only the whole document uses.
@@ -130,10 +134,10 @@ if at most two of its symbols are not 0. *So many* means the number in the argum
 
 # What the words of the standard library mean.
 WORDS = {
-    "All": "This says that a statement is true for each element of a list.",
+    "All": "`All P xs` says that the statement P is true for each element of the list xs.",
     "AllByRecursion": "This says that a statement is true for each element of a list.",
-    "Appends": "This says: if the contents of an output are known, a call appended exactly these bytes to them.",
-    "Bool": "This type has the truth values `true` and `false`.",
+    "Appends": "`Appends old new xs` says: if `old` is `Some` list, `new` is this list followed by the list xs. So the bytes xs were written between `old` and `new`.",
+    "Bool": "This is the type of the truth values `true` and `false`.",
     "Consumes": "This says: if the contents of an input are known, exactly these bytes were removed from their front.",
     "Contains": "This says that the list has this element.",
     "Err": "This is the result of a call that failed, with the reason.",
@@ -141,7 +145,7 @@ WORDS = {
     "Global": "This is the heap.",
     "IfErr": "This says: if the result is `Err`, this statement is true for its reason.",
     "IfOk": "This says: if the result is `Ok`, this statement is true for its value.",
-    "IfSome": "This says: if an option is `Some` value, a statement is true for this value.",
+    "IfSome": "`IfSome x P` says: if the option x has a value, the statement P is true for this value.",
     "IsAtEnd": "This says: if the contents of an input are known, nothing is left of them.",
     "IsErr": "This says that the result is `Err`.",
     "IsErrOf": "This says that the result is `Err` with this reason.",
@@ -151,38 +155,38 @@ WORDS = {
     "MatchBool": "This says: if a truth value is `true`, the first statement is true; if it is `false`, the second one is.",
     "MatchOption": "This says: if there is no value, the first statement is true; if there is one, the second statement is true for it.",
     "MatchResult": "This says: if the result is `Ok`, the first statement is true for its value; if it is `Err`, the second one is true for its reason.",
-    "None": "This means that there is no value.",
+    "None": "This is the value of an option that has no value.",
     "Ok": "This is the result of a call that succeeded, with its value.",
     "OnErr": "This says: if the result is `Err`, this statement is true.",
     "OnOk": "This says: if the result is `Ok`, this statement is true.",
-    "Option": "A value of this type is `Some` with a value, or `None`.",
+    "Option": "This is the type of options. An option is `Some` with a value, or `None`.",
     "ReadConsumes": "This says that a read removed exactly the bytes that it returned.",
     "Result": "A value of this type is `Ok` with a value, or `Err` with a reason.",
-    "Some": "This means that there is a value.",
+    "Some": "`Some x` is the option with the value x.",
     "StartsWith": "This says that the list begins with this other list.",
     "String": "This is the type of texts.",
     "Unit": "This type has only one value.",
     "before_first": "This function returns the elements before the first one for which another function is true.",
-    "bit_at": "This function returns bit k of a number, counted from the lowest bit.",
-    "bit_xor": "This function returns the exclusive or of two numbers, bit by bit.",
+    "bit_at": "`bit_at n k` is bit k of the number n, 0 or 1. Bit 0 is the lowest bit.",
+    "bit_xor": "`bit_xor a b` is the exclusive or of the numbers a and b, bit by bit.",
     "box_owns": "This says that a box holds this value and owns its memory.",
     "bytes_eq": "This function returns whether two lists of bytes are equal.",
     "coded_list": "This function returns a list of numbers as bytes in memory, one after another.",
-    "codes": "This function returns the characters of a text as numbers.",
-    "concat": "This function joins the lists of a list.",
-    "count_by": "This function returns the number of elements for which another function is true.",
+    "codes": "`codes s` is the list of the characters of the text s, each as a number.",
+    "concat": "`concat xss` is one list with the elements of all lists in xss, in their order.",
+    "count_by": "`count_by f xs` is the number of elements of the list xs for which the function f returns `true`.",
     "decimal": "This function returns a number in decimal digits, without a leading zero.",
     "digit_char": "This function returns the character of a digit.",
     "digit_value": "This function returns the number that the character of a digit means.",
     "digits_value": "This function returns the number that a list of digits means.",
-    "drop": "This function removes the first n elements of a list.",
+    "drop": "`drop n xs` is the list xs without its first n elements.",
     "enumerate_from": "This function pairs each element with its number, counted from n.",
     "false": "This is the truth value of a false statement.",
     "filter": "This function returns the elements for which another function is true, in their order.",
-    "filter_map": "This function applies a function to each element, and keeps the values of the results that are `Some`.",
+    "filter_map": "`filter_map f xs` applies the function f to each element of the list xs. The result is the list of the values x for which f returns `Some x`.",
     "find": "This function returns the first element for which another function is true, if there is one.",
-    "flat_map": "This function applies a function to each element, and joins the lists that it returns.",
-    "fold": "This function starts with a value. For each element of a list, in order, it replaces the value by a function of the value and the element.",
+    "flat_map": "`flat_map f xs` applies the function f to each element of the list xs, and joins the lists that f returns.",
+    "fold": "`fold f a xs` begins with the value a. For each element of the list xs, in order, f makes the next value from the value so far and the element. The last value is the result.",
     "is_ascii_digit": "This function returns whether a character is one of 0 to 9.",
     "is_ascii_hexdigit": "This function returns whether a character is one of 0 to 9, a to f, A to F.",
     "is_ascii_uppercase": "This function returns whether a character is one of A to Z.",
@@ -192,28 +196,28 @@ WORDS = {
     "is_ok": "This function returns whether a result is `Ok`.",
     "is_prefix": "This function returns whether a list is the beginning of another.",
     "is_some": "This function returns whether there is a value.",
-    "length": "This function returns the number of elements of a list.",
+    "length": "`length xs` is the number of elements of the list xs.",
     "lines": "This function splits a text into its lines, which end with line feeds.",
-    "list_all": "This function returns whether another function is true for all elements.",
+    "list_all": "`list_all f xs` is `true` if the function f returns `true` for all elements of the list xs, and otherwise `false`.",
     "list_any": "This function returns whether another function is true for some element.",
-    "map": "This function applies a function to each element of a list.",
-    "max": "This function returns the greater of two numbers.",
-    "min": "This function returns the smaller of two numbers.",
+    "map": "`map f xs` is the list of the results of the function f for each element of the list xs.",
+    "max": "`max a b` is the greater one of the numbers a and b.",
+    "min": "`min a b` is the smaller one of the numbers a and b.",
     "nat_cmp": "This function compares two numbers.",
     "nat_eq": "This function returns whether two numbers are equal.",
-    "nat_le": "This function returns whether a number is at most another.",
-    "nat_lt": "This function returns whether a number is below another.",
+    "nat_le": "`nat_le a b` is `true` if the number a is at most b, and otherwise `false`.",
+    "nat_lt": "`nat_lt a b` is `true` if the number a is less than b, and otherwise `false`.",
     "negsuc": "`negsuc n` is the integer - n - 1.",
-    "not": "This function returns the other truth value.",
+    "not": "`not a` is `false` if the truth value a is `true`, and otherwise `true`.",
     "option_map": "This function applies a function to a value, if there is one.",
     "pos": "`pos n` is the integer n.",
     "position": "This function returns the index of the first element for which another function is true.",
-    "range_with_len": "This function returns a list of n numbers that count up from a first number.",
-    "replicate": "This function returns a list of n equal elements.",
-    "reverse": "This function returns a list in reverse order.",
+    "range_with_len": "`range_with_len a n` is the list of the n numbers a, a + 1, a + 2 and so on.",
+    "replicate": "`replicate n x` is a list of n elements, each equal to x.",
+    "reverse": "`reverse xs` is the list xs in reverse order.",
     "slice_cmp": "This function compares two lists in lexicographic order.",
-    "slice_index": "This function returns element n of a list, counted from 0; or 0 if there is none. `pixel_at` and `word_of` depend on this 0.",
-    "slice_index_or": "This function returns element n of a list, counted from 0; or another value if there is none.",
+    "slice_index": "`slice_index xs n` is element n of the list xs; the first element has the number 0. If the list has no element n, the result is 0; `pixel_at` and `word_of` depend on this rule.",
+    "slice_index_or": "`slice_index_or xs n d` is element n of the list xs; the first element has the number 0. If the list has no element n, the result is d.",
     "slice_range": "This function returns the elements of a list between two indices.",
     "slice_set": "This function replaces the value at index n of a list.",
     "slice_split": "This function splits a list at the elements for which another function is true.",
@@ -222,8 +226,8 @@ WORDS = {
     "str_to_ascii_uppercase": "This function returns a text in capital letters.",
     "string_bytes": "This function returns a text as bytes.",
     "suc": "`suc n` is n + 1.",
-    "sum_by": "This function returns the sum of the values of a function for all elements.",
-    "take": "This function returns the first n elements of a list.",
+    "sum_by": "`sum_by f xs` is the sum of the numbers that the function f returns for the elements of the list xs.",
+    "take": "`take n xs` is the list of the first n elements of the list xs.",
     "true": "This is the truth value of a true statement.",
     "unwrap_or": "This function returns the value, if there is one, or another value.",
     "zero": "This is the number 0.",
@@ -339,7 +343,7 @@ def variants(crate: str, name: str) -> list[str]:
 
 
 def on_one_line(lines: list[str]) -> list[str]:
-    """The lines of an enum, each variant on one line."""
+    """The lines of an enum: each variant on one line, or a short enum as one line."""
     out = lines[:1]
     for line in lines[1:]:
         is_field = line.startswith("        ")
@@ -347,7 +351,9 @@ def on_one_line(lines: list[str]) -> list[str]:
             out[-1] += " " + line.strip()
         else:
             out.append(line)
-    return [re.sub(r", \},$", " },", line) for line in out]
+    out = [re.sub(r", \},$", " },", line) for line in out]
+    whole = re.sub(r",? \}$", " }", " ".join(line.strip() for line in out))
+    return [whole] if len(whole) < 80 else out
 
 
 def balanced(text: str) -> bool:
@@ -482,7 +488,7 @@ class Book:
         out = [SAID[title], ""] if title in SAID else []
         if put_off:
             where = ", ".join(f"`{target[1]}` ({later[target]})" for target in put_off)
-            out += [f"This part also uses these definitions of other parts: {where}.", ""]
+            out += [f"This part also uses these definitions, which other parts show: {where}.", ""]
         for comment, lines in claims:
             out += [" ".join(comment), ""] if comment else []
             out += ["```", *lines, "```", ""]
@@ -523,37 +529,36 @@ class Book:
     def text(self, is_whole: bool) -> tuple[str, list[tuple[str, int, int]]]:
         """The document, and how many definitions and printed lines each part has."""
         parts, counts = self.parts(is_whole)
-        first, second, third = (counts[k][2] for k in range(HEADLINE))
+        sizes = [f"{definitions} definitions, {lines} lines" for _, definitions, lines in counts]
         out = [
             "# Definitions",
             "",
-            "This document shows the most important proved statement of Ribjasper, the *headline*, as it is in the code. The document is for readers",
-            "who want to judge whether the headline says what they expect. The headline consists of four *clauses* of the function `run`, which",
-            "performs one command of the program. A clause is a statement that is true after every call of a function. The checker proves the",
-            "clauses, but only a reader can judge what they mean. [PROVED](PROVED.md#the-headline) explains the headline in words.",
+            "This document shows the most important proved statement of Ribjasper, the *headline*, as it is in the code. The document is for readers who",
+            "want to judge whether the headline says what they expect. The headline consists of four *clauses* of the function `run`, which performs one",
+            "command of the program `ribjasper`. A clause is a statement that is true after every call of a function. The checker proves the clauses, but",
+            "only a reader can judge what they mean. [PROVED](PROVED.md#the-headline) explains the headline in words.",
             "",
-            "The definitions have nine parts, and this document shows parts I to III. Each part begins with clauses of `run`, and then shows the",
-            f"definitions that these clauses use. A line that begins with `--` explains the next definition. Parts I and II ({first + second} lines) say that",
-            f"packs and pictures are recovered from a stream. Part III ({third} lines) says which stream is written, and when a picture is late. Each",
-            "part lists the definitions that it uses from other parts. `make definitions` writes all nine parts to `docs/DEFINITIONS-WHOLE.md`.",
-            "",
-            "All definitions are copied from the code. `tools/write/list_definitions.py` writes this document, and `make check` compares it with",
-            "the code.",
-            "",
-            "| Part | Definitions | Lines |",
-            "|---|---|---|",
+            "The clauses and their definitions have nine parts, and this document shows the parts I to III. Each part begins with clauses of `run`. Then it",
+            "shows the definitions that these clauses use. A line that begins with `--` explains the definition below it. Part I says that packs are",
+            f"recovered from a stream ({sizes[0]}), and part II says that pictures are shown from it ({sizes[1]}). Part III says which",
+            f"stream `author` writes, and when a picture is late ({sizes[2]}). Each part names the definitions that it uses but that",
+            "another part shows. `make definitions` writes all nine parts to `docs/DEFINITIONS-WHOLE.md`. All definitions are copied from the code:",
+            "`tools/write/list_definitions.py` writes this document, and `make check` compares it with the code.",
         ]
-        out += [f"| {ROMAN[k]}. {title} | {number} | {count} |" for k, (title, number, count) in enumerate(counts)]
+        if is_whole:
+            out += ["", "| Part | Definitions | Lines |", "|---|---|---|"]
+            out += [f"| {ROMAN[k]}. {title} | {number} | {count} |" for k, (title, number, count) in enumerate(counts)]
         others = "; ".join(f"{ROMAN[k]}. {title}" for k, (title, _) in enumerate(PARTS) if k >= len(counts))
-        out += ["", f"These parts are not in this document: {others}."] if others else []
+        out += ["", f"These parts are only in `docs/DEFINITIONS-WHOLE.md`: {others}."] if others else []
         out += ["", "## How to read the definitions", "", "The function `run` has these arguments:", "", "```", *signature(), "```", "", KEY, "", *([WHOLE_KEY, ""] if is_whole else [])]
-        for name, crate in SHOWN_TYPES.items():
-            out += [f"The type `{name}` of the crate `{crate}` has these variants:", "", "```", *variants(crate, name), "```", ""]
+        named = ", ".join(f"`{name}` (crate `{crate}`)" for name, crate in SHOWN_TYPES.items())
+        out += [f"The definitions use these types of the code: {named}. A type has these kinds of values (*variants*):", "", "```"]
+        out += ["\n\n".join("\n".join(variants(crate, name)) for name, crate in SHOWN_TYPES.items()), "```", ""]
         out += ["The definitions also use these words of the standard library:", "", "| Word | Meaning |", "|---|---|"]
         out += [f"| `{word}` | {WORDS[word]} |" for word in sorted(self.words) if word in WORDS]
         types = sorted({f"`{it.split('.')[-1]}` ({it.split('.')[0]})" for it in self.types if it.split(".")[-1] not in SHOWN_TYPES})
         if types:
-            out += ["", f"The definitions also use these types of the code, each from the crate in parentheses: {', '.join(types)}."]
+            out += ["", f"The definitions use further types of the code; the name of the crate follows each type in parentheses: {', '.join(types)}."]
         out += ["", *parts]
         if is_whole:
             out += ["## What no part reaches", "", "These definitions are steps of proofs, or are about calls below `run`:", "", *self.rest()]
