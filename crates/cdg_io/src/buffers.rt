@@ -2,7 +2,7 @@
 ghost use Rattle.std.specs.Prelude.{◌⊎◌, ◌++◌, ◌-◌, ◌^◌, Ok, min, ◌≡◌, ◌<◌, ◌≤◌, List, ℕ, Some, drop, length, take, true, false, ◌≢◌, ◌+◌, [], IfOk, IsOk, OnErr, OnOk, vec_len};
 ghost use Rattle.std.specs.Io.{ReadsAtMost};
 ghost use Rattle.std.specs.Io.Buffered.{reader_inner, reader_remaining};
-ghost use Rattle.std.specs.Io.KnownBytes.{Consumes, ReadConsumes, WriteAppends, Keeps};
+ghost use Rattle.std.specs.Io.KnownBytes.{Consumes, ReadConsumes, WriteAppends, Appends, Keeps};
 ghost use Rattle.std.specs.declared.alloc.Global.{Global};
 ghost use Rattle.std.specs.declared.io.buffered.BufReader.{BufReader};
 ghost use Rattle.cdg_io.specs.Causes.{Counted, CountedReader, HasCause, counted_after, nothing_told};
@@ -12,11 +12,11 @@ ghost use Rattle.cdg_io.specs.Moves.{TakesSome};
 ghost use Rattle.cdg_io.specs.Pump.{Works};
 ghost use Rattle.cdg_io.specs.Waiting.{Buffered, bytes_with_waiting};
 
-use crate::ends::{Tally, read_counted};
+use crate::ends::{CountedWriter, Outcome, Tally, read_counted};
 use crate::piece::copy_front;
 use crate::{Failed, PassedUnits, Piece, Sink, Source, UnitStage};
 use std::alloc::{AllocError, Global};
-use std::io::{BufRead, BufReader, ErrorKind, Read, Write};
+use std::io::{BufRead, BufReader, Read, Write};
 use std::marker::Model;
 
 /// A buffered reader as a source. It works like `ReadSource`, but feeds units directly from its buffer.
@@ -130,27 +130,23 @@ impl<R: Read> Source for BufferedSource<R> {
 /// and so is a write of no bytes; bytes that were not written still wait. An interrupted write is repeated.
 #[derive(Drop)]
 pub struct BufferedSink<W: Write> {
-    writer: W,
+    writer: CountedWriter<W>,
     buffer: Vec<u8>,
     /// What waits is the front of the buffer, up to here.
     end: usize,
     /// The maximum number of bytes that wait after `put`. The output of units from a buffer may fill the whole buffer.
     turn: usize,
     faults: u64,
-    /// How many writes of the writer failed.
-    failed: u64,
-    /// How many were interrupted. One that cannot be counted any more has failed.
-    interrupts: u64,
 }
 
 impl<W: Write> Model for BufferedSink<W> {
     ghost Value = { Buffered W };
 
     ghost view = { λ s. record {
-      inner = s.writer;
+      inner = s.writer.inner;
       waiting = take s.end s.buffer.items;
       faults = s.faults;
-      failed = s.failed;
+      failed = s.writer.faults;
       turn = s.turn;
       room = vec_len s.buffer;
     } };
@@ -178,13 +174,11 @@ impl<W: Write + Drop> BufferedSink<W> {
     {
         let buffer = vec![in alloc; 0; room]?;
         Ok(BufferedSink {
-            writer,
+            writer: CountedWriter::new(writer),
             buffer,
             end: 0,
             turn,
             faults: 0,
-            failed: 0,
-            interrupts: 0,
         })
     }
 }
@@ -207,26 +201,43 @@ impl<W: Write> BufferedSink<W> {
         ensures failed { self.new.failed ≡ counted_after result self.old.failed }
         ensures same { (self.new.turn ≡ self.old.turn) × (self.new.room ≡ self.old.room) }
     {
-        let mut written = 0;
-        while written < self.end {
-            match self.writer.write(&self.buffer[written..self.end]) {
-                Ok(count) if count > 0 => written += count,
-                Err(error)
-                    if error.kind() == ErrorKind::Interrupted && self.interrupts < u64::MAX => {
-                    self.interrupts += 1;
-                }
-                _ => {
-                    self.failed = self.failed.saturating_add(1);
-                    break;
-                }
-            }
-        }
-        self.buffer.copy_within(written..self.end, 0);
+        let written = write_front(&mut self.writer, &self.buffer[..self.end]);
+        move_to_front(&mut self.buffer, written, self.end);
         self.end -= written;
         if self.end > 0 {
             return Err(Failed);
         }
         Ok(())
+    }
+
+    // Puts a piece that needs a write of the waiting bytes first. It is not inlined, so that other pieces do not pay
+    // for it.
+    #[cold]
+    #[inline(never)]
+    fn put_full(&mut self, piece: &[u8]) -> Result<usize, Failed>
+        requires { 0 < length piece.now }
+        ensures bound { TakesSome result piece.now }
+        ensures bytes { WriteAppends (bytes_with_waiting W.contents self.old)
+            (bytes_with_waiting W.contents self.new) result piece.now }
+        ensures counted { self.new.faults ≡ counted_after result self.old.faults }
+        ensures failed { self.new.failed ≡ counted_after result self.old.failed }
+        ensures nothing { self.old.waiting ≡ [] → IsOk result }
+        ensures written { IfOk result
+            (λ n. (n ≡ min (length piece.now) self.old.turn) × (self.new.waiting ≡ take n piece.now)) }
+        ensures same { (self.new.turn ≡ self.old.turn) × (self.new.room ≡ self.old.room) }
+    {
+        match self.flush() {
+            Ok(()) => {
+                let count = piece.len().min(self.turn);
+                copy_front(&mut self.buffer, &piece[..count]);
+                self.end = count;
+                Ok(count)
+            }
+            Err(Failed) => {
+                self.faults = self.faults.saturating_add(1);
+                Err(Failed)
+            }
+        }
     }
 }
 
@@ -256,19 +267,12 @@ impl<W: Write> Sink for BufferedSink<W> {
             × (self.new.waiting ≡ take n piece.now)) }
         ensures same { (self.new.turn ≡ self.old.turn) × (self.new.room ≡ self.old.room) }
     {
-        if piece.len() <= self.turn.saturating_sub(self.end) {
-            copy_front(&mut self.buffer[self.end..], piece);
-            self.end += piece.len();
-            return Ok(piece.len());
+        if piece.len() > self.turn.saturating_sub(self.end) {
+            return self.put_full(piece);
         }
-        if let Err(Failed) = self.flush() {
-            self.faults = self.faults.saturating_add(1);
-            return Err(Failed);
-        }
-        let count = piece.len().min(self.turn);
-        copy_front(&mut self.buffer, &piece[..count]);
-        self.end = count;
-        Ok(count)
+        copy_front(&mut self.buffer[self.end..], piece);
+        self.end += piece.len();
+        Ok(piece.len())
     }
 
     /// Writes the waiting bytes. Bytes that cannot be written still wait, and a later call reports the failure.
@@ -297,4 +301,31 @@ impl<W: Write> Sink for BufferedSink<W> {
         self.end = passed.end;
         passed.units
     }
+}
+
+// Writes bytes until all are written or a write fails. Returns the number of written bytes.
+fn write_front<W: Write>(writer: &mut CountedWriter<W>, bytes: &[u8]) -> usize
+    ensures within { result ≤ length bytes.now }
+    ensures bytes { Appends (W.contents writer.old.inner) (W.contents writer.new.inner)
+        (take result bytes.now) }
+    ensures all { result ≡ length bytes.now → writer.new.faults ≡ writer.old.faults }
+    ensures part { result < length bytes.now
+        → writer.new.faults ≡ min (writer.old.faults + 1) (2 ^ 64 - 1) }
+{
+    let mut written = 0;
+    while written < bytes.len() {
+        match writer.write(&bytes[written..]) {
+            Outcome::Wrote(count) => written += count,
+            Outcome::Interrupted => {}
+            Outcome::Fault => return written,
+        }
+    }
+    written
+}
+
+fn move_to_front(bytes: &mut [u8], from: usize, end: usize)
+    requires { (from ≤ end) × (end ≤ length bytes.old) }
+    ensures { take (end - from) bytes.new ≡ drop from (take end bytes.old) }
+{
+    bytes.copy_within(from..end, 0);
 }

@@ -1,16 +1,20 @@
 // Where bytes come from and where they go, with a count of faults.
-ghost use Rattle.std.specs.Prelude.{◌≡◌, ◌<◌, ◌≤◌, ◌+◌, Ok, List, ℕ, None, Some, drop, length, take, true, false};
+ghost use Rattle.std.specs.Prelude.{◌≡◌, ◌≢◌, ◌<◌, ◌≤◌, ◌+◌, ◌-◌, ◌^◌, ◌⊎◌, ◌↔◌, min, Ok, Err, List, ℕ, None, Some, drop, length, take, true, false};
 ghost use Rattle.std.specs.Io.{ReadsAtMost};
 ghost use Rattle.std.specs.Io.KnownBytes.{Appends, Keeps, Consumes, ReadConsumes, WriteAppends};
 ghost use Rattle.std.specs.declared.option.Option.{Option};
-ghost use Rattle.cdg_io.specs.Causes.{HasCause, Counted, CountedReader, counted_after, nothing_told};
+ghost use Rattle.cdg_io.specs.Causes.{CountedWrites, HasCause, Counted, CountedReader, counted_after, nothing_told};
+ghost use Rattle.cdg_io.specs.declared.ends.Outcome.TheVariants.{Fault, Interrupted, Wrote};
+ghost use Rattle.std.specs.IoError.{error_kind};
+ghost use Rattle.std.specs.declared.io.Error.{Error};
 ghost use Rattle.cdg_io.specs.Change.{from_to, moved};
 ghost use Rattle.cdg_io.specs.Counts.{GivesFull, TellsRead, counts, kept_counts};
 ghost use Rattle.cdg_io.specs.Moves.{TakesSome};
 ghost use Rattle.cdg_io.specs.Pump.{Works};
 
 use crate::{PassedUnits, Piece, UnitStage};
-use std::io::{Read, Write};
+use std::io;
+use std::io::{ErrorKind, Read, Write};
 use std::marker::Model;
 
 /// A read or a write failed.
@@ -293,6 +297,99 @@ impl<W: Write> Sink for WriteSink<W> {
             _ => {
                 self.faults = self.faults.saturating_add(1);
                 Err(Failed)
+            }
+        }
+    }
+}
+
+/// What a write comes to.
+#[derive(Clone, Copy, Debug, PartialEq, Eq)]
+pub(crate) enum Outcome {
+    /// So many bytes were written, at least one.
+    Wrote(usize),
+    /// The write was interrupted, and can be made again.
+    Interrupted,
+    /// The write failed, or wrote nothing.
+    Fault,
+}
+
+impl Outcome {
+    // The outcome of a write.
+    fn of(answer: io::Result<usize>) -> Outcome
+        ensures wrote { (n : ℕ) → (result ≡ Wrote n ↔ (answer ≡ Ok n) × (0 < n)) }
+        ensures interrupted { result ≡ Interrupted
+            ↔ (error : Error) × (answer ≡ Err error) × (error_kind error ≡ ErrorKind.Interrupted) }
+    {
+        match answer {
+            Ok(count) if count > 0 => Outcome::Wrote(count),
+            Err(error) if error.kind() == ErrorKind::Interrupted => Outcome::Interrupted,
+            _ => Outcome::Fault,
+        }
+    }
+}
+
+/// A writer that counts the writes that failed, and those that were interrupted. It may be interrupted 2^64 - 1 times;
+/// one time more is a failure.
+#[derive(Drop)]
+pub(crate) struct CountedWriter<W: Write> {
+    writer: W,
+    faults: u64,
+    interrupts: u64,
+}
+
+impl<W: Write> Model for CountedWriter<W> {
+    ghost Value = { CountedWrites W };
+
+    ghost view = { λ s. record { inner = s.writer; faults = s.faults; interrupts = s.interrupts } };
+}
+
+impl<W: Write> CountedWriter<W> {
+    pub fn new(writer: W) -> CountedWriter<W>
+        ensures { result ≡ record { inner = writer; faults = 0; interrupts = 0 } }
+    {
+        CountedWriter {
+            writer,
+            faults: 0,
+            interrupts: 0,
+        }
+    }
+
+    /// Writes bytes of the front of these. It is one call of the writer.
+    pub fn write(&mut self, bytes: &[u8]) -> Outcome
+        ensures wrote { (n : ℕ) → result ≡ Wrote n → (0 < n) × (n ≤ length bytes.now)
+            × Appends (W.contents self.old.inner) (W.contents self.new.inner) (take n bytes.now) }
+        ensures keeps { ((n : ℕ) → result ≢ Wrote n)
+            → Keeps (W.contents self.old.inner) (W.contents self.new.inner) }
+        ensures faults { result ≢ Fault → self.new.faults ≡ self.old.faults }
+        ensures fault { result ≡ Fault → self.new.faults ≡ min (self.old.faults + 1) (2 ^ 64 - 1) }
+        ensures interrupts { result ≢ Interrupted → self.new.interrupts ≡ self.old.interrupts }
+        ensures interrupted { result ≡ Interrupted
+            → (self.new.interrupts ≡ self.old.interrupts + 1) × (self.new.interrupts < 2 ^ 64) }
+    {
+        let answer = self.writer.write(bytes);
+        self.count(Outcome::of(answer))
+    }
+
+    // Counts what a write came to. An interruption that cannot be counted any more is a failure.
+    fn count(&mut self, outcome: Outcome) -> Outcome
+        ensures inner { self.new.inner ≡ self.old.inner }
+        ensures wrote { (n : ℕ) → (result ≡ Wrote n ↔ outcome ≡ Wrote n) }
+        ensures again { result ≡ Interrupted ↔ (outcome ≡ Interrupted) × (self.old.interrupts < 2 ^ 64 - 1) }
+        ensures faults { result ≢ Fault → self.new.faults ≡ self.old.faults }
+        ensures fault { result ≡ Fault → self.new.faults ≡ min (self.old.faults + 1) (2 ^ 64 - 1) }
+        ensures interrupts { result ≢ Interrupted → self.new.interrupts ≡ self.old.interrupts }
+        ensures interrupted { result ≡ Interrupted
+            → (self.new.interrupts ≡ self.old.interrupts + 1) × (self.new.interrupts < 2 ^ 64) }
+    {
+        match outcome {
+            Outcome::Wrote(count) => Outcome::Wrote(count),
+            Outcome::Interrupted if self.interrupts < u64::MAX => {
+                self.interrupts += 1;
+                Outcome::Interrupted
+            }
+            Outcome::Interrupted | Outcome::Fault => {
+                self.faults = self.faults.saturating_add(1);
+                Outcome::Fault
             }
         }
     }

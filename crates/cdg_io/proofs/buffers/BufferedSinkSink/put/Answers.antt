@@ -1,13 +1,14 @@
 use Rattle.std.proofs.Common.{ℕ, ◌+◌, ◌-◌, ◌≤◌, List, ◌++◌, length, take, sym, ap, ◌∙◌, arith, rules}
 use borrow.Rule.Slice.PartMut.{post_of}
 use Rattle.std.proofs.Math.Seq.{take-length}
+use Rattle.std.proofs.lemmas.Grind.{common_steps}
 use Rattle.std.proofs.lemmas.List.{with_items_is, places}
 use Rattle.std.proofs.KnownBytes.{append_known-grown, Keeps-refl}
 use Rattle.cdg_io.proofs.Waiting.{piece_behind}
 use Rattle.cdg_io.proofs.buffers.BufferedSinkSink.put.Goals as goal
 
-pub returns-then-piece-saturating_sub-clause-bytes : goal.returns-then-piece-saturating_sub-clause-bytes
-returns-then-piece-saturating_sub-clause-bytes g c =
+pub returns-clause-bytes : goal.returns-clause-bytes
+returns-clause-bytes g c =
     let self = c.self.inside in
     let held = c.deref_mut.result.now in
     let piece = c.args.piece.now in
@@ -24,3 +25,6 @@ returns-then-piece-saturating_sub-clause-bytes g c =
     let whole = ap (λ (l : List ℕ). take self.end self.buffer.items ++ l) (sym (take-length piece)) in
     rw (← c.self.view_is)
     (append_known-grown _ _ _ _ _ (Keeps-refl _) (parts ∙ copied ∙ behind ∙ before ∙ whole))
+
+pub returns-clause-kept : goal.returns-clause-kept
+returns-clause-kept g c = grind (arith, common_steps)
