@@ -112,7 +112,7 @@ definitions use these signs:
 | `{A : Type 0}` | This is an argument that is not written in a call, because the checker finds it. |
 | `f x y`, `f : A → B → C` | `f x y` is the result of the function f for the arguments x and y. `f : A → B → C` says that f has two arguments, of the types A and B, and a result of the type C. |
 | `f [] = ..`, `f _ = ..` | A definition by cases has one line for each form of the argument, for example the form `[]`. The form `_` fits every argument. The first line that fits the argument defines the result. |
-| `Type 0` | This is the type of all statements, and of all types of values. |
+| `Type 0` | Every statement has this type, and every type of values has it too. |
 | `ℕ × ℕ`, `(a, b)` | `ℕ × ℕ` is the type of pairs of numbers. `(a, b)` is the pair with the parts a and b. |
 | `record old { name = e }` | This is a copy of the record `old` in which the field `name` has the value e. |
 | `let x = e in d` | This is the value of d if x means e. |
