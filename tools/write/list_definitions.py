@@ -108,23 +108,23 @@ definitions use these signs:
 | `record`, `pub name : A` | `record` defines a type with named fields, and `pub name : A` is a field of the type A. If the fields are statements, the record is the statement that all of them are true. |
 | `record { name = e; .. }` | This is a record in which the field `name` has the value e, and so on. |
 | `abbrev`, `unfoldable` | Each of these words begins the definition of a name. The name means the right side of the definition. The two words differ only for the checker. |
-| `data`, `name : A → B ..` | `data` defines a type by a list of the kinds of its values. `name : A → B ..` is one kind: its values are written as `name`, followed by a part of the type A and so on. The last type after the colon is the defined type. If the defined type is a statement, the list has the only ways in which the statement is true. |
+| `data`, `name : A → B ..` | `data` defines a type by a list of the kinds of its values. `name : A → B ..` is one kind: its values are written as `name`, followed by a value of the type A and so on. The last type after the colon is the defined type. If the defined type is a statement, the list has the only ways in which the statement is true. |
 | `{A : Type 0}` | This is an argument that is not written in a call, because the checker finds it. |
 | `f x y`, `f : A → B → C` | `f x y` is the result of the function f for the arguments x and y. `f : A → B → C` says that f has two arguments, of the types A and B, and a result of the type C. |
 | `f [] = ..`, `f _ = ..` | A definition by cases has one line for each form of the argument, for example the form `[]`. The form `_` fits every argument. The first line that fits the argument defines the result. |
-| `Type 0` | Every statement has this type, and every type of values has it too. |
+| `Type 0` | Every statement has this type. A type of values, for example `ℕ`, also has this type. |
 | `ℕ × ℕ`, `(a, b)` | `ℕ × ℕ` is the type of pairs of numbers. `(a, b)` is the pair with the parts a and b. |
 | `record old { name = e }` | This is a copy of the record `old` in which the field `name` has the value e. |
 | `let x = e in d` | This is the value of d if x means e. |
 
 In the lines that begin with `--`, *text* may mean any list of bytes that a call writes. A stream has the form *cooked* if the 24 symbols of each
-word are next to each other. The numbers of packs, pictures and pixels begin with 0.
+word are next to each other. Packs, pictures and pixels are numbered from 0.
 """.strip()
 
 # What only the whole document uses.
 WHOLE_KEY = """
-The parts IV to IX use further signs: `S.faults` and `S.ends` are the number of reads that failed and that reported the end; `S.Source` is one
-value with the bytes and the counts of a source; `a ↔ b` means a if and only if b.
+The parts IV to IX use further signs: `S.faults` is the number of reads that failed; `S.ends` is the number of reads that reported the end;
+`S.Source` is one value with the bytes and the counts of a source; `a ↔ b` means a if and only if b.
 
 They also use some words in a special sense. Bytes are *put* if they were written to an output, and *taken* if they were read from an input.
 *Told* means reported. A pack is *whole* if its last symbol was read; this symbol is seven slots after the slot in which the pack begins. A
@@ -538,12 +538,13 @@ class Book:
             "command of the program `ribjasper`. A clause is a statement that is true after every call of a function. The checker proves the clauses, but",
             "only a reader can judge what they mean. [PROVED](PROVED.md#the-headline) explains the headline in words.",
             "",
-            "The clauses and their definitions have nine parts, and this document shows the parts I to III. Each part begins with clauses of `run`. Then it",
-            "shows the definitions that these clauses use. A line that begins with `--` explains the definition below it. Part I says that packs are",
-            f"recovered from a stream ({sizes[0]}), and part II says that pictures are shown from it ({sizes[1]}). Part III says which",
-            f"stream `author` writes, and when a picture is late ({sizes[2]}). Each part names the definitions that it uses but that",
-            "another part shows. `make definitions` writes all nine parts to `docs/DEFINITIONS-WHOLE.md`. All definitions are copied from the code:",
-            "`tools/write/list_definitions.py` writes this document, and `make check` compares it with the code.",
+            "Clauses and definitions are divided into nine parts. The headline is in the parts I to III, which this document shows. Each of these parts begins",
+            "with clauses of `run`. Then it shows the definitions that these clauses use. A line that begins with `--` explains the definition below it. Part I",
+            f"says that packs are recovered from a stream ({sizes[0]}), and part II says that the pictures of a stream are shown",
+            f"({sizes[1]}). Part III says which stream `author` writes, and when a picture is late ({sizes[2]}).",
+            "If a part uses definitions that another part shows, the part names these definitions. `make definitions` writes all nine parts to",
+            "`docs/DEFINITIONS-WHOLE.md`. All definitions are copied from the code: `tools/write/list_definitions.py` writes this document, and",
+            "`make check` compares it with the code.",
         ]
         if is_whole:
             out += ["", "| Part | Definitions | Lines |", "|---|---|---|"]
