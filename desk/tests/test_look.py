@@ -284,7 +284,7 @@ class LookTest(FolderTest):
 
     def test_no_sound(self) -> None:
         ran = desk("look", self.write("b.lrc", SONG), "-o", self.folder / "b.html")
-        self.assertEqual((ran.status, "has no sound of its name" in ran.errors), (3, True), ran.errors)
+        self.assertEqual((ran.status, "has no sound with its name" in ran.errors), (3, True), ran.errors)
 
 
 if __name__ == "__main__":

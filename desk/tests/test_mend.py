@@ -539,7 +539,7 @@ class FaultsTest(MendCase):
             self.assertEqual((self.folder / "out.cdg").read_bytes(), self.truth)
         for name, content, cause in (
             ("three.map", b"0x0 +\n0 96 +\n", "is named as no reading"),
-            ("one.map", b"words\n", "no map of ddrescue"),
+            ("one.map", b"words\n", "not a map of ddrescue"),
         ):
             ran = desk("mend", first, second, "-o", self.folder / "no.cdg", "--unread", self.write(name, content))
             self.assertEqual(ran.status, 3, ran)
@@ -646,7 +646,7 @@ class PlacingTest(DiscCase):
         names = self.write("one", first), self.write("two", worse)
         ran = desk("mend", *names, "-o", out)
         self.assertEqual(ran.status, 3, ran)
-        self.assertIn(f"no Q frame or pack says where 2900 of the 3000 blocks of {names[1]} belong", ran.errors)
+        self.assertIn(f"no Q frame or pack determines the place of 2900 of the 3000 blocks of {names[1]}", ran.errors)
         self.assertIn("--force leaves them out", ran.errors)
         self.assertFalse(out.exists())
         alone = program("convert", "--lead-in", 0, stdin=first, statuses=(0, 1))
