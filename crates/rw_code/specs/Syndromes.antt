@@ -1,6 +1,7 @@
 -- The sums of a word as the code keeps them, and what its steps do with them.
-use Rattle.std.specs.Prelude.{◌≡◌, ◌≢◌, ℕ, ◌+◌, ◌-◌, ◌*◌, ◌/◌, ◌%◌, ◌^◌, ◌<◌, ◌≤◌, List, take, bit_xor}
+use Rattle.std.specs.Prelude.{◌≡◌, ◌≢◌, ℕ, ◌+◌, ◌-◌, ◌*◌, ◌/◌, ◌%◌, ◌^◌, ◌<◌, ◌≤◌, List, [], ◌∷◌, ◌++◌, take, bit_xor}
 use Rattle.gf64.specs.Field.{product, alpha_power}
+use Rattle.rw_code.specs.declared.pack.LastFour.{LastFour}
 use Rattle.rw_code.specs.declared.syndromes.Sums.{Sums}
 use Rattle.rw_code.specs.declared.correction.Locator.{Locator}
 use Rattle.rw_code.specs.declared.correction.Places.{Places}
@@ -26,14 +27,14 @@ pub record IsEntry (position symbol lanes : ℕ) : Type 0 where
   pub later : (j : ℕ) → j < 2 → 4 ≤ position → lane (4 + j) lanes ≡ 0
   pub bound : lanes < 2 ^ 36
 
--- the sum of the four sums over all symbols, each times the power of alpha with its exponent
-abbrev pub weighted : ℕ → ℕ → ℕ → ℕ → ℕ → ℕ
-weighted lanes zeroth first second third =
-    let in_zeroth = product (alpha_power zeroth) (lane 0 lanes) in
-    let in_first = product (alpha_power first) (lane 1 lanes) in
-    let in_second = product (alpha_power second) (lane 2 lanes) in
-    let in_third = product (alpha_power third) (lane 3 lanes) in
-    bit_xor (bit_xor (bit_xor in_zeroth in_first) in_second) in_third
+-- After any symbols with which the old parity symbols make the first n sums 0, the symbol and the new ones do.
+abbrev pub ContinuesTo : ℕ → List ℕ → ℕ → List ℕ → Type 0
+ContinuesTo n old symbol new =
+    (j : ℕ) → j < n → (xs : List ℕ) → weighted_sum j (xs ++ old) ≡ 0 → weighted_sum j (xs ++ symbol ∷ new) ≡ 0
+
+-- the value of a polynomial at power j of alpha, which is what it adds to sum j as the last four symbols of a word
+abbrev pub value_at : ℕ → LastFour → ℕ
+value_at j last = weighted_sum j (last.cubic ∷ last.square ∷ last.linear ∷ last.constant ∷ [])
 
 -- the lanes of the four sums over all symbols
 pub record AreLanes (lanes : ℕ) (sums : Sums) : Type 0 where
