@@ -27,7 +27,7 @@ pub record IsEntry (position symbol lanes : ℕ) : Type 0 where
   pub later : (j : ℕ) → j < 2 → 4 ≤ position → lane (4 + j) lanes ≡ 0
   pub bound : lanes < 2 ^ 36
 
--- After any symbols with which the old parity symbols make the first n sums 0, the symbol and the new ones do.
+-- If some symbols and the old parity symbols have sums 0 to n - 1 of 0, so have these symbols, `symbol` and the new ones.
 abbrev pub ContinuesTo : ℕ → List ℕ → ℕ → List ℕ → Type 0
 ContinuesTo n old symbol new =
     (j : ℕ) → j < n → (xs : List ℕ) → weighted_sum j (xs ++ old) ≡ 0 → weighted_sum j (xs ++ symbol ∷ new) ≡ 0
@@ -63,7 +63,7 @@ pub record AreTwoWrong (lanes i e j f : ℕ) : Type 0 where
   pub second : IsError j f
   pub sum : (p q : ℕ) → IsEntry i e p → IsEntry j f q → lanes ≡ bit_xor p q
 
--- the lanes of a word with these errors
+-- The lanes are those of a word with these two errors.
 abbrev pub AreErrors : ℕ → TwoErrors → Type 0
 AreErrors lanes errors =
     AreTwoWrong lanes errors.first.position errors.first.value errors.second.position errors.second.value
@@ -91,7 +91,7 @@ pub record IsLocatorOf (locator : Locator) (i j : ℕ) : Type 0 where
   pub constant : locator.constant
       ≡ product (product (alpha_power (last_position - i)) (alpha_power (last_position - j))) locator.square
 
--- the power d and 1 have as their sum the power z
+-- alpha^d + 1 is alpha^z.
 pub record IsPair (d z : ℕ) : Type 0 where
   pub apart : 0 < d
   pub within : d < word_symbols
