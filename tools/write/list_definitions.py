@@ -94,8 +94,8 @@ definitions use these signs:
 | `result` | the return value of the call |
 | `x.0`, `x.1` | the first and the second part of the tuple x |
 | `x.name` | the field `name` of the record x |
-| `S.left first.old` | the bytes of the input `first` that are unread before the call: `Some` list, or `None` if they are not known |
-| `K.held out.old` | the bytes that were written to the output `out` before the call: `Some` list, or `None` if they are not known |
+| `S.left first.old` | `Some` with the list of the bytes of the input `first` that are unread before the call, or `None` if they are not known |
+| `K.held out.old` | `Some` with the list of the bytes that were written to the output `out` before the call, or `None` if they are not known |
 | `(x : A) → P` | P is true for every x of type A |
 | `(x y : A) → P` | P is true for every x and every y of type A |
 | `(x : A) × P` | P is true for at least one x of type A |
@@ -158,7 +158,7 @@ The parts IV to IX use further signs and words:
 WORDS = {
     "All": ("All P xs", "P is true for each element of the list xs"),
     "AllByRecursion": ("AllByRecursion", "a statement is true for each element of a list"),
-    "Appends": ("Appends old new xs", "if `old` is `Some` list, `new` is this list followed by the list xs: the bytes xs were written between `old` and `new`"),
+    "Appends": ("Appends old new xs", "if `old` is `Some` with a list, `new` has this list, followed by the list xs: the bytes xs were written between `old` and `new`"),
     "Bool": ("Bool", "the type of the truth values `true` and `false`"),
     "Consumes": ("Consumes", "if the contents of an input are known, exactly these bytes were removed from their front"),
     "Contains": ("Contains", "the list has this element"),
