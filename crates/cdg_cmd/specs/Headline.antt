@@ -37,7 +37,8 @@ WritesOrIsLate disc out (Damaged n) = ⊥
 WritesOrIsLate disc out Usage = ⊥
 WritesOrIsLate disc out (Refused why) = ⊥
 
--- `bytes` is a copy of the raw stream `stream` in this form: whole units, with at most two wrong symbols in each word.
+-- `bytes` is a damaged copy, in this form, of the raw stream `stream`: at most two symbols of each word are wrong. The copy
+-- consists of whole units.
 pub record IsDamagedCopy (form : Form) (lead_in : ℕ) (stream bytes : List ℕ) : Type 0 where
   pub few : length bytes ≤ most_units * unit_size form
   pub whole : length bytes % unit_size form ≡ 0

@@ -86,7 +86,7 @@ window_bottom = 203
 abbrev pub colour_count : ℕ
 colour_count = 16
 
--- the number of values of a colour in the table, which has four bits each for red, green and blue
+-- the number of values of a colour: four bits each for red, green and blue
 abbrev pub colour_values : ℕ
 colour_values = 4096
 

@@ -62,7 +62,7 @@ source_x across x = source screen_width tile_width across x
 abbrev pub source_y : ℕ → ℕ → ℕ
 source_y down y = source screen_height tile_height down y
 
--- whether `from`, a source plus `size`, is in the memory
+-- whether a scroll moves the pixel from inside the memory: `from` is the place from `source`, to which `size` was added
 abbrev pub is_inside : ℕ → ℕ → Bool
 is_inside size from = nat_le size from && nat_lt from (2 * size)
 
@@ -117,7 +117,7 @@ offsets_from start (ScrollPreset colour across h down v ∷ before) = (h, v)
 offsets_from start (ScrollCopy colour across h down v ∷ before) = (h, v)
 offsets_from start (_ ∷ before) = offsets_from start before
 
--- the state after the instructions, if `start` is the state before them; `before` has the last instruction first
+-- the state of a screen after the instructions, if its state before them is `start`
 abbrev pub standing_after : Standing → List Instr → Standing
 standing_after start instrs =
     let before = reverse instrs in

@@ -55,8 +55,8 @@ pub record Brings (script : List Drawing) (k : ℕ) (now : Standing) (instrs : L
   pub shows : ShowsPicture script k (standing_after now instrs)
   pub sets : k ≡ 0 → SetsAll instrs
 
--- The instructions are a change for picture k: they draw it from every state that is allowed before it, and no shorter list
--- draws it from any of these states.
+-- The instructions are a change for picture k. They draw this picture on every screen that is allowed before it
+-- (`IsBefore`). No shorter list draws the picture on any of these screens.
 pub record IsChange (script : List Drawing) (k : ℕ) (instrs : List Instr) : Type 0 where
   pub brings : (now : Standing) → IsBefore script k now → Brings script k now instrs
   pub shortest : (now : Standing) (others : List Instr) → IsBefore script k now → Brings script k now others

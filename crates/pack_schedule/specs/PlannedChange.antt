@@ -17,7 +17,8 @@ unfoldable pub tile_steps : List Drawing → ℕ → Option ℕ → ℕ
 tile_steps script k start =
     sum_by (λ p. steps (tiles_before script k start p.0 p.1) (picture_tile script k p.0 p.1)) window_places
 
--- the list for picture k with a start: a colour to which the memory is set first, or `None` for no such instruction
+-- the list that draws picture k after this start. If `start` is a colour, the list first sets the memory to this colour. If
+-- `start` is `None`, the list keeps the memory.
 unfoldable pub planned_from : List Drawing → ℕ → Option ℕ → List Instr
 planned_from script k start = preset_of start ++ settings script k ++ planned_tiles script k start
 
@@ -26,7 +27,7 @@ unfoldable pub planned_length : List Drawing → ℕ → Option ℕ → ℕ
 planned_length script k start =
     length (preset_of start) + length (settings script k) + tile_steps script k start
 
--- the value with the least `number`, from `best` and a list; of equal ones, `best` or else the first of the list
+-- the value with the smallest `number` in the list that begins with `best`; if there are several, the first of them
 unfoldable pub first_least : {X : Type 0} → (X → ℕ) → X → List X → X
 first_least number best [] = best
 first_least number best (x ∷ rest) =
@@ -37,7 +38,7 @@ abbrev pub preferred : ℕ → Option ℕ
 preferred zero = Some 0
 preferred (suc k) = None
 
--- the start of the planned change: the preferred one, unless the list with another start is shorter
+-- the start with the shortest list: of several, the preferred start, or else the colour with the lowest number
 unfoldable pub chosen_start : List Drawing → ℕ → Option ℕ
 chosen_start script k = first_least (planned_length script k) (preferred k) (map Some (below colour_count))
 

@@ -10,7 +10,8 @@ use Rattle.pack_schedule.specs.Change.{IsOrderedChange}
 use Rattle.cdg_instructions.specs.declared.instr.Instr.{Instr}
 use Rattle.cdg_instructions.specs.declared.instr.Instr.TheVariants.{Idle}
 
--- the number of the first pack for picture k; if k > 0, this pack is the first one incomplete at the previous hold time
+-- the number of the first free pack of picture k. For k > 0, this pack is not complete at the hold time of picture k - 1,
+-- but all packs before it are.
 abbrev pub start_of : List Drawing → ℕ → ℕ
 start_of script zero = 0
 start_of script (suc k) = whole_packs (hold_time script k)
@@ -44,7 +45,7 @@ pub record IsScheduleOf (IsOne : List Drawing → ℕ → List Instr → Type 0)
       → (n < start_of script k) ⊎ (start_of script k + length (slice_index_or changes k []) ≤ n)) →
       slice_index_or packs n [] ≡ idle_pack
 
--- The packs are a schedule of the script: they contain a change of each picture, which is a shortest list that draws it.
+-- The packs are a schedule of the script: they contain one change of each picture (`IsChange`), and else idle packs.
 abbrev pub IsSchedule : List Drawing → ℕ → List (List ℕ) → Type 0
 IsSchedule script blocks packs = IsScheduleOf IsChange script blocks packs
 

@@ -1,17 +1,17 @@
 -- What has been read of a script after one more line.
-use Rattle.std.proofs.Common.{◌≡◌, ℕ, ◌+◌, ◌-◌, ◌<◌, List, [], ◌∷◌, ◌++◌, length, get_or, refl, ap, ap₂, sym, subst, ◌∙◌, inl, inr, ◌≤◌, arith}
-use Rattle.std.specs.Result.{is_err, is_ok}
-use Rattle.std.specs.Prelude.{true, false, if◌then◌else◌, Option, Some, None, IfSome, Result, Ok, Err, OnOk}
+use Rattle.std.proofs.Common.{◌≡◌, ℕ, ◌+◌, ◌-◌, ◌<◌, List, [], ◌∷◌, ◌++◌, length, get_or, refl, ap, ap₂, sym, subst, ◌∙◌, arith}
+use Rattle.std.specs.Prelude.{Option, Some, None, IfSome, Result, Ok, Err, OnOk, IfOk, IfErr}
 use Rattle.std.proofs.lemmas.List.{length-append}
 use Rattle.std.proofs.Math.Seq.{get_or-append_seam}
-use Rattle.std.proofs.lemmas.Bool.{cases_lt}
-use Rattle.std.proofs.lemmas.Bool.Decides.{nat_tests}
-use Rattle.picture_script.specs.Script.{Drawing, Show, shows, pictures}
-use Rattle.picture_script.specs.ScriptGrammar.{is_after_hold}
+use Rattle.picture_script.specs.Script.{Drawing, Show, shows}
 use Rattle.picture_script.specs.Lines.{said_in, IsSound, Adds}
 use Rattle.picture_script.specs.Reader.{HasCounted}
+use Rattle.picture_script.specs.Stops.{StopsAt}
 use Rattle.picture_script.specs.declared.reader.ScriptDraft.{ScriptDraft}
 use Rattle.picture_script.specs.declared.reader.ScriptReader.{ScriptReader}
+use Rattle.picture_script.specs.declared.reasons.ScriptStop.{ScriptStop}
+use Rattle.picture_script.specs.declared.reasons.ScriptStop.TheVariants.{NoMemory}
+use Rattle.picture_script.specs.declared.reasons.ScriptWhy.{ScriptWhy}
 use Rattle.picture_script.proofs.Drafts.{shows-show}
 
 -- no line
@@ -58,56 +58,32 @@ one_counted before ready hold old draft counted =
       held = λ some. sym (ap last_hold more ∙ hold_pushed (shows before) ready hold);
     }
 
--- a ready time, and the hold time of the previous picture
-pub ready_after : (before : List Drawing) (reader : ScriptReader) (ready : ℕ) → HasCounted before reader
-    → (0 < reader.pictures → reader.held < ready)
-    → is_after_hold before ready ≡ true
-ready_after before reader ready counted later = elim (cases_lt 0 (pictures before)) [
-  | inl some ↦
-      let held = counted.held some in
-      let after : reader.held < ready = later (omega (arith, counted.count)) in
-      grind (arith, nat_tests)
-  | inr none ↦ grind (arith, nat_tests)
-]
-
-pub ready_before : (before : List Drawing) (reader : ScriptReader) (ready : ℕ) → HasCounted before reader
-    → 0 < reader.pictures → ready ≤ reader.held
-    → is_after_hold before ready ≡ false
-ready_before before reader ready counted some early =
-    let there : 0 < pictures before = omega (arith, counted.count) in
-    let held = counted.held there in
-    grind (arith, nat_tests)
-
 -- nothing is kept
 pub none_kept : (script : List Drawing) (draft : Option ScriptDraft) → draft ≡ None
     → IfSome draft (λ kept. IsSound kept × (said_in kept ≡ script))
 none_kept script draft none =
     subst (λ o. IfSome o (λ kept. IsSound kept × (said_in kept ≡ script))) (sym none) tt
 
--- the kept lines
-pub some_kept : (before : List Drawing) (draft : Option ScriptDraft) (old : ScriptDraft) → draft ≡ Some old
-    → IfSome draft (λ kept. IsSound kept × (said_in kept ≡ before))
-    → IsSound old × (said_in old ≡ before)
-some_kept before draft old is had =
-    subst (λ o. IfSome o (λ kept. IsSound kept × (said_in kept ≡ before))) is had
+-- one more line is kept, if it was
+pub more_kept : {E : Type 0} (kept : Result (Unit {0}) E) (before : List Drawing) (line added : Drawing)
+    (draft : Option ScriptDraft) (old new : ScriptDraft) → draft ≡ Some old
+    → IfSome draft (λ kept. IsSound kept × (said_in kept ≡ before)) → added ≡ line
+    → OnOk kept (Adds old new added)
+    → OnOk kept (IsSound new × (said_in new ≡ before ++ line ∷ []))
+more_kept (Ok u) before line added draft old new is had same adds =
+    let was = subst (λ o. IfSome o (λ kept. IsSound kept × (said_in kept ≡ before))) is had in
+    (adds.sound, adds.lines_are ∙ ap₂ (λ b l. b ++ l ∷ []) was.1 same)
+more_kept (Err e) before line added draft old new is had same adds = tt
 
--- one more line is kept
-pub more_kept : (before : List Drawing) (line added : Drawing) (draft kept : Option ScriptDraft)
-    (old new : ScriptDraft) → draft ≡ Some old
-    → IfSome draft (λ kept. IsSound kept × (said_in kept ≡ before)) → added ≡ line → Adds old new added
-    → kept ≡ Some new
-    → IfSome kept (λ kept. IsSound kept × (said_in kept ≡ before ++ line ∷ []))
-more_kept before line added draft kept old new is had same adds now =
-    subst (λ o. IfSome o (λ kept. IsSound kept × (said_in kept ≡ before ++ line ∷ []))) (sym now)
-    (adds.sound, adds.lines_are ∙ ap₂ (λ b l. b ++ l ∷ []) (some_kept before draft old is had).1 same)
+-- what is made of all lines
+pub made : {E : Type 0} (result : Result (List Drawing) E) (read : Result (List Drawing) (ℕ × ScriptWhy))
+    (script : List Drawing) → read ≡ Ok script → IfOk result (λ made. made ≡ script)
+    → IfOk result (λ made. read ≡ Ok made)
+made (Ok it) read script is same = is ∙ ap Ok (sym same)
+made (Err e) read script is same = tt
 
--- what holds if there was memory
-pub was_ok : {E : Type 0} (P : Type 0) (kept : Result (Unit {0}) E) → is_err kept ≡ false → OnOk kept P → P
-was_ok P (Ok u) kept holds = holds
-was_ok P (Err e) kept holds = absurd (cc)
-
-pub was_pushed : {A E : Type 0} (kept : Result (Unit {0}) E) (old new : List A) (added : A)
-    → is_err kept ≡ false → new ≡ (if is_ok kept then old ++ added ∷ [] else old)
-    → new ≡ old ++ added ∷ []
-was_pushed (Ok u) old new added kept is = is
-was_pushed (Err e) old new added kept is = absurd (cc)
+pub not_made : {A : Type 0} (result : Result A ScriptStop) (read : Result (List Drawing) (ℕ × ScriptWhy))
+    (script : List Drawing) → read ≡ Ok script → IfErr result (λ stop. stop ≡ NoMemory)
+    → IfErr result (StopsAt read)
+not_made (Ok it) read script is same = tt
+not_made (Err stop) read script is same = subst (StopsAt read) (sym same) (script, is)

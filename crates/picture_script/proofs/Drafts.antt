@@ -339,22 +339,3 @@ pub more-sound : (old : ScriptDraft) (pixels digits : List ℕ) → IsSound old
 more-sound old pixels digits sound hex grown =
     rw grown (more-indexed old.pixels.items (map digit_value digits) old.lines.items old.shown.items sound
     (colours_more old.pixels.items (map digit_value digits) sound.colours (digits_colours digits hex)))
-
--- the colours of a row, and then its line
-pub row-pushed : (old mid new : ScriptDraft) (x y first : ℕ) (digits : List ℕ) → IsSound old
-    → x + length digits ≤ 288 → y < 192 → list_all is_ascii_hexdigit digits ≡ true
-    → mid.lines.items ≡ old.lines.items → mid.shown.items ≡ old.shown.items
-    → mid.pixels.items ≡ old.pixels.items ++ map digit_value digits → first ≡ length old.pixels.items
-    → new.lines.items ≡ mid.lines.items ++ PixelRow y x first (length digits) ∷ []
-    → new.pixels.items ≡ mid.pixels.items → new.shown.items ≡ mid.shown.items
-    → Adds old new (Row x y (map digit_value digits))
-row-pushed old mid new x y first digits sound right below hex lines shown pixels start more same_pixels
-    same_shown =
-    let size = ap length pixels ∙ length-append old.pixels.items (map digit_value digits) in
-    let count = length-map digits digit_value in
-    let kept =
-    fits_row x y first (length digits) (length mid.pixels.items) right below (omega (arith, size, count)) in
-    let mid_sound : IsSound mid =
-    rw (lines, shown) (more-sound old mid.pixels.items digits sound hex pixels) in
-    row-added old mid new x y first (length digits) digits sound lines pixels start refl
-    (line-added mid new (PixelRow y x first (length digits)) mid_sound kept refl more same_pixels same_shown)

@@ -1,7 +1,10 @@
 -- Hexadecimal digits: those of colours and of rows of pixels.
-use Rattle.std.proofs.Common.{◌≡◌, ℕ, ◌+◌, ◌*◌, Bool, true, false, ◌&&◌, if◌then◌else◌, List, length, slice_index, Some, None, refl, sym, ap, ◌∙◌, ◌==◌, rules, tests}
+use Rattle.std.proofs.Common.{◌≡◌, ℕ, ◌+◌, ◌*◌, ◌<◌, Bool, true, false, ◌&&◌, if◌then◌else◌, List, [], ◌∷◌, ◌++◌, length, map, take, get_or, slice_index, Some, None, refl, sym, ap, ◌∙◌, ◌==◌, rules, tests}
+use Rattle.std.specs.List.{list_all}
 use Rattle.std.specs.Char.{is_ascii_hexdigit, digit_value}
-use Rattle.std.proofs.lemmas.Bool.{cond-true, cond-false}
+use Rattle.std.proofs.lemmas.Bool.{cond-true, cond-false, true≢false}
+use Rattle.std.proofs.lemmas.List.{take_more, map-append, append_assoc}
+use Rattle.std.proofs.lemmas.List.Folds.{list_all_at}
 use Rattle.std.proofs.lemmas.Option.{none-some}
 use Rattle.picture_script.specs.ScriptGrammar.{colour_in}
 
@@ -13,6 +16,25 @@ no_digit false d e = refl
 pub a_digit : (t : Bool) (d n : ℕ) → Some n ≡ (if t then Some d else None) → (t ≡ true) × (n ≡ d)
 a_digit true d n e = (refl, cc)
 a_digit false d n e = absurd (none-some n (sym e))
+
+-- a digit of a row is no other byte
+pub all_digits : (digits : List ℕ) (i : ℕ) → list_all is_ascii_hexdigit digits ≡ true → i < length digits
+    → is_ascii_hexdigit (get_or digits i 0) ≡ false
+    → ⊥
+all_digits digits i all below other =
+    true≢false (sym all ∙ list_all_at is_ascii_hexdigit digits i 0 below other)
+
+-- one more colour of a row
+pub colours_more : (old now digits : List ℕ) (i d : ℕ) → i < length digits
+    → now ≡ old ++ map digit_value (take i digits) → d ≡ digit_value (get_or digits i 0)
+    → now ++ d ∷ [] ≡ old ++ map digit_value (take (i + 1) digits)
+colours_more old now digits i d below before is =
+    let more =
+    ap (map digit_value) (take_more digits i 0 below)
+    ∙ map-append digit_value (take i digits) (get_or digits i 0 ∷ []) in
+    ap (λ (xs : List ℕ). xs ++ d ∷ []) before ∙ append_assoc old (map digit_value (take i digits)) (d ∷ [])
+    ∙ ap (λ (n : ℕ). old ++ (map digit_value (take i digits) ++ n ∷ [])) is
+    ∙ ap (λ (xs : List ℕ). old ++ xs) (sym more)
 
 and-false : (a : Bool) → (a && false) ≡ false
 and-false true = refl

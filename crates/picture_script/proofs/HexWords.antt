@@ -1,4 +1,4 @@
--- Hexadecimal digits as the crate `hex` reads them: a word of four of them.
+-- Hexadecimal digits as the crate `hex` reads them: a word of four of them, and a digit behind a 0.
 use Rattle.std.proofs.Common.{◌≡◌, ℕ, ◌+◌, ◌*◌, ◌<◌, true, false, if◌then◌else◌, List, [], ◌∷◌, length, slice_index, Option, Some, None, Result, Ok, Err, refl, sym, ap, ◌∙◌, subst, arith, inl, inr}
 use Rattle.std.specs.Prelude.{MatchResult}
 use Rattle.std.specs.Int.{from_be_bytes}
@@ -50,6 +50,22 @@ digit_some c v e = sym e ∙ digit_is c
 
 digit_none : (c : ℕ) → hex_digit_value c ≡ None → is_ascii_hexdigit c ≡ false
 digit_none c e = no_digit (is_ascii_hexdigit c) (digit_value c) (sym e ∙ digit_is c)
+
+add_zero : (v : ℕ) → 0 + v ≡ v
+add_zero v = omega arith
+
+-- a digit behind a 0
+abbrev DigitRead : ℕ → Result (List ℕ) FromHexError → Type 0
+DigitRead c bytes = MatchResult bytes
+    (λ value. Some (slice_index value 0) ≡ digit_in c) (λ e. None ≡ digit_in c)
+
+digit_read_as : (c : ℕ) (o : Option ℕ) → hex_digit_value c ≡ o → DigitRead c (decode_sized (48 ∷ c ∷ []) 1)
+unfolding decode_pairs
+digit_read_as c (Some v) e = rw (read c 1 (Some v) e) (ap Some (add_zero v) ∙ digit_some c v e)
+digit_read_as c None e = rw (read c 1 None e) (sym e ∙ digit_is c)
+
+pub digit_read : (c : ℕ) → DigitRead c (decode_sized (48 ∷ c ∷ []) 1)
+digit_read c = digit_read_as c (hex_digit_value c) refl
 
 -- digits are small
 hex_below : (d : ℕ) → is_ascii_hexdigit d ≡ true → digit_value d < 16

@@ -1,9 +1,7 @@
 -- Why a line is refused, and what a draft is once it takes one.
-use Rattle.std.proofs.Common.{◌≡◌, ◌⊎◌, inl, inr, get_or, ℕ, ◌+◌, ◌<◌, ◌≤◌, Bool, true, false, List, [], ◌∷◌, ◌++◌, length, map, refl, ap, sym, subst, ◌∙◌, arith}
-use Rattle.std.specs.Prelude.{◌&&◌, Option, Some, None, Result, Ok, Err, if◌then◌else◌, not, ◌||◌, nat_le, nat_lt, slice_index, codes}
+use Rattle.std.proofs.Common.{◌≡◌, inl, inr, get_or, ℕ, ◌+◌, ◌<◌, ◌≤◌, Bool, true, false, List, [], ◌∷◌, ◌++◌, length, refl, ap, sym, subst, ◌∙◌, arith}
+use Rattle.std.specs.Prelude.{Option, Some, None, Result, Ok, Err, if◌then◌else◌, not, ◌||◌, nat_le, nat_lt, slice_index, codes}
 use Rattle.std.specs.Str.{bytes_eq}
-use Rattle.std.specs.Char.{digit_value}
-use Rattle.std.proofs.lemmas.List.{length-map}
 use Rattle.std.proofs.lemmas.Bool.{cases_Bool}
 use Rattle.std.proofs.lemmas.Bool.Decides.{nat_tests}
 use Rattle.std.proofs.lemmas.Slice.Eq.{bytes_eq-Decides}
@@ -114,32 +112,6 @@ unfolding by_order
 shown_line before said ready hold h le after room =
     checked_show before said ready hold false true false h (test_false hold ready le) after
     (le_false 20000 (pictures before) room)
-
--- a row of pixels in the window, or outside of it
-row_range : (x y : ℕ) (digits : List ℕ)
-    → is_in_range (Row x y (map digit_value digits)) ≡ (nat_le (x + length digits) 288 && nat_lt y 192)
-row_range x y digits = ap (λ n. nat_le (x + n) 288 && nat_lt y 192) (length-map digits digit_value)
-
-row_out : (x y count : ℕ) → (288 < x + count) ⊎ (192 ≤ y) → (nat_le (x + count) 288 && nat_lt y 192) ≡ false
-row_out x y count (inl right) = grind (arith, nat_tests)
-row_out x y count (inr below) = grind (arith, nat_tests)
-
-row_in : (x y count : ℕ) → x + count ≤ 288 → y < 192 → (nat_le (x + count) 288 && nat_lt y 192) ≡ true
-row_in x y count right below = grind (arith, nat_tests)
-
-pub row_outside : (before : List Drawing) (said : Option Drawing) (x y : ℕ) (digits : List ℕ)
-    → said ≡ Some (Row x y (map digit_value digits)) → (288 < x + length digits) ⊎ (192 ≤ y)
-    → checked_line before said ≡ Err OutOfRange
-row_outside before said x y digits h outside =
-    out_of_range before said (Row x y (map digit_value digits)) h refl
-    (row_range x y digits ∙ row_out x y (length digits) outside)
-
-pub row_inside : (before : List Drawing) (said : Option Drawing) (x y : ℕ) (digits : List ℕ)
-    → said ≡ Some (Row x y (map digit_value digits)) → x + length digits ≤ 288 → y < 192
-    → checked_line before said ≡ Ok (Row x y (map digit_value digits))
-row_inside before said x y digits h right below =
-    in_range before said (Row x y (map digit_value digits)) h refl
-    (row_range x y digits ∙ row_in x y (length digits) right below)
 
 -- numbers of words, one and five
 pub one_number : (words : List (List ℕ)) (numbers : List ℕ) → Some numbers ≡ numbers_in 1 words

@@ -1,10 +1,11 @@
 -- Lines of a wrong number of words.
-use Rattle.std.proofs.Common.{◌≡◌, ◌≢◌, ℕ, List, [], ◌∷◌, length, refl, ap, ◌∙◌}
+use Rattle.std.proofs.Common.{◌≡◌, ◌≢◌, ℕ, List, [], ◌∷◌, length, refl, ap}
 use Rattle.std.specs.Prelude.{Some, None, Bool, true, false, ◌&&◌, if◌then◌else◌, map}
 use Rattle.std.specs.List.{list_all}
 use Rattle.std.specs.Char.{is_ascii_hexdigit, digit_value}
 use Rattle.text_lines.specs.Text.{parsed_time, is_some_bytes}
 use Rattle.picture_script.specs.ScriptGrammar.{small_number, colour_in, pixels_in, colour_line, row_line, show_line, colour_of, row_of, show_of}
+use Rattle.picture_script.proofs.Drafts.{and_true}
 
 pub colour_none : (words : List (List ℕ)) → length words ≢ 2 → colour_line words ≡ None
 unfolding colour_line
@@ -20,18 +21,13 @@ show_none (a ∷ []) h = refl
 show_none (a ∷ b ∷ []) h = absurd (h refl)
 show_none (a ∷ b ∷ c ∷ words) h = refl
 
-pub row_empty : (words : List (List ℕ)) → words ≡ [] → row_line words ≡ None
+pub row_none : (words : List (List ℕ)) → length words ≢ 3 → row_line words ≡ None
 unfolding row_line
-row_empty words h = ap row_line h
-
-pub row_other : (words : List (List ℕ)) (x : List ℕ) (rest : List (List ℕ)) → words ≡ x ∷ rest
-    → length rest ≢ 2
-    → row_line words ≡ None
-unfolding row_line
-row_other words x [] h n = ap row_line h
-row_other words x (y ∷ []) h n = ap row_line h
-row_other words x (y ∷ pixels ∷ []) h n = absurd (n refl)
-row_other words x (y ∷ pixels ∷ more ∷ rest) h n = ap row_line h
+row_none [] h = refl
+row_none (a ∷ []) h = refl
+row_none (a ∷ b ∷ []) h = refl
+row_none (a ∷ b ∷ c ∷ []) h = absurd (h refl)
+row_none (a ∷ b ∷ c ∷ d ∷ words) h = refl
 
 pub colour_two : (words : List (List ℕ)) (a b : List ℕ) → words ≡ a ∷ b ∷ []
     → colour_line words ≡ colour_of (small_number a) (colour_in b)
@@ -43,11 +39,10 @@ pub show_two : (words : List (List ℕ)) (a b : List ℕ) → words ≡ a ∷ b 
 unfolding show_line
 show_two words a b h = ap show_line h
 
-pub row_three : (words : List (List ℕ)) (a b c : List ℕ) (rest : List (List ℕ)) → words ≡ a ∷ rest
-    → rest ≡ b ∷ c ∷ []
+pub row_three : (words : List (List ℕ)) (a b c : List ℕ) → words ≡ a ∷ b ∷ c ∷ []
     → row_line words ≡ row_of (small_number a) (small_number b) (pixels_in c)
 unfolding row_line
-row_three words a b c rest h r = ap row_line (h ∙ ap (λ ws. a ∷ ws) r)
+row_three words a b c h = ap row_line h
 
 pub pixels_some : (word : List ℕ) → (is_some_bytes word && list_all is_ascii_hexdigit word) ≡ true
     → pixels_in word ≡ Some (map digit_value word)
@@ -58,3 +53,7 @@ pub pixels_none : (word : List ℕ) → (is_some_bytes word && list_all is_ascii
     → pixels_in word ≡ None
 unfolding pixels_in
 pixels_none word h = ap (λ (b : Bool). if b then Some (map digit_value word) else None) h
+
+pub all_digits : (word : List ℕ) → (is_some_bytes word && list_all is_ascii_hexdigit word) ≡ true
+    → list_all is_ascii_hexdigit word ≡ true
+all_digits word h = (and_true (is_some_bytes word) (list_all is_ascii_hexdigit word) h).1

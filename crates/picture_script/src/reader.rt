@@ -7,9 +7,12 @@ ghost use Rattle.cdg_instructions.specs.Sizes.{window_height, window_width};
 ghost use Rattle.picture_script.specs.Script.{Drawing, Row, Show, pictures};
 ghost use Rattle.picture_script.specs.ScriptGrammar.{is_after_hold, is_passed_over};
 ghost use Rattle.picture_script.specs.Sizes.{most_pictures};
+ghost use Rattle.picture_script.specs.declared.reasons.ScriptStop.{ScriptStop};
+ghost use Rattle.text_lines.specs.Text.{without_blanks};
 ghost use Rattle.picture_script.specs.Reader.{Followed, Follows};
 ghost use Rattle.picture_script.specs.Stops.{StopsAt};
 
+use crate::grammar::hex_digit;
 use crate::reasons::{ScriptStop, ScriptWhy};
 use crate::script::{Script, ScriptLine, Shown};
 use std::alloc::{AllocError, Global};
@@ -32,6 +35,17 @@ impl ScriptDraft {
     ghost use Rattle.cdg_instructions.specs.Sizes.{window_height, window_width};
     ghost use Rattle.picture_script.specs.Lines.{said, said_in, IsSound, Adds, is_kept, is_drawing};
 
+    /// Adds a line that draws.
+    pub(crate) fn push_line(&mut self, line: ScriptLine) -> Result<(), AllocError>
+        requires sound { IsSound self.old }
+        requires kept { is_kept (length self.old.pixels.items) line ≡ true }
+        requires draws { is_drawing line ≡ true }
+        ensures ok { OnOk result (Adds self.old self.new (said self.old.pixels.items line)) }
+    {
+        self.lines.push(line)?;
+        Ok(())
+    }
+
     /// Adds a row of pixels.
     pub(crate) fn push_row(&mut self, x: u16, y: u8, digits: &[u8]) -> Result<(), AllocError>
         requires sound { IsSound self.old }
@@ -44,13 +58,8 @@ impl ScriptDraft {
         let Ok(first) = u32::try_from(self.pixels.len()) else {
             return Err(AllocError);
         };
-        for digit in digits {
-            let Some(colour) = char::from(*digit).to_digit(16) else {
-                unreachable!();
-            };
-            self.pixels.push(colour as u8)?;
-        }
-        self.lines.push(ScriptLine::PixelRow {
+        push_pixels(&mut self.pixels, digits)?;
+        self.push_line(ScriptLine::PixelRow {
             y,
             x,
             first,
@@ -75,18 +84,32 @@ impl ScriptDraft {
     }
 }
 
+// Appends the colours of a row.
+fn push_pixels(pixels: &mut Vec<u8>, digits: &[u8]) -> Result<(), AllocError>
+    requires digits { list_all is_ascii_hexdigit digits.now ≡ true }
+    ensures ok { OnOk result (pixels.new.items ≡ pixels.old.items ++ map digit_value digits.now) }
+{
+    for digit in digits {
+        let Some(colour) = hex_digit(*digit) else {
+            unreachable!();
+        };
+        pixels.push(colour)?;
+    }
+    Ok(())
+}
+
 /// The state after some lines of a script: the number of pictures, the hold time of the last one, and the lines. If
 /// memory runs out, the lines are dropped, and the later lines are still checked.
 #[derive(Drop)]
 pub(crate) struct ScriptReader {
     pub(crate) pictures: usize,
-    pub(crate) held: u32,
-    pub(crate) draft: Option<ScriptDraft>,
+    held: u32,
+    draft: Option<ScriptDraft>,
 }
 
 impl ScriptReader {
     ghost use Rattle.picture_script.specs.Lines.{said, is_kept, is_drawing};
-    ghost use Rattle.picture_script.specs.Reader.{Followed};
+    ghost use Rattle.picture_script.specs.Reader.{HasCounted, Followed, IsKeptBy};
 
     /// A reader before the first line.
     pub(crate) fn new(alloc: Global) -> ScriptReader
@@ -103,6 +126,13 @@ impl ScriptReader {
         }
     }
 
+    /// Whether a ready time is after the hold time of the previous picture.
+    pub(crate) fn is_after_hold(&self, ready: u32) -> bool
+        ensures { (before : List Drawing) → Followed before self.now → result ≡ is_after_hold before ready }
+    {
+        self.pictures == 0 || self.held < ready
+    }
+
     /// Adds a line that draws. It is inlined, so that the line is not copied.
     #[inline(always)]
     pub(crate) fn take_drawing(&mut self, line: ScriptLine)
@@ -114,24 +144,91 @@ impl ScriptReader {
             → Followed (before ++ said [] line ∷ []) self.new }
     {
         let kept = match &mut self.draft {
-            Some(draft) => draft.lines.push(line),
+            Some(draft) => draft.push_line(line),
             None => return,
         };
+        self.let_go(kept);
+    }
+
+    /// Adds a row of pixels.
+    pub(crate) fn take_pixels(&mut self, x: u16, y: u8, digits: &[u8])
+        requires read { (before : List Drawing) × Followed before self.old }
+        requires width { x + length digits.now ≤ window_width }
+        requires height { y < window_height }
+        requires digits { list_all is_ascii_hexdigit digits.now ≡ true }
+        ensures { (before : List Drawing) → Followed before self.old
+            → Followed (before ++ Row x y (map digit_value digits.now) ∷ []) self.new }
+    {
+        let kept = match &mut self.draft {
+            Some(draft) => draft.push_row(x, y, digits),
+            None => return,
+        };
+        self.let_go(kept);
+    }
+
+    /// Adds a picture with its times.
+    pub(crate) fn take_picture(&mut self, ready: u32, hold: u32)
+        requires read { (before : List Drawing) × Followed before self.old
+            × (is_after_hold before ready ≡ true) × (pictures before < most_pictures) }
+        requires order { ready ≤ hold }
+        requires ending { hold < time_count }
+        ensures { (before : List Drawing) → Followed before self.old
+            → Followed (before ++ Show ready hold ∷ []) self.new }
+    {
+        self.pictures += 1;
+        self.held = hold;
+        let kept = match &mut self.draft {
+            Some(draft) => draft.push_show(ready, hold),
+            None => return,
+        };
+        self.let_go(kept);
+    }
+
+    // Drops the lines if one of them was not kept.
+    fn let_go(&mut self, kept: Result<(), AllocError>)
+        ensures { (script : List Drawing) → HasCounted script self.old → OnOk kept (IsKeptBy script self.old)
+            → Followed script self.new }
+    {
         if kept.is_err() {
             self.draft = None;
         }
     }
 
-    /// Reads a line of the text.
+    /// The script of all lines, if there was memory for them.
+    pub(crate) fn finish(self) -> Result<Script, ScriptStop>
+        requires { (script : List Drawing) × Followed script self }
+        ensures ok { (script : List Drawing) → Followed script self → IfOk result (λ made. made ≡ script) }
+        ensures err { IfErr result (λ stop. stop ≡ ScriptStop.NoMemory) }
+    {
+        match self.draft {
+            Some(draft) => {
+                let ScriptDraft {
+                    lines,
+                    pixels,
+                    shown,
+                } = draft;
+                Ok(Script {
+                    lines,
+                    pixels,
+                    shown,
+                })
+            }
+            None => Err(ScriptStop::NoMemory),
+        }
+    }
+}
+
+impl ScriptReader {
     fn read_line(&mut self, line: &[u8]) -> Result<(), ScriptWhy>
         requires { (before : List Drawing) × Followed before self.old }
         ensures { (before : List Drawing) → Followed before self.old
             → Follows before line.now self.new result }
     {
-        match trim_start(line) {
-            [] | [b'#', ..] => Ok(()),
-            rest => self.take_line(rest),
+        let rest = trim_start(line);
+        if is_nothing(rest) {
+            return Ok(());
         }
+        self.take_line(rest)
     }
 }
 
@@ -171,14 +268,7 @@ impl Script {
             number += 1;
             rest = after;
         }
-        match reader.draft {
-            Some(draft) => Ok(Script {
-                lines: draft.lines,
-                pixels: draft.pixels,
-                shown: draft.shown,
-            }),
-            None => Err(ScriptStop::NoMemory),
-        }
+        reader.finish()
     }
 }
 
@@ -186,5 +276,12 @@ impl Script {
 pub(crate) fn is_passed_over(line: &[u8]) -> bool
     ensures { result ≡ is_passed_over line.now }
 {
-    matches!(trim_start(line), [] | [b'#', ..])
+    is_nothing(trim_start(line))
+}
+
+// The same for a line without leading blanks.
+fn is_nothing(rest: &[u8]) -> bool
+    ensures { (line : List ℕ) → rest.now ≡ without_blanks line → result ≡ is_passed_over line }
+{
+    rest.is_empty() || rest[0] == b'#'
 }

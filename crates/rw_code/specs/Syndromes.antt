@@ -1,6 +1,7 @@
 -- The sums of a word as the code keeps them, and what its steps do with them.
-use Rattle.std.specs.Prelude.{◌≡◌, ◌≢◌, ℕ, ◌+◌, ◌-◌, ◌*◌, ◌/◌, ◌%◌, ◌^◌, ◌<◌, ◌≤◌, List, take, bit_xor}
+use Rattle.std.specs.Prelude.{◌≡◌, ◌≢◌, ℕ, ◌+◌, ◌-◌, ◌*◌, ◌/◌, ◌%◌, ◌^◌, ◌<◌, ◌≤◌, List, [], ◌∷◌, ◌++◌, take, bit_xor}
 use Rattle.gf64.specs.Field.{product, alpha_power}
+use Rattle.rw_code.specs.declared.pack.LastFour.{LastFour}
 use Rattle.rw_code.specs.declared.syndromes.Sums.{Sums}
 use Rattle.rw_code.specs.declared.correction.Locator.{Locator}
 use Rattle.rw_code.specs.declared.correction.Places.{Places}
@@ -26,14 +27,14 @@ pub record IsEntry (position symbol lanes : ℕ) : Type 0 where
   pub later : (j : ℕ) → j < 2 → 4 ≤ position → lane (4 + j) lanes ≡ 0
   pub bound : lanes < 2 ^ 36
 
--- the sum of the four sums over all symbols, each times the power of alpha with its exponent
-abbrev pub weighted : ℕ → ℕ → ℕ → ℕ → ℕ → ℕ
-weighted lanes zeroth first second third =
-    let in_zeroth = product (alpha_power zeroth) (lane 0 lanes) in
-    let in_first = product (alpha_power first) (lane 1 lanes) in
-    let in_second = product (alpha_power second) (lane 2 lanes) in
-    let in_third = product (alpha_power third) (lane 3 lanes) in
-    bit_xor (bit_xor (bit_xor in_zeroth in_first) in_second) in_third
+-- If some symbols and the old parity symbols have sums 0 to n - 1 of 0, so have these symbols, `symbol` and the new ones.
+abbrev pub ContinuesTo : ℕ → List ℕ → ℕ → List ℕ → Type 0
+ContinuesTo n old symbol new =
+    (j : ℕ) → j < n → (xs : List ℕ) → weighted_sum j (xs ++ old) ≡ 0 → weighted_sum j (xs ++ symbol ∷ new) ≡ 0
+
+-- the value of a polynomial at power j of alpha, which is what it adds to sum j as the last four symbols of a word
+abbrev pub value_at : ℕ → LastFour → ℕ
+value_at j last = weighted_sum j (last.cubic ∷ last.square ∷ last.linear ∷ last.constant ∷ [])
 
 -- the lanes of the four sums over all symbols
 pub record AreLanes (lanes : ℕ) (sums : Sums) : Type 0 where
@@ -62,7 +63,7 @@ pub record AreTwoWrong (lanes i e j f : ℕ) : Type 0 where
   pub second : IsError j f
   pub sum : (p q : ℕ) → IsEntry i e p → IsEntry j f q → lanes ≡ bit_xor p q
 
--- the lanes of a word with these errors
+-- The lanes are those of a word with these two errors.
 abbrev pub AreErrors : ℕ → TwoErrors → Type 0
 AreErrors lanes errors =
     AreTwoWrong lanes errors.first.position errors.first.value errors.second.position errors.second.value
@@ -90,7 +91,7 @@ pub record IsLocatorOf (locator : Locator) (i j : ℕ) : Type 0 where
   pub constant : locator.constant
       ≡ product (product (alpha_power (last_position - i)) (alpha_power (last_position - j))) locator.square
 
--- the power d and 1 have as their sum the power z
+-- alpha^d + 1 is alpha^z.
 pub record IsPair (d z : ℕ) : Type 0 where
   pub apart : 0 < d
   pub within : d < word_symbols

@@ -1,8 +1,9 @@
 // Codewords: words that are checked, or sealed with their parity symbols.
-ghost use Rattle.std.specs.Prelude.{◌≡◌, List, ℕ, MatchOption};
-ghost use Rattle.rw_code.specs.Codeword.{IsCodeword, HasSymbols};
-ghost use Rattle.rw_code.specs.Syndromes.{AreSyndromes};
+ghost use Rattle.std.specs.Prelude.{◌≡◌, ◌∷◌, ◌+◌, ◌<◌, List, ℕ, MatchOption, [], take, slice_index, bit_xor};
+ghost use Rattle.rw_code.specs.Codeword.{IsCodeword, HasSymbols, weighted_sum};
+ghost use Rattle.rw_code.specs.Syndromes.{AreSyndromes, ContinuesTo, lane, value_at};
 ghost use Rattle.rw_code.specs.Packs.{idle_pack};
+ghost use Rattle.gf64.specs.Field.{product, alpha_power};
 
 use crate::Word;
 use crate::syndromes::Syndromes;
@@ -63,26 +64,10 @@ impl Pack {
         ensures symbols { HasSymbols result head body }
         ensures only { (w : List ℕ) → IsCodeword w → HasSymbols w head body → w ≡ result }
     {
-        let [first, second] = head;
-        let high = Sym::alpha(26).mul(first).add(Sym::alpha(6).mul(second));
-        let low = Sym::alpha(7).mul(first).add(Sym::alpha(1).mul(second));
-        let mut word = Word::default()
-            .with(0, first)
-            .with(1, second)
-            .with(2, high)
-            .with(3, low);
-        for i in 0..16 {
-            word = word.with(4 + i, body[i]);
-        }
-        // A column has the exponents of the coefficients of a polynomial, which is 1 at one of 1, α, α² and α³, and 0 at
-        // the other three.
-        let sums = Syndromes::of(&word);
-        let word = word
-            .with(20, sums.weighted(13, 37, 36, 10))
-            .with(21, sums.weighted(40, 22, 8, 36))
-            .with(22, sums.weighted(42, 11, 22, 37))
-            .with(23, sums.weighted(19, 42, 40, 13));
-        // A codeword is a word.
+        let headed = with_head(head);
+        let word = with_whole_parity(&with_body(headed, &body));
+        // Both are words: their places are compared one by one.
+        words_have_24_symbols(&headed);
         words_have_24_symbols(&word);
         Pack { word }
     }
@@ -103,4 +88,133 @@ impl Pack {
             word: Word::default(),
         }
     }
+}
+
+// The two parity symbols after some symbols, by which their sums at 0 and 1 are 0.
+#[derive(Clone, Copy)]
+struct FirstParity {
+    high: Sym,
+    low: Sym,
+}
+
+impl FirstParity {
+    // Those after one more symbol: the remainder by (x + 1)(x + α).
+    fn push(self, symbol: Sym) -> FirstParity
+        ensures { ContinuesTo 2 (self.high ∷ self.low ∷ []) symbol (result.high ∷ result.low ∷ []) }
+    {
+        let feedback = self.high.add(symbol);
+        FirstParity {
+            high: self.low.add(Sym::alpha(6).mul(feedback)),
+            low: Sym::alpha(1).mul(feedback),
+        }
+    }
+}
+
+// What is added to the last four symbols of a word: the coefficients of a polynomial.
+#[derive(Clone, Copy)]
+struct LastFour {
+    cubic: Sym,
+    square: Sym,
+    linear: Sym,
+    constant: Sym,
+}
+
+impl LastFour {
+    // The polynomial whose coefficients are the powers of α with these exponents.
+    #[inline]
+    fn powers(cubic: u32, square: u32, linear: u32, constant: u32) -> LastFour
+        ensures cubic { result.cubic ≡ alpha_power cubic }
+        ensures square { result.square ≡ alpha_power square }
+        ensures linear { result.linear ≡ alpha_power linear }
+        ensures constant { result.constant ≡ alpha_power constant }
+    {
+        LastFour {
+            cubic: Sym::alpha(cubic),
+            square: Sym::alpha(square),
+            linear: Sym::alpha(linear),
+            constant: Sym::alpha(constant),
+        }
+    }
+
+    #[inline]
+    fn times(self, factor: Sym) -> LastFour
+        ensures { (j : ℕ) → value_at j result ≡ product (value_at j self) factor }
+    {
+        LastFour {
+            cubic: self.cubic.mul(factor),
+            square: self.square.mul(factor),
+            linear: self.linear.mul(factor),
+            constant: self.constant.mul(factor),
+        }
+    }
+
+    #[inline]
+    fn add(self, other: LastFour) -> LastFour
+        ensures { (j : ℕ) → value_at j result ≡ bit_xor (value_at j self) (value_at j other) }
+    {
+        LastFour {
+            cubic: self.cubic.add(other.cubic),
+            square: self.square.add(other.square),
+            linear: self.linear.add(other.linear),
+            constant: self.constant.add(other.constant),
+        }
+    }
+
+    // The polynomial whose values at 1, α, α² and α³ are the four sums over all symbols: each sum times the polynomial
+    // that is 1 at its own power and 0 at the other three.
+    fn of(syndromes: Syndromes) -> LastFour
+        ensures { (j : ℕ) → j < 4 → value_at j result ≡ lane j syndromes.lanes }
+    {
+        let sums = syndromes.sums();
+        let zeroth = LastFour::powers(13, 40, 42, 19).times(sums.zeroth);
+        let first = LastFour::powers(37, 22, 11, 42).times(sums.first);
+        let second = LastFour::powers(36, 8, 22, 40).times(sums.second);
+        let third = LastFour::powers(10, 36, 37, 13).times(sums.third);
+        zeroth.add(first).add(second).add(third)
+    }
+}
+
+// The word with these first two symbols, parity symbols at 2 and 3, and else zeros.
+fn with_head(head: [Sym; 2]) -> Word
+    ensures head { (k : ℕ) → k < 2 → slice_index result k ≡ slice_index head k }
+    ensures first_four { (j : ℕ) → j < 2 → weighted_sum j (take 4 result) ≡ 0 }
+{
+    let [first, second] = head;
+    let zero = Sym::default();
+    let none = FirstParity {
+        high: zero,
+        low: zero,
+    };
+    let parity = none.push(first).push(second);
+    Word::default()
+        .with(0, first)
+        .with(1, second)
+        .with(2, parity.high)
+        .with(3, parity.low)
+}
+
+// The word with these symbols at 4 to 19.
+fn with_body(word: Word, body: &[Sym; 16]) -> Word
+    ensures first_four { (k : ℕ) → k < 4 → slice_index result k ≡ slice_index word k }
+    ensures body { (k : ℕ) → k < 16 → slice_index result (4 + k) ≡ slice_index body.now k }
+{
+    let mut word = word;
+    for i in 0..16 {
+        word = word.with(4 + i, body[i]);
+    }
+    word
+}
+
+// The word with parity symbols at 20 to 23.
+fn with_whole_parity(word: &Word) -> Word
+    ensures kept { (k : ℕ) → k < 20 → slice_index result k ≡ slice_index word.now k }
+    ensures whole { (j : ℕ) → j < 4 → weighted_sum j result ≡ 0 }
+{
+    // Four of its 24 symbols are the last ones.
+    words_have_24_symbols(word);
+    let last = LastFour::of(Syndromes::of(word));
+    word.plus(20, last.cubic)
+        .plus(21, last.square)
+        .plus(22, last.linear)
+        .plus(23, last.constant)
 }

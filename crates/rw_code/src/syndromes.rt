@@ -2,7 +2,7 @@
 ghost use Rattle.std.specs.Prelude.{◌≡◌, ◌<◌, ◌↔◌, IsTrue};
 ghost use Rattle.rw_code.specs.Sizes.{word_symbols, symbol_values};
 ghost use Rattle.rw_code.specs.Codeword.{IsCodeword};
-ghost use Rattle.rw_code.specs.Syndromes.{AreLanes, AreSyndromes, IsEntry, lane, weighted};
+ghost use Rattle.rw_code.specs.Syndromes.{AreLanes, AreSyndromes, IsEntry, lane};
 
 use crate::word::{SYMBOL_VALUES, words_have_24_symbols};
 use crate::{SYMBOLS, Word};
@@ -48,18 +48,6 @@ impl Syndromes {
             second: self.lane(2),
             third: self.lane(3),
         }
-    }
-
-    /// The sum of the four sums over all symbols, each times the power of α with its exponent.
-    #[inline]
-    pub(crate) fn weighted(self, zeroth: u32, first: u32, second: u32, third: u32) -> Sym
-        ensures { result ≡ weighted self.lanes zeroth first second third }
-    {
-        Sym::alpha(zeroth)
-            .mul(self.lane(0))
-            .add(Sym::alpha(first).mul(self.lane(1)))
-            .add(Sym::alpha(second).mul(self.lane(2)))
-            .add(Sym::alpha(third).mul(self.lane(3)))
     }
 
     // One of the six sums.

@@ -23,7 +23,7 @@ basis_from members (number ∷ rest) =
 unfoldable pub differences_from_first : List ℕ → List ℕ
 differences_from_first pixels = map (bit_xor (slice_index pixels 0)) pixels
 
--- the differences from the first pixel that are not combinations of previous ones
+-- the basis of a tile: each difference from the first pixel, unless it is a combination of differences before it
 unfoldable pub basis : List ℕ → List ℕ
 basis pixels = basis_from [] (differences_from_first pixels)
 

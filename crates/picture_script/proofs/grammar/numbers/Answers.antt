@@ -28,7 +28,7 @@ loop-i-preserved g c = (
       c.loop-i-test.true (omega (arith, c.loop-i.invariant.1)) c.in_ok-word.ensures.words
       (sym c.in_ok-numbers.ensures.value) c.loop-i.invariant.0,
   length-set c.loop-i.numbers c.loop-i.i c.in_ok-numbers.field-0 ∙ c.loop-i.invariant.1,
-  All-set (λ n. n < 1000) c.loop-i.numbers c.loop-i.i c.in_ok-numbers.field-0 c.in_ok-numbers.ensures.bound
+  All-set (λ n. n < 1000) c.loop-i.numbers c.loop-i.i c.in_ok-numbers.field-0 c.in_ok-numbers.ensures.below
       c.loop-i.invariant.2,
 )
 

@@ -1,21 +1,17 @@
-use Rattle.std.proofs.Common.{◌≡◌, ◌++◌, ◌∙◌, List, ℕ, ap, refl, length, map, arith}
-use Rattle.std.proofs.lemmas.List.{take_all}
-use Rattle.std.specs.Char.{digit_value}
-use Rattle.picture_script.proofs.Drafts.{row-pushed}
+use Rattle.std.proofs.Common.{◌≡◌, refl, length, arith}
+use Rattle.picture_script.proofs.Drafts.{more-sound, row-added}
 use Rattle.picture_script.proofs.reader.ScriptDraft.push_row.Goals as goal
+
+pub push_line-requires-clause-sound : goal.push_line-requires-clause-sound
+push_line-requires-clause-sound c =
+    more-sound c.args.self.now c.push_pixels.new.pixels.items c.args.digits.now c.requires.sound
+    c.requires.digits c.in_ok-push_pixels.ensures.ok
 
 pub returns : goal.returns
 returns c =
-    let old = c.args.self.now in
-    let start : c.in-Ok.first ≡ length old.pixels.items = omega (arith, c.len.ensures) in
-    let all =
-    take_all c.loop-digit.digit-index c.args.digits.now (omega (arith, c.loop-digit-test.false)) in
+    let start : c.in-Ok.first ≡ length c.args.self.now.pixels.items = omega (arith, c.len.ensures) in
     record {
       ok =
-          row-pushed old c.loop-digit.self _ c.args.x c.args.y c.in-Ok.first c.args.digits.now
-          c.requires.sound c.requires.width c.requires.height c.requires.digits c.loop-digit.invariant.lines
-          c.loop-digit.invariant.shown
-          (c.loop-digit.invariant.pixels
-          ∙ ap (λ (xs : List ℕ). old.pixels.items ++ map digit_value xs) all)
-          start c.in_ok-push-2.ensures.items refl refl;
+          row-added c.args.self.now _ c.push_line.new.self c.args.x c.args.y c.in-Ok.first _ c.args.digits.now
+          c.requires.sound refl c.in_ok-push_pixels.ensures.ok start refl c.in_ok-push_line.ensures.ok;
     }

@@ -1,9 +1,8 @@
-use Rattle.std.specs.Prelude.{Ok}
 use Rattle.std.proofs.Common.{[], sym, ap, ◌∙◌, arith}
 use Rattle.text_lines.specs.Text.{lines_in}
 use Rattle.picture_script.specs.ScriptGrammar.{checked_lines}
 use Rattle.picture_script.proofs.Refusals.{reading_begins, reading_ends, one_taken, one_refused}
-use Rattle.picture_script.proofs.Counted.{some_kept}
+use Rattle.picture_script.proofs.Counted.{made, not_made}
 use Rattle.picture_script.proofs.script.Script.parse.Goals as goal
 
 pub loop-line-init : goal.loop-line-init
@@ -41,20 +40,16 @@ returns-in-Err-clause-err c =
     ∙ one_refused c.loop-line.number before c.in-Some.line.now (lines_in c.in-Some.after.now) c.in-Err.why
     (c.in-Err.ensures before c.loop-line.invariant.0.1)
 
-pub returns-in-Some-draft-clause-ok : goal.returns-in-Some-draft-clause-ok
-returns-in-Some-draft-clause-ok c =
+pub returns-clause-ok : goal.returns-clause-ok
+returns-clause-ok c =
     let before = c.loop-line.invariant.0.0 in
-    let kept =
-    some_kept before c.loop-line.reader.draft c.in-Some-draft.draft c.in-Some-draft.is
-    c.loop-line.invariant.0.1.1 in
-    rw c.in-Some-draft.draft-is (sym c.loop-line.invariant.0.2
-    ∙ reading_ends c.loop-line.number before (lines_in c.loop-line.rest.now) c.in_default.ensures.lines
-    ∙ ap Ok (sym kept.1))
+    made c.finish.result _ before (sym c.loop-line.invariant.0.2
+    ∙ reading_ends c.loop-line.number before (lines_in c.loop-line.rest.now) c.in_default.ensures.lines)
+    (c.finish.ensures.ok before c.loop-line.invariant.0.1)
 
-pub returns-in-None-clause-err : goal.returns-in-None-clause-err
-returns-in-None-clause-err c =
-    let before = c.loop-line.invariant.0.0 in (
-      before,
-      sym c.loop-line.invariant.0.2
-          ∙ reading_ends c.loop-line.number before (lines_in c.loop-line.rest.now) c.in_default.ensures.lines,
-    )
+pub returns-clause-err : goal.returns-clause-err
+returns-clause-err c =
+    let before = c.loop-line.invariant.0.0 in
+    not_made c.finish.result _ before (sym c.loop-line.invariant.0.2
+    ∙ reading_ends c.loop-line.number before (lines_in c.loop-line.rest.now) c.in_default.ensures.lines)
+    c.finish.ensures.err
