@@ -46,34 +46,32 @@ LIBRARY = ("block_survey", "rw_mend", "mended_stream", "disc_plan", "live_player
 
 # The introduction of a part whose claims name something that the part does not show.
 SAID = {
-    "Packs are recovered": "This part is about the command `convert`. Its clause uses these variables: `form` is the form of the input, and `all` is"
-    " the list of the bytes of the input. `disc` has a cue sheet, a picture script, the number of blocks of the lead-in, and the number of blocks"
-    " of the audio. `stream` is the list of the bytes of an authored stream of this disc; part II defines authored streams (`IsAuthored`). `packs`"
-    " is the list of all packs in `stream`, and each pack is a list of 24 symbols. This part needs only the field `carries` of `IsAuthored`. The"
-    " field states that the blocks of `stream` after the lead-in contain exactly these packs, and that the number of these blocks determines the"
-    " number of packs. `Spells c (texts words.now)` says that the words of the command line are those of the command c.",
-    "Pictures are shown": "This part is about the command `screen`. Its clause holds for every authored stream, regardless of the program that made the"
-    " stream. `HasFraming` (part IV) says that a stream has the P bits, the Q frames and the text packs (packs of CD-TEXT) of a disc. `IsScriptText"
-    " text script` (part VI) says that `text` has at most 64 MiB, and that the grammar of picture scripts in [FORMATS](FORMATS.md) reads `text` as"
-    " the script `script`.",
-    "The stream that is written, and late pictures": "This part is about the command `author`: which stream it writes, and when it reports a late"
-    " picture. `IsSheetText text sheet` says that `text` has at most 64 MiB, and that the grammar of cue sheets in [FORMATS](FORMATS.md) reads `text`"
-    " as the cue sheet `sheet`.",
+    "Packs are recovered": "The clause of this part is about the command `convert`. It uses these variables:\n\n| Variable | Meaning |\n|---|---|\n"
+    "| `form` | the form of the input |\n| `all` | the list of the bytes of the input |\n"
+    "| `disc` | a cue sheet, a picture script, and the numbers of blocks of the lead-in and of the audio |\n"
+    "| `stream` | the list of the bytes of an authored stream of this disc (`IsAuthored`, part II) |\n"
+    "| `packs` | the list of all packs in `stream`, each a list of 24 symbols |\n\n"
+    "This part needs only the field `carries` of `IsAuthored`: the blocks of `stream` after the lead-in contain exactly these packs, and the number of"
+    " these blocks determines the number of packs. `Spells c (texts words.now)` says that the words of the command line are those of the command c.",
+    "Pictures are shown": "The clause of this part is about the command `screen`. It holds for every authored stream, regardless of the program that made"
+    " it. `HasFraming` (part IV) says that a stream has the P bits, the Q frames and the text packs (packs of CD-TEXT) of a disc. `IsScriptText text"
+    " script` (part VI) says two things: `text` has at most 64 MiB, and the grammar of picture scripts in [FORMATS](FORMATS.md) reads `text` as the"
+    " script `script`.",
+    "The stream that is written, and late pictures": "The clauses of this part are about the command `author`. `IsSheetText text sheet` (part VI) says"
+    " two things: `text` has at most 64 MiB, and the grammar of cue sheets in [FORMATS](FORMATS.md) reads `text` as the cue sheet `sheet`.",
 }
 
 # What each clause of the headline states, in place of the comment above it in the code.
 STATED = {
-    "gives_back": "The clause `gives_back` is about a copy of an authored stream. The copy has at most two wrong symbols in each word. The clause states:"
-    " if this copy is the input of `convert`, `convert` writes every pack of the authored stream. The clause says nothing about a call in which a read"
-    " or a write fails.",
-    "shows": "The clause `shows` is about a copy of an authored stream. The copy has at most two wrong symbols in each word. The clause states: if this"
-    " copy is the input of `screen`, `screen` shows each picture of the script from its ready time to its hold time. The clause says nothing about a"
-    " call in which a read or a write fails or memory runs out.",
-    "authors": "The clause `authors` states: if a cue sheet and a script are valid and fit on the disc, `author` either writes the authored stream with"
-    " the planned changes, or reports the first late picture and writes nothing. The clause says nothing about a call in which a read or a write fails"
-    " or memory runs out.",
-    "late": "The clause `late` states: if `author` reports a picture as late, even a shortest list of instructions that draws this picture has more"
-    " instructions than the number of free packs that `author` reports.",
+    "gives_back": "`gives_back`: A *damaged copy* of a stream has at most two wrong symbols in each word. If `convert` reads a damaged copy of an"
+    " authored stream, it writes every pack of this stream. The clause says nothing about a call in which a read or a write fails.",
+    "shows": "`shows`: If `screen` reads a damaged copy of an authored stream, it shows each picture of the script from its ready time to its hold"
+    " time. The clause says nothing about a call in which a read or a write fails or memory runs out.",
+    "authors": "`authors`: If a cue sheet and a script are valid and fit on the disc, `author` does one of two things. It writes the authored stream with"
+    " the planned changes, or it reports the first late picture and writes nothing. The clause says nothing about a call in which a read or a write"
+    " fails or memory runs out.",
+    "late": "`late`: If `author` reports a late picture, it also reports a number of free packs. Each list of instructions without scrolls that draws"
+    " this picture has more instructions than this number.",
 }
 
 # The types whose variants the introduction shows, with their crates.
@@ -90,148 +88,172 @@ definitions use these signs:
 
 | Sign | Meaning |
 |---|---|
-| `first.old`, `first.new` | `first.old` is the value of the argument `first` before the call, and `first.new` is its value after the call. |
-| `words.now` | This is the value of the argument `words`. The call only reads this argument, so its value does not change. |
-| `result` | This is the return value of the call. |
-| `x.0`, `x.1`, `x.name` | `x.0` is the first part of the tuple x, and `x.1` is the second part. `x.name` is the field `name` of the record x. |
-| `S.left first.old` | This is the list of the bytes of the input `first` that are unread before the call: `Some` with this list, or `None` if the bytes are not known. |
-| `K.held out.old` | This is the list of the bytes that were written to the output `out` before the call: `Some` with this list, or `None` if the bytes are not known. |
-| `(x : A) → P`, `(x y : A) → P` | `(x : A) → P` means that P is true for every x of type A. `(x y : A) → P` means that P is true for every x and every y of type A. |
-| `(x : A) × P` | This means that P is true for at least one x of type A. |
-| `a ≡ b`, `a ≢ b` | `a ≡ b` means that a and b are equal. `a ≢ b` means that a and b are different. |
-| `a → b` | Between statements, this means: if a is true, b is true. Between types, this is the type of functions from a to b. |
-| `a × b`, `a ⊎ b`, `¬ a` | `a × b` means that a and b are true. `a ⊎ b` means that a or b is true. `¬ a` means that a is false. |
-| `⊤`, `⊥` | `⊤` is a statement that is always true. `⊥` is a statement that is always false. |
-| `λ x. e` | This is the function that returns e for the argument x. |
-| `ℕ`, `a - b` | `ℕ` is the type of the natural numbers 0, 1, 2 and so on. If b is greater than a, `a - b` is 0. |
-| `[]`, `x ∷ xs`, `xs ++ ys` | `[]` is the empty list. `x ∷ xs` is the list that begins with x and continues with the list xs. `xs ++ ys` is the list xs, followed by the list ys. |
-| `record`, `pub name : A` | `record` defines a type with named fields, and `pub name : A` is a field of the type A. If the fields are statements, the record is the statement that all of them are true. |
-| `record { name = e; .. }` | This is a record in which the field `name` has the value e, and so on. |
-| `abbrev`, `unfoldable` | Each of these words begins the definition of a name. The name means the right side of the definition. The two words differ only for the checker. |
-| `data`, `name : A → B ..` | `data` defines a type by a list of the kinds of its values. `name : A → B ..` is one kind: its values are written as `name`, followed by a value of the type A and so on. The last type after the colon is the defined type. If the defined type is a statement, the list has the only ways in which the statement is true. |
-| `{A : Type 0}` | This is an argument that is not written in a call, because the checker finds it. |
-| `f x y`, `f : A → B → C` | `f x y` is the result of the function f for the arguments x and y. `f : A → B → C` says that f has two arguments, of the types A and B, and a result of the type C. |
-| `f [] = ..`, `f _ = ..` | A definition by cases has one line for each form of the argument, for example the form `[]`. The form `_` fits every argument. The first line that fits the argument defines the result. |
-| `Type 0` | Every statement has this type. A type of values, for example `ℕ`, also has this type. |
-| `ℕ × ℕ`, `(a, b)` | `ℕ × ℕ` is the type of pairs of numbers. `(a, b)` is the pair with the parts a and b. |
-| `record old { name = e }` | This is a copy of the record `old` in which the field `name` has the value e. |
-| `let x = e in d` | This is the value of d if x means e. |
+| `first.old` | the value of the argument `first` before the call |
+| `first.new` | the value of the argument `first` after the call |
+| `words.now` | the value of the argument `words`, which the call does not change |
+| `result` | the return value of the call |
+| `x.0`, `x.1` | the first and the second part of the tuple x |
+| `x.name` | the field `name` of the record x |
+| `S.left first.old` | `Some` with the list of the bytes of the input `first` that are unread before the call, or `None` if they are not known |
+| `K.held out.old` | `Some` with the list of the bytes that were written to the output `out` before the call, or `None` if they are not known |
+| `(x : A) → P` | P is true for every x of type A |
+| `(x y : A) → P` | P is true for every x and every y of type A |
+| `(x : A) × P` | P is true for at least one x of type A |
+| `a ≡ b` | a and b are equal |
+| `a ≢ b` | a and b are different |
+| `a → b` | for statements: if a is true, b is true |
+| `A → B` | for types: the type of functions from A to B |
+| `a × b` | a and b are true |
+| `a ⊎ b` | a or b is true |
+| `¬ a` | a is false |
+| `⊤` | a statement that is always true |
+| `⊥` | a statement that is always false |
+| `λ x. e` | the function that returns e for the argument x |
+| `ℕ` | the type of the natural numbers 0, 1, 2 and so on |
+| `a - b` | a minus b, or 0 if b is greater than a |
+| `[]` | the empty list |
+| `x ∷ xs` | the list that begins with x and continues with the list xs |
+| `xs ++ ys` | the list xs, followed by the list ys |
+| `record` | the definition of a type with named fields. If the fields are statements, the record is the statement that all of them are true. |
+| `pub name : A` | in a record, a field of the type A |
+| `record { name = e; .. }` | a record in which the field `name` has the value e, and so on |
+| `record old { name = e }` | a copy of the record `old` in which the field `name` has the value e |
+| `abbrev`, `unfoldable` | the definition of a name: the name means the right side. The two words differ only for the checker. |
+| `data` | the definition of a type by a list of the kinds of its values. If the type is a statement, the list has the only ways in which it is true. |
+| `name : A → B ..` | in `data`, one kind of values: `name`, followed by a value of the type A and so on. The last type is the defined type. |
+| `{A : Type 0}` | an argument that is not written in a call, because the checker finds it |
+| `f x y` | the result of the function f for the arguments x and y |
+| `f : A → B → C` | f has two arguments, of the types A and B, and a result of the type C |
+| `f [] = ..`, `f _ = ..` | a definition by cases: one line for each form of the argument. `_` fits every argument. The first line that fits defines the result. |
+| `Type 0` | the type of every statement, and of every type of values, for example `ℕ` |
+| `ℕ × ℕ` | the type of pairs of numbers |
+| `(a, b)` | the pair with the parts a and b |
+| `let x = e in d` | the value of d if x means e |
 
-In the lines that begin with `--`, *text* may mean any list of bytes that a call writes. A stream has the form *cooked* if the 24 symbols of each
+In lines that begin with `--`, *text* may mean any list of bytes that a call writes. A stream has the form *cooked* if the 24 symbols of each
 word are next to each other. Packs, pictures and pixels are numbered from 0.
 """.strip()
 
 # What only the whole document uses.
 WHOLE_KEY = """
-The parts IV to IX use further signs: `S.faults` is the number of reads that failed; `S.ends` is the number of reads that reported the end;
-`S.Source` is one value with the bytes and the counts of a source; `a ↔ b` means a if and only if b.
+The parts IV to IX use further signs and words:
 
-They also use some words in a special sense. Bytes are *put* if they were written to an output, and *taken* if they were read from an input.
-*Told* means reported. A pack is *whole* if its last symbol was read; this symbol is seven slots after the slot in which the pack begins. A
-picture *stands* while the screen shows it. The *framing* of a stream is its P bits, its Q frames and its text packs. A word is *nearly zero*
-if at most two of its symbols are not 0. *So many* means the number in the argument.
+| Sign or word | Meaning |
+|---|---|
+| `S.faults` | the number of reads that failed |
+| `S.ends` | the number of reads that reported the end |
+| `S.Source` | one value with the bytes and the counts of a source |
+| `a ↔ b` | a if and only if b |
+| put | written to an output |
+| taken | read from an input |
+| told | reported |
+| whole (of a pack) | with its last symbol read; this symbol is seven slots after the slot in which the pack begins |
+| stand (of a picture) | be shown by the screen |
+| framing | the P bits, the Q frames and the text packs of a stream |
+| nearly zero (of a word) | with at most two symbols that are not 0 |
+| so many | the number in the argument |
 """.strip()
 
-# What the words of the standard library mean.
+# What the words of the standard library mean: how each is used with its arguments, and its meaning.
 WORDS = {
-    "All": "`All P xs` says that the statement P is true for each element of the list xs.",
-    "AllByRecursion": "This says that a statement is true for each element of a list.",
-    "Appends": "`Appends old new xs` says: if `old` is `Some` list, `new` is this list followed by the list xs. So the bytes xs were written between `old` and `new`.",
-    "Bool": "This is the type of the truth values `true` and `false`.",
-    "Consumes": "This says: if the contents of an input are known, exactly these bytes were removed from their front.",
-    "Contains": "This says that the list has this element.",
-    "Err": "This is the result of a call that failed, with the reason.",
-    "ForSome": "This says that there is a value for which this statement is true.",
-    "Global": "This is the heap.",
-    "IfErr": "This says: if the result is `Err`, this statement is true for its reason.",
-    "IfOk": "This says: if the result is `Ok`, this statement is true for its value.",
-    "IfSome": "`IfSome x P` says: if the option x has a value, the statement P is true for this value.",
-    "IsAtEnd": "This says: if the contents of an input are known, nothing is left of them.",
-    "IsErr": "This says that the result is `Err`.",
-    "IsErrOf": "This says that the result is `Err` with this reason.",
-    "IsOk": "This says that the result is `Ok`.",
-    "IsTrue": "This says that the value is `true`.",
-    "List": "This is the type of finite lists.",
-    "MatchBool": "This says: if a truth value is `true`, the first statement is true; if it is `false`, the second one is.",
-    "MatchOption": "This says: if there is no value, the first statement is true; if there is one, the second statement is true for it.",
-    "MatchResult": "This says: if the result is `Ok`, the first statement is true for its value; if it is `Err`, the second one is true for its reason.",
-    "None": "This is the value of an option that has no value.",
-    "Ok": "This is the result of a call that succeeded, with its value.",
-    "OnErr": "This says: if the result is `Err`, this statement is true.",
-    "OnOk": "This says: if the result is `Ok`, this statement is true.",
-    "Option": "This is the type of options. An option is `Some` with a value, or `None`.",
-    "ReadConsumes": "This says that a read removed exactly the bytes that it returned.",
-    "Result": "A value of this type is `Ok` with a value, or `Err` with a reason.",
-    "Some": "`Some x` is the option with the value x.",
-    "StartsWith": "This says that the list begins with this other list.",
-    "String": "This is the type of texts.",
-    "Unit": "This type has only one value.",
-    "before_first": "This function returns the elements before the first one for which another function is true.",
-    "bit_at": "`bit_at n k` is bit k of the number n, 0 or 1. Bit 0 is the lowest bit.",
-    "bit_xor": "`bit_xor a b` is the exclusive or of the numbers a and b, bit by bit.",
-    "box_owns": "This says that a box holds this value and owns its memory.",
-    "bytes_eq": "This function returns whether two lists of bytes are equal.",
-    "coded_list": "This function returns a list of numbers as bytes in memory, one after another.",
-    "codes": "`codes s` is the list of the characters of the text s, each as a number.",
-    "concat": "`concat xss` is one list with the elements of all lists in xss, in their order.",
-    "count_by": "`count_by f xs` is the number of elements of the list xs for which the function f returns `true`.",
-    "decimal": "This function returns a number in decimal digits, without a leading zero.",
-    "digit_char": "This function returns the character of a digit.",
-    "digit_value": "This function returns the number that the character of a digit means.",
-    "digits_value": "This function returns the number that a list of digits means.",
-    "drop": "`drop n xs` is the list xs without its first n elements.",
-    "enumerate_from": "This function pairs each element with its number, counted from n.",
-    "false": "This is the truth value of a false statement.",
-    "filter": "This function returns the elements for which another function is true, in their order.",
-    "filter_map": "`filter_map f xs` applies the function f to each element of the list xs. The result is the list of the values x for which f returns `Some x`.",
-    "find": "This function returns the first element for which another function is true, if there is one.",
-    "flat_map": "`flat_map f xs` applies the function f to each element of the list xs, and joins the lists that f returns.",
-    "fold": "`fold f a xs` begins with the value a. For each element of the list xs, in order, f makes the next value from the value so far and the element. The last value is the result.",
-    "is_ascii_digit": "This function returns whether a character is one of 0 to 9.",
-    "is_ascii_hexdigit": "This function returns whether a character is one of 0 to 9, a to f, A to F.",
-    "is_ascii_uppercase": "This function returns whether a character is one of A to Z.",
-    "is_err": "This function returns whether a result is `Err`.",
-    "is_gt": "This function returns whether a comparison says that the first value is greater.",
-    "is_none": "This function returns whether there is no value.",
-    "is_ok": "This function returns whether a result is `Ok`.",
-    "is_prefix": "This function returns whether a list is the beginning of another.",
-    "is_some": "This function returns whether there is a value.",
-    "length": "`length xs` is the number of elements of the list xs.",
-    "lines": "This function splits a text into its lines, which end with line feeds.",
-    "list_all": "`list_all f xs` is `true` if the function f returns `true` for all elements of the list xs, and otherwise `false`.",
-    "list_any": "This function returns whether another function is true for some element.",
-    "map": "`map f xs` is the list of the results of the function f for each element of the list xs.",
-    "max": "`max a b` is the greater one of the numbers a and b.",
-    "min": "`min a b` is the smaller one of the numbers a and b.",
-    "nat_cmp": "This function compares two numbers.",
-    "nat_eq": "This function returns whether two numbers are equal.",
-    "nat_le": "`nat_le a b` is `true` if the number a is at most b, and otherwise `false`.",
-    "nat_lt": "`nat_lt a b` is `true` if the number a is less than b, and otherwise `false`.",
-    "negsuc": "`negsuc n` is the integer - n - 1.",
-    "not": "`not a` is `false` if the truth value a is `true`, and otherwise `true`.",
-    "option_map": "This function applies a function to a value, if there is one.",
-    "pos": "`pos n` is the integer n.",
-    "position": "This function returns the index of the first element for which another function is true.",
-    "range_with_len": "`range_with_len a n` is the list of the n numbers a, a + 1, a + 2 and so on.",
-    "replicate": "`replicate n x` is a list of n elements, each equal to x.",
-    "reverse": "`reverse xs` is the list xs in reverse order.",
-    "slice_cmp": "This function compares two lists in lexicographic order.",
-    "slice_index": "`slice_index xs n` is element n of the list xs; the first element has the number 0. If the list has no element n, the result is 0; `pixel_at` and `word_of` depend on this rule.",
-    "slice_index_or": "`slice_index_or xs n d` is element n of the list xs; the first element has the number 0. If the list has no element n, the result is d.",
-    "slice_range": "This function returns the elements of a list between two indices.",
-    "slice_set": "This function replaces the value at index n of a list.",
-    "slice_split": "This function splits a list at the elements for which another function is true.",
-    "starts_with": "This function returns whether a list begins with another.",
-    "str_eq_ignore_ascii_case": "This function returns whether two texts are equal except for capital letters.",
-    "str_to_ascii_uppercase": "This function returns a text in capital letters.",
-    "string_bytes": "This function returns a text as bytes.",
-    "suc": "`suc n` is n + 1.",
-    "sum_by": "`sum_by f xs` is the sum of the numbers that the function f returns for the elements of the list xs.",
-    "take": "`take n xs` is the list of the first n elements of the list xs.",
-    "true": "This is the truth value of a true statement.",
-    "unwrap_or": "This function returns the value, if there is one, or another value.",
-    "zero": "This is the number 0.",
-    "zip": "This function makes one list of pairs from two lists.",
+    "All": ("All P xs", "P is true for each element of the list xs"),
+    "AllByRecursion": ("AllByRecursion", "a statement is true for each element of a list"),
+    "Appends": ("Appends old new xs", "if `old` is `Some` with a list, `new` has this list, followed by the list xs: the bytes xs were written between `old` and `new`"),
+    "Bool": ("Bool", "the type of the truth values `true` and `false`"),
+    "Consumes": ("Consumes", "if the contents of an input are known, exactly these bytes were removed from their front"),
+    "Contains": ("Contains", "the list has this element"),
+    "Err": ("Err", "the result of a call that failed, with the reason"),
+    "ForSome": ("ForSome", "the statement is true for at least one value"),
+    "Global": ("Global", "the heap"),
+    "IfErr": ("IfErr", "if the result is `Err`, the statement is true for its reason"),
+    "IfOk": ("IfOk", "if the result is `Ok`, the statement is true for its value"),
+    "IfSome": ("IfSome x P", "if the option x has a value, P is true for this value"),
+    "IsAtEnd": ("IsAtEnd", "if the contents of an input are known, nothing is left of them"),
+    "IsErr": ("IsErr", "the result is `Err`"),
+    "IsErrOf": ("IsErrOf", "the result is `Err` with this reason"),
+    "IsOk": ("IsOk", "the result is `Ok`"),
+    "IsTrue": ("IsTrue", "the value is `true`"),
+    "List": ("List", "the type of finite lists"),
+    "MatchBool": ("MatchBool", "if the truth value is `true`, the first statement is true; if it is `false`, the second one is"),
+    "MatchOption": ("MatchOption", "if there is no value, the first statement is true; if there is one, the second statement is true for it"),
+    "MatchResult": ("MatchResult", "if the result is `Ok`, the first statement is true for its value; if it is `Err`, the second one is true for its reason"),
+    "None": ("None", "the option without a value"),
+    "Ok": ("Ok", "the result of a call that succeeded, with its value"),
+    "OnErr": ("OnErr", "if the result is `Err`, the statement is true"),
+    "OnOk": ("OnOk", "if the result is `Ok`, the statement is true"),
+    "Option": ("Option", "the type of options: `Some` with a value, or `None`"),
+    "ReadConsumes": ("ReadConsumes", "a read removed exactly the bytes that it returned"),
+    "Result": ("Result", "the type of results: `Ok` with a value, or `Err` with a reason"),
+    "Some": ("Some x", "the option with the value x"),
+    "StartsWith": ("StartsWith", "the list begins with this other list"),
+    "String": ("String", "the type of texts"),
+    "Unit": ("Unit", "the type with only one value"),
+    "before_first": ("before_first", "the elements before the first one for which a function is true"),
+    "bit_at": ("bit_at n k", "bit k of the number n, 0 or 1; bit 0 is the lowest bit"),
+    "bit_xor": ("bit_xor a b", "the exclusive or of the numbers a and b, bit by bit"),
+    "box_owns": ("box_owns", "a box holds this value and owns its memory"),
+    "bytes_eq": ("bytes_eq", "whether two lists of bytes are equal"),
+    "coded_list": ("coded_list", "a list of numbers as bytes in memory, one after another"),
+    "codes": ("codes s", "the list of the characters of the text s, each as a number"),
+    "concat": ("concat xss", "one list with the elements of all lists in xss, in their order"),
+    "count_by": ("count_by f xs", "the number of elements of the list xs for which the function f returns `true`"),
+    "decimal": ("decimal", "a number in decimal digits, without a leading zero"),
+    "digit_char": ("digit_char", "the character of a digit"),
+    "digit_value": ("digit_value", "the number that the character of a digit means"),
+    "digits_value": ("digits_value", "the number that a list of digits means"),
+    "drop": ("drop n xs", "the list xs without its first n elements"),
+    "enumerate_from": ("enumerate_from", "the list of pairs of each element and its number, counted from n"),
+    "false": ("false", "the truth value of a false statement"),
+    "filter": ("filter", "the elements for which a function is true, in their order"),
+    "filter_map": ("filter_map f xs", "the list of the values y for which the function f returns `Some y` for an element of the list xs, in their order"),
+    "find": ("find", "the first element for which a function is true, if there is one"),
+    "flat_map": ("flat_map f xs", "the joined lists that the function f returns for the elements of the list xs"),
+    "fold": ("fold f a xs", "the last value of a series that begins with a. For each element of the list xs, in order, the function f makes the next value from the value so far and the element."),
+    "is_ascii_digit": ("is_ascii_digit", "whether a character is one of 0 to 9"),
+    "is_ascii_hexdigit": ("is_ascii_hexdigit", "whether a character is one of 0 to 9, a to f, A to F"),
+    "is_ascii_uppercase": ("is_ascii_uppercase", "whether a character is one of A to Z"),
+    "is_err": ("is_err", "whether a result is `Err`"),
+    "is_gt": ("is_gt", "whether a comparison says that the first value is greater"),
+    "is_none": ("is_none", "whether there is no value"),
+    "is_ok": ("is_ok", "whether a result is `Ok`"),
+    "is_prefix": ("is_prefix", "whether a list is the beginning of another"),
+    "is_some": ("is_some", "whether there is a value"),
+    "length": ("length xs", "the number of elements of the list xs"),
+    "lines": ("lines", "the lines of a text, which end with line feeds"),
+    "list_all": ("list_all f xs", "whether the function f returns `true` for all elements of the list xs"),
+    "list_any": ("list_any", "whether a function is true for some element"),
+    "map": ("map f xs", "the list of the results of the function f for the elements of the list xs"),
+    "max": ("max a b", "the greater one of the numbers a and b"),
+    "min": ("min a b", "the smaller one of the numbers a and b"),
+    "nat_cmp": ("nat_cmp", "the comparison of two numbers"),
+    "nat_eq": ("nat_eq", "whether two numbers are equal"),
+    "nat_le": ("nat_le a b", "whether the number a is at most b"),
+    "nat_lt": ("nat_lt a b", "whether the number a is less than b"),
+    "negsuc": ("negsuc n", "the integer - n - 1"),
+    "not": ("not a", "`false` if the truth value a is `true`, and otherwise `true`"),
+    "option_map": ("option_map", "the result of a function for a value, if there is one"),
+    "pos": ("pos n", "the integer n"),
+    "position": ("position", "the index of the first element for which a function is true"),
+    "range_with_len": ("range_with_len a n", "the list of the n numbers a, a + 1, a + 2 and so on"),
+    "replicate": ("replicate n x", "a list of n elements, each equal to x"),
+    "reverse": ("reverse xs", "the list xs in reverse order"),
+    "slice_cmp": ("slice_cmp", "the comparison of two lists in lexicographic order"),
+    "slice_index": ("slice_index xs n", "element n of the list xs, counted from 0; if there is no such element, 0. `pixel_at` and `word_of` depend on this rule."),
+    "slice_index_or": ("slice_index_or xs n d", "element n of the list xs, counted from 0; if there is no such element, d"),
+    "slice_range": ("slice_range", "the elements of a list between two indices"),
+    "slice_set": ("slice_set", "a list with another value at index n"),
+    "slice_split": ("slice_split", "the parts of a list between the elements for which a function is true"),
+    "starts_with": ("starts_with", "whether a list begins with another"),
+    "str_eq_ignore_ascii_case": ("str_eq_ignore_ascii_case", "whether two texts are equal except for capital letters"),
+    "str_to_ascii_uppercase": ("str_to_ascii_uppercase", "a text in capital letters"),
+    "string_bytes": ("string_bytes", "a text as bytes"),
+    "suc": ("suc n", "n + 1"),
+    "sum_by": ("sum_by f xs", "the sum of the numbers that the function f returns for the elements of the list xs"),
+    "take": ("take n xs", "the list of the first n elements of the list xs"),
+    "true": ("true", "the truth value of a true statement"),
+    "unwrap_or": ("unwrap_or", "the value, if there is one, or else another value"),
+    "zero": ("zero", "the number 0"),
+    "zip": ("zip", "one list of pairs from two lists"),
 }
 
 
@@ -488,7 +510,7 @@ class Book:
         out = [SAID[title], ""] if title in SAID else []
         if put_off:
             where = ", ".join(f"`{target[1]}` ({later[target]})" for target in put_off)
-            out += [f"This part also uses these definitions, which other parts show: {where}.", ""]
+            out += [f"This part also uses definitions of other parts: {where}.", ""]
         for comment, lines in claims:
             out += [" ".join(comment), ""] if comment else []
             out += ["```", *lines, "```", ""]
@@ -529,34 +551,30 @@ class Book:
     def text(self, is_whole: bool) -> tuple[str, list[tuple[str, int, int]]]:
         """The document, and how many definitions and printed lines each part has."""
         parts, counts = self.parts(is_whole)
-        sizes = [f"{definitions} definitions, {lines} lines" for _, definitions, lines in counts]
         out = [
             "# Definitions",
             "",
-            "This document shows the most important proved statement of Ribjasper, the *headline*, as it is in the code. The document is for readers who",
-            "want to judge whether the headline says what they expect. The headline consists of four *clauses* of the function `run`, which performs one",
-            "command of the program `ribjasper`. A clause is a statement that is true after every call of a function. The checker proves the clauses, but",
-            "only a reader can judge what they mean. [PROVED](PROVED.md#the-headline) explains the headline in words.",
+            "This document shows the *headline*, the most important proved statement of Ribjasper, as it is in the code. Read it to judge whether the",
+            "headline says what you expect: a checker can verify a statement, but only a reader can judge its meaning.",
+            "[PROVED](PROVED.md#the-headline) explains the headline in words.",
             "",
-            "Clauses and definitions are divided into nine parts. The headline is in the parts I to III, which this document shows. Each of these parts begins",
-            "with clauses of `run`. Then it shows the definitions that these clauses use. A line that begins with `--` explains the definition below it. Part I",
-            f"says that packs are recovered from a stream ({sizes[0]}), and part II says that the pictures of a stream are shown",
-            f"({sizes[1]}). Part III says which stream `author` writes, and when a picture is late ({sizes[2]}).",
-            "If a part uses definitions that another part shows, the part names these definitions. `make definitions` writes all nine parts to",
-            "`docs/DEFINITIONS-WHOLE.md`. All definitions are copied from the code: `tools/write/list_definitions.py` writes this document, and",
-            "`make check` compares it with the code.",
+            "The headline is four *clauses* of the function `run`, which performs one command of the program `ribjasper`. A clause is a statement that is",
+            "true after every call of a function. Each part begins with clauses of `run`, and then shows the definitions that they use. A part only",
+            "names the definitions that another part shows. A line that begins with `--` explains the definition below it.",
+            "",
+            "`tools/write/list_definitions.py` copies clauses and definitions from the code, and `make check` compares this document with the code.",
+            "`make definitions` writes all nine parts to `docs/DEFINITIONS-WHOLE.md`. The headline is in parts I to III. This document has these parts:",
         ]
-        if is_whole:
-            out += ["", "| Part | Definitions | Lines |", "|---|---|---|"]
-            out += [f"| {ROMAN[k]}. {title} | {number} | {count} |" for k, (title, number, count) in enumerate(counts)]
+        out += ["", "| Part | Definitions | Lines |", "|---|---|---|"]
+        out += [f"| {ROMAN[k]}. {title} | {number} | {count} |" for k, (title, number, count) in enumerate(counts)]
         others = "; ".join(f"{ROMAN[k]}. {title}" for k, (title, _) in enumerate(PARTS) if k >= len(counts))
-        out += ["", f"These parts are only in `docs/DEFINITIONS-WHOLE.md`: {others}."] if others else []
+        out += ["", f"Only `docs/DEFINITIONS-WHOLE.md` has the other parts: {others}."] if others else []
         out += ["", "## How to read the definitions", "", "The function `run` has these arguments:", "", "```", *signature(), "```", "", KEY, "", *([WHOLE_KEY, ""] if is_whole else [])]
         named = ", ".join(f"`{name}` (crate `{crate}`)" for name, crate in SHOWN_TYPES.items())
-        out += [f"The definitions use these types of the code: {named}. A type has these kinds of values (*variants*):", "", "```"]
+        out += [f"The definitions use these types of the code: {named}. They have these kinds of values (*variants*):", "", "```"]
         out += ["\n\n".join("\n".join(variants(crate, name)) for name, crate in SHOWN_TYPES.items()), "```", ""]
-        out += ["The definitions also use these words of the standard library:", "", "| Word | Meaning |", "|---|---|"]
-        out += [f"| `{word}` | {WORDS[word]} |" for word in sorted(self.words) if word in WORDS]
+        out += ["The definitions use these words of the standard library:", "", "| Word | Meaning |", "|---|---|"]
+        out += [f"| `{WORDS[word][0]}` | {WORDS[word][1]} |" for word in sorted(self.words) if word in WORDS]
         types = sorted({f"`{it.split('.')[-1]}` ({it.split('.')[0]})" for it in self.types if it.split(".")[-1] not in SHOWN_TYPES})
         if types:
             out += ["", f"The definitions use further types of the code; the name of the crate follows each type in parentheses: {', '.join(types)}."]
