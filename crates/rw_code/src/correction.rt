@@ -223,9 +223,9 @@ impl Locator {
         }
     }
 
-    // The two positions at whose powers of alpha the polynomial is 0. The quotient `square * constant /
-    // linear^2` depends only on the difference of the two exponents, so a table maps its logarithm to this
-    // difference.
+    // The two positions at whose powers of alpha the polynomial is 0. The quotient
+    // `square * constant / linear^2` depends only on the difference of the two exponents, so a table maps its
+    // logarithm to this difference.
     #[inline]
     fn places(self) -> Option<Places>
         ensures only { (i j : ℕ) → i < j → j < word_symbols → IsLocatorOf self i j

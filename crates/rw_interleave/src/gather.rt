@@ -358,9 +358,9 @@ fn last_three(four: &[u8; BLOCK_BYTES]) -> [u8; EARLY_BYTES]
     slots
 }
 
-// The word of eight slots, from slot `first` on. Symbol i of a pack is written at position p (`swapped`), p %
-// 8 slots later. So its distance from the first slot is 24 * (p % 8) + p bytes; the code has these numbers.
-// For example, symbol 1 is at position 18, and its distance is 24 * 2 + 18 = 66.
+// The word of eight slots, from slot `first` on. Symbol i of a pack is written at position p (`swapped`),
+// p % 8 slots later. So its distance from the first slot is 24 * (p % 8) + p bytes; the code has these
+// numbers. For example, symbol 1 is at position 18, and its distance is 24 * 2 + 18 = 66.
 #[inline]
 fn word_at(
     early: &[u8; EARLY_BYTES],
