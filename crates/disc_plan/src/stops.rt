@@ -7,11 +7,11 @@ use subcode_author::AuthorStop;
 /// The reason why a sheet has no rows.
 #[derive(Clone, Copy)]
 pub enum SheetStop {
-    /// It has more than 64 MiB.
+    /// The text of the sheet has more than 64 MiB.
     TooLong,
     /// The number of its first refused line, from 1, and the first reason to refuse it.
     Fault { line: u32, why: CueWhy },
-    /// It has more index lines than `rows` has room for.
+    /// The sheet has more index lines than `rows` has room for.
     NoRoom { told: ToldSheet },
     NoMemory,
 }
@@ -19,7 +19,7 @@ pub enum SheetStop {
 /// The reason why a sheet has no text.
 #[derive(Clone, Copy)]
 pub enum TextStop {
-    /// It has more than 64 MiB.
+    /// The text of the sheet has more than 64 MiB.
     TooLong,
     /// The number of its first refused line, from 1, and the first reason to refuse it.
     Fault { line: u32, why: CueWhy },

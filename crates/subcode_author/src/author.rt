@@ -126,7 +126,8 @@ fn allocate_inputs<'a>(
 ///
 /// # Errors
 ///
-/// Those of `author_stream` except `Late`, `WriteFault` and `NoMemory`, in the same order. It allocates nothing.
+/// The errors of `author_stream` except `Late`, `WriteFault` and `NoMemory`, in the same order. It allocates
+/// nothing.
 pub fn accept_disc(
     sheet: &Sheet,
     script: &Script,

@@ -56,7 +56,7 @@ impl From<AllocError> for LayoutStop {
 ///
 /// # Errors
 ///
-/// Those of `Layout::from_cue` except `NoMemory`, in the same order.
+/// The errors of `Layout::from_cue` except `NoMemory`, in the same order.
 pub fn count_blocks(sheet: &Sheet, length: u32) -> Result<u32, LayoutStop>
     requires { length ≤ most_program }
     ensures { IsBlockCount sheet.now length result }
