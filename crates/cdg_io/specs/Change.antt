@@ -1,4 +1,4 @@
--- What a call found and what it left.
+-- Values before and after a call.
 use Rattle.std.specs.Prelude.{ℕ, List, Option}
 use Rattle.cdg_io.specs.Causes.{Count}
 

@@ -49,7 +49,7 @@ pub record IsScheduleOf (IsOne : List Drawing → ℕ → List Instr → Type 0)
 abbrev pub IsSchedule : List Drawing → ℕ → List (List ℕ) → Type 0
 IsSchedule script blocks packs = IsScheduleOf IsChange script blocks packs
 
--- a schedule whose changes are ordered
+-- The packs are a schedule of the script whose changes are ordered.
 abbrev pub IsOrderedSchedule : List Drawing → ℕ → List (List ℕ) → Type 0
 IsOrderedSchedule script blocks packs = IsScheduleOf IsOrderedChange script blocks packs
 

@@ -11,12 +11,12 @@ pub record ShowsPicture (script : List Drawing) (k : ℕ) (now : Standing) : Typ
   pub border : now.border ≡ picture_border script k
   pub colours : (n : ℕ) → n < colour_count → slice_index now.colours n ≡ picture_colour script k n
 
--- each picture is held from its ready time to its hold time, and the next one is ready after that
+-- Each picture is held from its ready time to its hold time, and the next one is ready after that.
 pub record AreTimesInOrder (script : List Drawing) : Type 0 where
   pub held : (k : ℕ) → k < pictures script → ready_time script k ≤ hold_time script k
   pub later : (k : ℕ) → k + 1 < pictures script → hold_time script k < ready_time script (k + 1)
 
--- the border of each picture is a colour number, and its colours have twelve bits
+-- The border of each picture is a colour number, and its colours have twelve bits.
 pub record AreColoursInRange (script : List Drawing) : Type 0 where
   pub border : (k : ℕ) → picture_border script k < colour_count
   pub colour : (k n : ℕ) → picture_colour script k n < colour_values

@@ -12,7 +12,7 @@ pub record Woven : Type 0 where
   pub script : List Drawing
   pub given : ℕ
 
--- each change is finished, or has none of the next packs; the numbers of these packs fit their type
+-- Each change is finished, or has none of the next `packs` packs. The numbers of these packs are below 2^32.
 pub record ArePassedBy (woven : Woven) (packs : ℕ) : Type 0 where
   pub fits : woven.given + packs ≤ 4294967295
   pub apart : (k : ℕ) → k < pictures woven.script
