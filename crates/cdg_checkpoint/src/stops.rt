@@ -1,11 +1,12 @@
 // The results of a call that resumes from a checkpoint.
 
-/// What was played after a checkpoint.
+/// The result of playing on after a checkpoint.
 #[derive(Clone, Copy, Debug, PartialEq, Eq)]
 pub struct Resumed {
-    /// The blocks of the program, including those before the checkpoint.
+    /// The number of program blocks, including those before the checkpoint.
     pub blocks: u32,
-    /// The words with no codeword within two symbols up to the moment, including those before the checkpoint.
+    /// The number of words with no codeword within two symbols up to the moment, including those before the
+    /// checkpoint.
     pub bad: u32,
 }
 
