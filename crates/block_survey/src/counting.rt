@@ -1,4 +1,4 @@
-// How many symbols of words are wrong.
+// Counts of words by the number of their wrong symbols.
 ghost use Rattle.std.specs.Prelude.{◌≡◌, ◌<◌, ◌≤◌, [], Some, length, replicate};
 ghost use Rattle.rw_code.specs.Codeword.{IsNear, differences};
 ghost use Rattle.rw_code.specs.Finding.{finding};

@@ -17,7 +17,7 @@ pub enum ResumeStop {
     FirstFault,
     /// A read of the rest of the stream failed.
     SecondFault,
-    /// A write failed: the sink holds a prefix of the picture.
+    /// A write failed. The sink has a prefix of the picture.
     WriteFault,
     /// The first input is not a valid checkpoint: this is its first invalid byte.
     BadSave { byte: u32 },

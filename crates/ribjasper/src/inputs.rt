@@ -18,7 +18,7 @@ const PIPE_READ: usize = 65_536;
 // Whole pages and whole blocks.
 const FILE_READ: usize = 61_440;
 
-/// Where an input comes from. An opener that opens nothing is kept as it is.
+/// The source of an input's bytes. It keeps an opener that opens nothing.
 #[derive(Drop)]
 pub(crate) enum InputReader<'a, I, F, O> {
     Standard(I, O),
