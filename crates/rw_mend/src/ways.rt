@@ -8,13 +8,13 @@ use crate::{Candidate, Mended, WordSource};
 /// Where the codeword of a word of two readings comes from.
 #[derive(Clone, Copy)]
 pub(crate) enum Way {
-    /// Both readings give it.
+    /// Both readings have the codeword.
     Both,
-    /// The first reading alone gives it.
+    /// Only the first reading has the codeword.
     First,
-    /// The second reading alone gives it.
+    /// Only the second reading has the codeword.
     Second,
-    /// Both agree on it.
+    /// The two readings agree on the codeword.
     Together,
 }
 
