@@ -1,4 +1,4 @@
-// The plan of a disc, with a row for each picture of a script; and how many packs a tile needs.
+// The plan of a disc, with a row for each picture of a script; and the number of packs that a tile needs.
 ghost use Rattle.std.specs.Prelude.{◌≡◌, ◌≢◌, ◌<◌, ◌⊎◌, ◌↔◌, pos, ◌≤◌, ℕ, All, negsuc, replicate};
 ghost use Rattle.cdg_io.specs.Causes.{Rose};
 ghost use Rattle.disc_plan.specs.declared.stops.PlanStop.{PlanStop};

@@ -9,7 +9,7 @@ use crate::Candidate;
 use crate::agreements::agreed;
 use rw_code::Pack;
 
-/// Where a mended codeword comes from.
+/// The source of a mended codeword.
 #[derive(Clone, Copy)]
 pub enum WordSource {
     /// The codeword is that of the reading with this number.
@@ -23,7 +23,7 @@ pub enum WordSource {
 pub struct Mended {
     /// The codeword.
     pub pack: Pack,
-    /// Where it comes from.
+    /// The source of the codeword.
     pub source: WordSource,
 }
 

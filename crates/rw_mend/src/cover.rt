@@ -1,4 +1,4 @@
-// Which blocks under a word were not read.
+// The coverage of words: which blocks under a word were not read.
 ghost use Rattle.std.specs.Prelude.{true, ◌≡◌, ◌≢◌, ◌==◌, ◌≤◌, ◌<◌, ◌+◌, ◌-◌, ◌*◌, ◌/◌, ◌%◌, ◌^◌, List, ℕ, length, if◌then◌else◌};
 ghost use Rattle.std.specs.List.{list_all};
 ghost use Rattle.rw_mend.specs.Words.{HoldsWord, block_at, blocks_under, coverage_of, is_blank_block, is_unread_block};

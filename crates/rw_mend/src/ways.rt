@@ -5,7 +5,7 @@ ghost use Rattle.rw_mend.specs.Streams.{way_by, way_of};
 use crate::choice::votes;
 use crate::{Candidate, Mended, WordSource};
 
-/// Where the codeword of a word of two readings comes from.
+/// The way in which a word of two readings is mended.
 #[derive(Clone, Copy)]
 pub(crate) enum Way {
     /// Both readings have the codeword.

@@ -2,7 +2,7 @@
 use Rattle.std.specs.Prelude.{ℕ, ◌+◌, ◌*◌, ◌≤◌, ◌==◌, if◌then◌else◌, List, [], ◌∷◌, MatchOption, Option, Some, None}
 use Rattle.rw_code.specs.Codeword.{IsCodeword, differences}
 
--- at how many positions two readings are equal and differ from a word
+-- the number of positions at which two readings are equal and differ from a word
 unfoldable pub equally_wrong : List ℕ → List ℕ → List ℕ → ℕ
 equally_wrong [] ys zs = 0
 equally_wrong (x ∷ xs) [] zs = 0

@@ -1,4 +1,4 @@
--- What a call that plays a whole stream does with its input and its output, and what it returns.
+-- The input, the output and the result of a call that plays a whole stream.
 use Rattle.std.specs.Prelude.{◌≡◌, ◌≢◌, ℕ, Bool, List, length, Result, IfErr, IfSome}
 use Rattle.cdg_io.specs.Change.{Passed, passed}
 use Rattle.cdg_io.specs.Reads.{ToldUnless}
