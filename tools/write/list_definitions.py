@@ -51,8 +51,8 @@ SAID = {
     "| `disc` | a cue sheet, a picture script, and the numbers of blocks of the lead-in and of the audio |\n"
     "| `stream` | the list of the bytes of an authored stream of this disc (`IsAuthored`, part II) |\n"
     "| `packs` | the list of all packs in `stream`, each a list of 24 symbols |\n\n"
-    "This part needs only the field `carries` of `IsAuthored`: the blocks of `stream` after the lead-in contain exactly these packs, and the number of"
-    " these blocks determines the number of packs. `Spells c (texts words.now)` says that the words of the command line are those of the command c.",
+    "Of `IsAuthored`, this part needs only the field `carries`: the n blocks of `stream` after the lead-in contain exactly the 4n - 7 packs in `packs`."
+    " `Spells c (texts words.now)` says that the words of the command line are those of the command c.",
     "Pictures are shown": "The clause of this part is about the command `screen`. It holds for every authored stream, regardless of the program that made"
     " it. `HasFraming` (part IV) says that a stream has the P bits, the Q frames and the text packs (packs of CD-TEXT) of a disc. `IsScriptText text"
     " script` (part VI) says two things: `text` has at most 64 MiB, and the grammar of picture scripts in [FORMATS](FORMATS.md) reads `text` as the"
@@ -65,13 +65,13 @@ SAID = {
 STATED = {
     "gives_back": "`gives_back`: A *damaged copy* of a stream has at most two wrong symbols in each word. If `convert` reads a damaged copy of an"
     " authored stream, it writes every pack of this stream. The clause says nothing about a call in which a read or a write fails.",
-    "shows": "`shows`: If `screen` reads a damaged copy of an authored stream, it shows each picture of the script from its ready time to its hold"
-    " time. The clause says nothing about a call in which a read or a write fails or memory runs out.",
+    "shows": "`shows`: If `screen` reads a damaged copy of an authored stream, and the time `at` is from the ready time to the hold time of picture k,"
+    " it writes the image of a screen that shows picture k. The clause says nothing about a call in which a read or a write fails or memory runs out.",
     "authors": "`authors`: If a cue sheet and a script are valid and fit on the disc, `author` does one of two things. It writes the authored stream with"
     " the planned changes, or it reports the first late picture and writes nothing. The clause says nothing about a call in which a read or a write"
     " fails or memory runs out.",
-    "late": "`late`: If `author` reports a late picture, it also reports a number of free packs. Each list of instructions without scrolls that draws"
-    " this picture has more instructions than this number.",
+    "late": "`late`: If `author` reports a late picture with the numbers `need` and `free`, each change of this picture (`IsChange`, part II) has `need`"
+    " instructions, and `need` is greater than `free`.",
 }
 
 # The types whose variants the introduction shows, with their crates.
@@ -130,8 +130,9 @@ definitions use these signs:
 | `(a, b)` | the pair with the parts a and b |
 | `let x = e in d` | the value of d if x means e |
 
-In lines that begin with `--`, *text* may mean any list of bytes that a call writes. A stream has the form *cooked* if the 24 symbols of each
-word are next to each other. Packs, pictures and pixels are numbered from 0.
+In lines that begin with `--`, *text* may mean any list of bytes that a call writes. A stream in the form *raw* consists of blocks. In the
+form *sector*, 2,352 bytes of audio precede each block. In the form *cooked*, the 24 symbols of each word are next to each other. Packs,
+pictures and pixels are numbered from 0.
 """.strip()
 
 # What only the whole document uses.
@@ -150,7 +151,6 @@ The parts IV to IX use further signs and words:
 | whole (of a pack) | with its last symbol read; this symbol is seven slots after the slot in which the pack begins |
 | stand (of a picture) | be shown by the screen |
 | framing | the P bits, the Q frames and the text packs of a stream |
-| nearly zero (of a word) | with at most two symbols that are not 0 |
 | so many | the number in the argument |
 """.strip()
 
@@ -158,7 +158,7 @@ The parts IV to IX use further signs and words:
 WORDS = {
     "All": ("All P xs", "P is true for each element of the list xs"),
     "AllByRecursion": ("AllByRecursion", "a statement is true for each element of a list"),
-    "Appends": ("Appends old new xs", "if `old` is `Some` with a list, `new` has this list, followed by the list xs: the bytes xs were written between `old` and `new`"),
+    "Appends": ("Appends old new xs", "if `old` is `Some ys`, `new` is `Some (ys ++ xs)`: between `old` and `new`, the bytes xs were written"),
     "Bool": ("Bool", "the type of the truth values `true` and `false`"),
     "Consumes": ("Consumes", "if the contents of an input are known, exactly these bytes were removed from their front"),
     "Contains": ("Contains", "the list has this element"),
@@ -208,7 +208,7 @@ WORDS = {
     "filter_map": ("filter_map f xs", "the list of the values y for which the function f returns `Some y` for an element of the list xs, in their order"),
     "find": ("find", "the first element for which a function is true, if there is one"),
     "flat_map": ("flat_map f xs", "the joined lists that the function f returns for the elements of the list xs"),
-    "fold": ("fold f a xs", "the last value of a series that begins with a. For each element of the list xs, in order, the function f makes the next value from the value so far and the element."),
+    "fold": ("fold f a xs", "the last value of a, if `f a x` replaces a for each element x of the list xs, in order"),
     "is_ascii_digit": ("is_ascii_digit", "whether a character is one of 0 to 9"),
     "is_ascii_hexdigit": ("is_ascii_hexdigit", "whether a character is one of 0 to 9, a to f, A to F"),
     "is_ascii_uppercase": ("is_ascii_uppercase", "whether a character is one of A to Z"),
@@ -238,7 +238,7 @@ WORDS = {
     "replicate": ("replicate n x", "a list of n elements, each equal to x"),
     "reverse": ("reverse xs", "the list xs in reverse order"),
     "slice_cmp": ("slice_cmp", "the comparison of two lists in lexicographic order"),
-    "slice_index": ("slice_index xs n", "element n of the list xs, counted from 0; if there is no such element, 0. `pixel_at` and `word_of` depend on this rule."),
+    "slice_index": ("slice_index xs n", "element n of the list xs, counted from 0; if there is no such element, 0."),
     "slice_index_or": ("slice_index_or xs n d", "element n of the list xs, counted from 0; if there is no such element, d"),
     "slice_range": ("slice_range", "the elements of a list between two indices"),
     "slice_set": ("slice_set", "a list with another value at index n"),
@@ -559,8 +559,8 @@ class Book:
             "[PROVED](PROVED.md#the-headline) explains the headline in words.",
             "",
             "The headline is four *clauses* of the function `run`, which performs one command of the program `ribjasper`. A clause is a statement that is",
-            "true after every call of a function. Each part begins with clauses of `run`, and then shows the definitions that they use. A part only",
-            "names the definitions that another part shows. A line that begins with `--` explains the definition below it.",
+            "true after every call of a function. Each part begins with clauses of `run`, and then shows the definitions that they use. A line that",
+            "begins with `--` explains the definition below it.",
             "",
             "`tools/write/list_definitions.py` copies clauses and definitions from the code, and `make check` compares this document with the code.",
             "`make definitions` writes all nine parts to `docs/DEFINITIONS-WHOLE.md`. The headline is in parts I to III. This document has these parts:",

@@ -3,7 +3,7 @@ ghost use Rattle.std.specs.Prelude.{◌≡◌, ◌≤◌, ◌++◌, Bool, List, 
 ghost use Rattle.bit_lists.specs.Check.{IsChecked, check_of};
 ghost use Rattle.bit_lists.specs.Register.{IsRegisterOf, TakesByte, TakesPair};
 
-// The remainders of the bytes with sixteen zero bits appended.
+// For each byte, the remainder of its bits with sixteen zero bits appended.
 static REMAINDERS: [u16; 256] = [
     0x0000, 0x1021, 0x2042, 0x3063, 0x4084, 0x50a5, 0x60c6, 0x70e7, 0x8108, 0x9129, 0xa14a, 0xb16b,
     0xc18c, 0xd1ad, 0xe1ce, 0xf1ef, 0x1231, 0x0210, 0x3273, 0x2252, 0x52b5, 0x4294, 0x72f7, 0x62d6,
@@ -29,7 +29,7 @@ static REMAINDERS: [u16; 256] = [
     0x2e93, 0x3eb2, 0x0ed1, 0x1ef0,
 ];
 
-// The remainders of the bytes with twenty-four zero bits appended.
+// For each byte, the remainder of its bits with twenty-four zero bits appended.
 static HIGH_REMAINDERS: [u16; 256] = [
     0x0000, 0x3331, 0x6662, 0x5553, 0xccc4, 0xfff5, 0xaaa6, 0x9997, 0x89a9, 0xba98, 0xefcb, 0xdcfa,
     0x456d, 0x765c, 0x230f, 0x103e, 0x0373, 0x3042, 0x6511, 0x5620, 0xcfb7, 0xfc86, 0xa9d5, 0x9ae4,
@@ -55,22 +55,24 @@ static HIGH_REMAINDERS: [u16; 256] = [
     0x56ac, 0x659d, 0x30ce, 0x03ff,
 ];
 
-/// The remainder of the bits, with sixteen zero bits appended, by x^16 + x^12 + x^5 + 1, all its bits inverted
-/// (CRC-16/GSM). The first bit of the first byte is the highest.
+/// The check of bytes (CRC-16/GSM). Sixteen zero bits are appended to the bits of the bytes, the highest bit
+/// of each byte first. The check is the remainder of the division by x^16 + x^12 + x^5 + 1, with all its bits
+/// inverted.
 pub fn crc16(bytes: &[u8]) -> u16
     ensures { result ≡ check_of bytes.now }
 {
     !register_behind(0, bytes)
 }
 
-/// Lists of bits of equal length that differ at most within sixteen neighbouring bits, and each end in their own check,
-/// are equal. So where two such lists differ, at most one of them ends in its own check.
+/// A law: if two lists of bits have equal lengths, differ at most within sixteen neighbouring bits, and each
+/// end in their own check, they are equal. So a change within sixteen neighbouring bits makes a valid check
+/// invalid.
 pub fn bursts_fail_the_check()
     ensures { (before one other after : List Bool) → length one ≤ 16 → length other ≡ length one
         → IsChecked (before ++ one ++ after) → IsChecked (before ++ other ++ after) → one ≡ other }
 {}
 
-// The register that these bytes leave behind those that leave the register `begun`.
+// The register after these bytes, if `begun` is the register after the previous bytes.
 #[inline(always)]
 fn register_behind(begun: u16, bytes: &[u8]) -> u16
     ensures { (before : List ℕ) → IsRegisterOf before begun → IsRegisterOf (before ++ bytes.now) result }
@@ -85,7 +87,7 @@ fn register_behind(begun: u16, bytes: &[u8]) -> u16
     register
 }
 
-// The register after two bytes more.
+// The register after two more bytes.
 #[inline]
 fn with_pair(register: u16, first: u8, second: u8) -> u16
     ensures { TakesPair register first second result }
@@ -94,7 +96,7 @@ fn with_pair(register: u16, first: u8, second: u8) -> u16
     HIGH_REMAINDERS[usize::from(pair >> 8)] ^ REMAINDERS[usize::from(pair % 256)]
 }
 
-// The register after one byte more.
+// The register after one more byte.
 #[inline]
 fn with_byte(register: u16, byte: u8) -> u16
     ensures { TakesByte register byte result }

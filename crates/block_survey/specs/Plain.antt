@@ -63,11 +63,11 @@ plain_of (Other control adr rest) = record (plain_kind 7 control) {
   text = rest ++ replicate (catalogue_digits - rest_bytes) 0;
 }
 
--- this frame if it is valid, or nothing
+-- The result is this frame if it is valid, or else None.
 abbrev pub IsWhereValid : Option QFrame → QFrame → Type 0
 IsWhereValid result frame = MatchOption result (¬ IsValid frame) (λ found. (found ≡ frame) × IsValid frame)
 
--- the frame of a plain frame if it is valid, or nothing
+-- The result is the frame of a plain frame if it is valid, or else None.
 abbrev pub IsValidOf : Option QFrame → PlainFrame → Type 0
 IsValidOf result plain = MatchOption result (IfSome (frame_of_plain plain) (λ frame. ¬ IsValid frame))
     (λ found. (frame_of_plain plain ≡ Some found) × IsValid found)

@@ -46,11 +46,11 @@ abbrev pub fields_told : Option (Result QFrame QFault) → PlainFrame
 fields_told (Some (Ok frame)) = plain_of frame
 fields_told _ = plain_kind 0 0
 
--- how many of these words have so many wrong symbols
+-- the number of these words with n wrong symbols
 abbrev pub wrong_count : ℕ → List (List ℕ) → ℕ
 wrong_count n words = count_by (λ word. has_wrong n (word, finding word)) words
 
--- how many of these words have no codeword near
+-- the number of these words with no codeword near
 abbrev pub bad_words : List (List ℕ) → ℕ
 bad_words words = count_by (λ word. is_none (finding word)) words
 
@@ -116,8 +116,8 @@ tells_frame row = nat_le row.q 7
 abbrev pub tells_refusal : BlockRow → Bool
 tells_refusal row = nat_le 254 row.q
 
--- Lines of `check` whose counts of wrong symbols and of frames are the sums of rows. The lines before them count the
--- blocks and words, and the lines between them describe the packs.
+-- These are lines of `check`. Their counts of wrong symbols and of frames are the sums of rows. The lines before them count
+-- the blocks and words, and the lines between them describe the packs.
 pub record AddUpTo (rows : List BlockRow) (text : List ℕ) (bad : ℕ) : Type 0 where
   pub before : List ℕ
   pub between : List ℕ

@@ -32,7 +32,7 @@ frame_after last (Some (Ok frame)) = plain_of frame
 frame_after last (Some (Err fault)) = last
 frame_after last None = last
 
--- the number of its block; the block with this reading has number `here`
+-- the number of the block with the last frame that was read; the block with this reading has number `here`
 abbrev pub place_after : ℕ → ℕ → Option (Result QFrame QFault) → ℕ
 place_after last here (Some (Ok frame)) = here
 place_after last here (Some (Err fault)) = last
@@ -72,7 +72,7 @@ last_frame form [] = plain_kind 0 0
 last_frame form (Fed block ∷ before) = frame_after (last_frame form before) (reading_in form block)
 last_frame form (Drawn pack ∷ before) = last_frame form before
 
--- the number of the block of this frame, from 1
+-- the number of the block of the last frame that was read, from 1
 abbrev pub last_place : Form → List Given → ℕ
 last_place form [] = 0
 last_place form (Fed block ∷ before) =

@@ -1,4 +1,4 @@
-// How many symbols of words are wrong.
+// Counts of words by the number of their wrong symbols.
 ghost use Rattle.std.specs.Prelude.{◌≡◌, ◌<◌, ◌≤◌, [], Some, length, replicate};
 ghost use Rattle.rw_code.specs.Codeword.{IsNear, differences};
 ghost use Rattle.rw_code.specs.Finding.{finding};
@@ -8,7 +8,7 @@ ghost use Rattle.block_survey.specs.Rows.{marked_found, marks_of};
 use rw_code::{Fixed, Pack, Word, correct};
 use stream_stages::BlockOfWords;
 
-/// How many words have no, one or two wrong symbols, and how many have no codeword near.
+/// The numbers of words with no, one and two wrong symbols, and of words with no codeword near.
 #[derive(Clone, Copy)]
 pub struct WordMarks {
     pub clean: u8,

@@ -9,9 +9,10 @@ pub struct PlainFrame {
     /// last track, the lead-out; 5 the catalogue number; 6 the recording code of a track; 7 bits with no fields of
     /// their own.
     pub kind: u32,
-    /// From where the music of the track begins (kind 0), or the running time of the lead-in (1 to 4).
+    /// The time from the start of the track's music (kind 0), or the running time of the lead-in (kinds 1 to
+    /// 4).
     pub time: u32,
-    /// The absolute time (kind 0), or the time at which the track or the lead-out begins (1 and 4).
+    /// The absolute time (kind 0), or the time at which the track or the lead-out begins (kinds 1 and 4).
     pub absolute: u32,
     /// Four bits: 8 four channels, 4 data, 2 copying permitted, 1 pre-emphasis.
     pub control: u8,
@@ -25,7 +26,7 @@ pub struct PlainFrame {
     pub disc: u8,
     /// The frame of the absolute time, 0 to 74 (kinds 5 and 6).
     pub frame: u8,
-    /// Thirteen digits (kind 5), twelve letters and digits (6), or bytes 1 to 9 of the frame (7).
+    /// Thirteen digits (kind 5), twelve letters and digits (kind 6), or bytes 1 to 9 of the frame (kind 7).
     pub text: [u8; CATALOGUE_DIGITS],
 }
 

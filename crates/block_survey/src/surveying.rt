@@ -14,7 +14,7 @@ use cdg_io::Stage;
 use raw_subcode::{BLOCK_BYTES, Form, SECTOR_BYTES};
 use stream_stages::BlockWords;
 
-/// No absolute time.
+/// The value of `BlockRow::absolute` if there is no absolute time.
 pub const NO_TIME: u32 = u32::MAX;
 
 /// The survey of one block of a stream.
@@ -23,13 +23,13 @@ pub const NO_TIME: u32 = u32::MAX;
 pub struct BlockRow {
     /// The absolute time of a frame of the program area, in blocks, or `NO_TIME`.
     pub absolute: u32,
-    /// The words that end with the block and are codewords.
+    /// The number of words that end with the block and are codewords.
     pub clean: u8,
-    /// The words with one wrong symbol.
+    /// The number of words with one wrong symbol.
     pub one: u8,
-    /// The words with two wrong symbols.
+    /// The number of words with two wrong symbols.
     pub two: u8,
-    /// The words with no codeword within two symbols.
+    /// The number of words with no codeword within two symbols.
     pub bad: u8,
     /// The kind of the Q frame, 0 to 7, as in `PlainFrame`; 253 for a stream of packs, 254 if a field is out of range,
     /// 255 if the check is wrong.
@@ -105,7 +105,7 @@ pub fn unit_bytes(form: Form) -> usize
     }
 }
 
-/// Block b of a stream, which is a whole one.
+/// Block b of a stream, which must be a whole block.
 #[inline]
 pub fn block_at(form: Form, stream: &[u8], b: usize) -> [u8; BLOCK_BYTES]
     requires { b < length stream.now / unit_size form }

@@ -73,7 +73,7 @@ fn first(plain: &PlainFrame) -> Option<QFrame>
     first_entry(plain, plain.track, plain.disc)
 }
 
-// The same for a track and a kind.
+// The entry of the first track with this number, and this kind of disc.
 fn first_entry(plain: &PlainFrame, track: u8, kind: u8) -> Option<QFrame>
     ensures { IsWhereValid result (Toc plain.now.control (First track kind) plain.now.time) }
 {
@@ -136,7 +136,7 @@ fn code(plain: &PlainFrame) -> Option<QFrame>
     recorded(plain, first_twelve(&plain.text))
 }
 
-// The same for a code: two letters, three letters or digits, and seven digits.
+// A frame with this code: two letters, three letters or digits, and seven digits.
 fn recorded(plain: &PlainFrame, code: [u8; ISRC_CHARACTERS]) -> Option<QFrame>
     ensures { IsWhereValid result (Isrc plain.now.control code plain.now.frame) }
 {
@@ -165,7 +165,7 @@ fn other(plain: &PlainFrame) -> Option<QFrame>
     bare(plain, &first_nine(&plain.text))
 }
 
-// The same for these bytes.
+// A frame of another mode with these nine bytes.
 fn bare(plain: &PlainFrame, rest: &[u8; REST_BYTES]) -> Option<QFrame>
     ensures { IsWhereValid result (Other plain.now.control plain.now.mode rest.now) }
 {

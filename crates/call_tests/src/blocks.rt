@@ -20,7 +20,7 @@ fn planar_form(rt: HostRuntime) {
     assert_eq!(rt; bits, [true, true, false, false]);
 }
 
-// The start of a pause before track 1, as it stands on a disc.
+// The start of a pause before track 1, as it is on a disc.
 #[test]
 fn built_block(rt: HostRuntime) {
     let q = [1, 1, 0, 0, 2, 0, 0, 0, 0, 0, 0xf0, 0xd9];
@@ -32,7 +32,7 @@ fn built_block(rt: HostRuntime) {
     assert_eq!(rt; (block.q_frame(), block.symbol(95)), (q, 0));
 }
 
-// Six bits of a byte, then two and four of the next ones.
+// The first symbol has six bits of byte 0. The next two symbols have bits of two neighbouring bytes each.
 #[test]
 fn text_pack(rt: HostRuntime) {
     let mut pack = [0; 18];
@@ -47,7 +47,7 @@ fn text_pack(rt: HostRuntime) {
     assert!(rt; Block::from_bytes(&all).text_pack(3) == pack);
 }
 
-// The audio of a sector is passed over.
+// The audio of a sector is skipped.
 #[test]
 fn sector(rt: HostRuntime) {
     let mut sector = [0xff; 2448];

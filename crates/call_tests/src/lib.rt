@@ -1,6 +1,6 @@
 //! Tests of single calls: those that no row of a command reaches, and known values of the layers below.
 //!
-//! They stand in a crate of their own, since a crate with tests is proved twice.
+//! They are in a crate of their own, since a crate with tests is proved twice.
 #![tactic(auto)]
 
 #[cfg(test)]

@@ -74,7 +74,7 @@ fn lacks_first_word(line: &[u8], word: &[u8]) -> bool
     after_word(trim_start(line), word).is_none()
 }
 
-// A word is the line's first where a blank or the end of the line follows it.
+// A word is the first word of a line only if a blank or the end of the line follows it.
 #[test]
 fn first_words(rt: HostRuntime) {
     assert!(rt; has_first_word(b" ab c", b"ab", b" c"));
@@ -109,7 +109,7 @@ fn checks(rt: HostRuntime) {
     assert!(rt; crc16(&[0; 10]) == 0xffff);
 }
 
-// The same of the times that the command line has.
+// Whether the command line reads this text as the time of this block.
 fn is_parsed(text: &[u8], block: u32) -> bool {
     parse_time(text) == Some(block)
 }

@@ -1,5 +1,5 @@
-// What a player is made of, field by field: windows and counts, and nothing that could hold a stream. And calls that a
-// fault stops, and the call after them.
+// The fields of a player: windows and counts, and nothing that could hold a stream. Also calls that a fault
+// stops, and the calls after them.
 use cdg_io::{MemSink, MemSource, Then};
 use cdg_screen::Screen;
 use cdtext_packs::{LeadInTexts, TextReader};
@@ -134,7 +134,7 @@ fn a_player_is_made_of_windows_and_counts(rt: HostRuntime) -> Result<(), Fail> {
 
 const FAULT: Result<Played, PlayStop> = Err(PlayStop::ReadFault);
 
-// Five blocks of zeros, of which the third cannot be read.
+// A source of five blocks of zeros, of which the third cannot be read.
 fn failing(alloc: Global) -> Result<MemSource, AllocError> {
     let bytes = vec![in alloc; 0u8; 480]?;
     Ok(MemSource::new(bytes, vec![in alloc; 96usize]?, vec![in alloc; 2u32]?))

@@ -49,7 +49,7 @@ written_value c Colours k = slice_index c.standing.colours k
 written_value c Levels k = slice_index c.standing.levels k
 written_value c Check k = 0
 
--- a number as so many bytes, the highest first
+-- a number as `size` bytes, the highest first
 abbrev pub bytes_of : ℕ → ℕ → List ℕ
 bytes_of zero n = []
 bytes_of (suc size) n = (n / 256 ^ size % 256) ∷ bytes_of size n

@@ -19,7 +19,7 @@ pub record HasReadNothing (c : Checkpointer) : Type 0 where
   pub stands : (painting_of c.words).screen ≡ blank
   pub file : c.file ≡ []
 
--- the file of the checkpoint of this state, after so many blocks; the first of them are the lead-in
+-- This is the file of the checkpoint of this state, after `blocks` blocks. The first `lead_in` of them are the lead-in.
 pub record IsKept (blocks lead_in : ℕ) (s : Then BlockWords Painting) (file : List ℕ) : Type 0 where
   pub checkpoint : Checkpoint
   pub to_come_is : checkpoint.to_come ≡ lead_in - blocks

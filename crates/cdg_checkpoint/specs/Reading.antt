@@ -6,15 +6,15 @@ use Rattle.cdg_io.specs.Moves.{ConsumesBelow}
 use Rattle.cdg_io.specs.declared.ends.Source.{Ghosts as Source}
 use Rattle.cdg_checkpoint.specs.Table.{file_size}
 
--- The end of an input that is read as a file is seen once, and only if it has no more bytes than a file.
+-- The end of an input that is read as a file was recorded once if the input has no more bytes than a file, otherwise never.
 pub record TellsFileEnd {T E : Type 0} (file : List ℕ) (before now : Count)
     (result : Result T E) : Type 0 where
   pub told : OnOk result (length file ≤ file_size → RoseOnce before now)
   pub goes_on : OnOk result (file_size < length file → now ≡ before)
   pub not_told : OnErr result (now ≡ before)
 
--- The bytes that were read from an input as a file: all of it, but at most one byte more than a file has. After a
--- failed read, the bytes before it.
+-- These bytes were read from an input as a file: all its bytes, but at most one more than a file has. If a read failed,
+-- they are the bytes before it.
 pub record ReadsCheckpointFile {S T E : Type 0} (source : Source S) (before after : S) (file : List ℕ)
     (result : Result T E) : Type 0 where
   pub taken : Consumes (source.left before) (source.left after) file

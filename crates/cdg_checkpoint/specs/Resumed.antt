@@ -30,7 +30,7 @@ use Rattle.disc_time.specs.Counts.{most_lead_in}
 abbrev pub resumed_symbols : Checkpoint → List ℕ → List ℕ
 resumed_symbols c rest = drop (empty_symbols c.program) c.slots ++ program_symbols Raw rest c.to_come
 
--- how many packs are between the checkpoint and a time
+-- the number of packs between the checkpoint and a time
 abbrev pub packs_until : Checkpoint → ℕ → ℕ
 packs_until c time = whole_packs time - whole_packs c.program
 
@@ -38,8 +38,8 @@ packs_until c time = whole_packs time - whole_packs c.program
 abbrev pub blocks_after : Checkpoint → List ℕ → ℕ
 blocks_after c rest = c.program + (length rest / block_bytes - c.to_come)
 
--- The screen at a time after the checkpoint, and the count of bad words. The words of the rest of the stream draw on
--- the saved screen.
+-- This is the screen at a time after the checkpoint, with the number of bad words. The words of the rest of the stream draw
+-- on the saved screen.
 pub record IsGoneOn (c : Checkpoint) (time : ℕ) (rest : List ℕ) (now : Standing) (bad : ℕ) : Type 0 where
   pub found : List (Option (List ℕ))
   pub count : length found ≡ packs_until c (blocks_after c rest)
@@ -50,7 +50,7 @@ pub record IsGoneOn (c : Checkpoint) (time : ℕ) (rest : List ℕ) (now : Stand
   pub stands : now ≡ standing_after c.standing instrs
   pub bad_is : bad ≡ c.bad + bad_count (take (packs_until c time) found)
 
--- the result for a time after the checkpoint of a file, and the pixmap that is written
+-- This is the result for a time after the checkpoint of a file, with the pixmap that is written.
 pub record IsResumed (file : List ℕ) (time : ℕ) (rest : List ℕ) (resumed : Resumed)
     (text : List ℕ) : Type 0 where
   pub blocks : resumed.blocks ≡ blocks_after (checkpoint_in file) rest
@@ -58,8 +58,8 @@ pub record IsResumed (file : List ℕ) (time : ℕ) (rest : List ℕ) (resumed :
   pub gone_on : IsGoneOn (checkpoint_in file) time rest now resumed.bad
   pub text_is : text ≡ pixmap now
 
--- the result of reading the first input, for a time: the file of a checkpoint that is not later, or the first reason
--- why not
+-- This is the result of reading the first input, for a time: the file of a checkpoint that is not later, or the first
+-- reason why not.
 abbrev pub IsAcceptedBy : Result (Unit {0}) ResumeStop → ℕ → List ℕ → Type 0
 IsAcceptedBy (Ok done) time file = IsCheckpointFile file × ((checkpoint_in file).program ≤ time)
 IsAcceptedBy (Err (BadSave byte)) time file = IsBadAt file byte
@@ -82,11 +82,11 @@ pub record ReadsSaved {T : Type 0} (saved : Input) (result : Result T ResumeStop
       → Consumes saved.left.before saved.left.after file × (length file ≤ file_size)
   pub not_told : result ≡ Err FirstFault → saved.ends.after ≡ saved.ends.before
 
--- the most blocks that may follow a checkpoint
+-- the maximum number of blocks that may follow a checkpoint
 abbrev pub blocks_left : Checkpoint → ℕ
 blocks_left c = most_units - (c.lead_in + c.program)
 
--- the result for a rest of the stream with so many bytes
+-- This is the result for a rest of the stream with `len` bytes.
 abbrev pub IsGoneOnBy : Result Resumed ResumeStop → Checkpoint → ℕ → ℕ → Type 0
 IsGoneOnBy (Ok resumed) c time len = (len ≤ blocks_left c * block_bytes) × (len % block_bytes ≡ 0)
     × (time ≤ c.program + (len / block_bytes - c.to_come))
@@ -111,7 +111,7 @@ time_after checkpoint time = record { checkpoint = checkpoint; time = time }
 pub record GoesOn (to : TimeAfter) (left : Change Bytes) (now : Standing)
     (result : Result Resumed ResumeStop) (taken : List ℕ) : Type 0 where
   pub taken_from : Consumes left.before left.after taken
-  -- at most one byte past the limit
+  -- at most one byte past the limit was read
   pub within : length taken ≤ blocks_left to.checkpoint * block_bytes + 1
   pub done : IfOk result (λ resumed. IsAtEnd left.after × (resumed.blocks ≡ blocks_after to.checkpoint taken)
       × (to.time ≤ resumed.blocks) × IsGoneOn to.checkpoint to.time taken now resumed.bad)
@@ -126,18 +126,18 @@ is_before_rest_end (PastEnd blocks) = false
 is_before_rest_end WriteFault = false
 is_before_rest_end stop = true
 
--- the last read, at the end of the rest
+-- The end of the rest was recorded once, unless the call stopped before it.
 abbrev pub EndsAsResumed : Result Resumed ResumeStop → Count → Count → Type 0
 EndsAsResumed = ToldUnless is_before_rest_end
 
--- the result after so many program blocks
+-- the result after this number of program blocks
 abbrev pub reached : ℕ → ℕ → ℕ → Result Resumed ResumeStop
 reached blocks time bad = if nat_lt blocks time then Err (PastEnd blocks) else Ok (record {
   blocks = blocks;
   bad = bad;
 })
 
--- the saved slots after so many blocks of the program, the oldest first
+-- the slots of a checkpoint that belong to the stream, the oldest first
 abbrev pub saved_slots : Checkpoint → List (List ℕ)
 saved_slots c = map (λ k. symbols_of (take symbols_a_slot (drop (symbols_a_slot * k) c.slots)))
     (range_with_len (7 - min 7 (4 * c.program)) (min 7 (4 * c.program)))
@@ -149,7 +149,7 @@ acceptance (Err (BadSave byte)) = Err (BadSave byte)
 acceptance (Err (BeforeSave blocks)) = Err (BeforeSave blocks)
 acceptance _ = Ok tt
 
--- the result for an accepted checkpoint and a rest of the stream with so many bytes
+-- This is the result for an accepted checkpoint and a rest of the stream with `len` bytes.
 abbrev pub IsResumedBy : Result Resumed ResumeStop → Checkpoint → ℕ → ℕ → Type 0
 IsResumedBy (Err WriteFault) c time len = ⊤
 IsResumedBy result c time len = IsGoneOnBy result c time len
@@ -158,30 +158,30 @@ IsResumedBy result c time len = IsGoneOnBy result c time len
 pub record Resumes (file : List ℕ) (time : ℕ) (passed : Passed) (result : Result Resumed ResumeStop)
     (taken : List ℕ) : Type 0 where
   pub taken_from : Consumes passed.left.before passed.left.after taken
-  -- at most one byte past the limit
+  -- at most one byte past the limit was read
   pub within : length taken ≤ blocks_left (checkpoint_in file) * block_bytes + 1
   pub done : IfOk result (λ resumed. IsAtEnd passed.left.after × (time ≤ resumed.blocks)
       × ((text : List ℕ) × IsResumed file time taken resumed text
       × Appends passed.held.before passed.held.after text))
-  -- any stop but a failed write: nothing is written
+  -- after any other stop than a failed write, nothing was written
   pub stopped : (stop : ResumeStop) → result ≡ Err stop → stop ≢ WriteFault
       → Appends passed.held.before passed.held.after []
   pub torn : (block : ℕ) → result ≡ Err (Torn block) → IsAtEnd passed.left.after
   pub past_end : (blocks : ℕ) → result ≡ Err (PastEnd blocks)
       → IsAtEnd passed.left.after × (blocks ≡ blocks_after (checkpoint_in file) taken) × (blocks < time)
-  -- a write failed: the rest is read to its end, and a prefix of the text is written
+  -- if a write failed, the rest was read to its end, and a prefix of the text was written
   pub cut : result ≡ Err WriteFault
       → IsAtEnd passed.left.after × ((text : List ℕ) × (resumed : Resumed)
       × IsResumed file time taken resumed text
       × AppendsPrefix passed.held.before passed.held.after text)
 
--- the first part of a stream is whole blocks, at most the limit
+-- The first part of a stream is whole blocks, at most the limit.
 pub record IsFirstPart (lead_in : ℕ) (bytes : List ℕ) : Type 0 where
   pub lead_in_most : lead_in ≤ most_lead_in
   pub most : length bytes ≤ most_units * block_bytes
   pub whole : length bytes % block_bytes ≡ 0
 
--- the result as that of a player of the whole stream, which reads one input
+-- the result of a player of the whole stream for this result
 abbrev pub as_played : Result Resumed ResumeStop → Result Played PlayStop
 as_played (Ok resumed) = Ok (record { blocks = resumed.blocks; bad = resumed.bad })
 as_played (Err WriteFault) = Err play.WriteFault

@@ -21,11 +21,11 @@ use Rattle.stream_stages.specs.Calls.{is_early}
 use Rattle.stream_stages.specs.Screen.{AreMeant}
 use Rattle.stream_stages.specs.Watch.{play_stop}
 
--- the last of so many symbols, with zeros before the first
+-- the last `count` symbols, with zeros before the first
 abbrev pub last_symbols : ℕ → List ℕ → List ℕ
 last_symbols count symbols = drop (length symbols) (replicate count 0 ++ symbols)
 
--- the checkpoint after all blocks of a stream of raw blocks; the first of them are the lead-in
+-- This is the checkpoint after all blocks of a stream of raw blocks. The first `lead_in` of them are the lead-in.
 pub record IsCheckpointOf (bytes : List ℕ) (lead_in : ℕ) (c : Checkpoint) : Type 0 where
   pub found : List (Option (List ℕ))
   pub recovered : IsRecovered Raw (program_symbols Raw bytes lead_in) found
@@ -38,7 +38,7 @@ pub record IsCheckpointOf (bytes : List ℕ) (lead_in : ℕ) (c : Checkpoint) : 
   pub slots_are : c.slots ≡ last_symbols slots_bytes (program_symbols Raw bytes lead_in)
   pub stands : c.standing ≡ standing_after blank instrs
 
--- the result for whole blocks, and the file of their checkpoint
+-- The result is that for whole blocks, and the text is the file of their checkpoint.
 pub record IsSaved (lead_in : ℕ) (bytes : List ℕ) (pumped : Pumped) (text : List ℕ) : Type 0 where
   pub units : pumped.units ≡ length bytes / block_bytes
   pub checkpoint : Checkpoint
@@ -49,7 +49,7 @@ pub record IsSaved (lead_in : ℕ) (bytes : List ℕ) (pumped : Pumped) (text : 
 abbrev pub is_before_end : PumpStop → Bool
 is_before_end stop = is_early (play_stop stop)
 
--- the reads of a call that writes the file of a checkpoint
+-- the reading of a call that writes the file of a checkpoint
 abbrev pub saving : ℕ → WholeReading Pumped PumpStop
 saving lead_in = record {
   cut = record { size = block_bytes; limit = most_units };
@@ -62,8 +62,8 @@ saving lead_in = record {
 abbrev pub Saves : ℕ → Passed → Result Pumped PumpStop → List ℕ → Type 0
 Saves lead_in passed result taken = WritesAtEnd (saving lead_in) passed result taken
 
--- The file that is kept after these bytes were read. If all was read, it is the file of the checkpoint after them, and
--- it was written, or a prefix of it if a write failed. Otherwise it is the file that was kept before.
+-- This file is kept after these bytes were read. If all was read, it is the file of the checkpoint after them, and it was
+-- written, or a prefix of it if a write failed. Otherwise it is the file that was kept before.
 abbrev pub KeepsFile : ℕ → List ℕ → Change Bytes → Change (List ℕ) → Result Pumped PumpStop → Type 0
 KeepsFile lead_in taken held file (Ok pumped) = IsSaved lead_in taken pumped file.after
     × Appends held.before held.after file.after
@@ -71,6 +71,6 @@ KeepsFile lead_in taken held file (Err WriteFault) = (pumped : Pumped)
     × IsSaved lead_in taken pumped file.after × AppendsPrefix held.before held.after file.after
 KeepsFile lead_in taken held file (Err stop) = file.after ≡ file.before
 
--- the last read, at the end of the input
+-- The end of the input was recorded once, unless the call stopped before it.
 abbrev pub EndsAsSaved : Result Pumped PumpStop → Count → Count → Type 0
 EndsAsSaved = ToldUnless is_before_end

@@ -31,11 +31,11 @@ slots_bytes = 168
 abbrev pub body_size : ℕ
 body_size = 65043
 
--- how many bytes the file has
+-- the number of bytes in the file
 abbrev pub file_size : ℕ
 file_size = 65045
 
--- where a part begins, how many fields it has, and how many bytes each of them has
+-- the first byte of a part, the number of its fields, and the number of bytes in each field
 pub record TableRow : Type 0 where
   pub first : ℕ
   pub count : ℕ
@@ -70,7 +70,7 @@ all_parts = body_parts ++ Check ∷ []
 abbrev pub byte_of : Part → ℕ → ℕ
 byte_of part k = (row part).first + (row part).size * k
 
--- the number in so many bytes from a byte on, the highest first
+-- the number in `size` bytes from a byte on, the highest first
 abbrev pub number_at : List ℕ → ℕ → ℕ → ℕ
 number_at file zero at = 0
 number_at file (suc size) at = 256 ^ size * slice_index file at + number_at file size (at + 1)
@@ -83,7 +83,7 @@ number file part k = number_at file (row part).size (byte_of part k)
 abbrev pub mark : ℕ
 mark = number_at (codes "CDGSAVE1") 8 0
 
--- how many symbols of the last seven slots belong to no slot, after so many program blocks
+-- the number of symbols of the last seven slots that belong to no slot, after this number of program blocks
 abbrev pub empty_symbols : ℕ → ℕ
 empty_symbols program = symbols_a_slot * (packs_kept_back - min packs_kept_back (slots_a_block * program))
 
@@ -138,7 +138,7 @@ pub record IsBadAt (file : List ℕ) (byte : ℕ) : Type 0 where
   pub long : file_size < length file → byte ≡ file_size
   pub field : length file ≡ file_size → IsFirstOut file byte
 
--- the first of so many bytes, from a byte on, that is not below a bound
+-- This byte is the first of `count` bytes, from byte `first` on, that is not below a bound.
 pub record IsFirstAbove (file : List ℕ) (first count bound byte : ℕ) : Type 0 where
   pub k : ℕ
   pub within : k < count

@@ -16,7 +16,7 @@ use disc_time::MOST_LEAD_IN;
 use raw_subcode::{MOST_UNITS, SLOTS_A_BLOCK, SYMBOLS_A_SLOT};
 use rw_interleave::PACKS_KEPT_BACK;
 
-// How many bytes of the slots belong to no slot, after so many blocks of the program.
+// The number of bytes of the saved slots that belong to no slot, after this number of program blocks.
 fn empty_symbols(program: u32) -> usize
     ensures value { result ≡ empty_symbols program }
     ensures most { result ≤ slots_bytes }
@@ -185,7 +185,7 @@ fn check_check(bytes: &[u8]) -> Result<(), u32>
     Ok(())
 }
 
-// The check of all bytes before it.
+// The check of all bytes before the check.
 fn check_of_body(bytes: &[u8]) -> u16
     requires { length bytes.now ≡ file_size }
     ensures { result ≡ check_of (take body_size bytes.now) }

@@ -56,8 +56,8 @@ impl Checkpointer {
     /// blocks.
     ///
     /// # Errors
-    /// `Torn`, `TooLong` and `ReadFault` for the input: then nothing is written. After `WriteFault` the sink holds a
-    /// prefix.
+    /// After `Torn`, `TooLong` or `ReadFault` nothing is written. After `WriteFault` the sink has a prefix of
+    /// the file.
     pub fn save<S: Source, K: Sink>(
         &mut self,
         lead_in: u32,

@@ -14,12 +14,12 @@ use cdg_screen::PlainScreen;
 /// The bytes at the front of the file.
 pub(crate) const MARK: &[u8; 8] = b"CDGSAVE1";
 
-// How many colours the table has, and how many levels.
+// The number of colours in the table, which is also the number of levels.
 const COLOUR_COUNT: u8 = 16;
 
 impl PlainFile {
-    /// Becomes the file of these counts, of the symbols of the last seven slots (zeros before the first slot) and of
-    /// the screen.
+    /// Sets the bytes to the file of these counts, of the symbols of the last seven slots (zeros before the
+    /// first slot) and of the screen.
     pub fn compose(
         &mut self,
         counts: &StreamCounts,

@@ -2,17 +2,17 @@
 ghost use Rattle.std.specs.Prelude.{◌≡◌, ◌≤◌, ◌+◌, ◌<◌, length, slice_index};
 ghost use Rattle.cdg_checkpoint.specs.Table.{Bad, LeadIn, Program, ToCome, file_size, number, number_at};
 
-/// How much of a stream was read.
+/// The counts of a stream up to a checkpoint.
 #[derive(Clone, Copy)]
 pub struct StreamCounts {
-    /// The blocks of the lead-in that are not read yet, at most 450,000.
+    /// The number of lead-in blocks that are not read yet, at most 450,000.
     pub to_come: u32,
-    /// The blocks of the lead-in that were read. The lead-in has at most 450,000 blocks.
+    /// The number of lead-in blocks that were read. The lead-in has at most 450,000 blocks.
     pub lead_in: u32,
-    /// The blocks of the program that were read: 0 before the end of the lead-in. With the lead-in, at most 1,000,000
-    /// blocks.
+    /// The number of program blocks that were read: 0 before the end of the lead-in. With the lead-in, at
+    /// most 1,000,000 blocks.
     pub program: u32,
-    /// The words read so far with no codeword within two symbols.
+    /// The number of words read so far with no codeword within two symbols.
     pub bad: u32,
 }
 

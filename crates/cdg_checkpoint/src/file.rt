@@ -73,8 +73,8 @@ impl CheckpointFile {
         self.plain.counts()
     }
 
-    /// Becomes the file of these counts, of the symbols of the last seven slots (zeros before the first slot) and of
-    /// the screen.
+    /// Sets the bytes to the file of these counts, of the symbols of the last seven slots (zeros before the
+    /// first slot) and of the screen.
     pub fn compose(&mut self, counts: &StreamCounts, slots: &[u8; SLOTS_BYTES], screen: &Screen)
         ensures { self.new ≡ file_of (kept counts.now slots.now screen.now) }
     {

@@ -61,7 +61,7 @@ pub fn a_saved_stream_goes_on_as_the_whole()
         → length bytes / block_bytes - lead_in ≤ time → IsResumed file time rest resumed text
         → IsScreenAt (moment Form.Raw lead_in time) (bytes ++ rest) text resumed.bad
         × (resumed.blocks ≡ length (bytes ++ rest) / block_bytes - lead_in) }
-    // The same for a call of `resume` with this file and this rest: the call shows the time of the whole stream.
+    // A call of `resume` with this file and this rest shows the time of the whole stream.
     ensures whole { (lead_in time : ℕ) (bytes rest file taken : List ℕ) (pumped : Pumped)
         (result : Result Resumed ResumeStop) (left : Bytes) (out : Change Bytes)
         → IsFirstPart lead_in bytes → IsSaved lead_in bytes pumped file

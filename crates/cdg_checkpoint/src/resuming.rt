@@ -162,7 +162,7 @@ impl Checkpointer {
         }
     }
 
-    // What was played, if the program reaches the moment.
+    // The result, or `PastEnd` if the program ends before the moment.
     fn resumed(&self, counts: &StreamCounts, pumped: Pumped, at: u32) -> Result<Resumed, ResumeStop>
         requires { counts.now.program + pumped.units < 2 ^ 32 }
         ensures accepted { IsOk (acceptance result) }

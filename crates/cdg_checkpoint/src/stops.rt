@@ -1,11 +1,12 @@
 // The results of a call that resumes from a checkpoint.
 
-/// What was played after a checkpoint.
+/// The result of playing on after a checkpoint.
 #[derive(Clone, Copy, Debug, PartialEq, Eq)]
 pub struct Resumed {
-    /// The blocks of the program, including those before the checkpoint.
+    /// The number of program blocks, including those before the checkpoint.
     pub blocks: u32,
-    /// The words with no codeword within two symbols up to the moment, including those before the checkpoint.
+    /// The number of words with no codeword within two symbols up to the moment, including those before the
+    /// checkpoint.
     pub bad: u32,
 }
 
@@ -16,7 +17,7 @@ pub enum ResumeStop {
     FirstFault,
     /// A read of the rest of the stream failed.
     SecondFault,
-    /// A write failed: the sink holds a prefix of the picture.
+    /// A write failed. The sink has a prefix of the picture.
     WriteFault,
     /// The first input is not a valid checkpoint: this is its first invalid byte.
     BadSave { byte: u32 },

@@ -24,7 +24,7 @@ pub(crate) fn watch<S: Source, G: Stage<Item = [u8; BLOCK_BYTES], Out = Piece>>(
     pump(source, limit, stage, &mut SteadySink::new())
 }
 
-/// The same for a limit of 0: the input must be empty.
+/// Feeds the blocks of an input to a stage like `watch`, but `limit` may be 0. Then the input must be empty.
 pub(crate) fn watch_some<S: Source, G: Stage<Item = [u8; BLOCK_BYTES], Out = Piece>>(
     limit: u32,
     source: &mut S,

@@ -40,51 +40,53 @@ abbrev pub IsPlayAnswer : Form → Bytes → Result Played PlayStop → Type 0
 IsPlayAnswer form input answer = IfErr answer IsStreamStop
     × IfSome input (λ all. IsAnsweredBy answer (unit_size form) (length all))
 
--- a stream of blocks was played, and the text of its blocks written as they were read
+-- A stream of blocks was played, and the text of its blocks was written as they were read.
 abbrev pub PlaysAsRead : (List ℕ → List ℕ → ℕ → Type 0) → Form → ℕ → Call Bytes → Status → Type 0
 PlaysAsRead writes form lead_in call status =
     EndsWith play_status (Streams (in_turn writes form lead_in) (through call))
     (IsPlayAnswer form call.first.before) status
 
--- the same, written when all is read
+-- A stream of blocks was played, and the text of its blocks was written after all of them were read.
 abbrev pub PlaysWhole : (List ℕ → List ℕ → ℕ → Type 0) → Form → ℕ → Call Bytes → Status → Type 0
 PlaysWhole writes form lead_in call status =
     EndsWith play_status (WritesAtEnd (at_end writes form lead_in) (through call))
     (IsPlayAnswer form call.first.before) status
 
--- The same for a call that shows a moment; a moment can be after the end.
+-- Showing a moment may stop since the moment is after the end. If the input reveals its bytes, the result is the exact one,
+-- or a fault.
 abbrev pub IsMomentAnswer : Moment → Bytes → Result Played PlayStop → Type 0
 IsMomentAnswer at input answer =
     IfErr answer IsMomentStop
     × IfSome input (λ all. IsShownBy answer at.lead_in at.time (unit_size at.form) (length all))
 
--- The screen at a moment of a stream was written, in the way `write`.
+-- The screen at a moment of a stream was written; `write` makes the text from the screen.
 abbrev pub ShowsMoment : (Standing → List ℕ) → Moment → Call Bytes → Status → Type 0
 ShowsMoment write at call status =
     EndsWith play_status (Shows write at (through call)) (IsMomentAnswer at call.first.before) status
 
--- The same for a call that lists texts.
+-- Listing texts may stop since the texts are faulty. If the input reveals its bytes, the result is the exact one, or a
+-- fault.
 abbrev pub IsListAnswer : Form → ℕ → Bytes → Result Played PlayStop → Type 0
 IsListAnswer form lead_in input answer = IfErr answer IsListStop
     × IfSome input (λ all. IsListedBy answer form lead_in all)
 
--- the texts of the lead-in of a stream were listed
+-- The texts of the lead-in of a stream were listed.
 abbrev pub ListsLeadIn : Form → ℕ → Call Bytes → Status → Type 0
 ListsLeadIn form lead_in call status =
     EndsWith play_status (ListsTexts form lead_in (through call))
     (IsListAnswer form lead_in call.first.before) status
 
--- a text was written, or a prefix of it where a write failed
+-- A text was written, or a prefix of it if a write failed.
 abbrev pub Generates : List ℕ → Change Bytes → Status → Type 0
 Generates text out Done = Appends out.before out.after text
 Generates text out WriteFault = AppendsPrefix out.before out.after text
 Generates text out status = ⊥
 
--- the text of a trial was written, or a prefix of it where a write failed
+-- The text of a trial was written, or a prefix of it if a write failed.
 abbrev pub Tries : ℕ → ℕ → Change Bytes → Status → Type 0
 Tries seed pictures out status = (text : List ℕ) × IsTrial seed pictures text × Generates text out status
 
--- what a command does with its two inputs and its output, where memory is found
+-- This is the effect of a command on its two inputs and its output if no allocation failed.
 abbrev pub Does : Command → Call Bytes → Status → Type 0
 Does (Convert lead_in form) call status = PlaysAsRead (IsConverted form lead_in) form lead_in call status
 Does (Screen lead_in form at) call status = ShowsMoment pixmap (moment form lead_in at) call status
@@ -129,6 +131,6 @@ GivesBack text out (ReadFault which) = ⊤
 GivesBack text out WriteFault = ⊤
 GivesBack text out _ = ⊥
 
--- The same for a command that allocates: this text was written, unless a read, a write or an allocation failed.
+-- This text was written, unless a read, a write or an allocation failed.
 abbrev pub GivesIfFound : List ℕ → Change Bytes → Status → Type 0
 GivesIfFound text out status = OnDone (Appends out.before out.after text) status

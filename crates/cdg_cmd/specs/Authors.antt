@@ -31,15 +31,15 @@ pub record IsScriptText (text : List ℕ) (script : List Drawing) : Type 0 where
   pub within : length text ≤ most_text_bytes
   pub reads : read_script text ≡ Ok script
 
--- an input was read to its end, and what it held is the text of this sheet
+-- An input was read to its end, and its bytes are the text of this sheet.
 abbrev pub ReadsSheet : Change Bytes → CueSheet → Type 0
 ReadsSheet input sheet = IsAtEnd input.after × IfSome input.before (λ text. IsSheetText text sheet)
 
--- an input was read to its end, and what it held is the text of this script
+-- An input was read to its end, and its bytes are the text of this script.
 abbrev pub ReadsScript : Change Bytes → List Drawing → Type 0
 ReadsScript input script = IsAtEnd input.after × IfSome input.before (λ text. IsScriptText text script)
 
--- memory is needed for a text or a file: it is not empty, and not too long
+-- A text or a file needs memory: it is not empty, and not too long.
 abbrev pub NeedsMemory : List ℕ → Type 0
 NeedsMemory text = (0 < length text) × (length text ≤ most_text_bytes)
 
@@ -68,9 +68,9 @@ IsScriptStop left (Refused (Script line why)) =
 IsScriptStop left NoMemory = IfSome left (λ text. length text ≤ most_text_bytes)
 IsScriptStop left status = ⊥
 
--- The bytes that were consumed from an input whose text was not accepted: the maximum length of a text and one byte
--- if it is too long; at most the maximum length if a read failed; and the whole input if its grammar is wrong or an
--- allocation failed.
+-- An input whose text was not accepted was consumed to this place. If the text is too long, this is the maximum length and
+-- one byte. If a read failed, it is at most the maximum length. If the grammar is wrong or an allocation failed, it is the
+-- end of the input.
 abbrev pub TakesAtStop : Change Bytes → Status → Type 0
 TakesAtStop input (ReadFault which) = ConsumesBelow input.before input.after (most_text_bytes + 1)
 TakesAtStop input (Refused TooLong) = ConsumesExactly input.before input.after (most_text_bytes + 1)
@@ -78,7 +78,7 @@ TakesAtStop input (Refused why) = IsAtEnd input.after
 TakesAtStop input NoMemory = IsAtEnd input.after
 TakesAtStop input status = ⊥
 
--- a read failed or no memory was found
+-- A read or an allocation failed.
 abbrev pub IsStopped : Status → Type 0
 IsStopped (ReadFault which) = ⊤
 IsStopped NoMemory = ⊤
@@ -90,17 +90,17 @@ PutsAuthored disc out =
     (bytes : List ℕ) × (packs : List (List ℕ)) × IsWrittenStream disc bytes packs
     × Appends out.before out.after bytes
 
--- A prefix of that stream was written.
+-- A prefix of the authored stream was written.
 abbrev pub PutsPrefix : Disc → Change Bytes → Type 0
 PutsPrefix disc out =
     (bytes : List ℕ) × (packs : List (List ℕ)) × IsWrittenStream disc bytes packs
     × AppendsPrefix out.before out.after bytes
 
--- The output for a disc, and the reason for the result.
+-- This is the output for a disc, and the result has its reason.
 pub record IsPutFor (disc : Disc) (out : Change Bytes) (answer : Result (Unit {0}) AuthorStop) : Type 0 where
   pub done : OnOk answer (IsAccepted disc.sheet disc.script disc.lead_in disc.audio × PutsAuthored disc out)
   pub why : IfErr answer (IsAuthorStop disc.sheet disc.script disc.lead_in disc.audio)
-  -- a prefix where a write failed, and else nothing
+  -- if a write failed, a prefix was written, otherwise nothing
   pub cut : answer ≡ Err stop.WriteFault → PutsPrefix disc out
   pub nothing : IfErr answer (λ why. why ≢ stop.WriteFault → Appends out.before out.after [])
 

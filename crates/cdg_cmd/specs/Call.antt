@@ -1,4 +1,4 @@
--- What a call found and what it left.
+-- The inputs and the output of a call.
 use Rattle.std.specs.Prelude.{None}
 use Rattle.cdg_io.specs.Change.{Bytes, Change, Passed, change}
 
@@ -8,7 +8,7 @@ pub record Call (A : Type 0) : Type 0 where
   pub second : Change A
   pub out : Change A
 
--- what is seen of the two inputs and of the output before and after a call
+-- the observed values of the two inputs and of the output, before and after a call
 abbrev pub call : {A S T K : Type 0} → (S → A) → (T → A) → (K → A) → S × T × K → S × T × K → Call A
 call first second out before after =
     record {
@@ -26,6 +26,6 @@ one_input first out before after =
       out = change out before.1 after.1;
     }
 
--- what passed from the first input to the output
+-- the first input and the output, before and after a call
 abbrev pub through : Call Bytes → Passed
 through call = record { left = call.first; held = call.out }

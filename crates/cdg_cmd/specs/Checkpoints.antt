@@ -17,7 +17,7 @@ use Rattle.cdg_cmd.specs.Endings.{EndsWith}
 use Rattle.cdg_cmd.specs.Stops.{pump_status, resume_status}
 use Rattle.cdg_cmd.specs.declared.status.Status.{Status}
 
--- the checkpoint of a stream was written after it
+-- The checkpoint of a stream was written after the whole stream was read.
 abbrev pub SavesWith : ℕ → Call Bytes → Status → Type 0
 SavesWith lead_in call status =
     EndsWith pump_status (Saves lead_in (through call))
@@ -25,7 +25,7 @@ SavesWith lead_in call status =
     (λ all. IsUnlessFault answer (answer_of block_bytes most_units (length all))))
     status
 
--- an input was read to its end, and it held the file of a checkpoint that is not later than a time
+-- An input was read to its end, and it had the file of a checkpoint that is not later than a time.
 pub record ReadsCheckpoint (at : ℕ) (input : Change Bytes) (file : List ℕ) : Type 0 where
   pub is_file : IsCheckpointFile file
   pub not_later : (checkpoint_in file).program ≤ at
@@ -37,10 +37,10 @@ pub record ResumesWith (at : ℕ) (call : Call Bytes) (status : Status) : Type 0
   pub answer : Result Resumed ResumeStop
   pub status_is : status ≡ resume_status answer
   pub file : List ℕ
-  -- at most one byte past that of a checkpoint
+  -- at most one byte more than the file of a checkpoint was read
   pub most : length file ≤ file_size + 1
   pub taken : answer ≢ Err resume.FirstFault → Consumes call.first.before call.first.after file
-  -- where a read failed, no more than the bytes of one
+  -- if a read failed, at most as many bytes as the file of a checkpoint were read
   pub cut : answer ≡ Err resume.FirstFault → ConsumesBelow call.first.before call.first.after (file_size + 1)
   pub whole : answer ≢ Err resume.FirstFault → length file ≤ file_size → IsAtEnd call.first.after
   pub accepted : IsAcceptedBy (acceptance answer) at file

@@ -25,7 +25,7 @@ pub record EndsAs {A : Type 0} (status_of : A → Status) (told : A → Count �
   pub status_is : status ≡ status_of answer
   pub ended : told answer input.ends.before input.ends.after
 
--- It lists the texts of a lead-in, for which memory may be lacking before it reads and after the end.
+-- A command lists the texts of a lead-in. It may run out of memory before it reads, or after the end of the input.
 abbrev pub EndsAsListed : Input → Status → Type 0
 EndsAsListed input status =
     ((status ≡ NoMemory) × (input.left.after ≡ input.left.before) × Untold input.ends)
@@ -37,7 +37,7 @@ StopEnds input (Refused TooLong) = Untold input.ends
 StopEnds input (ReadFault which) = Untold input.ends
 StopEnds input status = Told input.ends
 
--- The same for any input; if it has a text, its end was recorded.
+-- If an input has a text, its end was recorded. Otherwise `StopEnds` says whether its end was recorded.
 abbrev pub TellsText : {T : Type 0} → Input → Result T Status → Type 0
 TellsText input (Ok text) = Told input.ends
 TellsText input (Err status) = StopEnds input status
@@ -55,7 +55,7 @@ pub data TextsEnd {A : Type 0} (is_second_stop : Bytes → Status → Type 0) (s
   AfterBoth : Told sheet.ends → IsAtEnd second.left.after → Told second.ends → (answer : A)
       → status ≡ status_of answer → TextsEnd is_second_stop status_of sheet second status
 
--- two readings, which are read in turn
+-- The ends of two readings, which are read in turn, were recorded as a merge requires.
 pub record ReadingsEnd (one other : Input) (status : Status) : Type 0 where
   pub answer : Result Merged MergeStop
   pub status_is : status ≡ merge_status answer
@@ -65,7 +65,8 @@ pub record ReadingsEnd (one other : Input) (status : Status) : Type 0 where
   pub other_took : Consumes other.left.before other.left.after other_taken
   pub ended : EndsBoth answer (length taken) (length other_taken) one.ends other.ends
 
--- the file of a checkpoint, and the rest of its stream, which is read only where the file is accepted
+-- The ends of a checkpoint's file and of the rest of its stream were recorded. The rest is read only if the file is
+-- accepted.
 pub record ResumeEnds (at : ℕ) (saved rest : Input) (status : Status) : Type 0 where
   pub answer : Result Resumed ResumeStop
   pub status_is : status ≡ resume_status answer
@@ -75,7 +76,7 @@ pub record ResumeEnds (at : ℕ) (saved rest : Input) (status : Status) : Type 0
   pub unread : IsErr (acceptance answer) → Untold rest.ends
   pub ended : IsOk (acceptance answer) → EndsAsResumed answer rest.ends.before rest.ends.after
 
--- a command that does not read it
+-- A command does not read this input, so it does not record its end.
 abbrev pub NeverEnds : Input → Status → Type 0
 NeverEnds input status = Untold input.ends
 

@@ -17,19 +17,19 @@ pub record IsTold (fault : Status) (count : Change ℕ) (status : Status) : Type
 abbrev pub TellsWant : ℕ → ℕ → Status → Type 0
 TellsWant before after status = IsTold NoMemory (from_to before after) status
 
--- The same of both inputs and of the output.
+-- `IsTold` holds for both inputs and for the output.
 pub record TellsFaults (counts : Call ℕ) (status : Status) : Type 0 where
   pub first : IsTold (ReadFault First) counts.first status
   pub second : IsTold (ReadFault Second) counts.second status
   pub out : IsTold WriteFault counts.out status
 
--- The same for a command with one input: the words were a command, and the status is no fault of another input.
+-- `IsTold` holds for a command with one input: the words were a command, and the status is no fault of another input.
 pub record TellsOne (source out : Change ℕ) (status : Status) : Type 0 where
   pub read : IsTold (ReadFault First) source status
   pub write : IsTold WriteFault out status
   pub never : (status ≢ Usage) × (status ≢ ReadFault Second)
 
--- no count of faults rose
+-- No count of faults rose.
 pub record NoneRose (counts : Call ℕ) : Type 0 where
   pub first : ¬ (Rose counts.first.before counts.first.after)
   pub second : ¬ (Rose counts.second.before counts.second.after)

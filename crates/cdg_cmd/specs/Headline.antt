@@ -1,4 +1,4 @@
--- What is written of a cue sheet and a picture script, and what damage of at most two symbols a word leaves of it.
+-- The stream of a cue sheet and a picture script, and copies of it with at most two wrong symbols in each word.
 use Rattle.std.specs.Prelude.{ℕ, ◌*◌, ◌%◌, ◌≤◌, ⊤, List, [], ◌++◌, length, replicate, ◌≡◌}
 use Rattle.std.specs.Io.KnownBytes.{Appends}
 use Rattle.raw_subcode.specs.Channels.{unit_size, program_symbols}

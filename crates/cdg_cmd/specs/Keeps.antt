@@ -1,4 +1,4 @@
--- What a command leaves as it is.
+-- What a command leaves unchanged.
 use Rattle.std.specs.Prelude.{◌≡◌, ◌≢◌, ◌⊎◌, ⊤}
 use Rattle.cdg_io.specs.Causes.{RoseOnce}
 use Rattle.cdg_io.specs.Change.{Bytes, Change, Input}
@@ -7,12 +7,12 @@ use Rattle.cdg_cmd.specs.declared.command.Command.{Command}
 use Rattle.cdg_cmd.specs.declared.status.Status.{Status}
 use Rattle.cdg_cmd.specs.declared.status.Status.TheVariants.{Done, Damaged, WriteFault, NoMemory}
 
--- no input is read in this order
+-- No input is read in this order.
 abbrev pub IsUnread : ReadingOrder → Type 0
 IsUnread NoInput = ⊤
 IsUnread order = ⊥
 
--- the second input is read in this order, where the first was read so
+-- The second input is read in this order, if the first was read like this.
 abbrev pub ReachesSecond : ReadingOrder → Change Bytes → Type 0
 ReachesSecond InTurn first = ⊤
 ReachesSecond (SecondAfter holds) first = holds first
@@ -24,28 +24,28 @@ MayReachSecond InTurn first = ⊤
 MayReachSecond (SecondAfter holds) first = RoseOnce first.ends.before first.ends.after × holds first.left
 MayReachSecond order first = ⊥
 
--- it reads no input
+-- The command reads no input.
 abbrev pub ReadsNone : Command → Type 0
 ReadsNone command = IsUnread (profile command).reads
 
--- it reads its second input
+-- The command reads its second input.
 abbrev pub ReadsSecond : Command → Change Bytes → Type 0
 ReadsSecond command first = ReachesSecond (profile command).reads first
 
--- it may read its second input
+-- The command may read its second input.
 abbrev pub MayReadSecond : Command → Input → Type 0
 MayReadSecond command first = MayReachSecond (profile command).reads first
 
--- nothing is written but where the work is whole or a write fails
+-- At this time of writing, nothing is written unless the work is complete or a write fails.
 abbrev pub WaitsForEnd : WritingTime → Type 0
 WaitsForEnd AtTheEnd = ⊤
 WaitsForEnd AsItGoes = ⊥
 
--- it writes nothing but where its work is whole or a write fails
+-- The command writes nothing unless its work is complete or a write fails.
 abbrev pub WritesLast : Command → Type 0
 WritesLast command = WaitsForEnd (profile command).writes
 
--- the work is whole, or a write failed
+-- The work is complete, or a write failed.
 abbrev pub MayWrite : Status → Type 0
 MayWrite Done = ⊤
 MayWrite (Damaged n) = ⊤

@@ -11,13 +11,13 @@ use Rattle.stream_stages.specs.TextListing.{IsWholeInput, packs_in}
 use Rattle.round_trips.specs.Damage.{HasHurtSlots, count_hurt, count_whole}
 use Rattle.round_trips.specs.SheetLines.{HasText, HasTextPacks, sheet_lines}
 
--- Whole units of a form, whose lead-in slots hold the packs of a raw stream.
+-- These are whole units of a form, whose lead-in slots have the packs of a raw stream.
 pub record HasTextsOf (form : Form) (lead_in : ℕ) (stream bytes : List ℕ) : Type 0 where
   pub input : IsWholeInput form bytes
   pub slots : packs_in form lead_in bytes ≡ packs_in Raw lead_in stream
 
--- Of an authored stream of a disc: they hold its packs but for damage that leaves each text pack whole in some
--- slot, and these are the lines of the strings of its sheet.
+-- The bytes have the text packs of an authored stream of a disc. Slots may be damaged, but some slot has each text pack
+-- undamaged. The lines are those of the strings of the sheet.
 pub record HasStrings (disc : Disc) (form : Form) (stream bytes lines : List ℕ) : Type 0 where
   pub whole : List Bool
   pub packs : HasTextPacks disc.sheet
@@ -27,7 +27,7 @@ pub record HasStrings (disc : Disc) (form : Form) (stream bytes lines : List ℕ
       (packs_in form disc.lead_in bytes)
   pub lines_are : lines ≡ sheet_lines disc.sheet (count_whole whole) (count_hurt whole)
 
--- Of a disc without text: they hold its packs, and this is the line on packs, all bad.
+-- The bytes have the packs of an authored stream of a disc without text. The only line counts the packs, which are all bad.
 pub record HasNoStrings (disc : Disc) (form : Form) (stream bytes lines : List ℕ) : Type 0 where
   pub none : has_no_text (sheet_texts disc.sheet) ≡ true
   pub copy : HasTextsOf form disc.lead_in stream bytes

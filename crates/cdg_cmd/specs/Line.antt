@@ -12,7 +12,7 @@ use Rattle.cue_sheet.specs.declared.fault.CueWhy.TheVariants as cue
 use Rattle.picture_script.specs.declared.reasons.ScriptWhy.{ScriptWhy}
 use Rattle.picture_script.specs.declared.reasons.ScriptWhy.TheVariants as script
 
--- the number that the process ends with
+-- the exit status of the process
 abbrev pub exit_of : Status → ℕ
 exit_of Done = 0
 exit_of (Damaged n) = 1
@@ -86,7 +86,7 @@ abbrev pub input_words : Which → List ℕ
 input_words First = codes "read fault first"
 input_words Second = codes "read fault second"
 
--- what is written on standard error: nothing where the work is done
+-- the line that is written on standard error; `Done` has no line
 abbrev pub error_line : Status → List ℕ
 error_line Done = []
 error_line (Damaged n) = words_and_count (codes "damaged") n ++ line_feed

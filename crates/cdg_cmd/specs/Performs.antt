@@ -9,7 +9,7 @@ use Rattle.cdg_cmd.specs.declared.command.Command.{Command}
 use Rattle.cdg_cmd.specs.declared.status.Status.{Status}
 use Rattle.cdg_cmd.specs.declared.status.Status.TheVariants.{NoMemory}
 
--- what is seen of both inputs and of the output
+-- the observed bytes of both inputs and of the output
 abbrev pub seen_bytes : Input → Input → Change Bytes → Call Bytes
 seen_bytes first second out = record { first = first.left; second = second.left; out = out }
 
@@ -22,7 +22,7 @@ pub record Performs {S T K : Type 0} (command : Command) (first second : Input) 
   pub memory : WantsMemory command before after status
   -- the status and the output
   pub does : status ≢ NoMemory → Does command (seen_bytes first second out) status
-  -- what is known of the inputs where no memory was found
+  -- what is known of the inputs if an allocation failed
   pub lacks : status ≡ NoMemory → LacksMemory command (seen_bytes first second out)
   -- the end of an input is recorded once if it was read to its end, otherwise never; if the first allocation failed, an
   -- input is unchanged (`memory`)

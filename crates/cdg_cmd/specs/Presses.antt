@@ -17,7 +17,7 @@ use Rattle.cdg_cmd.specs.declared.status.Refusal.TheVariants.{TooLong}
 use Rattle.cdg_cmd.specs.declared.status.Status.{Status}
 use Rattle.cdg_cmd.specs.declared.status.Status.TheVariants.{Refused, ReadFault, NoMemory}
 
--- an input was read to its end, and this file, which is not too long, is what it held
+-- An input was read to its end, and its bytes are this file, which is not too long.
 pub record ReadsFile (input : Change Bytes) (file : List ℕ) : Type 0 where
   pub end : IsAtEnd input.after
   pub within : length file ≤ most_text_bytes
@@ -42,13 +42,13 @@ PutsPressedPrefix press out =
     (bytes : List ℕ) × (packs : List (List ℕ)) × IsPressed press bytes packs
     × AppendsPrefix out.before out.after bytes
 
--- The output for a sheet and a file, and the reason for the result.
+-- This is the output for a sheet and a file, and the result has its reason.
 pub record IsPressedFor (press : Press) (out : Change Bytes)
     (answer : Result (Unit {0}) PressStop) : Type 0 where
   pub done : OnOk answer
       (IsPressable press.sheet press.file press.lead_in press.audio × PutsPressed press out)
   pub why : IfErr answer (IsPressStop press.sheet press.file press.lead_in press.audio)
-  -- a prefix where a write failed, and else nothing
+  -- if a write failed, a prefix was written, otherwise nothing
   pub cut : answer ≡ Err stop.WriteFault → PutsPressedPrefix press out
   pub nothing : IfErr answer (λ why. why ≢ stop.WriteFault → Appends out.before out.after [])
 

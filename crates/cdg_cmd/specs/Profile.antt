@@ -19,8 +19,8 @@ use Rattle.cdg_cmd.specs.declared.command.Command.{Command}
 use Rattle.cdg_cmd.specs.declared.command.Command.TheVariants.{Convert, Screen, State, Check, Q, Text, Author, Planar, Raw, Scratch, Gen, Trial, Merge, Thin, Press, Save, Resume}
 use Rattle.cdg_cmd.specs.declared.status.Status.{Status}
 
--- Which inputs a command reads: none, the first, both in turn, or the second too once the first was read to its end
--- and this holds of it.
+-- Which inputs a command reads: none, the first, both in turn, or the second only after the first was read to its end and
+-- meets a condition.
 pub data ReadingOrder : Type 1 where
   NoInput : ReadingOrder
   OneInput : ReadingOrder
@@ -33,7 +33,7 @@ pub data MemoryUse : Type 0 where
   TakesBefore : MemoryUse
   TakesLater : MemoryUse
 
--- when it writes: as it goes, or nothing but where its work is whole or a write fails
+-- when a command writes: as it reads, or only if its work is complete or a write fails
 pub data WritingTime : Type 0 where
   AsItGoes : WritingTime
   AtTheEnd : WritingTime
@@ -41,7 +41,7 @@ pub data WritingTime : Type 0 where
 -- the row of a command
 pub record Profile : Type 1 where
   pub name : List ℕ
-  -- which numbers and forms it may have
+  -- the numbers and the forms that it may have
   pub allowed : Type 0
   -- the words after its name
   pub options : List (List ℕ) → Type 0
@@ -51,7 +51,7 @@ pub record Profile : Type 1 where
   -- how the ends of both inputs are recorded
   pub ends : Input → Input → Status → Type 0
 
--- a row of the table below: name, what is allowed, options, what is read, memory, when it writes, ends
+-- a row of the table below: name, allowed numbers and forms, options, inputs, memory, time of writing, ends
 abbrev pub profile_row : List ℕ → Type 0 → (List (List ℕ) → Type 0) → ReadingOrder → MemoryUse → WritingTime
     → (Input → Input → Status → Type 0) → Profile
 profile_row name allowed options reads memory writes ends = record {
@@ -64,15 +64,15 @@ profile_row name allowed options reads memory writes ends = record {
   ends = ends;
 }
 
--- the cue sheet was read to its end, and its grammar accepted it
+-- The second input is read only after the cue sheet was read to its end and its grammar accepted it.
 abbrev pub AfterSheet : ReadingOrder
 AfterSheet = SecondAfter (λ first. (sheet : CueSheet) × ReadsSheet first sheet)
 
--- the first input is the file of a checkpoint that is not later than a time
+-- The second input is read only after the file of a checkpoint that is not later than a time.
 abbrev pub AfterCheckpoint : ℕ → ReadingOrder
 AfterCheckpoint at = SecondAfter (λ first. (file : List ℕ) × ReadsCheckpoint at first file)
 
--- it has no words after its name
+-- The command has no words after its name.
 abbrev pub HasNoOptions : List (List ℕ) → Type 0
 HasNoOptions options = options ≡ []
 

@@ -18,7 +18,7 @@ use Rattle.cdg_cmd.specs.declared.command.Command.TheVariants.{Save, Screen}
 use Rattle.cdg_cmd.specs.declared.status.Status.{Status}
 use Rattle.cdg_cmd.specs.declared.status.Status.TheVariants.{Done}
 
--- a call that found these bytes as its first input, and what it left of them
+-- a call with these bytes in its first input, of which `left` remained after the call
 abbrev pub reading : List ℕ → Bytes → Change Bytes → Change Bytes → Call Bytes
 reading bytes left second out = record {
   first = record { before = Some bytes; after = left };
@@ -26,7 +26,7 @@ reading bytes left second out = record {
   out = out;
 }
 
--- this file is what `save` wrote of some bytes, and it was done
+-- `save` wrote this file for these bytes, with the status `Done`.
 pub record IsSaveOf (lead_in : ℕ) (bytes file : List ℕ) : Type 0 where
   pub allowed : IsAllowed (Save lead_in)
   pub left : Bytes
@@ -36,13 +36,14 @@ pub record IsSaveOf (lead_in : ℕ) (bytes file : List ℕ) : Type 0 where
     after = Some file;
   })) Done
 
--- The output for a result: the pixmap of the screen at the time, or nothing.
+-- This is the output for a result: the pixmap of the screen at the time, or nothing.
 abbrev pub PutsMoment : Result Resumed ResumeStop → List ℕ → ℕ → List ℕ → Change Bytes → Type 0
 PutsMoment (Ok resumed) file at rest out = (text : List ℕ) × IsResumed file at rest resumed text
     × Appends out.before out.after text
 PutsMoment (Err stop) file at rest out = Appends out.before out.after []
 
--- The status for the checkpoint in a file and for the length of the rest of a stream, and its output.
+-- The status follows from the checkpoint in a file and from the length of the rest of a stream. The output is that of this
+-- result.
 pub record GoesOnFrom (file : List ℕ) (at : ℕ) (rest : List ℕ) (out : Change Bytes)
     (status : Status) : Type 0 where
   pub answer : Result Resumed ResumeStop
@@ -68,13 +69,14 @@ pub record IsAsScreen (lead_in at : ℕ) (stream : List ℕ) (out : Change Bytes
       → IsAnswered other
       → (other ≡ status) × PutSame out other_out
 
--- What `resume` does at a time with a file and the rest of a stream, where no read or write fails and memory is found.
+-- This is the status and the output of `resume` at a time, for a file and the rest of a stream, if no read, no write and no
+-- allocation failed.
 pub record ResumesFrom (file : List ℕ) (at : ℕ) (rest : List ℕ) (out : Change Bytes)
     (status : Status) : Type 0 where
   -- for a file from any origin: if it has a checkpoint not later than the time, the screen at the time is written
   pub goes_on : IsCheckpointFile file → (checkpoint_in file).program ≤ at → GoesOnFrom file at rest out status
-  -- where `save` wrote it of the first part of a stream, not later than the time, `screen` does the same with the
-  -- whole stream
+  -- if `save` wrote the file for the first part of a stream, which ends not later than the time, `screen` has the same
+  -- status and output for the whole stream
   pub whole : (lead_in : ℕ) (part : List ℕ) → IsSaveOf lead_in part file
       → length part / block_bytes - lead_in ≤ at
       → IsAsScreen lead_in at (part ++ rest) out status

@@ -2,11 +2,11 @@
 use Rattle.std.specs.Prelude.{ℕ, ◌-◌, List, length, Option, Some, None, String, string_bytes, position, bytes_eq, codes, nat_le, if◌then◌else◌}
 use Rattle.cdg_cmd.specs.declared.command.Split.{Split}
 
--- all words are the command's
+-- the split in which all words belong to the command
 abbrev pub unsplit : ℕ → Split
 unsplit count = record { words = count; names = 0 }
 
--- at a `--` after `count` words, if at most two words follow it
+-- the split of `count` words at a `--` after the first `before` words, if at most two words follow it
 abbrev pub split_at : ℕ → Option ℕ → Split
 split_at count None = unsplit count
 split_at count (Some before) = if nat_le (count - before) 3 then record {
@@ -14,6 +14,6 @@ split_at count (Some before) = if nat_le (count - before) 3 then record {
   names = count - before - 1;
 } else unsplit count
 
--- at the first `--`
+-- the split of a line at its first `--`
 abbrev pub split_of : {A : Type 0} → List (String A) → Split
 split_of line = split_at (length line) (position (λ word. bytes_eq (string_bytes word) (codes "--")) line)

@@ -30,7 +30,7 @@ use Rattle.cdg_cmd.specs.declared.status.Refusal.TheVariants.{Torn, TooLong, Pas
 use Rattle.cdg_cmd.specs.declared.status.Status.{Status}
 use Rattle.cdg_cmd.specs.declared.status.Status.TheVariants.{Done, Damaged, Refused, Late, ReadFault, WriteFault, NoMemory}
 
--- the status of an input that is not read whole
+-- the status if an input is not read to its end
 abbrev pub read_status : Which → ReadStop → Status
 read_status which read.Failed = ReadFault which
 read_status which read.TooLong = Refused TooLong

@@ -1,4 +1,4 @@
--- What the error output took.
+-- What was written to the error output.
 use Rattle.std.specs.Prelude.{◌≡◌, ◌⊎◌, ℕ}
 use Rattle.std.specs.Io.KnownBytes.{Appends}
 use Rattle.cdg_io.specs.Causes.{Rose}
@@ -8,8 +8,8 @@ use Rattle.cdg_cmd.specs.Line.{error_line}
 use Rattle.cdg_cmd.specs.declared.status.Status.{Status}
 use Rattle.cdg_cmd.specs.declared.status.Status.TheVariants.{Done}
 
--- The line of the status was written and no write failed, or one failed and a prefix of it was written. Where the
--- work is done nothing is touched.
+-- The line of the status was written and no write failed, or a write failed and a prefix of the line was written. For
+-- `Done`, the error output is unchanged.
 pub record Tells {E : Type 0} (held : E → Bytes) (faults : E → ℕ) (before after : E)
     (status : Status) : Type 0 where
   pub line : ((faults after ≡ faults before) × Appends (held before) (held after) (error_line status))

@@ -11,19 +11,19 @@ use Rattle.cdg_cmd.specs.Endings.{EndsWith}
 use Rattle.cdg_cmd.specs.Stops.{pump_status}
 use Rattle.cdg_cmd.specs.declared.status.Status.{Status}
 
--- the number of blocks, and the text that is written for them
+-- The result counts the blocks, and this text is written for them.
 pub record IsTurned (turned : List ℕ → List ℕ → Type 0) (bytes : List ℕ) (pumped : Pumped)
     (text : List ℕ) : Type 0 where
   pub units : pumped.units ≡ length bytes / block_bytes
   pub written : turned bytes text
 
--- blocks are changed and written as they are read
+-- Blocks were changed, and written as they were read.
 abbrev pub ChangesBlocks : (List ℕ → Pumped → List ℕ → Type 0) → Passed → Result Pumped PumpStop → List ℕ
     → Type 0
 ChangesBlocks gives passed answer taken =
     Streams (as_pumped (record { size = block_bytes; limit = most_units }) gives) passed answer taken
 
--- it ended with this status
+-- A command that changes blocks ended with this status.
 abbrev pub TurnsWith : (List ℕ → Pumped → List ℕ → Type 0) → Call Bytes → Status → Type 0
 TurnsWith gives call status =
     EndsWith pump_status (ChangesBlocks gives (through call))

@@ -120,7 +120,8 @@ pub(crate) fn author<K: Sink>(
     ensures write_fault { TellsFault AuthorStop.WriteFault (K.faults out.old) (K.faults out.new) result }
     ensures counted { TellsFault AuthorStop.NoMemory heap.old heap.new result }
 {
-    // What holds of every sheet and script, and so a stream of both there is.
+    // Laws: the tracks of a sheet and the times of a script are in order, so both have a stream if nothing is
+    // refused.
     sheet.tracks_are_in_order();
     script.times_rise_and_colours_are_in_range();
     accepted_scripts_have_streams();

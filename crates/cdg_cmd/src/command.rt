@@ -51,7 +51,7 @@ pub enum Command {
     Resume { at: u32 },
 }
 
-/// The command that the words spell: `None` where they spell none.
+/// The command that the words spell, or `None` if they spell none.
 pub fn read_words(words: &[String]) -> Option<Command>
     ensures spelled { IfSome result (λ command. Spells command (texts words.now)) }
     ensures all { (command : Command) → Spells command (texts words.now) → result ≡ Some command }
@@ -128,7 +128,7 @@ struct StreamOptions {
     pub form: Form,
 }
 
-// The options of a stream: its lead-in, and its form where one is named.
+// The options of a stream: its lead-in, and its form if one is named.
 fn read_stream(words: &[String]) -> Option<StreamOptions>
     ensures spelled { IfSome result (λ o. (o.lead_in ≤ most_lead_in)
         × IsStreamOptions o.lead_in o.form (texts words.now)) }
@@ -184,7 +184,7 @@ fn read_timed(words: &[String]) -> Option<TimedOptions>
     }
 }
 
-// How long a lead-in and an audio are, in blocks.
+// The lengths of a lead-in and of an audio, in blocks.
 #[derive(Clone, Copy)]
 struct Lengths {
     pub lead_in: u32,
@@ -272,14 +272,14 @@ fn only_moment(words: &[String]) -> Option<u32>
     }
 }
 
-// Is this the number in decimal, with no leading zero?
+// Whether a word is this number in decimal, with no leading zero.
 fn is_decimal(word: &str, number: u64) -> bool
     ensures { IsTrue result ↔ (word.now ≡ decimal number) }
 {
     Buffer::new().format(number) == word
 }
 
-// The number that a word writes in decimal, with no leading zero, where it is at most `most`.
+// The number that a word writes in decimal, with no leading zero, if it is at most `most`.
 #[tactic(auto, using(crate::proofs::Decimals::parsed_back))]
 fn read_number(word: &str, most: u64) -> Option<u64>
     ensures written { IfSome result (λ n. (n ≤ most) × (word.now ≡ decimal n)) }
@@ -321,7 +321,7 @@ fn read_seed(option: &str, number: &str) -> Option<u64>
     read_number(number, u64::MAX)
 }
 
-// How many pictures there are: 1 to 500.
+// The number of pictures, 1 to 500.
 fn read_pictures(option: &str, number: &str) -> Option<u32>
     ensures spelled { IfSome result (λ n. (1 ≤ n) × (n ≤ most_generated) × (option.now ≡ codes "--pictures")
         × (number.now ≡ decimal n)) }
@@ -352,7 +352,7 @@ fn read_time(name: &str, option: &str, time: &str) -> Option<u32>
     parse_time(time.as_bytes())
 }
 
-// The form that words name: raw where there are none.
+// The form that words name, or raw if there are no words.
 fn read_form(words: &[String]) -> Option<Form>
     ensures spelled { IfSome result (λ form. IsFormOption form (texts words.now)) }
     ensures all { (form : Form) → IsFormOption form (texts words.now) → result ≡ Some form }
@@ -380,7 +380,7 @@ fn named_form(option: &str, name: &str) -> Option<Form>
     }
 }
 
-/// How many words of a command line are the command's, and how many names follow them.
+/// The number of words that belong to the command of a line, and the number of names that follow them.
 #[derive(Clone, Copy, Debug, PartialEq, Eq)]
 pub struct Split {
     pub words: usize,

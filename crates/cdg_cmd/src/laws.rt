@@ -1,4 +1,4 @@
-// What follows, of single commands, from what a command does.
+// A law on single commands, which follows from the effect of a command.
 ghost use Rattle.std.specs.Prelude.{◌≡◌, ◌≢◌, ◌≤◌, ℕ, List, IfSome};
 ghost use Rattle.std.specs.List.{concat};
 ghost use Rattle.std.specs.Io.KnownBytes.{Appends};
@@ -35,7 +35,7 @@ use rw_interleave::{found_packs_are_the_text, packs_are_recovered};
 use rw_merge::two_readings_give_packs;
 use subcode_author::accepted_scripts_are_in_order;
 
-/// A law: what the clauses of `run` say of single commands follows from what a command did.
+/// A law: the clauses of `run` on single commands follow from the effect of a command.
 pub(crate) fn commands_are_answered()
     ensures authors { (disc : Disc) (call : Call Bytes) (status : Status)
         → Did (Command.Author disc.lead_in disc.audio) call status → HavePlace disc

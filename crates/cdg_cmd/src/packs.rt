@@ -1,4 +1,4 @@
-// The commands that make packs of packs, streams of streams, and checkpoints of streams.
+// The commands that make packs from packs, streams from streams, and checkpoints from streams.
 ghost use Rattle.std.specs.Prelude.{◌≡◌, ◌≢◌, ◌≤◌, ◌<◌, ◌⊎◌};
 ghost use Rattle.disc_time.specs.Counts.{most_lead_in, time_count};
 ghost use Rattle.cdg_cmd.specs.Answer.{Does};

@@ -38,9 +38,9 @@ pub enum Refusal {
     TooLong,
     /// The moment, or the last hold time of a script, is later than the end of this many program blocks.
     PastEnd { blocks: u32 },
-    /// This line of the cue sheet, counted from 1.
+    /// The line of the cue sheet with this number, counted from 1, is refused.
     Cue { line: u32, why: CueWhy },
-    /// This line of the picture script, counted from 1.
+    /// The line of the picture script with this number, counted from 1, is refused.
     Script { line: u32, why: ScriptWhy },
     /// The audio is too short: the index lines need `need` blocks.
     LengthShort { need: u32 },
@@ -62,7 +62,7 @@ pub enum Refusal {
     Unequal { blocks: u32 },
     /// The file ended within the pack of this number.
     PackTorn { pack: u32 },
-    /// The first track, by its number, that has a gap.
+    /// A track has a gap. The number is that of the first such track.
     Gap { track: u8 },
     /// The file has `packs` packs, but the audio has room for only `room` packs.
     CdgTooLong { packs: u32, room: u32 },
@@ -75,7 +75,7 @@ pub enum Refusal {
 /// How a run ended.
 #[derive(Clone, Copy, Debug, PartialEq, Eq)]
 pub enum Status {
-    /// The work is whole.
+    /// All work was done.
     Done,
     /// The output is complete, but this number of packs or frames could not be recovered.
     Damaged(u32),
@@ -87,14 +87,14 @@ pub enum Status {
     Late { picture: u32, need: u32, free: u32 },
     /// A read of this input failed.
     ReadFault(Which),
-    /// A write failed: the output holds a prefix.
+    /// A write failed. The output has a prefix of the bytes.
     WriteFault,
-    /// No memory was found; nothing was written.
+    /// An allocation failed. Nothing was written.
     NoMemory,
 }
 
 impl Status {
-    /// The number that the process ends with.
+    /// The exit status of the process.
     pub fn exit(&self) -> u8
         ensures { result ≡ exit_of self.now }
     {
@@ -305,10 +305,10 @@ fn script_words(why: ScriptWhy) -> &'static str
     }
 }
 
-// The line of a status, which is never longer.
+// The line of a status, which has at most 128 bytes.
 type ErrorLine = ArrayString<128>;
 
-// A blank and a number.
+// Appends a blank and a number.
 fn push_number(text: &mut ErrorLine, number: u32)
     requires { length text.old.bytes ≤ 80 }
     ensures text { text.new.bytes ≡ words_and_count text.old.bytes number }
@@ -416,8 +416,8 @@ fn error_line(status: Status) -> ErrorLine
     text
 }
 
-/// Writes the line of a status, with its line feed: nothing where the work is done. After `Failed`
-/// a prefix of it was written.
+/// Writes the line of a status, with its line feed. `Done` has no line. After `Failed` a prefix of the line
+/// was written.
 pub fn tell<E: Sink>(err: &mut E, status: Status) -> Result<(), Failed>
     ensures ok { OnOk result (Appends (E.held err.old) (E.held err.new) (error_line status)) }
     ensures part { OnErr result (AppendsPrefix (E.held err.old) (E.held err.new) (error_line status)) }

@@ -70,7 +70,7 @@ pub(crate) fn run_text<S: Source, K: Sink>(
     requires form { form ≢ Form.Cooked }
     ensures does { result ≢ Status.NoMemory → Does (Command.Text lead_in form)
         (one_input S.left K.held (source.old, out.old) (source.new, out.new)) result }
-    // Without memory nothing was read, or a whole input was read and its lead-in holds texts.
+    // If an allocation failed, nothing was read, or a whole input was read and its lead-in holds texts.
     ensures no_memory { result ≡ Status.NoMemory → LacksMemory (Command.Text lead_in form)
         (one_input S.left K.held (source.old, out.old) (source.new, out.new)) }
     ensures untouched { ¬ (MayWrite result) → out.new ≡ out.old }

@@ -47,8 +47,8 @@ fn words_before(line: &[String]) -> Option<usize>
     line.iter().position(|word| word.as_str() == "--")
 }
 
-/// Splits a command line at its first `--`, where at most two names follow it. Otherwise all words
-/// are the command's.
+/// Splits a command line at its first `--`, if at most two names follow it. Otherwise all words belong to the
+/// command.
 pub fn split(line: &[String]) -> Split
     ensures { result ≡ split_of line.now }
 {
@@ -90,7 +90,8 @@ pub fn run<S: Source, T: Source, K: Sink, E: Sink>(
     out: &mut K,
     err: &mut E,
 ) -> Status
-    // Usage comes exactly where the words spell no command, and then nothing was touched.
+    // The status is `Usage` exactly if the words spell no command. Then the inputs and the output are
+    // unchanged.
     ensures usage { ((result ≡ Status.Usage) ↔ ((command : Command) → ¬ (Spells command (texts words.now))))
         × (result ≡ Status.Usage
         → (first.new ≡ first.old) × (second.new ≡ second.old) × (out.new ≡ out.old)) }
@@ -99,14 +100,14 @@ pub fn run<S: Source, T: Source, K: Sink, E: Sink>(
         (input S.Source first.old first.new) (input T.Source second.old second.new)
         (change K.held out.old out.new) (first.old, second.old, out.old)
         (first.new, second.new, out.new) result }
-    // A fault is the status only if its count of faults rose, and no other count rises.
+    // The status is a fault only if the count of this fault rose. No other count of faults rises.
     ensures faults { TellsFaults (call S.faults T.faults K.faults (first.old, second.old, out.old)
         (first.new, second.new, out.new)) result }
     // If the words are a command and no count rose, the status is no fault, and `does` gives the exact status.
     ensures complete { (command : Command) → Spells command (texts words.now)
         → NoneRose (call S.faults T.faults K.faults
         (first.old, second.old, out.old) (first.new, second.new, out.new)) → IsAnswered result }
-    // The error output took the line of the status, or a prefix of it where its count rose.
+    // The line of the status was written to the error output, or a prefix of it if its count of faults rose.
     ensures told { Tells E.held E.faults err.old err.new result }
 
     // For a sheet and a script that fit on a disc, an authored stream is written, or the status is the first late
@@ -135,21 +136,21 @@ pub fn run<S: Source, T: Source, K: Sink, E: Sink>(
         → IsHeldAt disc.script k at → IsAuthored disc stream packs
         → IfSome (S.left first.old) (λ all. IsDamagedCopy form disc.lead_in stream all
         → PutsPicture disc.script k (change K.held out.old out.new) result) }
-    // Of an authored stream the frame of each block is listed.
+    // For an authored stream, `q` lists the frame of each block.
     ensures frames { (disc : Disc) (packs : List (List ℕ))
         → Spells (Command.Q disc.lead_in Form.Raw) (texts words.now)
         → program_blocks disc.sheet disc.audio ≤ most_program
         → IfSome (S.left first.old) (λ all. IsAuthored disc all packs
         → GivesBack (frame_lines (layout_of disc.sheet disc.audio) disc.lead_in)
         (change K.held out.old out.new) result) }
-    // Of an authored stream each string of the sheet that is not empty is listed, also where slots of the lead-in are
-    // damaged.
+    // For an authored stream, `text` lists each string of the sheet that is not empty, even if slots of the
+    // lead-in are damaged.
     ensures strings { (form : Form) (disc : Disc) (stream lines : List ℕ) (packs : List (List ℕ))
         → Spells (Command.Text disc.lead_in form) (texts words.now) → IsAuthored disc stream packs
         → IfSome (S.left first.old) (λ all. AreLinesOf disc form stream all lines
         → GivesIfFound lines (change K.held out.old out.new) result) }
-    // Of two readings every pack is merged, where in each word twice the symbols that both have equally wrong and
-    // those in which they differ are at most four.
+    // Every pack is recovered from two readings if, in each word, twice the number of symbols in which both
+    // are equal and wrong, plus the number of symbols in which they differ, is at most four.
     ensures merges { (lead_in : ℕ) → Spells (Command.Merge lead_in) (texts words.now)
         → IfSome (S.left first.old) (λ one. IfSome (T.left second.old) (λ other. (blocks : ℕ)
         (packs : List (List ℕ)) → IsReadTwice lead_in blocks packs one other
@@ -172,7 +173,7 @@ pub fn run<S: Source, T: Source, K: Sink, E: Sink>(
 {
     commands_are_answered();
     let status = answer(&mut Heap::new(alloc), words, first, second, out);
-    // A failure there changes nothing.
+    // If this write fails, the status is unchanged.
     let _told = tell(err, status);
     status
 }

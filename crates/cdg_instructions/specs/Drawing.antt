@@ -7,7 +7,7 @@ use Rattle.cdg_instructions.specs.Sizes.{tile_pixels, tile_width}
 use Rattle.cdg_instructions.specs.declared.instr.Instr.{Instr}
 use Rattle.cdg_instructions.specs.declared.instr.Instr.TheVariants.{SetTile, XorTile}
 
--- an instruction that sets or combines the tile of this row and column
+-- The instruction draws the tile at this row and column, and its fields are in their ranges.
 abbrev pub IsOfPlace : ℕ → ℕ → Instr → Type 0
 IsOfPlace row column (SetTile colour0 colour1 r c lines) = (r ≡ row) × (c ≡ column)
     × InTileRange colour0 colour1 r c lines
@@ -19,7 +19,7 @@ IsOfPlace row column _ = ⊥
 abbrev pub tile_colour : ℕ → ℕ → List ℕ → ℕ → ℕ → ℕ
 tile_colour colour0 colour1 lines i j = if has_bit (5 - i) (slice_index lines j) then colour1 else colour0
 
--- the pixels of a tile that an instruction draws, line by line from the left
+-- pixel p of the tile that an instruction draws, counted from 0, line by line from the left
 abbrev pub drawn_pixel : ℕ → ℕ → List ℕ → ℕ → ℕ
 drawn_pixel colour0 colour1 lines p = tile_colour colour0 colour1 lines (p % tile_width) (p / tile_width)
 
@@ -33,11 +33,11 @@ tile_from old (XorTile colour0 colour1 row column lines ∷ before) =
     map (λ p. bit_xor (drawn_pixel colour0 colour1 lines p) (slice_index older p)) (below tile_pixels)
 tile_from old (_ ∷ before) = tile_from old before
 
--- the same for instructions in order
+-- the 72 pixels of a tile after the instructions for its row and column, in order
 abbrev pub tile_after : List ℕ → List Instr → List ℕ
 tile_after old instrs = tile_from old (reverse instrs)
 
--- the instructions for this row and column turn the old tile into the new one
+-- All instructions draw the tile at this row and column, and they turn the old tile into the new one.
 pub record Turns (row column : ℕ) (old new : List ℕ) (instrs : List Instr) : Type 0 where
   pub of_place : All (IsOfPlace row column) instrs
   pub result : tile_after old instrs ≡ new

@@ -40,7 +40,7 @@ effect_of (ColoursLow colours) = Colours 0 colours
 effect_of (ColoursHigh colours) = Colours 8 colours
 effect_of _ = Nothing
 
--- the ranges of a move of the memory
+-- The fields of a move of the memory are in their ranges.
 pub record IsScrollInRange (scroll : Scrolling) : Type 0 where
   pub across_most : scroll.across ≤ 2
   pub down_most : scroll.down ≤ 2
@@ -48,7 +48,7 @@ pub record IsScrollInRange (scroll : Scrolling) : Type 0 where
   pub h_most : scroll.h ≤ 5
   pub v_most : scroll.v ≤ 11
 
--- its numbers are in their ranges
+-- The numbers of the effect are in their ranges.
 abbrev pub IsEffectInRange : Effect → Type 0
 IsEffectInRange (Clear colour) = colour < 16
 IsEffectInRange (Border colour) = colour < 16

@@ -18,13 +18,12 @@ content word i = slice_index word (4 + i)
 abbrev pub known_codes : List ℕ
 known_codes = 1 ∷ 2 ∷ 6 ∷ 20 ∷ 24 ∷ 28 ∷ 30 ∷ 31 ∷ 38 ∷ []
 
--- the word holds the graphics instruction of this number
+-- The word has the graphics instruction with this number.
 pub record IsGraphics (word : List ℕ) (code : ℕ) : Type 0 where
   pub mode_is : slice_index word 0 ≡ 9
   pub code_is : slice_index word 1 ≡ code
 
--- a move is in bits 5 and 4 of a symbol, and 3 is read as 0; an offset is in the low bits, and at most the largest
--- offset
+-- the move in bits 5 and 4 of a symbol; a move of 3 is read as 0, no move
 abbrev pub move : ℕ → ℕ
 move symbol = if symbol / 16 == 3 then 0 else symbol / 16
 
@@ -40,7 +39,7 @@ offset_down symbol = min (symbol % 16) 11
 abbrev pub table_colour : List ℕ → ℕ → ℕ
 table_colour word k = 64 * content word (2 * k) + content word (2 * k + 1)
 
--- the fields of a tile instruction in a word
+-- The tile instruction in the word has these fields.
 pub record IsTile (word : List ℕ) (colour0 colour1 row column : ℕ) (lines : List ℕ) : Type 0 where
   pub colour0_is : colour0 ≡ content word 0 % 16
   pub colour1_is : colour1 ≡ content word 1 % 16
@@ -48,7 +47,7 @@ pub record IsTile (word : List ℕ) (colour0 colour1 row column : ℕ) (lines : 
   pub column_is : column ≡ content word 3
   pub lines_are : lines ≡ drop 4 (content_of word)
 
--- the fields of a scroll in a word
+-- The scroll instruction in the word has these fields.
 pub record IsScroll (word : List ℕ) (colour across h down v : ℕ) : Type 0 where
   pub colour_is : colour ≡ content word 0 % 16
   pub across_is : across ≡ move (content word 1)
@@ -56,7 +55,7 @@ pub record IsScroll (word : List ℕ) (colour across h down v : ℕ) : Type 0 wh
   pub down_is : down ≡ move (content word 2)
   pub v_is : v ≡ offset_down (content word 2)
 
--- the codeword means the instruction
+-- The word means the instruction.
 abbrev pub Means : List ℕ → Instr → Type 0
 Means word Idle = slice_index word 0 ≡ 0
 Means word Foreign = (slice_index word 0 ≢ 0) × (slice_index word 0 ≢ 9)
@@ -142,11 +141,11 @@ InRange (ColoursHigh colours) = (length colours ≡ 8) × All (λ colour. colour
 InRange (XorTile colour0 colour1 row column lines) = InTileRange colour0 colour1 row column lines
 InRange _ = ⊤
 
--- an instruction that is written: not Foreign and not Unknown
+-- The instruction can be written: it is neither `Foreign` nor `Unknown`.
 abbrev pub IsKnown : Instr → Type 0
 IsKnown instr = (instr ≢ Foreign) × (instr ≢ Unknown)
 
--- the pixels of a tile
+-- The list has the 72 colour numbers of a tile.
 pub record IsTilePixels (pixels : List ℕ) : Type 0 where
   pub count : length pixels ≡ tile_pixels
   pub below : All (λ pixel. pixel < 16) pixels

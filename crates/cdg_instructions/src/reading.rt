@@ -132,7 +132,7 @@ fn scroll(symbols: &[u8; SYMBOLS]) -> Instr
     }
 }
 
-// A move. 3 is read as no move.
+// The move in a symbol. A move of 3 is read as no move.
 fn moved(symbol: u8) -> u8
     requires { symbol < 64 }
     ensures moved { result ≡ move symbol }
@@ -185,12 +185,12 @@ fn colour(symbols: &[u8; SYMBOLS], k: usize) -> u16
     64 * u16::from(symbols[CONTENT + 2 * k]) + u16::from(symbols[CONTENT + 2 * k + 1])
 }
 
-/// A pack means one instruction.
+/// A law: a pack means at most one instruction.
 pub fn only_one_meaning()
     ensures { (word : List ℕ) (one other : Instr) → Means word one → Means word other → one ≡ other }
 {}
 
-/// The meaning of a pack is unique.
+/// A law: a pack means the instruction that `meaning` returns, and no other.
 pub fn each_pack_has_a_meaning()
     ensures is { (word : List ℕ) → Means word (meaning word) }
     ensures only { (word : List ℕ) (instr : Instr) → Means word instr → instr ≡ meaning word }

@@ -1,10 +1,11 @@
 // The sizes of tiles, of the screen, of the window in it and of the table of colours. Clauses call them by the
 // names of specs/Sizes.antt.
 
-/// How many pixels a tile is wide: a line of a tile is a symbol, with a bit for each of six pixels (IEC 60908).
+/// How many pixels a tile is wide: a symbol has one line of a tile, with one bit for each pixel (IEC 60908).
 pub const TILE_WIDTH: usize = 6;
 
-/// How many lines a tile has: twelve symbols follow the tile's row and column (IEC 60908).
+/// How many lines a tile has: an instruction has a symbol for each line, after the row and column (IEC
+/// 60908).
 pub const TILE_HEIGHT: usize = 12;
 
 /// How many columns of tiles the memory has (IEC 60908).
@@ -40,10 +41,10 @@ pub const WINDOW_HEIGHT: usize = WINDOW_ROWS * TILE_HEIGHT;
 /// How many pixels the window has.
 pub const WINDOW_PIXELS: usize = WINDOW_WIDTH * WINDOW_HEIGHT;
 
-/// The last pixel of the window from the left of the screen.
+/// The last column of pixels in the window, counted from 0 at the left of the screen.
 pub const WINDOW_RIGHT: usize = TILE_WIDTH + WINDOW_WIDTH - 1;
 
-/// The last pixel of the window from the top of the screen.
+/// The last row of pixels in the window, counted from 0 at the top of the screen.
 pub const WINDOW_BOTTOM: usize = TILE_HEIGHT + WINDOW_HEIGHT - 1;
 
 /// How many colours the table has: the number of a colour has four bits (IEC 60908).

@@ -9,7 +9,7 @@ use std::marker::Model;
 /// How many pixels a tile has: twelve lines of six.
 pub const PIXELS: usize = TILE_WIDTH * TILE_HEIGHT;
 
-/// 72 numbers below 16, line by line from the left.
+/// A tile: 72 colour numbers below 16, line by line from the left.
 #[derive(Clone, Copy, PartialEq, Eq, Debug)]
 pub struct Tile {
     pixels: [u8; PIXELS],

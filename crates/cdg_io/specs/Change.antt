@@ -1,4 +1,4 @@
--- What a call found and what it left.
+-- Values before and after a call.
 use Rattle.std.specs.Prelude.{ℕ, List, Option}
 use Rattle.cdg_io.specs.Causes.{Count}
 
@@ -11,7 +11,7 @@ pub record Change (A : Type 0) : Type 0 where
   pub before : A
   pub after : A
 
--- the property `see` of an object, before and after a call
+-- the result of the function `see` for an object, before and after a call
 abbrev pub change : {A O : Type 0} → (O → A) → O → O → Change A
 change see before after = record { before = see before; after = see after }
 

@@ -10,11 +10,11 @@ pub record Counts : Type 0 where
   pub ends : Change Count
   pub fills : Change Count
 
--- what is seen of them
+-- both counts of a source, from its states before and after a call
 abbrev pub counts : {S : Type 0} → (S → Count) → (S → Count) → S → S → Counts
 counts ends fills before after = record { ends = change ends before after; fills = change fills before after }
 
--- the same of a source that keeps them
+-- both counts of a source that keeps a `Tally`, before and after a call
 abbrev pub kept_counts : Tally → Tally → Counts
 kept_counts = counts (λ tally. Some tally.ends) (λ tally. Some tally.fills)
 

@@ -62,7 +62,7 @@ TellsEndOf (Err WriteFault) before now = now ≡ before
 abbrev pub RoseBy : ℕ → Count → Count → Type 0
 RoseBy n before now = (n ≡ 0 → now ≡ before) × (0 < n → now ≡ counted_up n before)
 
--- One read filled each whole unit, and one the byte past the limit.
+-- Each whole unit was one full read, and so was the byte after the limit.
 abbrev pub FillsUnits : ℕ → Result Pumped PumpStop → Count → Count → Type 0
 FillsUnits limit (Ok pumped) before now = RoseBy pumped.units before now
 FillsUnits limit (Err (Torn unit)) before now = RoseBy unit before now
@@ -70,8 +70,8 @@ FillsUnits limit (Err TooLong) before now = RoseBy (limit + 1) before now
 FillsUnits limit (Err ReadFault) before now = (n : ℕ) × (n ≤ limit) × RoseBy n before now
 FillsUnits limit (Err WriteFault) before now = (n : ℕ) × (n ≤ limit) × RoseBy n before now
 
--- These bytes were consumed. If they are a whole unit, the stage was fed them; if the input ended before, it was fed
--- nothing.
+-- These bytes were consumed. If they are a whole unit, the stage processed it; if the input ended within the unit, the
+-- stage processed nothing.
 pub record FeedsUnit {S : Type 0} (size : ℕ) (machine : Machine S) (fed : Fed S) (given : Option (List ℕ))
     (taken : List ℕ) : Type 0 where
   pub taken_from : Consumes fed.left.before fed.left.after taken
@@ -88,7 +88,7 @@ pub record Works {S : Type 0} (size : ℕ) (machine : Machine S) (moved : Moved 
   pub state : moved.state.after ≡ run_state machine.next moved.state.before (units_of size n taken)
   pub put : Appends moved.held.before moved.held.after (given size machine moved.state.before taken n)
 
--- A write failed within what the unit after n whole ones gave.
+-- A write failed within the output for unit n (counted from 0).
 pub record StopsInTurn {S : Type 0} (size : ℕ) (machine : Machine S) (moved : Moved S) (taken : List ℕ)
     (n : ℕ) : Type 0 where
   -- no byte after that unit was consumed

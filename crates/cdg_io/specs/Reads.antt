@@ -16,7 +16,7 @@ abbrev pub ToldUnless : {T E : Type 0} → (E → Bool) → Result T E → Count
 ToldUnless is_early (Ok value) before now = RoseOnce before now
 ToldUnless is_early (Err stop) before now = now ≡ (if is_early stop then before else counted_up 1 before)
 
--- what is seen of an input
+-- the unread bytes of an input and the count of its ends, from its states before and after a call
 abbrev pub input : {S : Type 0} → Source S → S → S → Input
 input source before after =
     record { left = change source.left before after; ends = change source.ends before after }

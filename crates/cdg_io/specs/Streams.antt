@@ -23,7 +23,7 @@ pub record Reading (T E : Type 0) : Type 1 where
   pub write_fault : E
   pub gives : List ℕ → T → List ℕ → Type 0
 
--- how a call reads that stops as its pump does
+-- a reading whose result and stops are those of its pump
 abbrev pub as_pumped : Cut → (List ℕ → Pumped → List ℕ → Type 0) → Reading Pumped PumpStop
 as_pumped cut gives = record { cut = cut; torn_at = Torn; write_fault = WriteFault; gives = gives }
 
@@ -57,7 +57,7 @@ pub record WholeReading (T E : Type 0) : Type 1 where
   pub write_fault : E
   pub gives : List ℕ → T → List ℕ → Type 0
 
--- A call that writes nothing before it read all took these bytes.
+-- A call that writes only after it read everything consumed these bytes.
 pub record WritesAtEnd {T E : Type 0} (reading : WholeReading T E) (passed : Passed) (result : Result T E)
     (taken : List ℕ) : Type 0 where
   pub taken_from : Consumes passed.left.before passed.left.after taken

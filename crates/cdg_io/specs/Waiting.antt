@@ -1,4 +1,4 @@
--- What waits before a writer.
+-- A writer with waiting bytes.
 use Rattle.std.specs.Prelude.{ℕ, List}
 use Rattle.std.specs.Io.KnownBytes.{append_known}
 use Rattle.cdg_io.specs.Change.{Bytes}

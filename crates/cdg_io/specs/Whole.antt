@@ -7,7 +7,7 @@ use Rattle.cdg_io.specs.Moves.{AppendsLess, ConsumesBelow}
 use Rattle.std.specs.declared.option.Option.{Option}
 use Rattle.cdg_io.specs.declared.ends.Source.{Ghosts as Source}
 
--- known bytes begin with exactly n bytes, and lose them
+-- If the bytes are known, exactly n bytes were removed from their front.
 abbrev pub ConsumesExactly : Option (List ℕ) → Option (List ℕ) → ℕ → Type 0
 ConsumesExactly old new n = (bs : List ℕ) × (length bs ≡ n) × Consumes old new bs
 
@@ -15,7 +15,7 @@ ConsumesExactly old new n = (bs : List ℕ) × (length bs ≡ n) × Consumes old
 -- was the last one.
 pub record StopsAtFault {S : Type 0} (left : S → Option (List ℕ)) (faults : S → ℕ) (most : ℕ)
     (before after : S) : Type 0 where
-  -- the source as the failed read found it
+  -- the source just before the failed read
   pub last : S
   pub taken : List ℕ
   pub within : length taken ≤ most
@@ -27,7 +27,7 @@ pub record StopsAtFault {S : Type 0} (left : S → Option (List ℕ)) (faults : 
 -- write was the last one.
 pub record PutsUntilFault {K : Type 0} (held : K → Option (List ℕ)) (faults : K → ℕ) (bytes : List ℕ)
     (before after : K) : Type 0 where
-  -- the sink as the failed write found it
+  -- the sink just before the failed write
   pub last : K
   pub put : AppendsLess (held before) (held last) bytes
   pub quiet : faults last ≡ faults before

@@ -1,4 +1,4 @@
-// A reader and a writer with a buffer between, as a source and a sink.
+// A buffered reader as a source, and a buffered writer as a sink.
 ghost use Rattle.std.specs.Prelude.{◌⊎◌, ◌++◌, ◌-◌, ◌^◌, Ok, min, ◌≡◌, ◌<◌, ◌≤◌, List, ℕ, Some, drop, length, take, true, false, ◌≢◌, ◌+◌, [], IfOk, IsOk, OnErr, OnOk, vec_len};
 ghost use Rattle.std.specs.Io.{ReadsAtMost};
 ghost use Rattle.std.specs.Io.Buffered.{reader_inner, reader_remaining};
@@ -125,14 +125,15 @@ impl<R: Read> Source for BufferedSource<R> {
     }
 }
 
-/// A writer as a sink. Bytes wait in a buffer until more than `turn` bytes would wait, or until a call asks for them.
-/// The sink's content is the content of the writer and then the waiting bytes. An error of the writer is a failure,
-/// and so is a write of no bytes; bytes that were not written still wait. An interrupted write is repeated.
+/// A buffered writer as a sink. `put` writes the waiting bytes only if otherwise more than `turn` bytes would
+/// wait. `flush` and `pass_waiting` write them at once. The content of the sink is the content of the writer,
+/// followed by the waiting bytes. A write that fails or writes no byte is a failure; bytes that were not
+/// written still wait. An interrupted write is repeated.
 #[derive(Drop)]
 pub struct BufferedSink<W: Write> {
     writer: CountedWriter<W>,
     buffer: Vec<u8>,
-    /// What waits is the front of the buffer, up to here.
+    /// The number of waiting bytes. They are at the front of the buffer.
     end: usize,
     /// The maximum number of bytes that wait after `put`. The output of units from a buffer may fill the whole buffer.
     turn: usize,
@@ -191,13 +192,13 @@ impl<W: Write> BufferedSink<W> {
     /// without enough room reports the failure.
     pub fn flush(&mut self) -> Result<(), Failed>
         ensures empty { OnOk result (self.new.waiting ≡ []) }
-        // Where nothing waits there is nothing to fail, and where a write failed something still waits.
+        // If no byte waits, it succeeds. If it fails, some bytes still wait.
         ensures nothing { self.old.waiting ≡ [] → IsOk result }
         ensures left { OnErr result (self.new.waiting ≢ []) }
         ensures bytes { Keeps (bytes_with_waiting W.contents self.old)
             (bytes_with_waiting W.contents self.new) }
         ensures faults { self.new.faults ≡ self.old.faults }
-        // It failed exactly where one write of the writer did.
+        // It failed if and only if one write of the writer failed.
         ensures failed { self.new.failed ≡ counted_after result self.old.failed }
         ensures same { (self.new.turn ≡ self.old.turn) × (self.new.room ≡ self.old.room) }
     {
@@ -210,8 +211,8 @@ impl<W: Write> BufferedSink<W> {
         Ok(())
     }
 
-    // Puts a piece that needs a write of the waiting bytes first. It is not inlined, so that other pieces do not pay
-    // for it.
+    // Writes the waiting bytes, and then appends at most `turn` bytes of the piece. It is not inlined, since
+    // it runs for few pieces.
     #[cold]
     #[inline(never)]
     fn put_full(&mut self, piece: &[u8]) -> Result<usize, Failed>
@@ -254,11 +255,11 @@ impl<W: Write> Sink for BufferedSink<W> {
             (bytes_with_waiting W.contents self.new) result piece.now }
         ensures cause { HasCause self.old.faults self.new.faults result }
         ensures counted { self.new.faults ≡ counted_after result self.old.faults }
-        // It failed exactly where one write of the writer did.
+        // It failed if and only if one write of the writer failed.
         ensures failed { self.new.failed ≡ counted_after result self.old.failed }
-        // Where nothing waits no write can fail.
+        // If no byte waits, it succeeds.
         ensures nothing { self.old.waiting ≡ [] → IsOk result }
-        // Where there is room nothing is written, and else all that waited.
+        // If there is room for the piece, nothing is written. Otherwise all waiting bytes are written first.
         ensures kept { length self.old.waiting + length piece.now ≤ self.old.turn
             → (result ≡ Ok (length piece.now)) × (self.new.inner ≡ self.old.inner)
             × (self.new.waiting ≡ self.old.waiting ++ piece.now) }

@@ -1,4 +1,4 @@
-// Where bytes come from and where they go, with a count of faults.
+// Sources and sinks of bytes, which count their faults.
 ghost use Rattle.std.specs.Prelude.{◌≡◌, ◌≢◌, ◌<◌, ◌≤◌, ◌+◌, ◌-◌, ◌^◌, ◌⊎◌, ◌↔◌, min, Ok, Err, List, ℕ, None, Some, drop, length, take, true, false};
 ghost use Rattle.std.specs.Io.{ReadsAtMost};
 ghost use Rattle.std.specs.Io.KnownBytes.{Appends, Keeps, Consumes, ReadConsumes, WriteAppends};
@@ -21,21 +21,22 @@ use std::marker::Model;
 #[derive(Clone, Copy, Debug, PartialEq, Eq)]
 pub struct Failed;
 
-/// An input that calls read one after another. A failed call may be repeated: it consumed no byte.
+/// An input of bytes, which calls read in order. A failed call may be repeated, since it consumed no byte.
 ///
-/// A source must have only `take`. A source may also count the ends and the full reads; then the clauses of each
-/// reading call state both counts. A source with a buffer may feed a stage directly from the buffer.
+/// A source must implement only `take`. A source may also count the reads that reported the end, and the full
+/// reads; then the clauses of each reading call state both counts. A source with a buffer may feed a stage
+/// directly from the buffer.
 pub trait Source {
     /// The bytes that are still to be read, if the source reveals them.
     ghost left: { Self → Option (List ℕ) };
 
-    /// How often a read has failed.
+    /// The number of reads that failed.
     ghost faults: { Self → ℕ };
 
     /// The number of reads that reported the end, if the source counts them.
     ghost ends: { Self → Option ℕ } = { λ _. None };
 
-    /// How often a read gave all that it had room for, where the source counts that.
+    /// The number of full reads, which read as many bytes as they had room for, if the source counts them.
     ghost fills: { Self → Option ℕ } = { λ _. None };
 
     /// Reads bytes into the front of `buf`, which is not empty, and returns their number. It is 0 only at the end.
@@ -49,9 +50,9 @@ pub trait Source {
         ensures cause { HasCause (faults self.old) (faults self.new) result }
         ensures counts { TellsRead 1 (length buf.old) (counts ends fills self.old self.new) result };
 
-    /// Feeds a whole unit from the buffer of the source to a stage, and leaves the output of the stage in `given`.
-    /// This counts as one full read. If the buffer has no whole unit, it returns false and does nothing; this says
-    /// nothing about the end.
+    /// Feeds a whole unit from the buffer of the source to a stage, and leaves the output of the stage in
+    /// `given`. This counts as one full read. If the buffer has no whole unit, it does nothing and returns
+    /// false; the input may still have further bytes.
     fn feed_at_hand<G: UnitStage>(&mut self, stage: &mut G, given: &mut Option<Piece>) -> bool
         requires { 0 < G.SIZE }
         ensures fed { result ≡ true → (unit : List ℕ) × (length unit ≡ G.SIZE)
@@ -97,12 +98,12 @@ pub trait Source {
     }
 }
 
-/// An output that calls append to one after another. A call may follow a failed call.
+/// An output of bytes, to which calls append in order. After a failed call, further calls are allowed.
 pub trait Sink {
     /// The bytes that were appended, if the sink reveals them.
     ghost held: { Self → Option (List ℕ) };
 
-    /// How often a write has failed.
+    /// The number of writes that failed.
     ghost faults: { Self → ℕ };
 
     /// Appends bytes from the front of `piece`, which is not empty, and returns their number, at least 1.
@@ -181,7 +182,7 @@ impl Tally {
     }
 }
 
-/// Reads once, and counts what came of it. An error is a failure.
+/// Reads once, and counts the result. An error of the reader is a failure.
 #[tactic(auto, using(crate::proofs::Stops::rose_by_one))]
 pub(crate) fn read_counted<R: Read>(
     reader: &mut R,
@@ -302,19 +303,19 @@ impl<W: Write> Sink for WriteSink<W> {
     }
 }
 
-/// What a write comes to.
+/// The outcome of a write.
 #[derive(Clone, Copy, Debug, PartialEq, Eq)]
 pub(crate) enum Outcome {
-    /// So many bytes were written, at least one.
+    /// This number of bytes was written, at least one.
     Wrote(usize),
-    /// The write was interrupted, and can be made again.
+    /// The write was interrupted, and can be repeated.
     Interrupted,
     /// The write failed, or wrote nothing.
     Fault,
 }
 
 impl Outcome {
-    // The outcome of a write.
+    // The outcome for the result of a call of the writer.
     fn of(answer: io::Result<usize>) -> Outcome
         ensures wrote { (n : ℕ) → (result ≡ Wrote n ↔ (answer ≡ Ok n) × (0 < n)) }
         ensures interrupted { result ≡ Interrupted
@@ -328,8 +329,8 @@ impl Outcome {
     }
 }
 
-/// A writer that counts the writes that failed, and those that were interrupted. It may be interrupted 2^64 - 1 times;
-/// one time more is a failure.
+/// A writer that counts its failed and its interrupted writes. It counts at most 2^64 - 1 interruptions; a
+/// further interruption is a failure.
 #[derive(Drop)]
 pub(crate) struct CountedWriter<W: Write> {
     writer: W,
@@ -354,7 +355,7 @@ impl<W: Write> CountedWriter<W> {
         }
     }
 
-    /// Writes bytes of the front of these. It is one call of the writer.
+    /// Writes some bytes from the front of `bytes`, with one call of the writer.
     pub fn write(&mut self, bytes: &[u8]) -> Outcome
         ensures wrote { (n : ℕ) → result ≡ Wrote n → (0 < n) × (n ≤ length bytes.now)
             × Appends (W.contents self.old.inner) (W.contents self.new.inner) (take n bytes.now) }
@@ -370,7 +371,7 @@ impl<W: Write> CountedWriter<W> {
         self.count(Outcome::of(answer))
     }
 
-    // Counts what a write came to. An interruption that cannot be counted any more is a failure.
+    // Counts the outcome of a write. An interruption that the counter cannot count is a failure.
     fn count(&mut self, outcome: Outcome) -> Outcome
         ensures inner { self.new.inner ≡ self.old.inner }
         ensures wrote { (n : ℕ) → (result ≡ Wrote n ↔ outcome ≡ Wrote n) }

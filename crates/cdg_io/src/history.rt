@@ -1,10 +1,11 @@
-// The bytes that a call received: only proofs use them.
+// The bytes that a call received, which only proofs use.
 ghost use Rattle.std.specs.Prelude.{◌≡◌, ◌++◌, ℕ, List, []};
 ghost use Rattle.std.specs.Borrow.{ftrue};
 
 use std::marker::{Model, PhantomData};
 
-/// The bytes that were noted so far. Clauses read `bytes`. At run time it has no size, and its calls do nothing.
+/// The bytes of all calls of `note` so far. Clauses read the ghost field `bytes`. At run time a history has
+/// no size, and its calls do nothing.
 #[derive(Drop)]
 pub struct History {
     marker: PhantomData<u8>,
@@ -16,7 +17,7 @@ impl Model for History {
 }
 
 impl History {
-    /// Of no bytes.
+    /// An empty history.
     pub fn nothing() -> History
         ensures { result.bytes ≡ [] }
     {
@@ -25,7 +26,7 @@ impl History {
         }
     }
 
-    /// Notes the bytes of a piece.
+    /// Appends the bytes of a piece.
     #[inline]
     pub fn note(&mut self, _piece: &[u8])
         ensures { self.new.bytes ≡ self.old.bytes ++ _piece.now }

@@ -9,14 +9,15 @@ ghost use Rattle.cdg_io.specs.Run.{run_state, run_gives};
 use crate::piece::CAPACITY;
 use crate::{PassedUnits, Piece};
 
-/// Changes units of SIZE bytes in place. `take_in_place` and `take_row_in_place` make a `UnitStage` of it.
+/// A type that changes units of SIZE bytes in place. A `UnitStage` can implement its calls by `take_in_place`
+/// and `take_row_in_place`.
 pub trait InPlace {
     ghost SIZE: { ℕ };
 
     /// The state after a unit.
     ghost next: { Self → List ℕ → Self };
 
-    /// What becomes of a unit.
+    /// The changed unit. It is always `Some`.
     ghost gives: { Self → List ℕ → Option (List ℕ) };
 
     /// How many bytes a unit has.
@@ -35,8 +36,8 @@ pub trait InPlace {
         ensures gives { units.new ≡ concat (run_gives next gives self.old (units_of SIZE count units.old)) };
 }
 
-/// Changes a copy of a unit, and leaves it in `given`. It is not inlined, so that rows of units do not pay for a unit
-/// that arrives in parts.
+/// Changes a copy of a unit, and leaves it in `given`. It is not inlined, since only units that arrive in
+/// parts need it.
 #[cold]
 #[inline(never)]
 pub fn take_in_place<G: InPlace>(stage: &mut G, unit: &[u8], given: &mut Option<Piece>)
@@ -54,8 +55,8 @@ pub fn take_in_place<G: InPlace>(stage: &mut G, unit: &[u8], given: &mut Option<
     *given = Some(piece);
 }
 
-/// Takes units that a row of bytes begins with. Most bytes stay as they are, so all whole units are copied at once, and
-/// changed there.
+/// Processes units from the front of a row of bytes. It copies all whole units at once and changes the
+/// copies, since most bytes stay the same.
 #[inline]
 pub fn take_row_in_place<G: InPlace>(
     stage: &mut G,

@@ -9,16 +9,16 @@ use Rattle.cdg_press.specs.Thin.{IsThinText, StandAlike}
 use Rattle.cdg_io.specs.declared.pumping.Pumped.{Pumped}
 use Rattle.cdg_io.specs.declared.pumping.PumpStop.{PumpStop}
 
--- the most packs that are read: those of the most blocks
+-- the maximum number of packs that are read: those of the maximum number of blocks
 abbrev pub most_file_packs : ℕ
 most_file_packs = slots_a_block * most_units
 
--- the number of whole packs of some bytes, and the text that is written for them
+-- The result counts the whole packs of some bytes, and this text is written for them.
 pub record IsThinnedBy (bytes : List ℕ) (pumped : Pumped) (text : List ℕ) : Type 0 where
   pub units : pumped.units ≡ length bytes / symbols_a_slot
   pub written : IsThinText bytes text
 
--- how a call reads packs that writes their thin form
+-- the reading of a call that writes the thin form of packs
 abbrev pub thinning : Reading Pumped PumpStop
 thinning = as_pumped (record { size = symbols_a_slot; limit = most_file_packs }) IsThinnedBy
 
@@ -32,7 +32,7 @@ pub record ShowsAll (bytes text : List ℕ) : Type 0 where
   pub alike : (m : ℕ) → StandAlike m (whole_parts symbols_a_slot bytes) (whole_parts symbols_a_slot text)
   pub again : IsThinText text text
 
--- Such a text was written for the whole input.
+-- A text that `ShowsAll` describes was written for the whole input.
 abbrev pub ThinsAll : List ℕ → Change Bytes → Result Pumped PumpStop → Type 0
 ThinsAll all out result =
     IfOk result (λ pumped. (text : List ℕ) × ShowsAll all text × Appends out.before out.after text)

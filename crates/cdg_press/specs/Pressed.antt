@@ -12,7 +12,7 @@ use Rattle.stream_writer.specs.Framing.{HasFraming}
 use Rattle.rw_code.specs.Packs.{idle_pack}
 use Rattle.stream_writer.specs.Needs.{text_packs, lead_in_need}
 
--- the bytes of a pack of a file: one for each symbol
+-- the number of bytes of a pack of a file: one for each symbol
 abbrev pub pack_bytes : ℕ
 pack_bytes = 24
 
@@ -44,7 +44,7 @@ press_of sheet file lead_in audio = record {
   audio = audio;
 }
 
--- the stream of a sheet carries the packs of the file, in time with the audio, and else idle ones
+-- The stream of a sheet carries the packs of the file, in time with the audio, and other packs are idle.
 pub record IsPressed (press : Press) (bytes : List ℕ) (packs : List (List ℕ)) : Type 0 where
   pub whole : length press.file % pack_bytes ≡ 0
   pub of_file : (n : ℕ) → n < length press.file / pack_bytes

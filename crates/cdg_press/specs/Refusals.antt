@@ -18,7 +18,7 @@ IsShort file = length file ≤ most_text_bytes
 abbrev pub IsWhole : List ℕ → Type 0
 IsWhole file = length file % pack_bytes ≡ 0
 
--- the two gaps of a track together
+-- the sum of both gaps of a track
 abbrev pub gaps_of : CueTrack → ℕ
 gaps_of track = track.pregap + track.postgap
 
@@ -32,22 +32,22 @@ IsFirstGap sheet number = (k : ℕ) × (k < length sheet.tracks) × (0 < gaps_of
     × (number ≡ (track_of sheet k).number)
     × ((j : ℕ) → j < k → gaps_of (track_of sheet j) ≡ 0)
 
--- whole packs and a sheet that has a layout with this audio
+-- The file is whole packs, and the sheet has a layout with this audio.
 abbrev pub HasDisc : CueSheet → List ℕ → ℕ → Type 0
 HasDisc sheet file audio = IsWhole file × HasLayout sheet audio
 
--- they run in time with each other, and the audio has four packs a block for those of the file
+-- The file runs in time with the audio: no track has a gap, and the audio has room for its packs, four a block.
 abbrev pub RunsInTime : CueSheet → List ℕ → ℕ → Type 0
 RunsInTime sheet file audio = HasDisc sheet file audio × HasNoGap sheet
     × (length file / pack_bytes ≤ slots_a_block * audio)
 
--- nothing is refused
+-- No refusal applies.
 pub record IsPressable (sheet : CueSheet) (file : List ℕ) (lead_in audio : ℕ) : Type 0 where
   pub in_time : RunsInTime sheet file audio
   pub room : HasRoom sheet lead_in
 
--- why a stream is not pressed: each refusal comes only where those before it do not hold, and a failed write and want
--- of memory only where nothing is refused
+-- This is why a stream is not pressed. A refusal requires that no earlier refusal applies. A failed write and a failed
+-- allocation require that no refusal applies.
 abbrev pub IsPressStop : CueSheet → List ℕ → ℕ → ℕ → PressStop → Type 0
 IsPressStop sheet file lead_in audio (PackTorn pack) = (length file % pack_bytes ≢ 0)
     × (pack ≡ length file / pack_bytes)
@@ -65,7 +65,7 @@ IsPressStop sheet file lead_in audio (LeadInShort need) = RunsInTime sheet file 
 IsPressStop sheet file lead_in audio WriteFault = IsPressable sheet file lead_in audio
 IsPressStop sheet file lead_in audio NoMemory = IsPressable sheet file lead_in audio
 
--- the number of the packs of a file, or where it is torn
+-- This is the number of packs of a file, or the stop if the file ends within a pack.
 abbrev pub IsCounted : List ℕ → Result ℕ PressStop → Type 0
 IsCounted file (Ok packs) = IsWhole file × (packs ≡ length file / pack_bytes)
 IsCounted file (Err stop) = (length file % pack_bytes ≢ 0) × (stop ≡ PackTorn (length file / pack_bytes))

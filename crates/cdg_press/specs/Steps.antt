@@ -8,7 +8,7 @@ use Rattle.raw_subcode.specs.Channels.{symbols_of}
 use Rattle.cdg_press.specs.Thin.{is_graphic}
 use Rattle.cdg_instructions.specs.declared.instr.Instr.{Instr}
 
--- the instruction of 24 bytes, as a function: the parity has no part in it
+-- the instruction of 24 bytes; their parity is ignored
 unfoldable pub pack_instruction : List ℕ → Instr
 pack_instruction pack = meaning (symbols_of pack)
 
@@ -22,7 +22,7 @@ is_same a b =
     && a.h == b.h
     && a.v == b.v
 
--- whether it is a graphics instruction that does not change the screen
+-- whether an instruction is a graphics instruction that does not change the screen
 unfoldable pub is_needless : Standing → Instr → Bool
 is_needless now instr = is_graphic instr && is_same (standing_after now (instr ∷ [])) now
 
@@ -30,6 +30,6 @@ is_needless now instr = is_graphic instr && is_same (standing_after now (instr �
 unfoldable pub thin_next : Standing → List ℕ → Standing
 thin_next now pack = standing_after now (pack_instruction pack ∷ [])
 
--- the pack, or an idle one in its place
+-- the pack of the thin form: an idle pack if the instruction is needless, otherwise the pack itself
 unfoldable pub thin_gives : Standing → List ℕ → Option (List ℕ)
 thin_gives now pack = Some (if is_needless now (pack_instruction pack) then idle_pack else pack)

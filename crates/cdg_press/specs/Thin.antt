@@ -11,7 +11,7 @@ use Rattle.cdg_screen.specs.Standing.{blank, standing_after}
 use Rattle.cdg_instructions.specs.declared.instr.Instr.{Instr}
 use Rattle.cdg_instructions.specs.declared.instr.Instr.TheVariants.{Idle, Foreign, Unknown}
 
--- the instruction of 24 bytes: that of their low six bits, with the parity made good
+-- This is the instruction of 24 bytes: that of the codeword with their symbols and correct parity.
 abbrev pub IsInstructionOf : List ℕ → Instr → Type 0
 IsInstructionOf pack instr = (word : List ℕ) × IsMadeGood (symbols_of pack) word × Means word instr
 
@@ -21,7 +21,7 @@ pub record AreInstructionsOf (packs : List (List ℕ)) (instrs : List Instr) : T
   pub each : (n : ℕ) → n < length packs
       → IsInstructionOf (slice_index_or packs n []) (slice_index_or instrs n Idle)
 
--- whether it is one of the nine graphics instructions
+-- whether an instruction is one of the nine graphics instructions
 abbrev pub is_graphic : Instr → Bool
 is_graphic Idle = false
 is_graphic Foreign = false
@@ -33,13 +33,13 @@ pub record IsNeedless (before : List Instr) (instr : Instr) : Type 0 where
   pub graphic : IsTrue (is_graphic instr)
   pub nothing : standing_after blank (before ++ instr ∷ []) ≡ standing_after blank before
 
--- The pack of the thin form: an idle pack if the instruction is needless after the earlier ones, otherwise the same
+-- This is the pack of the thin form: an idle pack if the instruction is needless after the earlier ones, otherwise the same
 -- pack.
 abbrev pub IsThinned : List Instr → Instr → List ℕ → List ℕ → Type 0
 IsThinned before instr pack thin = (IsNeedless before instr × (thin ≡ idle_pack))
     ⊎ (¬ IsNeedless before instr × (thin ≡ pack))
 
--- the thin form of a list of packs
+-- These packs are the thin form of a list of packs.
 pub record IsThinForm (packs thins : List (List ℕ)) : Type 0 where
   pub instrs : List Instr
   pub read : AreInstructionsOf packs instrs
@@ -48,7 +48,7 @@ pub record IsThinForm (packs thins : List (List ℕ)) : Type 0 where
       → IsThinned (take n instrs) (slice_index_or instrs n Idle) (slice_index_or packs n [])
       (slice_index_or thins n [])
 
--- the thin form of the whole packs of some bytes, as bytes
+-- This text is the thin form of the whole packs of some bytes, as bytes.
 pub record IsThinText (bytes text : List ℕ) : Type 0 where
   pub thins : List (List ℕ)
   pub form : IsThinForm (whole_parts symbols_a_slot bytes) thins

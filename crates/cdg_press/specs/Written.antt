@@ -1,4 +1,4 @@
--- What a call leaves in an output that presses a file into a stream.
+-- The output of a call that presses a file into a stream.
 use Rattle.std.specs.Prelude.{◌≡◌, ◌≢◌, ℕ, List, Result, Err, IfErr, OnOk}
 use Rattle.std.specs.Io.KnownBytes.{Appends}
 use Rattle.cdg_io.specs.Causes.{TellsFault}
@@ -11,13 +11,13 @@ use Rattle.cdg_press.specs.Pressed.{IsPackAfter, IsPressed, Press, file_begin}
 use Rattle.cdg_press.specs.declared.stops.PressStop.{PressStop}
 use Rattle.cdg_press.specs.declared.stops.PressStop.TheVariants.{WriteFault}
 
--- The output of a call that presses a file, for an output that reveals its bytes and its faults.
+-- This is the output of a call that presses a file, for an output that reveals its bytes and its faults.
 pub record WritesPressed {T K : Type 0} (held : K → Bytes) (faults : K → ℕ) (press : Press) (before after : K)
     (result : Result T PressStop) : Type 0 where
   -- a pressed stream was written
   pub pressed : OnOk result ((bytes : List ℕ) × (packs : List (List ℕ)) × IsPressed press bytes packs
       × Appends (held before) (held after) bytes)
-  -- none was written, and then nothing was, unless a write failed
+  -- if the call stopped for any other reason than a failed write, the output is unchanged
   pub untouched : IfErr result (λ stop. stop ≢ WriteFault → after ≡ before)
   pub write_fault : TellsFault WriteFault (faults before) (faults after) result
   -- a write failed, and a prefix of the lead-in and of program blocks with packs of the file was written

@@ -106,7 +106,7 @@ impl Thinner {
         is_graphic(instr)
     }
 
-    // The same for the instruction of a pack. Most packs are idle.
+    // Draws a pack, and returns whether it changed nothing. Most packs are idle.
     #[inline]
     fn is_needless(&mut self, pack: &[u8; SYMBOLS_A_SLOT]) -> bool
         ensures next { self.new ≡ thin_next self.old pack.now }
@@ -120,7 +120,8 @@ impl Thinner {
         self.is_needless_drawing(pack)
     }
 
-    // The same for a pack that may have an instruction. It is separate, so that idle packs stay fast.
+    // Does the work of `is_needless` for a pack that may have an instruction. It is separate, so that idle
+    // packs stay fast.
     #[inline(never)]
     fn is_needless_drawing(&mut self, pack: &[u8; SYMBOLS_A_SLOT]) -> bool
         ensures next { self.new ≡ thin_next self.old pack.now }
@@ -211,7 +212,7 @@ pub fn thin_forms_stand_alike()
     ensures only { (bytes one other : List ℕ) → IsThinText bytes one → IsThinText bytes other → one ≡ other }
     ensures size { (bytes text : List ℕ) → IsThinText bytes text
         → length text ≡ symbols_a_slot * (length bytes / symbols_a_slot) }
-    // 24 bytes have an instruction, and packs have no more than one list of them.
+    // Each 24 bytes have an instruction, and packs have at most one list of instructions.
     ensures reading { (pack : List ℕ) → length pack ≡ symbols_a_slot
         → (instr : Instr) × IsInstructionOf pack instr }
     ensures one_reading { (packs : List (List ℕ)) (one other : List Instr)

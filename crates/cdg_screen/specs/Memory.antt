@@ -14,13 +14,13 @@ pub record MemoryRows : Type 0 where
   pub left : ℕ
   pub top : ℕ
 
--- pixel (x, y) of it
+-- pixel (x, y) of the memory
 unfoldable pub at : MemoryRows → ℕ → ℕ → ℕ
 at memory x y =
     let row = slice_index_or memory.rows ((y + memory.top) % screen_height) [] in
     slice_index row ((x + memory.left) % screen_width)
 
--- rows of 300 colour numbers, and an origin at whole tiles, so that no tile wraps around
+-- The memory has 216 rows of 300 colour numbers. Its origin is at whole tiles, so no tile wraps around.
 pub record IsMemory (memory : MemoryRows) : Type 0 where
   pub count : length memory.rows ≡ screen_height
   pub widths : (y : ℕ) → y < screen_height → length (slice_index_or memory.rows y []) ≡ screen_width
@@ -30,7 +30,7 @@ pub record IsMemory (memory : MemoryRows) : Type 0 where
   pub top_whole : memory.top % tile_height ≡ 0
   pub colours : (y x : ℕ) → slice_index (slice_index_or memory.rows y []) x < colour_count
 
--- the pixels of the memory become those of a function of the place
+-- Each pixel (x, y) of the memory is f x y.
 abbrev pub Becomes : MemoryRows → (ℕ → ℕ → ℕ) → Type 0
 Becomes memory f = (x y : ℕ) → x < screen_width → y < screen_height → at memory x y ≡ f x y
 
@@ -38,7 +38,7 @@ Becomes memory f = (x y : ℕ) → x < screen_width → y < screen_height → at
 abbrev pub drawn_over : Bool → ℕ → ℕ → ℕ
 drawn_over exclusive colour old = if exclusive then bit_xor colour old else colour
 
--- colour 0 or 1 of pixel i of a line, by its bit
+-- the colour of pixel i of a line: colour 1 if its bit is set, otherwise colour 0
 abbrev pub line_colour : ℕ → ℕ → ℕ → ℕ → ℕ
 line_colour colour0 colour1 line i = if has_bit (5 - i) line then colour1 else colour0
 
@@ -63,7 +63,7 @@ moved_in None across down old x y = old (source_x across x % screen_width) (sour
 abbrev pub scrolled : Scrolling → (ℕ → ℕ → ℕ) → ℕ → ℕ → ℕ
 scrolled scroll old x y = moved_in scroll.incoming scroll.across scroll.down old x y
 
--- the ranges of the fields beside the memory
+-- The fields other than the memory are in their ranges.
 pub record IsInRange (border : ℕ) (colours levels : List ℕ) (h v : ℕ) : Type 0 where
   pub border_below : border < colour_count
   pub colours_count : length colours ≡ colour_count
@@ -73,7 +73,7 @@ pub record IsInRange (border : ℕ) (colours levels : List ℕ) (h v : ℕ) : Ty
   pub h_most : h ≤ 5
   pub v_most : v ≤ 11
 
--- the fields of a screen: its memory as rows with a moving origin, and the fields beside it
+-- the fields of a screen: its memory as rows with a moving origin, and the other fields
 pub record Kept : Type 0 where
   pub memory : MemoryRows
   pub border : ℕ

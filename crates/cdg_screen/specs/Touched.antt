@@ -25,13 +25,13 @@ touched_by (ColoursLow colours) = Colours
 touched_by (ColoursHigh colours) = Colours
 touched_by _ = Nothing
 
--- the fields beside the memory are equal in both states
+-- The border, the colours and the levels are equal in both states.
 pub record IsSameBeside (old new : Standing) : Type 0 where
   pub border : new.border ≡ old.border
   pub colours : new.colours ≡ old.colours
   pub levels : new.levels ≡ old.levels
 
--- the offsets are equal
+-- The offsets are equal in both states.
 abbrev pub IsSamePlace : Standing → Standing → Type 0
 IsSamePlace old new = (new.h ≡ old.h) × (new.v ≡ old.v)
 

@@ -29,8 +29,8 @@ const BOTTOM: u32 = WINDOW_BOTTOM as u32;
 /// A pixel is the number of its colour, 0 to 15. The screen also has 300 by 216 pixels. Its window of 288 by 192
 /// pixels begins at (6, 12) and shows the memory, moved by the offsets. The border is around the window.
 ///
-/// The struct holds only numbers: a caller can allocate it anywhere, and a `Screen` holds it on the heap. All zero, it
-/// is a blank screen.
+/// The struct has only numbers: a caller can allocate it anywhere, and a `Screen` has it on the heap. If all
+/// numbers are zero, it is a blank screen.
 #[derive(Drop)]
 #[repr(C)]
 pub struct PlainScreen {

@@ -3,7 +3,7 @@ ghost use Rattle.std.specs.Prelude.{◌≡◌, ◌<◌, ◌≤◌, ◌+◌, ◌-
 
 use cdg_instructions::TILE_WIDTH;
 
-/// A place that wraps around, at most once: no division.
+/// A place modulo the size, for a place below twice the size. It needs no division.
 #[inline(always)]
 pub(crate) fn wrapped(place: usize, size: usize) -> usize
     requires { place < 2 * size }
@@ -20,7 +20,7 @@ pub(crate) fn fill(columns: &mut [u8], from: usize, to: usize, colour: u8)
     ensures { (i : ℕ) → slice_index columns.new i
         ≡ (if nat_le from i && nat_lt i to then colour else slice_index columns.old i) }
 {
-    // Both sides of a whole row have this width. A constant width avoids a call.
+    // In a whole row, the border has this width at each side. A constant width avoids a call.
     if to - from == TILE_WIDTH {
         columns[from..from + TILE_WIDTH].fill(colour);
     } else {

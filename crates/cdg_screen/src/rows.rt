@@ -11,7 +11,7 @@ use crate::row_parts::{fill, wrapped, write_at};
 use cdg_instructions::{SCREEN_HEIGHT, SCREEN_WIDTH, TILE_HEIGHT, TILE_WIDTH};
 
 impl PlainScreen {
-    /// Writes the numbers of the colours of a row of the screen's pixels. `y` is below 216.
+    /// Writes the 300 colour numbers of row `y` of the screen. `y` is below 216.
     pub fn write_row(&self, y: usize, row: &mut [u8; SCREEN_WIDTH])
         requires { y < screen_height }
         ensures pixels { (x : ℕ) → x < screen_width
@@ -47,7 +47,8 @@ impl PlainScreen {
         fill(columns, right, end, self.border);
     }
 
-    /// The same numbers as a slice of the memory. `None` if they include the border or wrap around.
+    /// The colour numbers that `write_columns` writes, as a slice of the memory. `None` if they include the
+    /// border or wrap around.
     pub fn columns(&self, x: usize, y: usize, count: usize) -> Option<&[u8]>
         requires width { x + count ≤ screen_width }
         requires height { y < screen_height }
@@ -65,7 +66,7 @@ impl PlainScreen {
         Some(columns)
     }
 
-    /// Row `y` of the memory, 300 numbers of colours. `y` is below 216.
+    /// The 300 colour numbers of row `y` of the memory. `y` is below 216.
     pub fn memory_row(&self, y: usize) -> [u8; SCREEN_WIDTH]
         requires { y < screen_height }
         ensures row { result ≡ slice_index_or (seen self.now).memory y [] }

@@ -13,7 +13,7 @@ use cdg_instructions::{
     DrawnTile, SCREEN_HEIGHT, SCREEN_WIDTH, Scrolling, TILE_HEIGHT, TILE_WIDTH,
 };
 
-// A line that changes nothing by exclusive or.
+// A line of zeros. Drawn by exclusive or, it changes nothing.
 const ZEROS: [u8; TILE_WIDTH] = [0; TILE_WIDTH];
 
 impl Memory {

@@ -48,7 +48,7 @@ fn touched_tile(tile: &DrawnTile) -> Touched
     }
 }
 
-/// A law: an instruction changes nothing but what it touches.
+/// A law: an instruction changes only the part that it touches.
 pub fn untouched_stays()
     ensures { (instr : Instr) (now : Standing) → IsWholeStanding now
         → KeepsTheRest (touched_by instr) now (standing_after now (instr ∷ [])) }

@@ -7,7 +7,7 @@ use Rattle.rand_pcg.specs.Pcg.{pcg32, multiplier_64}
 unfoldable pub generator : ℕ → Lcg
 generator seed = started 64 multiplier_64 seed (increment_of 64 54)
 
--- its word n
+-- word n of the generator
 unfoldable pub generator_word : ℕ → ℕ → ℕ
 generator_word seed n = (pcg32 (advance 64 multiplier_64 n (generator seed))).0
 

@@ -1,10 +1,10 @@
--- The lines of a picture, by a generator that stands at their first word.
+-- The lines of a picture, made by a generator whose next word is their first.
 use Rattle.std.specs.Prelude.{ℕ, List, ◌++◌}
 use Rattle.rand_pcg.specs.Lcg.{Lcg}
 use Rattle.rand_pcg.specs.Pcg.{pcg32}
 use Rattle.cdg_workload.specs.Script.{generated_rect_line, generated_show_line}
 
--- the generator two words on
+-- the generator after the next two words
 unfoldable pub after_two : Lcg → Lcg
 after_two words = (pcg32 (pcg32 words).1).1
 

@@ -6,8 +6,8 @@ use Rattle.bit_lists.specs.Digits.{line_feed}
 use Rattle.disc_time.specs.Time.{time_text}
 use Rattle.cdg_workload.specs.Generator.{generator_word, low_half, high_half}
 
--- the most pictures of a generated script: with them and a pause the longest trial has 400,170 blocks of program,
--- and a disc holds 449,999
+-- the maximum number of pictures of a generated script: with them and a pause the longest trial has 400,170 program blocks,
+-- and a disc has room for 449,999
 abbrev pub most_generated : ℕ
 most_generated = 500
 
@@ -31,7 +31,7 @@ rectangle_of a b =
       colour = b / 256 % 16;
     }
 
--- its line
+-- the line of the rectangle that two words make
 unfoldable pub generated_rect_line : ℕ → ℕ → List ℕ
 generated_rect_line a b =
     let rect = rectangle_of a b in
@@ -43,11 +43,11 @@ generated_rect_line a b =
 abbrev pub ready_block : ℕ → ℕ
 ready_block k = 800 * (k + 1)
 
--- the block until which it is held
+-- the block until which picture k is held
 abbrev pub hold_block : ℕ → ℕ
 hold_block k = ready_block k + 20
 
--- colour k is the grey of that level
+-- the line that makes colour k the grey of level k
 unfoldable pub grey_line : ℕ → List ℕ
 grey_line k = codes "colour " ++ decimal k ++ codes " 0" ++ digit_char k ∷ digit_char k ∷ digit_char k ∷ []
     ++ line_feed
@@ -63,6 +63,6 @@ picture_lines seed k = flat_map
     (λ i. generated_rect_line (generator_word seed (6 * k + 2 * i)) (generator_word seed (6 * k + 2 * i + 1)))
     (below 3) ++ generated_show_line k
 
--- the script of so many pictures
+-- the script of this number of pictures
 unfoldable pub generated_script : ℕ → ℕ → List ℕ
 generated_script seed count = flat_map grey_line (below 16) ++ flat_map (picture_lines seed) (below count)

@@ -9,32 +9,32 @@ use rand_core::utils::NextWord;
 use rand_pcg::Pcg32;
 use raw_subcode::BLOCK_BYTES;
 
-// The fewest symbols between two bursts.
+// The minimum number of symbols between two bursts.
 const LEAST_GAP: u32 = 192;
 
-// How many sizes the gap before a burst can have, from the least on.
+// The number of possible sizes of the gap before a burst, from the minimum on.
 const GAP_COUNT: u32 = 64;
 
-// The most symbols that a burst has.
+// The maximum number of symbols in a burst.
 const MOST_BURST: usize = 16;
 
-// How many changes a burst can have: those that leave no symbol as it is.
+// The number of possible changes of a burst, each of which changes every symbol.
 const CHANGE_COUNT: u32 = 63;
 
-/// Goes over symbols, and changes them in bursts.
+/// Passes symbols in order, and changes them in bursts.
 #[derive(Drop)]
 pub struct Needle {
-    /// How many symbols come before the next one that is changed.
+    /// The number of symbols before the next changed one.
     pub gap: u32,
-    /// How many symbols are then changed.
+    /// The number of symbols that are changed then.
     pub left: u32,
-    /// What they are combined with.
+    /// The number with which these symbols are combined (exclusive or).
     pub change: u8,
     pub words: Pcg32,
 }
 
 impl Needle {
-    // Where a burst has ended, takes a word for the next one.
+    // If a burst has ended, makes the next one from a word of the generator.
     #[tactic(auto, unfolding(crate::specs::Steps::ready, crate::specs::Steps::next_needle))]
     fn make_ready(&mut self)
         ensures { self.new ≡ ready self.old }
@@ -47,7 +47,7 @@ impl Needle {
         }
     }
 
-    // Goes over the symbols before the next one that is changed, at most so many: how many they are.
+    // Passes the symbols before the next changed one, at most `most`, and returns their number.
     #[inline]
     fn pass(&mut self, most: usize) -> usize
         ensures next { self.new ≡ record self.old { gap = self.old.gap - result } }
@@ -60,7 +60,7 @@ impl Needle {
         passed
     }
 
-    /// Whether the next burst comes after a whole block: then that block is gone over.
+    /// Whether the next burst begins after a whole block. If it does, this block is passed.
     #[inline]
     pub(crate) fn skip_block(&mut self) -> bool
         ensures skips { result ≡ true → block_bytes ≤ self.old.gap }
@@ -74,7 +74,7 @@ impl Needle {
         true
     }
 
-    // Goes over the symbols of a burst that has begun, at most so many: how many they are.
+    // Passes the symbols of a burst that has begun, at most `most`, and returns their number.
     #[inline]
     fn strike(&mut self, most: usize) -> usize
         ensures next { self.new ≡ record self.old { left = self.old.left - result } }
@@ -91,8 +91,9 @@ impl Needle {
         struck
     }
 
-    // From a place on, goes over the symbols before the next burst and changes those of it, as far as the bytes reach:
-    // where that ends. Most bursts lie well within the bytes, and take the few steps of the first branch.
+    // From a place on, passes the symbols before the next burst and changes those of the burst, as far as the
+    // bytes reach. Returns the place after them. Most bursts lie well within the bytes, and take the few
+    // steps of the first branch.
     #[inline]
     fn pass_burst(&mut self, bytes: &mut [u8], at: usize) -> usize
         requires place { at < length bytes.old }
@@ -149,8 +150,8 @@ fn combine(bytes: &mut [u8], from: usize, to: usize, change: u8)
     }
 }
 
-// The same for at most sixteen bytes. It takes the same steps however many they are: it changes sixteen, and puts those
-// back that stay.
+// Combines at most sixteen bytes with a change. It always takes the same steps: it changes sixteen bytes, and
+// restores those that must not change.
 #[inline]
 fn combine_few(bytes: &mut [u8], from: usize, to: usize, change: u8)
     requires order { from ≤ to }
@@ -186,7 +187,7 @@ fn put_sixteen(row: &mut [u8], bytes: &[u8; MOST_BURST])
     }
 }
 
-// The same for any number of bytes.
+// Combines any number of bytes with a change.
 #[inline]
 fn combine_each(bytes: &mut [u8], from: usize, to: usize, change: u8)
     requires order { from ≤ to }

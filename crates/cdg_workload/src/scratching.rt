@@ -23,16 +23,16 @@ use cdg_io::{
 use raw_subcode::{BLOCK_BYTES, Form, MOST_UNITS};
 use rw_interleave::bursts_are_damage;
 
-/// Passes the blocks of the lead-in on, and scratches those of the program.
+/// Leaves the lead-in blocks unchanged, and scratches the program blocks.
 #[derive(Drop)]
 pub struct Scratches {
-    /// The blocks of the lead-in that are still to come.
+    /// The number of lead-in blocks that are still to come.
     pub lead_in: u32,
     pub needle: Needle,
 }
 
 impl Scratches {
-    /// Before the first block of a stream with so many blocks of lead-in.
+    /// The state before the first block of a stream with this number of lead-in blocks.
     pub fn start(lead_in: u32, seed: u64) -> Scratches
         ensures { result ≡ fresh_scratches lead_in seed }
     {
@@ -47,7 +47,7 @@ impl Scratches {
         }
     }
 
-    /// Goes over the next block, and scratches it where it is one of the program.
+    /// Processes the next block, and scratches it if it is a program block.
     #[inline]
     #[tactic(auto, unfolding(crate::specs::Steps::block_next, crate::specs::Steps::block_gives))]
     pub fn scratch(&mut self, block: &mut [u8; BLOCK_BYTES])
@@ -78,7 +78,7 @@ impl InPlace for Scratches {
         }
     }
 
-    // The blocks of the lead-in stay, and those of the program are scratched where they stand, from burst to burst.
+    // The lead-in blocks are unchanged, and the program blocks are scratched in place, from burst to burst.
     #[inline]
     fn change_row(&mut self, blocks: &mut [u8], count: usize) {
         let kept = (self.lead_in as usize).min(count);
@@ -113,15 +113,16 @@ impl UnitStage for Scratches {
     }
 }
 
-/// Writes a raw stream with the scratches of a seed, as its blocks are read: bursts of up to sixteen neighbouring
-/// symbols, at least 192 symbols apart, after so many blocks of lead-in. The lead-in and the P and Q bits stay.
-/// Blocks have 96 bytes, and at most 1,000,000 are read. The answer counts them, those of the lead-in included.
+/// Writes a raw stream with the scratches of a seed, while it reads the blocks. Scratches are bursts of up to
+/// sixteen neighbouring symbols, at least 192 symbols apart, after `lead_in` blocks. The lead-in and the P
+/// and Q bits are unchanged. Blocks have 96 bytes, and at most 1,000,000 are read. The result counts all
+/// blocks, also those of the lead-in.
 ///
 /// # Errors
 ///
-/// `Torn` where a rest of a block follows the last whole one: it is not written. `TooLong` where a byte follows the
-/// last block that may be read. `ReadFault` after the blocks before it. After `WriteFault` a prefix of the stream was
-/// written.
+/// `Torn` if a part of a block follows the last whole block; this part is not written. `TooLong` if a byte
+/// follows the last block that may be read. `ReadFault` comes after the blocks before it were written. After
+/// `WriteFault` a prefix of the stream was written.
 pub fn scratch<S: Source, K: Sink>(
     lead_in: u32,
     seed: u64,
@@ -139,8 +140,8 @@ pub fn scratch<S: Source, K: Sink>(
     pump_units(source, MOST_UNITS, &mut scratches, out)
 }
 
-/// A law: what scratches change of a stream are bursts of symbols of the program: up to sixteen, and at least 192
-/// apart. The lead-in and the P and Q bits stay.
+/// A law: scratches change bursts of program symbols in a stream. A burst has up to sixteen symbols, and two
+/// bursts are at least 192 symbols apart. The lead-in and the P and Q bits are unchanged.
 pub fn scratches_are_bursts()
     ensures bursts { (lead_in seed : ℕ) (bytes : List ℕ)
         → DiffersInBursts (symbols_of (drop (block_bytes * lead_in) bytes))
@@ -160,8 +161,8 @@ pub fn scratches_are_damage()
     bursts_are_damage();
 }
 
-/// A law: scratches go over a stream with no lead-in block by block. Before its first block nothing is known of it, and
-/// what they make of block b, after the blocks before it, is block b of the stream with scratches.
+/// A law: scratches process a stream with no lead-in block by block. They begin in the state before any
+/// stream. Their output for block b, after the blocks before it, is block b of the stream with scratches.
 pub fn scratches_go_block_by_block()
     ensures start { (seed : ℕ) (bytes : List ℕ)
         → scratches_after seed bytes 0 ≡ fresh_scratches 0 seed }

@@ -16,14 +16,15 @@ use itoa::{Buffer, Integer};
 use rand_core::utils::NextWord;
 use rand_pcg::Pcg32;
 
-/// How many blocks a picture is ready after the one before it, the first one after the beginning.
+/// The number of blocks from the ready time of a picture to that of the next, and from the beginning to the
+/// first.
 pub const BLOCKS_A_PICTURE: u32 = 800;
 
-/// How many blocks a picture is held.
+/// The number of blocks for which a picture is held.
 pub const BLOCKS_HELD: u32 = 20;
 
-/// How many pictures a script has at most: with them and a pause the longest trial has 400,170 blocks of program, and
-/// a disc holds 449,999.
+/// The maximum number of pictures in a script. With them and a pause the longest trial has 400,170 program
+/// blocks, and a disc has room for 449,999.
 pub const MOST_GENERATED: u32 = 500;
 
 // Sixteen greys, a line for each colour.
@@ -67,7 +68,7 @@ pub fn write_script<K: Sink>(seed: u64, pictures: u32, out: &mut K) -> Result<()
     Ok(())
 }
 
-// The lines of a picture, by the next six words.
+// The lines of a picture, made from the next six words.
 #[tactic(auto, unfolding(crate::specs::Pictures::picture_from))]
 fn picture(words: &mut Pcg32, k: u32) -> Piece
     requires { k < most_generated }
@@ -82,7 +83,7 @@ fn picture(words: &mut Pcg32, k: u32) -> Piece
     lines
 }
 
-// Appends the line of a rectangle, by the next two words.
+// Appends the line of a rectangle, made from the next two words.
 #[tactic(auto, unfolding(crate::specs::Pictures::after_two, crate::specs::Pictures::rect_from, crate::specs::Script::generated_rect_line))]
 fn add_rect(lines: &mut Piece, words: &mut Pcg32)
     requires { length lines.old ≤ 95 }
@@ -144,7 +145,7 @@ fn add_show(lines: &mut Piece, k: u32)
     lines.add(b"\n");
 }
 
-/// A law: every generated script is accepted, and its lines say these drawings.
+/// A law: every generated script is accepted, and read as these drawings.
 pub fn generated_scripts_are_read()
     ensures { (seed count : ℕ) → count ≤ most_generated
         → read_script (generated_script seed count) ≡ Ok (generated_drawings seed count) }
@@ -165,7 +166,7 @@ pub fn generated_scripts_have_times()
         → hold_time (generated_drawings seed count) k ≡ hold_block k }
 {}
 
-// The stream of the generator that scripts and scratches are made by.
+// The number of the generator's stream for scripts and scratches.
 const STREAM: u64 = 54;
 
 #[tactic(auto, unfolding(crate::specs::Generator::generator))]

@@ -1,4 +1,4 @@
--- What a reader keeps: at place n of 256 the kept pack with the number n.
+-- The packs that a reader keeps: place n of 256 has the kept pack with the number n.
 use Rattle.std.specs.Prelude.{◌≡◌, ℕ, true, not, ◌&&◌, List, map, find, replicate, set, slice_index_or, Option, Some, None, is_some, ◌==◌, if◌then◌else◌}
 use Rattle.bit_lists.specs.Counting.{below}
 use Rattle.cdtext_packs.specs.Packs.{most_text_packs, pack_number, check_matches, is_first_block, is_good}
@@ -9,15 +9,15 @@ use Rattle.cdtext_packs.specs.declared.kinds.Offer.TheVariants.{Kept, Again, Bad
 unfoldable pub nothing_kept : List (Option (List ℕ))
 nothing_kept = replicate most_text_packs None
 
--- the kept pack with a number
+-- the kept pack with the number n, if any
 abbrev pub with_number : List (Option (List ℕ)) → ℕ → Option (List ℕ)
 with_number kept n = slice_index_or kept n None
 
--- each kept pack is good
+-- Each kept pack is good.
 abbrev pub AreGood : List (Option (List ℕ)) → Type 0
 AreGood kept = (n : ℕ) (pack : List ℕ) → with_number kept n ≡ Some pack → is_good pack ≡ true
 
--- what becomes of a pack that is offered where these are kept
+-- the result of offering a pack to a reader that keeps these packs
 abbrev pub offer_of : List (Option (List ℕ)) → List ℕ → Offer
 offer_of kept pack =
     if not (check_matches pack) then BadCrc
@@ -25,14 +25,14 @@ offer_of kept pack =
     else (if is_some (with_number kept (pack_number pack)) then Again
     else Kept))
 
--- what is kept after an offer with this answer: a kept pack stands at its number, else nothing changes
+-- the kept packs after an offer with this result: a pack that is kept is at the place of its number
 abbrev pub kept_by : Offer → List (Option (List ℕ)) → List ℕ → List (Option (List ℕ))
 kept_by Kept kept pack = set kept (pack_number pack) (Some pack)
 kept_by Again kept pack = kept
 kept_by BadCrc kept pack = kept
 kept_by OtherBlock kept pack = kept
 
--- what is kept of a list of offered packs: for each number the first good pack with it
+-- the packs that are kept from a list of offered packs: for each number, the first good pack with this number
 abbrev pub kept_among : List (List ℕ) → List (Option (List ℕ))
 kept_among packs =
     map (λ n. find (λ pack. is_good pack && pack_number pack == n) packs) (below most_text_packs)

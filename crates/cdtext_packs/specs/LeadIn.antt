@@ -5,11 +5,11 @@ use Rattle.bit_lists.specs.Bits.{bits_of_bytes, numbers_of}
 use Rattle.raw_subcode.specs.Channels.{symbols_of, symbol_bits}
 use Rattle.raw_subcode.specs.Sizes.{slots_a_block, symbols_a_slot}
 
--- the symbols of a pack: its 144 bits by six
+-- the symbols of a pack: its 144 bits, six in each symbol
 abbrev pub pack_symbols : List ℕ → List ℕ
 pack_symbols pack = numbers_of 6 (bits_of_bytes pack)
 
--- the symbols of slot j of the lead-in, which holds the packs over and over, or zeros where there are none
+-- the symbols of slot j of the lead-in: the packs are repeated again and again; without packs, all symbols are zeros
 abbrev pub lead_in_slot : List (List ℕ) → ℕ → List ℕ
 lead_in_slot packs j = if length packs == 0 then replicate symbols_a_slot 0
     else pack_symbols (slice_index_or packs (j % length packs) [])

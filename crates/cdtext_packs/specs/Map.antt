@@ -1,8 +1,8 @@
--- The texts that a map holds.
+-- The texts in a map.
 use Rattle.cdtext_packs.specs.Texts.{Texts, AreTexts}
 use Rattle.cdtext_packs.specs.declared.map.TextMap.TheInside.{Inside}
 
--- what the fields of a map say
+-- the texts in the fields of a map
 abbrev pub texts_of_map : Inside → Texts
 texts_of_map m = record {
   first = m.first;
@@ -16,6 +16,6 @@ texts_of_map m = record {
   code = m.code;
 }
 
--- what holds of every map
+-- The fields are those of a map: they have no texts at all, or the texts of an album with tracks.
 abbrev pub HoldsTexts : Inside → Type 0
 HoldsTexts m = AreTexts (texts_of_map m)

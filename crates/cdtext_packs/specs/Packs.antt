@@ -27,45 +27,45 @@ checked_bytes = 16
 abbrev pub size_packs : ℕ
 size_packs = 3
 
--- which of the bytes of text of the size packs is the first track
+-- the index of the first track among the 36 bytes of text in the size packs
 abbrev pub first_track_place : ℕ
 first_track_place = 1
 
--- which of the bytes of text of the size packs is the last track
+-- the index of the last track among the 36 bytes of text in the size packs
 abbrev pub last_track_place : ℕ
 last_track_place = 2
 
--- which of the bytes of text of the size packs is the number of the last pack
+-- the index of the number of the last pack among the 36 bytes of text in the size packs
 abbrev pub last_number_place : ℕ
 last_number_place = 20
 
--- the greatest position that a pack can tell, in four bits
+-- the greatest position in the head of a pack, which has four bits for it
 abbrev pub most_position : ℕ
 most_position = 15
 
--- the type: 80 to 85 and 8E of the kinds of strings, 8F of the size packs, in hexadecimal
+-- the type of a pack, in hexadecimal: 80 to 85 and 8E for the kinds of strings, 8F for the size packs
 abbrev pub pack_type : List ℕ → ℕ
 pack_type pack = slice_index pack 0
 
--- the track of the string with which its text begins, 0 for the album; of a size pack, which of the three it is
+-- the track of the string with which the text of a pack begins (0 for the album); in a size pack, its index from 0 to 2
 abbrev pub pack_track : List ℕ → ℕ
 pack_track pack = slice_index pack 1
 
--- the number, by which the packs are in order
+-- the number of a pack: packs are in the order of their numbers
 abbrev pub pack_number : List ℕ → ℕ
 pack_number pack = slice_index pack 2
 
--- the twelve bytes of text
+-- the twelve bytes of text of a pack
 abbrev pub pack_text : List ℕ → List ℕ
 pack_text pack = take text_bytes (drop head_bytes pack)
 
--- whether the last two bytes are the check of the others, the high byte first
+-- whether the last two bytes of a pack, the high byte first, are the check of the others
 unfoldable pub check_matches : List ℕ → Bool
 check_matches pack =
     check_of (take checked_bytes pack)
     == 256 * slice_index pack checked_bytes + slice_index pack (checked_bytes + 1)
 
--- whether a pack has single bytes as its characters and is of the first of eight blocks
+-- whether a pack has single-byte characters and belongs to the first of eight text blocks
 abbrev pub is_first_block : List ℕ → Bool
 is_first_block pack = nat_lt (slice_index pack 3) 16
 
@@ -73,7 +73,7 @@ is_first_block pack = nat_lt (slice_index pack 3) 16
 abbrev pub is_good : List ℕ → Bool
 is_good pack = check_matches pack && is_first_block pack
 
--- whether a pack's check matches, but it is of another block or of double-byte text
+-- whether the check of a pack matches, but the pack belongs to another text block or has double-byte text
 abbrev pub is_of_other_block : List ℕ → Bool
 is_of_other_block pack = check_matches pack && not (is_first_block pack)
 

@@ -17,17 +17,17 @@ kind_name Arranger = codes "arranger"
 kind_name Message = codes "message"
 kind_name Code = codes "code"
 
--- a byte as it is printed: a printable one but the backslash as itself, and any other as a backslash and two
--- hexadecimal digits
+-- a byte as it is printed: printable characters except the backslash are unchanged; any other byte becomes a backslash and
+-- two hexadecimal digits
 abbrev pub printed : ℕ → List ℕ
 printed byte = if nat_le 0x20 byte && nat_le byte 0x7e
     && not (byte == 92) then byte ∷ [] else 92 ∷ hex_digits 2 byte
 
--- what stands in a line before its string
+-- the beginning of a line, before its string
 abbrev pub line_head : TextKind → ℕ → List ℕ
 line_head kind track = kind_name kind ++ codes " " ++ digits 2 track ++ codes " "
 
--- the line of a track's string, or of the album's as track 0, and nothing where the string is empty
+-- the line with the string of a track (0 for the album), or nothing if the string is empty
 unfoldable pub text_line : Texts → TextKind → ℕ → List ℕ
 text_line texts kind track =
     if is_empty (text_of kind track texts) then []
@@ -41,7 +41,7 @@ tracks_of texts = 0 ∷ range_with_len texts.first (texts.last - texts.first + 1
 unfoldable pub kind_lines : Texts → TextKind → List ℕ
 kind_lines texts kind = flat_map (text_line texts kind) (tracks_of texts)
 
--- the line on offered packs: those that can be kept, those whose check does not match, and those of other blocks
+-- the line with the numbers of offered packs: good packs, packs whose check does not match, and packs of other text blocks
 unfoldable pub offers_line : ℕ → ℕ → ℕ → List ℕ
 offers_line good bad other = codes "packs good " ++ decimal good ++ codes " bad " ++ decimal bad
     ++ codes " other " ++ decimal other ++ line_feed

@@ -46,7 +46,7 @@ strings_of Arranger texts = texts.arranger
 strings_of Message texts = texts.message
 strings_of Code texts = texts.code
 
--- the string of a track, or of the album as track 0, and an empty one where there is none
+-- the string of a track (0 for the album), or an empty string if there is none
 abbrev pub text_of : TextKind → ℕ → Texts → List ℕ
 text_of kind track texts =
     if track == 0 then slice_index_or (strings_of kind texts) 0 []
@@ -65,7 +65,7 @@ are_empty strings = list_all is_empty strings
 abbrev pub has_no_text : Texts → Bool
 has_no_text texts = list_all (λ kind. are_empty (strings_of kind texts)) kinds
 
--- these texts, or no texts at all where every string is empty
+-- these texts, or no texts at all if every string is empty
 abbrev pub unless_empty : Texts → Texts
 unless_empty texts = if has_no_text texts then no_texts else texts
 
@@ -86,12 +86,12 @@ texts_with first title performer songwriter code =
       code = code;
     }
 
--- a string has no zero byte, and no more bytes than the largest sheet
+-- The string has no zero byte, and at most as many bytes as a sheet may have.
 pub record IsString (s : List ℕ) : Type 0 where
   pub size : length s ≤ most_text_bytes
   pub nonzero : All (λ byte. byte ≢ 0) s
 
--- there are tracks, and a string of each kind for the album and each of them
+-- There are tracks, and each kind has a string for the album and for each track.
 pub record HasTracks (texts : Texts) : Type 0 where
   pub first : 1 ≤ texts.first
   pub last : texts.first ≤ texts.last
@@ -99,6 +99,6 @@ pub record HasTracks (texts : Texts) : Type 0 where
   pub count : (kind : TextKind) → length (strings_of kind texts) ≡ texts.last - texts.first + 2
   pub strings : (kind : TextKind) → All IsString (strings_of kind texts)
 
--- no texts at all, or those of tracks
+-- There are no texts at all, or the texts of an album with tracks.
 abbrev pub AreTexts : Texts → Type 0
 AreTexts texts = (texts ≡ no_texts) ⊎ HasTracks texts

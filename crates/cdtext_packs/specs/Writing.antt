@@ -27,32 +27,32 @@ size_type = 0x8f
 abbrev pub english : ℕ
 english = 9
 
--- how many packs the strings of a kind fill at most: those of the album and of 99 tracks, each as long as it can be
+-- the maximum number of packs for the strings of a kind: the album and 99 tracks, each with a string of the maximum length
 abbrev pub most_kind_packs : ℕ
 most_kind_packs = 559240542
 
--- what a pack holds beside its number and its check
+-- the content of a pack: everything except its number and its check
 pub record Content : Type 0 where
   pub type : ℕ
   pub track : ℕ
   pub position : ℕ
   pub text : List ℕ
 
--- strings in a row, a zero byte after each
+-- the bytes of strings, with a zero byte after each string
 abbrev pub joined : List (List ℕ) → List ℕ
 joined strings = flat_map (λ s. s ++ 0 ∷ []) strings
 
--- for each of these bytes the place of its string, counted from the first, and how many bytes of the string stand
--- before it
+-- for each of these bytes, the place of its string (the first string has the place `first`), and the offset of the byte in
+-- its string
 abbrev pub holders : ℕ → List (List ℕ) → List (ℕ × ℕ)
 holders first [] = []
 holders first (s ∷ rest) = map (λ offset. (first, offset)) (below (length s + 1)) ++ holders (first + 1) rest
 
--- part k of bytes that are cut by twelve, with zeros past the end
+-- part k of bytes that are divided into parts of twelve; zeros fill the last part
 abbrev pub twelve : List ℕ → ℕ → List ℕ
 twelve bytes k = take text_bytes (drop (text_bytes * k) bytes ++ replicate text_bytes 0)
 
--- pack k of the strings of a type: its track and position are those of the byte with which its text begins
+-- the content of pack k of the strings of a type; the track and the position belong to the first byte of its text
 unfoldable pub text_content : ℕ → ℕ → List (List ℕ) → ℕ → Content
 text_content first type strings k =
     let holder = slice_index_or (holders 0 strings) (text_bytes * k) (0, 0) in
@@ -63,19 +63,19 @@ text_content first type strings k =
       text = twelve (joined strings) k;
     }
 
--- how many packs the strings of a kind fill: none where every string is empty
+-- the number of packs for the strings of a kind: none if every string is empty
 abbrev pub pack_count : List (List ℕ) → ℕ
 pack_count strings = if are_empty strings then 0
     else (length (joined strings) + (text_bytes - 1)) / text_bytes
 
--- what the packs of a kind hold, in order
+-- the contents of the packs of a kind, in order
 unfoldable pub kind_contents : Texts → TextKind → List Content
 kind_contents texts kind =
     let strings = strings_of kind texts in
     map (text_content texts.first (type_of kind) strings) (below (pack_count strings))
 
--- the 36 size bytes: the tracks, how many packs each type from 80 to 8F has, the last number of each block, and the
--- languages
+-- the 36 size bytes: the first and the last track, the number of packs of each type from 80 to 8F, the last pack number of
+-- each text block, and the languages
 abbrev pub size_bytes : Texts → List ℕ
 size_bytes texts =
     let count = λ (kind : TextKind). length (kind_contents texts kind) in
@@ -84,7 +84,7 @@ size_bytes texts =
     ∷ (length (flat_map (kind_contents texts) kinds) + (size_packs - 1))
     ∷ (replicate 7 0 ++ english ∷ replicate 7 0))
 
--- what size pack d of the three holds
+-- the content of size pack d, from 0 to 2
 abbrev pub size_content : Texts → ℕ → Content
 size_content texts d = record {
   type = size_type;
@@ -93,19 +93,19 @@ size_content texts d = record {
   text = twelve (size_bytes texts) d;
 }
 
--- what the three size packs hold
+-- the contents of the three size packs
 abbrev pub size_contents : Texts → List Content
 size_contents texts = map (size_content texts) (below size_packs)
 
--- what all packs of texts hold, in order
+-- the contents of all packs of texts, in order
 abbrev pub contents : Texts → List Content
 contents texts = if has_no_text texts then [] else flat_map (kind_contents texts) kinds ++ size_contents texts
 
--- the sixteen bytes of a pack with a number
+-- the sixteen bytes of a pack with this number and this content, without its check
 abbrev pub content_bytes : ℕ → Content → List ℕ
 content_bytes number content = content.type ∷ content.track ∷ number ∷ content.position ∷ content.text
 
--- packs that are numbered from a number on
+-- the packs with these contents, numbered from `first` on
 abbrev pub numbered : ℕ → List Content → List (List ℕ)
 numbered first holding = map (λ n. sealed (content_bytes n.0 n.1)) (enumerate_from first holding)
 
@@ -113,7 +113,7 @@ numbered first holding = map (λ n. sealed (content_bytes n.0 n.1)) (enumerate_f
 abbrev pub packs_of : Texts → List (List ℕ)
 packs_of texts = numbered 0 (contents texts)
 
--- why texts have no packs: there would be too many, or, where there would not, memory is short
+-- This is the reason why texts have no packs: they need too many packs, or memory ran out.
 abbrev pub IsPackStop : Texts → PackStop → Type 0
 IsPackStop texts (TooMany packs) = (most_text_packs < packs) × (packs ≡ length (contents texts))
 IsPackStop texts NoMemory = length (contents texts) ≤ most_text_packs

@@ -18,9 +18,10 @@ pub fn offers_keep_the_first()
         ≡ kept_among (packs ++ pack ∷ []) }
 {}
 
-/// A law: the lines of the texts of kept packs are at most 932,154 bytes. The packs hold 3,072 bytes of text at most,
-/// each of which is printed in three and, where tracks have the string before theirs, up to a hundred times; beside its
-/// string each of the 700 lines has at most 15 bytes, and the last line has at most 54.
+/// A law: the lines of the texts of kept packs are at most 932,154 bytes. The packs have at most 3,072 bytes
+/// of text. Each byte is printed as at most three bytes, and at most a hundred times, if tracks repeat the
+/// previous string. Apart from its string, each of the 700 lines has at most 15 bytes. The last line has at
+/// most 54 bytes.
 pub fn texts_of_packs_fit()
     ensures { (kept : List (Option (List ℕ))) (texts : Texts) (good bad other : ℕ)
         → length kept ≤ most_text_packs → read_texts kept ≡ Ok texts
@@ -36,8 +37,8 @@ pub fn bursts_are_noticed()
         → length one ≤ 16 → length other ≡ length one → one ≢ other → offer_of kept changed ≡ BadCrc }
 {}
 
-/// A law: texts of which some string is not empty and none is a single tab come back from their packs, in any order and
-/// with any repeats, also where damaged packs stand among them.
+/// A law: texts can be read back from their packs, in any order, with repeats, and with damaged packs among
+/// them. Some string must not be empty, and no string may be a single tab.
 pub fn texts_come_back()
     ensures { (texts : Texts) (offered : List (List ℕ)) → HasTracks texts → has_no_text texts ≡ false
         → HasNoTab texts

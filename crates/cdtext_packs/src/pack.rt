@@ -17,16 +17,16 @@ use std::marker::Model;
 /// The maximum number of packs: the number of a pack is a byte.
 pub const MOST_PACKS: u32 = 256;
 
-/// The bytes of a pack: head, text and CRC.
+/// The number of bytes in a pack: head, text and CRC.
 pub const PACK_BYTES: usize = 18;
 
-/// The bytes of a pack's head: type, track, number, position.
+/// The number of bytes in a pack's head: type, track, number, position.
 pub(crate) const HEAD_BYTES: usize = 4;
 
-/// The bytes of a pack's text.
+/// The number of bytes in a pack's text.
 pub const TEXT_BYTES: usize = 12;
 
-/// The bytes that the CRC covers: head and text.
+/// The number of bytes that the CRC covers: head and text.
 pub(crate) const CHECKED_BYTES: usize = HEAD_BYTES + TEXT_BYTES;
 
 /// The greatest position in a pack's head, which has four bits for it.
@@ -60,7 +60,7 @@ impl TextPack {
         TextPack { bytes: *bytes }
     }
 
-    /// Whether it is the same pack as another.
+    /// Whether the pack has the same bytes as another pack.
     #[inline]
     pub(crate) fn has_bytes_of(&self, other: &TextPack) -> bool
         ensures { result ≡ true → self.now ≡ other.now }
@@ -68,28 +68,28 @@ impl TextPack {
         self.bytes == other.bytes
     }
 
-    /// Its type.
+    /// The type, which is the first byte.
     pub(crate) fn kind(&self) -> u8
         ensures { result ≡ pack_type self.now }
     {
         self.bytes[0]
     }
 
-    /// Its second byte: the track of its first string, or the index of a size pack.
+    /// The second byte: the track of the first string in the pack, or the index of a size pack.
     pub(crate) fn track(&self) -> u8
         ensures { result ≡ pack_track self.now }
     {
         self.bytes[1]
     }
 
-    /// Its third byte: its number among all packs.
+    /// The third byte: the number of the pack.
     pub(crate) fn number(&self) -> u8
         ensures { result ≡ pack_number self.now }
     {
         self.bytes[2]
     }
 
-    /// Its twelve bytes of text.
+    /// The twelve bytes of text.
     pub(crate) fn text(&self) -> &[u8]
         ensures text { result.now ≡ pack_text self.now }
         ensures size { length result.now ≡ text_bytes }
@@ -106,7 +106,7 @@ impl TextPack {
         crc16(&self.bytes[..CHECKED_BYTES]) == 256 * high + low
     }
 
-    /// Whether it belongs to the first block and has single-byte characters.
+    /// Whether the pack belongs to the first text block and has single-byte characters.
     pub(crate) fn is_first_block(&self) -> bool
         ensures { result ≡ is_first_block self.now }
     {

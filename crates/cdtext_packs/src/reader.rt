@@ -152,7 +152,7 @@ fn read_sized(
             byte: (HEAD_BYTES + LAST_TRACK) as u8,
         });
     }
-    // The second of the size packs begins where the text of the first ends.
+    // The text of the second size pack continues the text of the first one.
     let count = usize::from(counts.text()[LAST_NUMBER - TEXT_BYTES]) + 1;
     read_numbers(alloc, kept, count, first, last)
 }

@@ -39,7 +39,7 @@ command_named word =
     option_map (λ (entry : List ℕ × SheetCommand). entry.1)
     (find (λ (entry : List ℕ × SheetCommand). str_eq_ignore_ascii_case word entry.0) command_words)
 
--- a byte that is not a control byte
+-- whether a byte is not a control byte
 abbrev pub is_plain : ℕ → Bool
 is_plain b = nat_le 32 b && not (b == 127)
 
@@ -47,7 +47,7 @@ is_plain b = nat_le 32 b && not (b == 127)
 unfoldable pub plain : List ℕ → Option (List ℕ)
 plain s = if list_all is_plain s then Some s else None
 
--- the quotation mark
+-- whether a byte is the quotation mark
 abbrev pub is_quote : ℕ → Bool
 is_quote b = b == 34
 
@@ -75,11 +75,11 @@ abbrev pub is_quoted_file : Option (List ℕ × List ℕ) → Bool
 is_quoted_file (Some (name, after)) = length (words_in after) == 1
 is_quoted_file None = false
 
--- a file: a name in quotes and then one word, or two or more words
+-- whether the argument names a file: a name in quotes and then one word, or two or more words
 unfoldable pub is_file : List ℕ → Bool
 is_file s = if begins_quoted s then is_quoted_file (quoted s) else nat_le 2 (length (words_in s))
 
--- a catalogue number
+-- the catalogue number in an argument
 unfoldable pub catalogue_argument : List ℕ → Option (List ℕ)
 catalogue_argument s = if is_catalogue_number s then Some s else None
 
@@ -97,13 +97,13 @@ control_of words =
     (if names_flag (codes "4CH") words then 8 else 0) + (if names_flag (codes "DCP") words then 2 else 0)
     + (if names_flag (codes "PRE") words then 1 else 0)
 
--- the words that are flags
+-- whether a word is a flag
 abbrev pub is_flag : List ℕ → Bool
 is_flag word =
     bytes_eq word (codes "4CH") || bytes_eq word (codes "DCP") || bytes_eq word (codes "PRE")
     || bytes_eq word (codes "SCMS")
 
--- flags: one word or more, each of them a flag
+-- the control bits of flags, if there is at least one word and each word is a flag
 unfoldable pub flags_argument : List (List ℕ) → Option ℕ
 flags_argument words =
     if nat_le 1 (length words) && list_all is_flag words then Some (control_of words) else None
@@ -149,7 +149,7 @@ said_by Pregap s = option_map SaysPregap (parsed_time s)
 said_by Index s = option_map (λ (i : ℕ × ℕ). SaysIndex i.0 i.1) (index_argument (words_in s))
 said_by Postgap s = option_map SaysPostgap (parsed_time s)
 
--- the ranges of the values of a line
+-- The values of the line are in their ranges.
 abbrev pub IsLineInRange : CueLine → Type 0
 IsLineInRange (SaysCatalogue s) = IsTrue (is_catalogue_number s)
 IsLineInRange (SaysTitle s) = IsText s

@@ -85,7 +85,7 @@ abbrev pub track_with : Option ℕ → CueSection → List CueTrack
 track_with None section = []
 track_with (Some number) section = track_from number section ∷ []
 
--- a track of this number begins: the section before it was that of the album, or of the track that ends here
+-- the state after a track with this number begins; the section before it belongs to the album, or to the previous track
 abbrev pub begun : CueState → ℕ → CueState
 begun s number = record s {
   album = if is_some s.number then s.album else s.section;

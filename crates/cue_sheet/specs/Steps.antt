@@ -82,13 +82,13 @@ end_reason s =
 abbrev pub sheet_said : CueState → CueSheet
 sheet_said s = sheet_from s.album (s.tracks ++ track_with s.number s.section)
 
--- the result of checking a line
+-- The check of a line has this result: the line, which is in range and accepted, or the first reason to refuse it.
 abbrev pub IsCheckedLine : CueState → Option SheetCommand → List ℕ → Result SheetLine CueWhy → Type 0
 IsCheckedLine s command argument (Ok line) = (obeyed s command argument ≡ Ok (after s (line_said line)))
     × IsLineInRange (line_said line) × (later_sheet_reason s (line_said line) ≡ None)
 IsCheckedLine s command argument (Err why) = obeyed s command argument ≡ Err why
 
--- the state before and after a whole line
+-- The line of text is accepted in the state `old`, and `new` is the state after it.
 pub data TakesLine (old : CueState) (line : List ℕ) (new : CueState) : Type 0 where
   IsEmpty : sheet_step old line ≡ Ok new → new ≡ old → TakesLine old line new
   Says : (line_said : CueLine) → sheet_step old line ≡ Ok new → IsLineInRange line_said

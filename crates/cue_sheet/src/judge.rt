@@ -6,8 +6,8 @@ use crate::command::{SheetCommand, SheetLine, spelled};
 use crate::fault::CueWhy;
 use text_lines::split_command;
 
-/// What is known about the lines of one track, or about those before the first track: which single lines there are, and
-/// the index lines.
+/// The marks of the lines of one track, or of the lines before the first track: which of the lines that are
+/// allowed once exist, and the last index line.
 #[derive(Clone, Copy, Default)]
 pub(crate) struct SectionMarks {
     pub(crate) catalogue: bool,
@@ -45,8 +45,8 @@ impl SectionMarks {
     }
 }
 
-/// What decides whether the next line is allowed. `section` describes the last track, or the lines before the first
-/// one. It allocates nothing.
+/// The state that decides whether the next line is allowed. `section` describes the last track, or the lines
+/// before the first one. It allocates nothing.
 #[derive(Clone, Copy, Default)]
 pub(crate) struct SheetJudge {
     pub(crate) has_file: bool,

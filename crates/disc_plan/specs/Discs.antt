@@ -26,24 +26,24 @@ abbrev pub planned_disc : List ℕ → List ℕ → ℕ → ℕ → DiscTexts
 planned_disc sheet script lead_in audio =
     record { sheet = sheet; script = script; lead_in = lead_in; audio = audio }
 
--- the text of the sheet is not too long, and this is its sheet
+-- The text of the sheet is not too long, and this is its sheet.
 abbrev pub HasSheetText : DiscTexts → CueSheet → Type 0
 HasSheetText disc sheet = (length disc.sheet ≤ most_text_bytes) × (read_cue disc.sheet ≡ Ok sheet)
 
--- the text of the script is not too long, and this is its script
+-- The text of the script is not too long, and this is its script.
 abbrev pub HasScriptText : DiscTexts → List Drawing → Type 0
 HasScriptText disc script = (length disc.script ≤ most_text_bytes) × (read_script disc.script ≡ Ok script)
 
--- the texts of a disc have this sheet and this script
+-- The texts of the disc are this sheet and this script.
 abbrev pub IsReadAs : DiscTexts → CueSheet → List Drawing → Type 0
 IsReadAs disc sheet script = HasSheetText disc sheet × HasScriptText disc script
 
--- nothing is refused of a disc before its pictures are planned
+-- The disc is not refused before its pictures are planned.
 abbrev pub HasPlan : DiscTexts → CueSheet → List Drawing → Type 0
 HasPlan disc sheet script = IsReadAs disc sheet script × HoldsPictures sheet script disc.audio
     × HasRoom sheet disc.lead_in
 
--- the reason why a text is not a sheet
+-- This is the reason why a text is not a sheet.
 abbrev pub IsPlanSheetStop : List ℕ → PlanStop → Type 0
 IsPlanSheetStop text SheetTooLong = most_text_bytes < length text
 IsPlanSheetStop text (Sheet line why) = (length text ≤ most_text_bytes) × (read_cue text ≡ Err (line, why))
@@ -51,7 +51,7 @@ IsPlanSheetStop text NoMemory =
     (sheet : CueSheet) × (length text ≤ most_text_bytes) × (read_cue text ≡ Ok sheet)
 IsPlanSheetStop text _ = ⊥
 
--- the reason why a text is not a script
+-- This is the reason why a text is not a script.
 abbrev pub IsPlanScriptStop : List ℕ → PlanStop → Type 0
 IsPlanScriptStop text ScriptTooLong = most_text_bytes < length text
 IsPlanScriptStop text (Script line why) =
@@ -60,8 +60,8 @@ IsPlanScriptStop text NoMemory =
     (script : List Drawing) × (length text ≤ most_text_bytes) × (read_script text ≡ Ok script)
 IsPlanScriptStop text _ = ⊥
 
--- the reason why a disc has no plan in these rows: each reason is reported only if the previous ones do not apply, and
--- `NoMemory` only if neither text is too long and no line is refused
+-- This is the reason why a disc has no plan in `room` rows. Each reason is reported only if the previous ones do not apply,
+-- and `NoMemory` only if neither text is too long and no line is refused.
 abbrev pub IsPlanStop : DiscTexts → ℕ → PlanStop → Type 0
 IsPlanStop disc room (Disc stop) = (sheet : CueSheet) × (script : List Drawing) × IsReadAs disc sheet script
     × IsDiscRefusal sheet script disc.lead_in disc.audio stop
@@ -75,7 +75,7 @@ IsPlanStop disc room (Script line why) = (sheet : CueSheet) × HasSheetText disc
 IsPlanStop disc room NoMemory = (sheet : CueSheet) × (script : List Drawing) × IsReadAs disc sheet script
 IsPlanStop disc room stop = IsPlanSheetStop disc.sheet stop
 
--- The rows of a disc, and its numbers.
+-- These are the rows of the plan of a disc, and its numbers.
 pub record IsPlan (disc : DiscTexts) (rows : List PlannedRow) (told : PlannedDisc) : Type 0 where
   pub sheet : CueSheet
   pub script : List Drawing

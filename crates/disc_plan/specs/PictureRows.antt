@@ -24,11 +24,11 @@ told_row line plan = record {
 abbrev pub is_late : PlannedRow → Bool
 is_late row = row.late == 1
 
--- the row of picture k, with this `show` line
+-- The row is that of picture k, with this `show` line.
 abbrev pub IsToldRow : List Drawing → ℕ → ℕ → PlannedRow → Type 0
 IsToldRow script line k row = (plan : PlanRow) × IsPlanRow script k plan × (row ≡ told_row line plan)
 
--- the rows of the first pictures, with these `show` lines
+-- The rows are those of the first `count` pictures, with these `show` lines.
 abbrev pub AreToldRows : List Drawing → List ℕ → ℕ → List PlannedRow → Type 0
 AreToldRows script lines count rows = (k : ℕ) → k < count
     → IsToldRow script (slice_index lines k) k (slice_index_or rows k no_disc_row)

@@ -24,7 +24,7 @@ abbrev pub flag_of : Option (List ℕ) → ℕ
 flag_of (Some code) = 1
 flag_of None = 0
 
--- the row of an index line, its number and its time, of a track
+-- the row of an index line of a track; the line is its number and its time
 abbrev pub sheet_row : CueTrack → ℕ × ℕ → SheetRow
 sheet_row track line = record {
   time = line.1;
@@ -56,7 +56,7 @@ told_sheet sheet = record {
   catalogue = or_zeros 13 sheet.catalogue;
 }
 
--- the refused line
+-- the result for a refused sheet: the refused line and the number of the reason
 abbrev pub told_refusal : ℕ → CueWhy → ToldSheet
 told_refusal line why = record {
   rows = 0;
@@ -67,16 +67,16 @@ told_refusal line why = record {
   catalogue = replicate 13 0;
 }
 
--- the text is not too long, and this is its sheet
+-- The text is not too long, and this is its sheet.
 abbrev pub IsTextOfSheet : List ℕ → CueSheet → Type 0
 IsTextOfSheet text sheet = (length text ≤ most_text_bytes) × (read_cue text ≡ Ok sheet)
 
--- the rows of a sheet are at the front, and these are its counts
+-- The rows of the sheet are at the front of the new rows, and these are its counts.
 abbrev pub AreRowsOf : List ℕ → List SheetRow → List SheetRow → ToldSheet → Type 0
 AreRowsOf text old new told = (sheet : CueSheet) × IsTextOfSheet text sheet × (told ≡ told_sheet sheet)
     × (new ≡ sheet_rows sheet ++ drop (length (sheet_rows sheet)) old)
 
--- the reason why a sheet has no rows in this room; memory can run out only for a text that has a sheet
+-- This is the reason why a sheet has no rows in this room. `NoMemory` is possible only if the text has a sheet.
 abbrev pub IsRowsStop : List ℕ → ℕ → SheetStop → Type 0
 IsRowsStop text room TooLong = most_text_bytes < length text
 IsRowsStop text room (Fault line why) = (length text ≤ most_text_bytes) × (read_cue text ≡ Err (line, why))
@@ -84,13 +84,13 @@ IsRowsStop text room (NoRoom told) = (sheet : CueSheet) × IsTextOfSheet text sh
     × (told ≡ told_sheet sheet) × (room < length (sheet_rows sheet))
 IsRowsStop text room NoMemory = (sheet : CueSheet) × IsTextOfSheet text sheet
 
--- a text of the sheet is at the front, with this length
+-- A text of the sheet is at the front of the new bytes, with this length.
 abbrev pub IsTextOf : CueText → ℕ → List ℕ → List ℕ → List ℕ → ℕ → Type 0
 IsTextOf kind place text old new bytes = (sheet : CueSheet) × IsTextOfSheet text sheet
     × (place ≤ length sheet.tracks) × (bytes ≡ length (text_at kind sheet place))
     × (new ≡ text_at kind sheet place ++ drop (length (text_at kind sheet place)) old)
 
--- the reason why a sheet has no text at a place in this room
+-- This is the reason why a sheet has no text at a place in this room.
 abbrev pub IsTextStop : CueText → ℕ → List ℕ → ℕ → TextStop → Type 0
 IsTextStop kind place text room text_too_long = most_text_bytes < length text
 IsTextStop kind place text room (text_fault line why) =

@@ -15,7 +15,7 @@ use text_lines::MOST_TEXT_BYTES;
 #[repr(C)]
 #[derive(Clone, Copy)]
 pub struct SheetRow {
-    /// Its time in the file.
+    /// The time of the index line in the file.
     pub time: u32,
     /// The silence before its track.
     pub pregap: u32,
@@ -23,7 +23,7 @@ pub struct SheetRow {
     pub postgap: u32,
     /// The number of its track, 1 to 99.
     pub track: u8,
-    /// Its number, 0 to 99.
+    /// The number of the index line, 0 to 99.
     pub index: u8,
     /// The control bits of its track.
     pub control: u8,

@@ -18,17 +18,17 @@ use subcode_author::Heap;
 pub struct PlannedRow {
     /// The number of its `show` line in the script, from 1.
     pub line: u32,
-    /// When it is ready.
+    /// The ready time of the picture.
     pub ready: u32,
     /// The end of its hold time.
     pub hold: u32,
     /// The number of packs of its change, at most 3,076.
     pub need: u32,
-    /// The number of packs that are free for it.
+    /// The number of packs that are free for the picture.
     pub free: u32,
     /// The number of the first free pack, from 0.
     pub first: u32,
-    /// 1 if it is late, otherwise 0.
+    /// 1 if the picture is late, otherwise 0.
     pub late: u8,
 }
 

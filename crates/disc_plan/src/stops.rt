@@ -7,11 +7,11 @@ use subcode_author::AuthorStop;
 /// The reason why a sheet has no rows.
 #[derive(Clone, Copy)]
 pub enum SheetStop {
-    /// It has more than 64 MiB.
+    /// The text of the sheet has more than 64 MiB.
     TooLong,
     /// The number of its first refused line, from 1, and the first reason to refuse it.
     Fault { line: u32, why: CueWhy },
-    /// It has more index lines than there are rows.
+    /// The sheet has more index lines than `rows` has room for.
     NoRoom { told: ToldSheet },
     NoMemory,
 }
@@ -19,12 +19,12 @@ pub enum SheetStop {
 /// The reason why a sheet has no text.
 #[derive(Clone, Copy)]
 pub enum TextStop {
-    /// It has more than 64 MiB.
+    /// The text of the sheet has more than 64 MiB.
     TooLong,
     /// The number of its first refused line, from 1, and the first reason to refuse it.
     Fault { line: u32, why: CueWhy },
     NoTrack,
-    /// The text has this many bytes, and there is less room.
+    /// The text has this many bytes, and the buffer has fewer.
     NoRoom { bytes: u32 },
     NoMemory,
 }
@@ -43,7 +43,7 @@ pub enum PlanStop {
     /// The sheet and the script do not fit on a disc with this lead-in and audio file. The reason is never a late
     /// picture or a failed write.
     Disc { stop: AuthorStop },
-    /// There are fewer rows than pictures. The program has this many blocks.
+    /// The script has more pictures than `rows` has room for. The program has this many blocks.
     NoRoom { pictures: u32, blocks: u32 },
     /// No line of either text is refused, but memory ran out.
     NoMemory,

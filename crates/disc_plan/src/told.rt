@@ -123,7 +123,7 @@ fn refusal(why: u32, line: u32, number: u32) -> ToldPlan
     }
 }
 
-// The reasons of a disc have no line.
+// The result for a sheet and a script that do not fit on their disc. It has no line.
 fn disc_refusal(stop: AuthorStop) -> ToldPlan
     ensures { result ≡ disc_refusal stop }
 {

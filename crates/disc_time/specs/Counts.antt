@@ -1,16 +1,16 @@
--- How many blocks there are in a second, a minute, a lead-in and a program, how many tracks on a disc, and how many bytes
--- in a text. Code calls them by the names of src/counts.rt.
+-- The numbers of blocks in a second, a minute, a lead-in and a program, of tracks on a disc, and of bytes in a text. Code
+-- calls them by the names of src/counts.rt.
 use Rattle.std.specs.Prelude.{ℕ}
 
--- blocks a second: a block is as long as a sector, 588 of 44,100 samples (IEC 60908)
+-- blocks in a second: a block takes 588 samples, of 44,100 samples in a second (IEC 60908)
 abbrev pub blocks_a_second : ℕ
 blocks_a_second = 75
 
--- blocks a minute of sixty seconds
+-- blocks in a minute
 abbrev pub blocks_a_minute : ℕ
 blocks_a_minute = 4500
 
--- blocks of the pause before the first track: two seconds, so that file time 00:00:00 is absolute time 00:02:00
+-- blocks in the pause before the first track: two seconds, so that file time 00:00:00 is absolute time 00:02:00
 abbrev pub pause_blocks : ℕ
 pause_blocks = 150
 
@@ -35,7 +35,7 @@ most_program = last_block
 abbrev pub most_tracks : ℕ
 most_tracks = 99
 
--- the most bytes of a text, 2^26: a sheet and a script of a thousand pictures of the whole window are shorter, and an
--- input that does not end is refused before it takes all memory
+-- the maximum number of bytes in a text: 2^26. Cue sheets and scripts with a thousand pictures of the whole window are
+-- shorter. An input without an end is refused before it uses all memory.
 abbrev pub most_text_bytes : ℕ
 most_text_bytes = 67108864

@@ -15,7 +15,7 @@ use Rattle.live_player.specs.declared.live.LivePlayer.{LivePlayer}
 use Rattle.live_player.specs.declared.change.ScreenChange.{ScreenChange}
 use Rattle.live_player.specs.declared.watch.Watch.{Watch}
 
--- nothing
+-- no change: the rectangle is empty
 abbrev pub no_change : ScreenChange
 no_change = record { left = 300; top = 216; right = 0; bottom = 0; colours = 0; levels = 0 }
 
@@ -83,7 +83,7 @@ pub record HoldsTile (watch : Watch) (row column : ℕ) : Type 0 where
   pub top : watch.change.top + watch.down ≤ 12 * row
   pub bottom : 12 * row + 12 ≤ watch.change.bottom + watch.down
 
--- what may change by instructions in turn, from this state of the screen
+-- what may change on the screen if instructions are drawn in turn, from this state of the screen
 abbrev pub changes_on : Standing → List Instr → ScreenChange
 changes_on now instrs = (run_state sees (watch_from now.h now.v) instrs).change
 

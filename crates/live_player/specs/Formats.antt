@@ -6,7 +6,7 @@ use Rattle.live_player.specs.declared.looking.ScreenPart.{ScreenPart}
 use Rattle.live_player.specs.declared.format.PixelFormat.{PixelFormat}
 use Rattle.live_player.specs.declared.format.PixelFormat.TheVariants.{Indexed, Rgb, Rgba, Bgra, RgbaLevels, BgraLevels, Rgb565}
 
--- how many bytes a pixel has
+-- the number of bytes in a pixel
 abbrev pub pixel_size : PixelFormat → ℕ
 pixel_size Indexed = 1
 pixel_size Rgb = 3
@@ -42,7 +42,7 @@ shown_bytes format now x y =
     let number = screen_pixel now x y in
     pixel_bytes format number (slice_index now.colours number) (slice_index now.levels number)
 
--- each of some numbers is that of a colour
+-- Each number is that of a colour.
 abbrev pub AreColourNumbers : List ℕ → Type 0
 AreColourNumbers pixels = (i : ℕ) → i < length pixels → slice_index pixels i < 16
 
@@ -50,7 +50,7 @@ AreColourNumbers pixels = (i : ℕ) → i < length pixels → slice_index pixels
 abbrev pub HasFourBytes : List (List ℕ) → Type 0
 HasFourBytes table = (p : ℕ) → p < 16 → length (slice_index_or table p []) ≡ 4
 
--- a table of each two pixels has eight bytes for each
+-- A table of pairs of pixels has eight bytes for each pair.
 abbrev pub HasEightBytes : List (List ℕ) → Type 0
 HasEightBytes pairs = (n : ℕ) → n < 256 → length (slice_index_or pairs n []) ≡ 8
 
@@ -59,29 +59,29 @@ abbrev pub HasColours : PixelFormat → Standing → List (List ℕ) → Type 0
 HasColours format now table = (p : ℕ) → p < 16 → take (pixel_size format) (slice_index_or table p [])
     ≡ pixel_bytes format p (slice_index now.colours p) (slice_index now.levels p)
 
--- the bytes of the first pixels, one after the other, by a table of the bytes of each colour
+-- The line begins with the bytes of the first pixels, one after the other. The table has the bytes of each colour.
 abbrev pub AreFirstBytes : ℕ → ℕ → List ℕ → List (List ℕ) → List ℕ → Type 0
 AreFirstBytes size count pixels table line = (i k : ℕ) → i < count → k < size
     → slice_index line (size * i + k) ≡ slice_index (slice_index_or table (slice_index pixels i) []) k
 
--- a table of the bytes of each two pixels: those of colours p and q at place p + 16 q
+-- The table has the bytes of each pair of pixels: those of colours p and q are at place p + 16 q.
 pub record ArePairs (size : ℕ) (table pairs : List (List ℕ)) : Type 0 where
   pub sizes : HasEightBytes pairs
   pub bytes : (n : ℕ) → n < 256
       → AreFirstBytes size 2 (n % 16 ∷ n / 16 ∷ []) table (slice_index_or pairs n [])
 
--- the bytes of the first pairs of pixels, one after the other, by a table of the bytes of each two pixels
+-- The line begins with the bytes of the first pairs of pixels, one after the other. The table has the bytes of each pair.
 abbrev pub AreFirstPairs : ℕ → ℕ → List ℕ → List (List ℕ) → List ℕ → Type 0
 AreFirstPairs size count pixels pairs line =
     let number = λ (i : ℕ). slice_index pixels (2 * i) + 16 * slice_index pixels (2 * i + 1) in
     (i k : ℕ) → i < count → k < 2 * size
     → slice_index line (2 * size * i + k) ≡ slice_index (slice_index_or pairs (number i) []) k
 
--- all pixels
+-- The line has the bytes of all pixels.
 abbrev pub AreLineBytes : ℕ → List ℕ → List (List ℕ) → List ℕ → Type 0
 AreLineBytes size pixels table line = AreFirstBytes size (length pixels) pixels table line
 
--- so many bytes suffice for the rows of a part, each `stride` bytes after the row before
+-- `room` bytes suffice for the rows of a part, each `stride` bytes after the row before.
 abbrev pub HasPixelRoom : PixelFormat → ScreenPart → ℕ → ℕ → Type 0
 HasPixelRoom format part stride room =
     (j : ℕ) → j < part.height → j * stride + pixel_size format * part.width ≤ room

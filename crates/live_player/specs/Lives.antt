@@ -75,7 +75,7 @@ instructions_in form lead_in (Fed block ∷ before) =
 instructions_in form lead_in (Drawn pack ∷ before) =
     instructions_in form lead_in before ++ instruction_of pack ∷ []
 
--- how many words of the blocks have no codeword near
+-- the number of words of the blocks with no codeword near
 abbrev pub bad_words_in : Form → ℕ → List (List ℕ) → ℕ
 bad_words_in form lead_in blocks = bad_count (map finding (stream_words form lead_in blocks))
 
@@ -95,8 +95,8 @@ abbrev pub PlaysOn : List Given → LivePlayer → LivePlayer → Type 0
 PlaysOn more before after = (form : Form) (lead_in : ℕ) (given : List Given)
     → HasPlayed form lead_in given before → HasPlayed form lead_in (more ++ given) after
 
--- the screen of these blocks: all packs that end with them, each corrected to the codeword near it, drawn in turn on a
--- blank screen
+-- This is the screen of these blocks: all packs that end with them, each corrected to the codeword near it, are drawn in
+-- turn on a blank screen.
 pub record IsLiveView (form : Form) (lead_in : ℕ) (blocks : List (List ℕ)) (now : Standing) : Type 0 where
   pub found : List (Option (List ℕ))
   pub recovered : IsRecovered form (flat_map symbols_of (drop lead_in blocks)) found
@@ -104,7 +104,7 @@ pub record IsLiveView (form : Form) (lead_in : ℕ) (blocks : List (List ℕ)) (
   pub meant : AreMeant found instrs
   pub stands : now ≡ standing_after blank instrs
 
--- the screen of these blocks at a moment: the packs that are whole then, drawn in the same way
+-- This is the screen of these blocks at a moment: the packs that are complete then are drawn in the same way.
 pub record IsLiveViewAt (form : Form) (lead_in time : ℕ) (blocks : List (List ℕ))
     (now : Standing) : Type 0 where
   pub found : List (Option (List ℕ))
@@ -123,7 +123,7 @@ abbrev pub bad_counted : ℕ → Option (ArrayVec (List ℕ)) → ℕ
 bad_counted bad None = bad
 bad_counted bad (Some words) = min (bad + bad_count (map finding words.items)) (2 ^ 32 - 1)
 
--- how many bytes a picture has: red, green and blue of each pixel
+-- the number of bytes in a picture: red, green and blue of each pixel
 abbrev pub picture_bytes : ℕ
 picture_bytes = 194400
 

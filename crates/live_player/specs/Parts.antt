@@ -8,7 +8,7 @@ use Rattle.live_player.specs.declared.looking.ScreenPart.{ScreenPart}
 abbrev pub IsOnScreen : ScreenPart → Type 0
 IsOnScreen part = (part.left + part.width ≤ screen_width) × (part.top + part.height ≤ screen_height)
 
--- so many bytes suffice for the rows of a part, each `stride` bytes after the row before
+-- `room` bytes suffice for the rows of a part, each `stride` bytes after the row before.
 abbrev pub HasRoomFor : ScreenPart → ℕ → ℕ → Type 0
 HasRoomFor part stride room = (j : ℕ) → j < part.height → j * stride + part.width ≤ room
 

@@ -45,7 +45,7 @@ pub fn play(
     came
 }
 
-// Draws the codewords of the words of a block, and returns how many words have no codeword near.
+// Draws the codewords of the words of a block, and returns the number of words with no codeword near.
 #[inline]
 fn draw_words(screen: &mut PlainScreen, words: &BlockOfWords) -> u32
     ensures drawn { seen screen.new ≡ standing_after (seen screen.old) (instructions_of words.now.items) }

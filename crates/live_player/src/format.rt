@@ -22,7 +22,7 @@ pub enum PixelFormat {
 }
 
 impl PixelFormat {
-    /// How many bytes a pixel has.
+    /// The number of bytes in a pixel.
     pub fn size(self) -> usize
         ensures size { result ≡ pixel_size self }
         ensures range { (1 ≤ result) × (result ≤ 4) }

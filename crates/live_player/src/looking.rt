@@ -22,7 +22,7 @@ pub struct ScreenPart {
     pub height: usize,
 }
 
-/// How many bytes a picture has: red, green and blue of each pixel.
+/// The number of bytes in a picture: red, green and blue of each pixel.
 pub const PICTURE_BYTES: usize = 3 * SCREEN_PIXELS;
 
 /// The pixels of the screen, row by row.

@@ -11,11 +11,11 @@ use crate::plays::AnyPlayer;
 use raw_subcode::{BLOCK_BYTES, Form};
 use rw_code::SYMBOLS;
 
-/// A player at a place of a stream. All zero, it is no mark.
+/// A player at a place of a stream. If all its bytes are 0, it is no mark.
 #[repr(C)]
 #[derive(Drop)]
 pub struct Mark {
-    /// How many blocks or packs the player was given.
+    /// The number of blocks or packs that the player was given.
     pub place: u64,
     pub player: PlainPlayer,
 }
@@ -47,7 +47,7 @@ pub fn seek_block<P: AnyPlayer>(
     }
 }
 
-/// The same for packs that are drawn.
+/// Brings a player to the state after the first `to` packs of a file, and leaves marks like `seek_block`.
 pub fn seek_pack<P: AnyPlayer>(
     player: &mut P,
     packs: &[[u8; SYMBOLS]],

@@ -8,7 +8,7 @@ use std::simd::prelude::*;
 
 pub(crate) const PAIRS: usize = COLOURS * COLOURS;
 
-// How many pairs one round of a loop writes, without a test in between.
+// The number of pairs that one round of a loop writes, without a test in between.
 const ROUND: usize = 4;
 
 /// The bytes of each two pixels, with `size` bytes each: colours p and q are at place p + 16 q.

@@ -6,7 +6,7 @@ ghost use Rattle.rw_code.specs.Codeword.{IsCodeword};
 use gf64::Sym;
 use rw_code::{Pack, SYMBOLS, Word};
 
-/// How many packs have valid parity.
+/// The counts of packs with and without valid parity.
 #[repr(C)]
 #[derive(Clone, Copy)]
 pub struct ParityCounts {
@@ -85,7 +85,7 @@ fn is_codeword(word: &Word) -> bool
     Pack::check(word).is_some()
 }
 
-// A pack with its parity.
+// The codeword of a pack: its own symbols with valid parity.
 fn sealed(pack: &[u8; SYMBOLS]) -> [u8; SYMBOLS]
     ensures { IsSealed pack.now result }
 {

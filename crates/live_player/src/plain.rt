@@ -16,7 +16,7 @@ pub struct PlainWords {
     pub early: [u8; EARLY_BYTES],
     /// The symbols of the other four.
     pub late: [u8; BLOCK_BYTES],
-    /// How many of the seven slots were read.
+    /// The number of the seven slots that were read.
     pub count: usize,
     /// True only if all seven slots were read and all their symbols are 0.
     pub quiet: bool,
@@ -27,8 +27,8 @@ pub struct PlainWords {
     ghost holds: { IsWindow (early ++ late) count quiet },
 }
 
-/// A player as plain numbers: a caller can allocate it anywhere. All zero, it is a player of a raw stream with no
-/// lead-in, before its first block.
+/// A player as plain numbers, which a caller can allocate anywhere. If all its bytes are 0, it is a player of
+/// a raw stream with no lead-in, before its first block.
 #[repr(C)]
 #[derive(Drop)]
 pub struct PlainPlayer {

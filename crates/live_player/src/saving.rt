@@ -14,8 +14,8 @@ use cdg_checkpoint::{FILE_BYTES, PlainFile, files_are_read_back};
 use disc_time::MOST_LEAD_IN;
 use raw_subcode::MOST_UNITS;
 
-/// Writes the file of a player's checkpoint, which is made in `checkpoint`. False if the player cannot be saved: then the
-/// file is unchanged.
+/// Writes the file of a player's checkpoint, which it makes in `checkpoint`. Returns whether the player can
+/// be saved. If not, the file is unchanged.
 pub fn save<P: AnyPlayer>(
     player: &P,
     checkpoint: &mut PlainFile,

@@ -76,7 +76,8 @@ pub(crate) fn draw_seen(screen: &mut PlainScreen, watch: &mut Watch, pack: &[u8;
     }
 }
 
-// The same for a pack that draws no tile. It is not inlined, so that tiles do not pay for its variables.
+// Draws a pack that draws no tile, and adds the changes of the screen to the watch. It is not inlined, so
+// that tiles do not pay for its variables.
 #[inline(never)]
 fn draw_other_seen(screen: &mut PlainScreen, watch: &mut Watch, pack: &[u8; SYMBOLS])
     ensures draws { seen screen.new ≡ standing_after (seen screen.old) (instruction_of pack.now ∷ []) }
@@ -225,7 +226,7 @@ fn draw_words_seen(
     bad
 }
 
-// Draws the corrected word and adds the changes to the watch, or counts the word.
+// Draws the corrected word and adds the changes to the watch, or counts the word as bad.
 #[inline(always)]
 fn draw_word_seen(screen: &mut PlainScreen, bad: &mut u32, watch: &mut Watch, word: &Word)
     ensures screen { seen screen.new ≡ entry_drawn (seen screen.old) (finding word.now) }

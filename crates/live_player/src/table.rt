@@ -26,7 +26,7 @@ pub(crate) fn table_of(screen: &PlainScreen, format: PixelFormat) -> [[u8; 4]; C
     }
 }
 
-// The same for one format. It is inlined, so that the format is a constant.
+// The bytes of a pixel of each colour in one format. It is inlined, so that the format is a constant.
 #[inline(always)]
 fn entries(screen: &PlainScreen, format: PixelFormat) -> [[u8; 4]; COLOURS]
     ensures size { length result ≡ 16 }

@@ -101,7 +101,7 @@ fn touched_tile(row: u8, column: u8) -> Touched
     }
 }
 
-// Where the screen begins after an effect.
+// The offsets of the screen after an effect.
 fn offsets_by(effect: &Effect, across: u8, down: u8) -> (u8, u8)
     ensures { result ≡ offsets_by effect.now (across, down) }
 {

@@ -14,7 +14,7 @@ use crate::{PICTURE_BYTES, ScreenPart, part_of_screen};
 use cdg_instructions::{COLOURS, SCREEN_HEIGHT, SCREEN_WIDTH};
 use cdg_screen::PlainScreen;
 
-// From how many pixels on a table of pairs is faster.
+// The number of pixels from which a table of pairs is faster.
 const WORTH_PAIRS: usize = 2048;
 
 /// Writes the pixels of a part of the screen in a format, row by row: row j begins at byte `stride` times j. The bytes
@@ -38,7 +38,8 @@ pub fn write_pixels(
     write_coloured(screen, part, format, out, stride);
 }
 
-// The same in a format of colours. It is not inlined, so that only this path clears its table.
+// Writes the pixels of a part in a format of colours. It is not inlined, so that only this path clears its
+// table.
 #[inline(never)]
 fn write_coloured(
     screen: &PlainScreen,
@@ -61,7 +62,8 @@ fn write_coloured(
     }
 }
 
-// The same, two pixels at a time. It is not inlined either, so that only this path clears its tables.
+// Writes the pixels of a part in a format of colours, two at a time. It is not inlined, so that only this
+// path clears its tables.
 #[inline(never)]
 fn write_by_pairs(
     screen: &PlainScreen,

@@ -30,7 +30,7 @@ pub record Rule : Type 0 where
   pub matches : List ℕ → ℕ
   pub part : List ℕ → List ℕ
 
--- how many eligible blocks have this part
+-- the number of eligible blocks that have this part
 unfoldable pub votes_for : Rule → List (List ℕ) → List ℕ → ℕ
 votes_for rule blocks part =
     count_by (λ block. rule.is_eligible block && bytes_eq (rule.part block) part) blocks
@@ -69,7 +69,7 @@ abbrev pub symbol_or : Option ℕ → ℕ → ℕ
 symbol_or (Some symbol) byte = symbol
 symbol_or None byte = byte % 64
 
--- in how many places a block has the symbol that is known there
+-- the number of places at which a block has the symbol that is known there
 unfoldable pub matches_of : List (Option ℕ) → List ℕ → ℕ
 matches_of known block =
     count_by (λ k. has_symbol (slice_index_or known k None) (slice_index block k)) (below block_bytes)

@@ -9,7 +9,7 @@ use Rattle.mended_stream.specs.Chosen.{IsChosen, blocks_at, channel_rule, channe
 use Rattle.mended_stream.specs.Stream.{mended_symbols}
 use Rattle.mended_stream.specs.Symbols.{stream_place}
 
--- The symbol at byte p of a reading: of the one whose symbols are chosen for this block of a stream.
+-- This is the symbol at byte p of the reading whose symbols are chosen for this block of a stream.
 pub record IsReadSymbol (lead_in : ℕ) (readings : List (List ℕ)) (found : List (Option Mended)) (p symbol : ℕ)
     : Type 0 where
   pub symbols : List ℕ
@@ -20,22 +20,22 @@ pub record IsReadSymbol (lead_in : ℕ) (readings : List (List ℕ)) (found : Li
       ≡ slice_index (slice_index_or (blocks_at readings (p / block_bytes)) chosen.reading [])
       (p % block_bytes) % 64
 
--- word n of the symbols that are chosen
+-- This is word n of the symbols that are chosen.
 pub record IsReadWord (lead_in : ℕ) (readings : List (List ℕ)) (found : List (Option Mended)) (n : ℕ)
     (word : List ℕ) : Type 0 where
   pub size : length word ≡ word_symbols
   pub symbols : (i : ℕ) → i < word_symbols
       → IsReadSymbol lead_in readings found (stream_place lead_in n i) (slice_index word i)
 
--- What is found for word n of the symbols that are chosen.
+-- This is the correction of word n of the symbols that are chosen.
 pub record IsReadFinding (lead_in : ℕ) (readings : List (List ℕ)) (found : List (Option Mended)) (n : ℕ)
     (pack : Option (List ℕ)) : Type 0 where
   pub word : List ℕ
   pub is : IsReadWord lead_in readings found n word
   pub finding : IsFinding word pack
 
--- What is recovered from a mended stream: the codeword of each word that was mended, and of each other word what is found
--- for the symbols that are chosen.
+-- These packs are recovered from a mended stream: the codeword of each mended word, and for any other word the correction
+-- of the symbols that are chosen.
 pub record AreFoundAgain (lead_in : ℕ) (readings : List (List ℕ)) (found : List (Option Mended))
     (recovered : List (Option (List ℕ))) : Type 0 where
   pub count : length recovered ≡ length found

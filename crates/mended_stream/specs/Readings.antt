@@ -6,17 +6,17 @@ use Rattle.mended_stream.specs.declared.readings.HeldReadings.{HeldReadings}
 use Rattle.mended_stream.specs.declared.parts.BlockPart.{BlockPart}
 use Rattle.mended_stream.specs.declared.parts.BlockPart.TheVariants.{Channels, Symbols}
 
--- the bytes of each
+-- the bytes of each reading
 abbrev pub held_parts : HeldReadings → List (List ℕ)
 held_parts readings = parts readings.count readings.size readings.bytes.now
 
--- there are some, no more than can be numbered, and all are as long
+-- There are 1 to 254 readings of equal length.
 pub record AreHeld (readings : HeldReadings) : Type 0 where
   pub some : 0 < readings.count
   pub few : readings.count ≤ 254
   pub long : length readings.bytes.now ≡ readings.count * readings.size
 
--- block b of each
+-- block b of each reading
 abbrev pub held_blocks : HeldReadings → ℕ → List (List ℕ)
 held_blocks readings b = blocks_at (held_parts readings) b
 

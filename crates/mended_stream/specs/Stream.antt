@@ -25,7 +25,7 @@ pub record IsMendedPlace (lead_in : ℕ) (found : List (Option Mended)) (p n i :
     pub is : slice_index_or found n None ≡ Some codeword
     pub place : stream_place lead_in n i ≡ p
 
--- symbol i of what is found for a word
+-- symbol i of the codeword of a word, if the word is mended
 abbrev pub found_symbol : Option Mended → ℕ → Option ℕ
 found_symbol (Some own) i = Some (slice_index own.pack i)
 found_symbol None i = None
@@ -56,7 +56,7 @@ pub record IsMendedBlock (lead_in : ℕ) (readings : List (List ℕ)) (found : L
       → slice_index block k % 64
       ≡ slice_index (slice_index_or (blocks_at readings b) symbols.reading []) k % 64
 
--- The stream of what is found for the words of readings.
+-- This is the mended stream of readings with these results for their words.
 pub record IsMendedStream (lead_in : ℕ) (readings : List (List ℕ)) (found : List (Option Mended))
     (stream : List ℕ) : Type 0 where
   pub size : length stream ≡ length (slice_index_or readings 0 [])
@@ -65,8 +65,8 @@ pub record IsMendedStream (lead_in : ℕ) (readings : List (List ℕ)) (found : 
   pub blocks : (b : ℕ) → b < length stream / block_bytes
       → IsMendedBlock lead_in readings found b (block_at stream b)
 
--- The readings are mended: their stream is at the front of a buffer, and the bytes that name the sources of its words
--- are at the front of another. What is behind them stays.
+-- The readings are mended: their stream is at the front of a buffer, and the bytes that name the sources of its words are
+-- at the front of another. The bytes behind them are unchanged.
 pub record AreMendedIntoStream (count lead_in : ℕ) (readings old new old_sources new_sources : List ℕ)
     (tallies : Tallies) : Type 0 where
   pub said : List (List Candidate)
@@ -81,7 +81,7 @@ pub record AreMendedIntoStream (count lead_in : ℕ) (readings old new old_sourc
   pub blocks : new ≡ stream ++ drop (length stream) old
   pub sources : new_sources ≡ map source_byte found ++ drop (length found) old_sources
 
--- The same, and how many words of each reading are lost.
+-- The readings are mended as in `AreMendedIntoStream`, and `lost` counts the lost words of each reading.
 pub record AreReportedIntoStream (count lead_in : ℕ) (readings old new old_sources new_sources : List ℕ)
     (tallies : Tallies) (lost : List ℕ) : Type 0 where
   pub into : AreMendedIntoStream count lead_in readings old new old_sources new_sources tallies

@@ -8,9 +8,9 @@ use crate::readings::HeldReadings;
 use crate::words::{Words, mixed_block};
 use raw_subcode::{BLOCK_BYTES, SYMBOLS_A_SLOT};
 
-/// Writes the blocks of a stream to the front of a buffer, which has the text of the words at the end of the stream's
-/// place. The text of a word lies seven slots behind the word's own, so no block is written over text that it or a
-/// later one needs.
+/// Writes the blocks of a stream to the front of a buffer. Before, the end of this buffer has the text of the
+/// words. The text of a word lies seven slots behind the slot in which the word begins, so no block
+/// overwrites text that it or a later block needs.
 pub(crate) fn write_blocks(readings: &HeldReadings, words: &Words, blocks: &mut [u8])
     requires held { AreHeld readings.now }
     requires sources { HaveSources words.now }

@@ -139,7 +139,7 @@ impl<'a> HeldReadings<'a> {
         own[..] > its[..]
     }
 
-    // How many eligible readings have a part in block b.
+    // The number of eligible readings that have this part in block b.
     fn votes(
         &self,
         b: usize,

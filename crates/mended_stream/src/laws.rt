@@ -1,4 +1,4 @@
-// What follows from the definitions.
+// The laws of a mended stream, which follow from the definitions.
 ghost use Rattle.std.specs.Prelude.{◌≡◌, ◌+◌, ◌*◌, ◌/◌, ◌%◌, ◌<◌, ◌≤◌, true, [], ◌∷◌, IsPermutation, List, ℕ, length, map, slice_index, slice_index_or};
 ghost use Rattle.std.specs.declared.option.Option.{Option};
 ghost use Rattle.raw_subcode.specs.Channels.{program_symbols, symbols_of};

@@ -17,7 +17,7 @@ pub(crate) enum BlockPart<'a> {
 }
 
 impl<'a> BlockPart<'a> {
-    /// How many of the known symbols a block has.
+    /// The number of known symbols that a block has.
     pub(crate) fn matches(&self, block: &[u8]) -> usize
         requires { length block.now ≡ block_bytes }
         ensures value { result ≡ matches_in self.now block.now }

@@ -15,7 +15,7 @@ use rw_mend::{MOST_READINGS, is_unread_block};
 pub(crate) struct HeldReadings<'a> {
     pub(crate) bytes: &'a [u8],
     pub(crate) count: usize,
-    /// The bytes of each.
+    /// The number of bytes in each reading.
     pub(crate) size: usize,
 }
 

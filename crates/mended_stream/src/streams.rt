@@ -12,11 +12,12 @@ use rw_code::SYMBOLS;
 use rw_interleave::PACKS_KEPT_BACK;
 use rw_mend::{MendReport, Tallies, mend_report};
 
-/// Mends readings of a raw stream, 1 to 254 of equal length that lie one behind another, into a stream as long as each.
-/// A mended word has the symbols of its codeword. The other symbols of a block are those of one reading that was read
-/// there: the one with the most mended symbols of the block, then with the symbols that most readings have. Channels P
-/// and Q of a block are those that most readings have whose Q channel is a frame there, or else most that were read
-/// there. If this does not decide, the greatest bits win. A byte for each word names its source.
+/// Mends readings of a raw stream into a stream of the same length: 1 to 254 readings of equal length that
+/// lie one behind another. A mended word has the symbols of its codeword. The other symbols of a block are
+/// those of one reading that was read there: the one with the most mended symbols of the block, and among
+/// several the one whose symbols most readings have. Channels P and Q of a block are those that most readings
+/// have whose Q channel is a frame there. If there is none, they are those of most readings that were read
+/// there. If several remain, the greatest bits win. A byte for each word names its source.
 pub fn mend_stream(
     readings: &[u8],
     count: usize,
@@ -38,7 +39,7 @@ pub fn mend_stream(
     mend_stream_report(readings, count, lead_in, blocks, sources).tallies
 }
 
-/// The same, with a report of the words that are lost.
+/// Mends readings like `mend_stream`, and also counts the lost words of each reading.
 pub fn mend_stream_report(
     readings: &[u8],
     count: usize,

@@ -1,4 +1,4 @@
-// The symbols of words in their places.
+// The symbols of mended words at their places in a stream.
 ghost use Rattle.std.specs.Prelude.{◌≡◌, ◌≢◌, true, ◌<◌, ◌≤◌, ◌+◌, ◌-◌, ◌*◌, ◌/◌, ◌%◌, ◌^◌, List, None, ℕ, length, slice_index, slice_index_or};
 ghost use Rattle.raw_subcode.specs.Sizes.{block_bytes, most_units, symbols_a_slot};
 ghost use Rattle.rw_interleave.specs.Interleave.{swapped};
@@ -11,10 +11,10 @@ use raw_subcode::{BLOCK_BYTES, SLOTS_A_BLOCK, SYMBOLS_A_SLOT};
 use rw_interleave::{PACKS_KEPT_BACK, place};
 use rw_mend::NO_READING;
 
-// The words of which a symbol stands in a block.
+// The number of words with a symbol in one block.
 const WORDS_UNDER: usize = SLOTS_A_BLOCK + PACKS_KEPT_BACK;
 
-// Where the symbol at each byte of a block stands in the text of those words.
+// For each byte of a block, the place of its symbol in the text of those words.
 static TEXT_PLACES: [usize; BLOCK_BYTES] = [
     168, 162, 125, 119, 76, 50, 30, 7, 176, 153, 130, 107, 84, 61, 38, 15, 184, 161, 121, 115, 92,
     69, 46, 3, 192, 186, 149, 143, 100, 74, 54, 31, 200, 177, 154, 131, 108, 85, 62, 39, 208, 185,
@@ -23,8 +23,8 @@ static TEXT_PLACES: [usize; BLOCK_BYTES] = [
     202, 179, 156, 133, 110, 87, 256, 233, 193, 187, 164, 141, 118, 75,
 ];
 
-// The symbol at position q of a slot is of the word that begins q % 8 slots before, and the words that begin in the first
-// slot of a block stand behind seven others.
+// The place of the symbol of byte k of a block. The symbol at position q of a slot belongs to the word that
+// begins q % 8 slots before. Seven of those words begin before the first slot of the block.
 #[inline]
 fn text_place(k: usize) -> usize
     requires { k < block_bytes }
@@ -35,7 +35,7 @@ fn text_place(k: usize) -> usize
     TEXT_PLACES[k]
 }
 
-// Whether none of some sources is that of a word with no codeword.
+// Whether each of these sources is that of a mended word.
 fn are_found(sources: &[u8]) -> bool
     ensures { result ≡ true → (j : ℕ) → j < length sources.now → slice_index sources.now j ≢ no_source }
 {
@@ -47,19 +47,19 @@ fn are_found(sources: &[u8]) -> bool
     true
 }
 
-/// Words that were mended, and those that were not, of a stream.
+/// The words of a stream, and which of them were mended.
 #[derive(Clone, Copy)]
 pub(crate) struct Words<'a> {
-    /// The byte that names where each comes from.
+    /// For each word, the byte that names its source.
     pub(crate) sources: &'a [u8],
     pub(crate) count: usize,
-    /// The blocks before the first word.
+    /// The number of blocks before the first word.
     pub(crate) lead_in: usize,
 }
 
 impl<'a> Words<'a> {
-    /// Block b of a stream where each word with a symbol in the block was mended: channels P and Q of one block, and the
-    /// symbols of the text. It is not looked at word by word.
+    /// Block b of a stream if each word with a symbol in the block was mended: channels P and Q of `framed`,
+    /// and the symbols of the text. They are copied without a test of each word.
     pub(crate) fn mended_block(&self, text: &[u8], b: usize, framed: &[u8]) -> [u8; BLOCK_BYTES]
         requires text { HasWordText self.now text.now }
         requires number { b ≤ most_units }
@@ -76,7 +76,7 @@ impl<'a> Words<'a> {
         block
     }
 
-    /// Whether each of these words was mended.
+    /// Whether each word with a symbol in block b was mended.
     pub(crate) fn are_all_mended(&self, b: usize) -> bool
         requires sources { HaveSources self.now }
         requires lead_in { self.now.lead_in ≤ most_units }
@@ -133,7 +133,7 @@ impl<'a> Words<'a> {
     }
 }
 
-/// A block of channels P and Q of one block, and of the known symbols and those of another block.
+/// A block with channels P and Q of `framed`, the known symbols, and the other symbols of `read`.
 pub(crate) fn mixed_block(
     known: &[Option<u8>; BLOCK_BYTES],
     framed: &[u8],

@@ -22,7 +22,7 @@ IsStill (ScrollPreset colour across h down v) = ⊥
 IsStill (ScrollCopy colour across h down v) = ⊥
 IsStill instr = InRange instr
 
--- whether an instruction sets all memory
+-- whether an instruction sets all pixels of the memory
 abbrev pub sets_memory : Instr → Bool
 sets_memory (MemoryPreset colour repeat) = true
 sets_memory _ = false
@@ -55,14 +55,14 @@ pub record Brings (script : List Drawing) (k : ℕ) (now : Standing) (instrs : L
   pub shows : ShowsPicture script k (standing_after now instrs)
   pub sets : k ≡ 0 → SetsAll instrs
 
--- The instructions are a change for picture k. They draw this picture on every screen that is allowed before it
+-- The instructions are a change of picture k. They draw this picture on every screen that is allowed before it
 -- (`IsBefore`). No shorter list draws the picture on any of these screens.
 pub record IsChange (script : List Drawing) (k : ℕ) (instrs : List Instr) : Type 0 where
   pub brings : (now : Standing) → IsBefore script k now → Brings script k now instrs
   pub shortest : (now : Standing) (others : List Instr) → IsBefore script k now → Brings script k now others
       → length instrs ≤ length others
 
--- Picture k needs `need` instructions: a change for it has this length.
+-- Picture k needs `need` instructions: a change of this picture has this length.
 abbrev pub IsNeed : List Drawing → ℕ → ℕ → Type 0
 IsNeed script k need = (instrs : List Instr) × IsChange script k instrs × (length instrs ≡ need)
 

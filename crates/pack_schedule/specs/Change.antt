@@ -25,7 +25,7 @@ settings script (suc k) =
     ++ (if are_equal (high_colours script k) (high_colours script (suc k)) then []
     else ColoursHigh (high_colours script (suc k)) ∷ [])
 
--- for each of these places in order, a shortest list of instructions that turns its old tile into its new one
+-- The instructions are, for each of these places in order, a shortest list that turns its old tile into its new one.
 abbrev pub AreTileChanges : (ℕ → ℕ → List ℕ) → (ℕ → ℕ → List ℕ) → List (ℕ × ℕ) → List Instr → Type 0
 AreTileChanges old new [] instrs = instrs ≡ []
 AreTileChanges old new (place ∷ rest) instrs =
@@ -60,7 +60,7 @@ abbrev pub tiles_before : List Drawing → ℕ → Option ℕ → ℕ → ℕ �
 tiles_before script k (Some colour) row column = replicate tile_pixels colour
 tiles_before script k None row column = picture_tile script (k - 1) row column
 
--- a change for picture k with this start
+-- The instructions are a change for picture k with this start.
 pub record IsChangeFrom (script : List Drawing) (k : ℕ) (start : Option ℕ)
     (instrs : List Instr) : Type 0 where
   pub allowed : IsStart k start
@@ -68,7 +68,7 @@ pub record IsChangeFrom (script : List Drawing) (k : ℕ) (start : Option ℕ)
   pub whole : instrs ≡ preset_of start ++ settings script k ++ tiles
   pub tile_changes : AreTileChanges (tiles_before script k start) (picture_tile script k) window_places tiles
 
--- an ordered change for picture k: its start is one with the shortest change
+-- The instructions are an ordered change for picture k: a change from some start, and no change from any start is shorter.
 pub record IsOrderedChange (script : List Drawing) (k : ℕ) (instrs : List Instr) : Type 0 where
   pub start : Option ℕ
   pub change : IsChangeFrom script k start instrs

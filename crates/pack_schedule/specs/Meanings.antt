@@ -3,7 +3,7 @@ use Rattle.std.specs.Prelude.{◌≡◌, ℕ, List, [], ◌∷◌}
 use Rattle.cdg_instructions.specs.Instruction.{Means}
 use Rattle.cdg_instructions.specs.declared.instr.Instr.{Instr}
 
--- these packs have these instructions, in order
+-- These packs have these instructions, in order.
 abbrev pub AreMeantBy : List (List ℕ) → List Instr → Type 0
 AreMeantBy [] instrs = instrs ≡ []
 AreMeantBy (pack ∷ packs) [] = ⊥

@@ -17,8 +17,8 @@ unfoldable pub tile_steps : List Drawing → ℕ → Option ℕ → ℕ
 tile_steps script k start =
     sum_by (λ p. steps (tiles_before script k start p.0 p.1) (picture_tile script k p.0 p.1)) window_places
 
--- the list that draws picture k after this start. If `start` is a colour, the list first sets the memory to this colour. If
--- `start` is `None`, the list keeps the memory.
+-- the list of instructions that draws picture k with this start. If `start` is a colour, the list first sets the memory to
+-- this colour. If `start` is `None`, the list keeps the memory.
 unfoldable pub planned_from : List Drawing → ℕ → Option ℕ → List Instr
 planned_from script k start = preset_of start ++ settings script k ++ planned_tiles script k start
 
@@ -33,7 +33,7 @@ first_least number best [] = best
 first_least number best (x ∷ rest) =
     first_least number (if nat_lt (number x) (number best) then x else best) rest
 
--- the preferred start: colour 0 for the first picture, and none for a later one
+-- the preferred start: colour 0 for the first picture, and `None` for a later one
 abbrev pub preferred : ℕ → Option ℕ
 preferred zero = Some 0
 preferred (suc k) = None
@@ -42,6 +42,6 @@ preferred (suc k) = None
 unfoldable pub chosen_start : List Drawing → ℕ → Option ℕ
 chosen_start script k = first_least (planned_length script k) (preferred k) (map Some (below colour_count))
 
--- the planned change of picture k
+-- the planned change of picture k, which `author` writes: the list of `planned_from` with the chosen start
 unfoldable pub planned_change : List Drawing → ℕ → List Instr
 planned_change script k = planned_from script k (chosen_start script k)

@@ -6,7 +6,7 @@ use Rattle.pack_schedule.specs.Weaving.{Stands}
 use Rattle.pack_schedule.specs.Weights.{AreWeights}
 use Rattle.pack_schedule.specs.declared.change.tiles.Weighed.{Weighed}
 
--- the state before picture k: the previous picture is on both canvases, and the weights are those of its tiles
+-- The planner is before picture k: the previous picture is on both canvases, and the weights are those of its tiles.
 pub record IsBeforePicture (script : List Drawing) (k : ℕ) (before now : Board)
     (weights : List Weighed) : Type 0 where
   pub k_most : k ≤ pictures script

@@ -4,27 +4,27 @@ use Rattle.cdg_instructions.specs.Sizes.{window_columns, window_rows}
 use Rattle.picture_script.specs.Board.{tile_of}
 use Rattle.pack_schedule.specs.declared.change.tiles.ToldTiles.{ToldTiles}
 
--- all tiles of a row, from 1 to 16, are equal
+-- All tiles of a row, from 1 to 16, are equal.
 abbrev pub SameRow : List ℕ → List ℕ → ℕ → Type 0
 SameRow old new row = (column : ℕ) → 1 ≤ column → column ≤ window_columns
     → tile_of old row column ≡ tile_of new row column
 
--- all tiles are equal
+-- All tiles are equal.
 abbrev pub SameTiles : List ℕ → List ℕ → Type 0
 SameTiles old new = (row : ℕ) → 1 ≤ row → row ≤ window_rows → SameRow old new row
 
--- the marks of a row, from the left: each says whether the tile is equal
+-- Each mark of a row, from the left, says whether the tile is equal.
 abbrev pub AreToldColumns : List ℕ → List ℕ → ℕ → List Bool → Type 0
 AreToldColumns old new row columns = (column : ℕ) → 1 ≤ column → column ≤ window_columns
     → slice_index_or columns (column - 1) false ≡ true
     ↔ tile_of old row column ≡ tile_of new row column
 
--- the marks of a row: all its tiles are equal, or a mark for each tile
+-- If the row is marked as a whole, all its tiles are equal. Otherwise, each tile has a mark.
 abbrev pub IsRowTold : List ℕ → List ℕ → ℕ → Bool → List Bool → Type 0
 IsRowTold old new row whole columns = (whole ≡ true → SameRow old new row)
     × (whole ≡ false → AreToldColumns old new row columns)
 
--- the marks of all rows
+-- Each row has its marks.
 abbrev pub AreToldTiles : List ℕ → List ℕ → ToldTiles → Type 0
 AreToldTiles old new told = (r : ℕ) → r < window_rows
     → IsRowTold old new (r + 1) (slice_index_or told.rows r false) (slice_index_or told.columns r [])

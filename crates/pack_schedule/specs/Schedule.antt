@@ -16,7 +16,7 @@ abbrev pub start_of : List Drawing → ℕ → ℕ
 start_of script zero = 0
 start_of script (suc k) = whole_packs (hold_time script k)
 
--- If the list for picture k has `need` packs, it is complete at the ready time of this picture.
+-- If a list of `need` packs begins at the first free pack of picture k, it is complete at the ready time of the picture.
 abbrev pub IsInTime : List Drawing → ℕ → ℕ → Type 0
 IsInTime script k need = start_of script k + need + packs_kept_back ≤ slots_a_block * ready_time script k
 
@@ -28,8 +28,9 @@ free_packs script k = whole_packs (ready_time script k) - start_of script k
 abbrev pub CanBeReady : List Drawing → ℕ → Type 0
 CanBeReady script k = (need : ℕ) × IsNeed script k need × IsInTime script k need
 
--- For each picture, the packs contain a list of instructions for which `IsOne` is true. The list begins at the start of the
--- picture and is complete at its ready time. All other packs are idle.
+-- For each picture, the packs contain a list of instructions for which `IsOne` is true. The list begins at the first free
+-- pack of the picture (`start_of`) and is complete at its ready time. All other packs are idle. `blocks` is the number of
+-- blocks in the program; no hold time is greater.
 pub record IsScheduleOf (IsOne : List Drawing → ℕ → List Instr → Type 0) (script : List Drawing) (blocks : ℕ)
     (packs : List (List ℕ)) : Type 0 where
   pub count : length packs ≡ whole_packs blocks
@@ -45,11 +46,11 @@ pub record IsScheduleOf (IsOne : List Drawing → ℕ → List Instr → Type 0)
       → (n < start_of script k) ⊎ (start_of script k + length (slice_index_or changes k []) ≤ n)) →
       slice_index_or packs n [] ≡ idle_pack
 
--- The packs are a schedule of the script: they contain one change of each picture (`IsChange`), and else idle packs.
+-- The packs are a schedule of the script: they contain one change of each picture (`IsChange`). All other packs are idle.
 abbrev pub IsSchedule : List Drawing → ℕ → List (List ℕ) → Type 0
 IsSchedule script blocks packs = IsScheduleOf IsChange script blocks packs
 
--- a schedule whose changes are ordered
+-- The packs are a schedule of the script whose changes are ordered.
 abbrev pub IsOrderedSchedule : List Drawing → ℕ → List (List ℕ) → Type 0
 IsOrderedSchedule script blocks packs = IsScheduleOf IsOrderedChange script blocks packs
 

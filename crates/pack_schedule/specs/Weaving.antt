@@ -7,14 +7,14 @@ use Rattle.pack_schedule.specs.PlannedChange.{planned_change}
 use Rattle.pack_schedule.specs.Survey.{IsSurvey}
 use Rattle.pack_schedule.specs.declared.weaver.ChangeAtHand.{ChangeAtHand}
 
--- the picture before picture k is on a canvas, or the canvas is empty before the first one
+-- The picture before picture k is on the canvas. If k is 0, the canvas is empty.
 pub record Stands (script : List Drawing) (k : ℕ) (board : Board) : Type 0 where
   pub at_none : k ≡ 0 → board.at ≡ None
   pub blank : k ≡ 0 → IsBlank board
   pub at_some : 0 < k → board.at ≡ Some (k - 1)
   pub drawn : 0 < k → IsPicture script (k - 1) board
 
--- the changes before picture k are finished, the change of picture k is the current one, and no later picture is drawn
+-- The changes before picture k are finished, the change of picture k is the current one, and no later picture is drawn.
 pub record IsWeaving (script : List Drawing) (at_hand : ChangeAtHand) (given : ℕ) : Type 0 where
   pub surveyed : IsSurvey script at_hand.survey
   pub k_most : at_hand.k ≤ pictures script
@@ -22,6 +22,6 @@ pub record IsWeaving (script : List Drawing) (at_hand : ChangeAtHand) (given : �
   pub start_is : at_hand.k < pictures script → at_hand.start ≡ start_of script at_hand.k
   pub before_stands : StandsBefore script at_hand.k at_hand.before
   pub now_stands : StandsBefore script at_hand.k at_hand.now
-  -- after the last change no change begins
+  -- after the last change, `start` has the maximum
   pub no_start : at_hand.k ≡ pictures script → at_hand.start ≡ 4294967295
   pub sent : (j : ℕ) → j < at_hand.k → start_of script j + length (planned_change script j) ≤ given

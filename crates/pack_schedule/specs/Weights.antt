@@ -9,7 +9,7 @@ use Rattle.pack_schedule.specs.declared.change.tiles.Weighed.{Weighed}
 abbrev pub not_weighed : Weighed
 not_weighed = record { weight = 0; single = None }
 
--- a tile needs no instruction after its single colour, and its weight after every other colour
+-- A tile needs no instruction after its single colour, and as many as its weight after every other colour.
 pub record IsWeighed (tile : List ℕ) (kept : Weighed) : Type 0 where
   pub few : kept.weight ≤ most_steps
   pub colour : IfSome kept.single (λ c. c < colour_count)
@@ -17,12 +17,12 @@ pub record IsWeighed (tile : List ℕ) (kept : Weighed) : Type 0 where
   pub from_other : (c : ℕ) → c < colour_count → ¬ (kept.single ≡ Some c)
       → steps (replicate tile_pixels c) tile ≡ kept.weight
 
--- the weight of tile i of picture k
+-- Weight i is the weight of tile i of picture k.
 abbrev pub IsWeighedAt : List Drawing → ℕ → ℕ → List Weighed → Type 0
 IsWeighedAt script k i weights =
     IsWeighed (picture_tile script k (i / window_columns + 1) (i % window_columns + 1))
     (slice_index_or weights i not_weighed)
 
--- the weights of all tiles of picture k
+-- The weights are those of all tiles of picture k.
 abbrev pub AreWeights : List Drawing → ℕ → List Weighed → Type 0
 AreWeights script k weights = (i : ℕ) → i < window_tiles → IsWeighedAt script k i weights

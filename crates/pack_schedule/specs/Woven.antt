@@ -12,15 +12,15 @@ pub record Woven : Type 0 where
   pub script : List Drawing
   pub given : ℕ
 
--- each change is finished, or has none of the next packs; the numbers of these packs fit their type
+-- Each change is finished, or has none of the next `packs` packs. The numbers of these packs are below 2^32.
 pub record ArePassedBy (woven : Woven) (packs : ℕ) : Type 0 where
   pub fits : woven.given + packs ≤ 4294967295
   pub apart : (k : ℕ) → k < pictures woven.script
       → (start_of woven.script k + length (planned_change woven.script k) ≤ woven.given)
       ⊎ (woven.given + packs ≤ start_of woven.script k)
 
--- Pack n is right. If n is in the planned change of a picture, the pack is the codeword of its instruction there. If n is
--- in no planned change, the pack is idle.
+-- Pack n is right: in the planned change of a picture, it is the codeword of the instruction at this place of the change.
+-- Outside of all planned changes, it is idle.
 pub record IsPackAt (script : List Drawing) (n : ℕ) (pack : List ℕ) : Type 0 where
   pub changed : (k : ℕ) → k < pictures script → start_of script k ≤ n
       → n < start_of script k + length (planned_change script k) →

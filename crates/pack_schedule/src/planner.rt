@@ -23,13 +23,13 @@ use std::marker::Model;
 /// The plan of a picture, in time or late. Times are blocks of the program.
 #[derive(Clone, Copy)]
 pub struct PlanRow {
-    /// When it is ready.
+    /// The ready time of the picture.
     pub ready: u32,
     /// The end of its hold time.
     pub hold: u32,
     /// The number of packs of its change, at most 3,076.
     pub need: u32,
-    /// The number of packs that are free for it.
+    /// The number of packs that are free for the picture.
     pub free: u32,
     /// The number of the first free pack, from 0.
     pub first: u32,

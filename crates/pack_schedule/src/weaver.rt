@@ -12,7 +12,8 @@ use rw_code::Pack;
 use std::alloc::{AllocError, Global};
 use std::marker::Model;
 
-/// The current change, of picture `k`. If it has packs, this picture and the previous one are drawn.
+/// The current change, of picture `k`. If it has packs, this picture and the previous one are on the two
+/// canvases.
 #[derive(Drop)]
 pub(crate) struct ChangeAtHand {
     pub(crate) survey: Survey,
@@ -20,7 +21,7 @@ pub(crate) struct ChangeAtHand {
     pub(crate) now: Canvas,
     pub(crate) change: ChangeList,
     pub(crate) k: u32,
-    // The first pack of the change, or the maximum after the last change.
+    // The number of the first pack of the change, or `u32::MAX` after the last change.
     pub(crate) start: u32,
 }
 

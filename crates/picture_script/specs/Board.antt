@@ -16,35 +16,35 @@ pub record Board : Type 0 where
 unfoldable pub pixel_of : List ℕ → ℕ → ℕ → ℕ
 pixel_of pixels x y = slice_index pixels (window_width * y + x)
 
--- the pixels become those of a function of the place
+-- Each pixel (x, y) of the window is f(x, y).
 abbrev pub ArePixelsOf : List ℕ → (ℕ → ℕ → ℕ) → Type 0
 ArePixelsOf pixels f = (x y : ℕ) → x < window_width → y < window_height → pixel_of pixels x y ≡ f x y
 
--- nothing is drawn
+-- Nothing is drawn: all values are 0.
 pub record IsBlank (board : Board) : Type 0 where
   pub pixels_are : (x y : ℕ) → x < window_width → y < window_height → pixel_of board.pixels x y ≡ 0
   pub border_is : board.border ≡ 0
   pub colours_are : (n : ℕ) → n < colour_count → slice_index board.colours n ≡ 0
 
--- picture k of the script is on the canvas
+-- Picture k of the script is on the canvas.
 pub record IsPicture (script : List Drawing) (k : ℕ) (board : Board) : Type 0 where
   pub pixels_are : (x y : ℕ) → x < window_width → y < window_height
       → pixel_of board.pixels x y ≡ picture_pixel script k x y
   pub border_is : board.border ≡ picture_border script k
   pub colours_are : (n : ℕ) → n < colour_count → slice_index board.colours n ≡ picture_colour script k n
 
--- the canvas is empty, or has a picture of the script up to k
+-- The canvas is empty, or has one of the pictures 0 to k of the script.
 abbrev pub StandsBefore : List Drawing → ℕ → Board → Type 0
 StandsBefore script k board = MatchOption board.at (IsBlank board) (λ j. (j ≤ k) × IsPicture script j board)
 
--- this picture is on the canvas
+-- This picture is on the canvas.
 pub record IsDrawn (picture : Picture) (board : Board) : Type 0 where
   pub pixels_are : (x y : ℕ) → x < window_width → y < window_height
       → pixel_of board.pixels x y ≡ picture.pixel x y
   pub border_is : board.border ≡ picture.border
   pub colours_are : (n : ℕ) → n < colour_count → slice_index board.colours n ≡ picture.colour n
 
--- the canvas has the border and the colours of this picture
+-- The canvas has the border and the colours of this picture.
 pub record IsSet (picture : Picture) (board : Board) : Type 0 where
   pub border_is : board.border ≡ picture.border
   pub colours_are : (n : ℕ) → n < colour_count → slice_index board.colours n ≡ picture.colour n
@@ -55,21 +55,21 @@ tile_of pixels row column =
     map (λ p. pixel_of pixels (tile_width * (column - 1) + p % tile_width)
     (tile_height * (row - 1) + p / tile_width)) (below tile_pixels)
 
--- twelve pixels, one below the other from a place on, are equal
+-- Twelve pixels, one below the other from a place on, are equal in both windows.
 abbrev pub IsSameColumn : List ℕ → List ℕ → ℕ → Type 0
 IsSameColumn a b place = (j : ℕ) → j < tile_height
     → slice_index a (place + window_width * j) ≡ slice_index b (place + window_width * j)
 
--- numbers of colours
+-- The numbers are colour numbers.
 abbrev pub AreColours : List ℕ → Type 0
 AreColours colours = (i : ℕ) → slice_index colours i < colour_count
 
--- the pixels of a whole window
+-- The list has a colour number for each pixel of the window.
 pub record AreWindowPixels (pixels : List ℕ) : Type 0 where
   pub count : length pixels ≡ window_pixels
   pub colours : (i : ℕ) → slice_index pixels i < colour_count
 
--- the ranges of the border and the colours
+-- The border and the colours are in their ranges.
 pub record IsCanvasInRange (border : ℕ) (colours : List ℕ) : Type 0 where
   pub border_below : border < colour_count
   pub colours_count : length colours ≡ colour_count

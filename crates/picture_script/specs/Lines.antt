@@ -1,4 +1,4 @@
--- How the lines of a script are kept.
+-- The lines of a script as the code stores them.
 use Rattle.std.specs.Prelude.{◌≡◌, ℕ, ◌+◌, ◌<◌, ◌≤◌, Bool, true, false, ◌&&◌, nat_le, nat_lt, List, [], ◌∷◌, ◌++◌, length, map, take, drop, slice_index_or, All}
 use Rattle.disc_time.specs.Counts.{time_count}
 use Rattle.picture_script.specs.Script.{Drawing, Colour, Border, Fill, Rect, Row, Show, shows, lines_before}
@@ -22,7 +22,7 @@ said pixels (ShowLine ready hold) = Show ready hold
 unfoldable pub all_said : List ℕ → List ScriptLine → List Drawing
 all_said pixels lines = map (said pixels) lines
 
--- whether a line is in range, with this many colours of rows
+-- whether the numbers of a line are in their ranges, if all rows together have `size` pixels
 abbrev pub is_kept : ℕ → ScriptLine → Bool
 is_kept size (TableColour number value) = nat_lt number colour_count && nat_lt value colour_values
 is_kept size (BorderColour colour) = nat_lt colour colour_count
@@ -40,7 +40,7 @@ no_show = record { place = 0; ready = 0; hold = 0 }
 abbrev pub times_of : Shown → ℕ × ℕ
 times_of shown = (shown.ready, shown.hold)
 
--- the show lines of a script: the number of lines before each, and its times
+-- `shown` has the number of lines before each show line, and the times of this line. All lines are in their ranges.
 pub record IsIndexed (pixels : List ℕ) (lines : List ScriptLine) (shown : List Shown) : Type 0 where
   pub kept : All (λ line. is_kept (length pixels) line ≡ true) lines
   pub colours : AreColours pixels
@@ -61,7 +61,7 @@ said_in draft = all_said draft.pixels.items draft.lines.items
 abbrev pub IsSound : ScriptDraft → Type 0
 IsSound draft = IsIndexed draft.pixels.items draft.lines.items draft.shown.items
 
--- a draft with one more line
+-- The new draft has the lines of the old one and one more line.
 pub record Adds (old new : ScriptDraft) (line : Drawing) : Type 0 where
   pub sound : IsSound new
   pub lines_are : said_in new ≡ said_in old ++ line ∷ []

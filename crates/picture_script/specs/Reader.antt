@@ -6,27 +6,27 @@ use Rattle.picture_script.specs.Lines.{said_in, IsSound}
 use Rattle.picture_script.specs.declared.reader.ScriptReader.{ScriptReader}
 use Rattle.picture_script.specs.declared.reasons.ScriptWhy.{ScriptWhy}
 
--- the number of pictures in these lines, and the hold time of the last one
+-- The reader has the number of pictures in these lines, and the hold time of the last one.
 pub record HasCounted (script : List Drawing) (reader : ScriptReader) : Type 0 where
   pub count : reader.pictures ≡ pictures script
   pub held : 0 < pictures script → reader.held ≡ hold_time script (pictures script - 1)
 
--- the kept lines are these, if there was memory for them
+-- If there was memory for the lines, the reader has them.
 abbrev pub IsKeptBy : List Drawing → ScriptReader → Type 0
 IsKeptBy script reader = IfSome reader.draft (λ draft. IsSound draft × (said_in draft ≡ script))
 
--- these lines were read
+-- The reader is in its state after these lines.
 abbrev pub Followed : List Drawing → ScriptReader → Type 0
 Followed script reader = HasCounted script reader × IsKeptBy script reader
 
--- the result of reading a line with this check after the previous lines
+-- If the check accepted a line, the reader has added it to the previous lines. If not, the result has the reason.
 abbrev pub Takes : List Drawing → Result Drawing ScriptWhy → ScriptReader → Result (Unit {0}) ScriptWhy
     → Type 0
 Takes before judged reader result =
     MatchResult result (λ _. (line : Drawing) × (judged ≡ Ok line) × Followed (before ++ line ∷ []) reader)
     (λ why. judged ≡ Err why)
 
--- the result of reading a line of the text after the previous lines
+-- If the line of text is accepted, the reader is in its state after the line. If not, the result has the reason.
 abbrev pub Follows : List Drawing → List ℕ → ScriptReader → Result (Unit {0}) ScriptWhy → Type 0
 Follows before line reader result =
     MatchResult result (λ _. (after : List Drawing) × (script_step before line ≡ Ok after)

@@ -15,12 +15,12 @@ use Rattle.cdg_instructions.specs.Sizes.{colour_count, window_height, window_wid
 abbrev pub small_number : List ℕ → Option ℕ
 small_number word = number_in 1 3 word
 
--- a number before others
+-- a number in front of a list of numbers, if both exist
 abbrev pub number_before : Option ℕ → Option (List ℕ) → Option (List ℕ)
 number_before (Some number) (Some numbers) = Some (number ∷ numbers)
 number_before _ _ = None
 
--- the numbers of words, if there are so many words and each is a number
+-- the numbers in some words, if there are `count` words and each is a number
 unfoldable pub numbers_in : ℕ → List (List ℕ) → Option (List ℕ)
 numbers_in zero [] = Some []
 numbers_in zero (word ∷ words) = None
@@ -131,11 +131,11 @@ unfoldable pub checked_line : List Drawing → Option Drawing → Result Drawing
 checked_line before None = Err BadArgument
 checked_line before (Some line) = unless_refused line (later_reason before line)
 
--- one number, which is a colour number
+-- The text has one word, which is a colour number.
 abbrev pub IsColourNumber : List ℕ → ℕ → Type 0
 IsColourNumber text colour = (numbers_in 1 (words_in text) ≡ Some (colour ∷ [])) × (colour < colour_count)
 
--- the reason to refuse a line with these words after any lines
+-- After any lines, a line with these words is refused for this reason.
 abbrev pub IsWrongAs : (List (List ℕ) → Option Drawing) → List ℕ → ScriptWhy → Type 0
 IsWrongAs line text why = (before : List Drawing) → checked_line before (line (words_in text)) ≡ Err why
 
@@ -150,16 +150,16 @@ checked_command before command words =
     else (if bytes_eq command (codes "show") then checked_line before (show_line words)
     else Err UnknownCommand)))))
 
--- the words of a line after the previous lines; the first word is the command
+-- the result of checking the words of a line after the previous lines; the first word is the command
 unfoldable pub checked_words : List Drawing → List (List ℕ) → Result Drawing ScriptWhy
 checked_words before [] = Err UnknownCommand
 checked_words before (command ∷ words) = checked_command before command words
 
--- an ignored line: empty, or a remark
+-- whether a line is ignored: it is empty, or a remark
 abbrev pub is_passed_over : List ℕ → Bool
 is_passed_over line = length (without_blanks line) == 0 || slice_index (without_blanks line) 0 == 35
 
--- the lines with one more, if it is accepted
+-- the previous lines and one more line, if it is accepted
 abbrev pub grown : List Drawing → Result Drawing ScriptWhy → Result (List Drawing) ScriptWhy
 grown before (Ok line) = Ok (before ++ line ∷ [])
 grown before (Err why) = Err why

@@ -8,7 +8,7 @@ use Rattle.picture_script.specs.ScriptGrammar.{is_passed_over}
 unfoldable pub is_show_line : List ℕ → Bool
 is_show_line line = not (is_passed_over line) && bytes_eq (slice_index_or (words_in line) 0 []) (codes "show")
 
--- the numbers of the show lines; the first line has this number
+-- the numbers of the show lines, if the lines are counted from `number`
 unfoldable pub show_lines_from : ℕ → List (List ℕ) → List ℕ
 show_lines_from number [] = []
 show_lines_from number (line ∷ rest) =

@@ -11,7 +11,7 @@ use cdg_instructions::{
 use std::alloc::{AllocError, Global};
 use std::marker::Model;
 
-/// The colours of the pixels, row by row from the left.
+/// The colour numbers of the pixels of the window, row by row from the left.
 #[derive(Drop)]
 pub(crate) struct Window {
     pixels: Vec<u8>,
@@ -55,7 +55,8 @@ impl Window {
         equal
     }
 
-    /// Reads six pixels of a row. All are read before the first is written, so several are moved at once.
+    /// Reads six pixels of a row. It reads all of them before it writes the first one, so the compiler can
+    /// move several at once.
     #[inline]
     pub(crate) fn read_line(&self, x: usize, y: usize, out: &mut [u8])
         requires count { length out.old ≡ tile_width }
@@ -139,7 +140,7 @@ fn compare_line(line: &[u8], other: &[u8], equal: &mut [bool; WINDOW_WIDTH])
     }
 }
 
-// Up to this many lines are drawn again. To draw more is slower than to copy all pixels.
+// The maximum number of lines that are drawn again. For more lines, it is faster to copy all pixels.
 const FEW_LINES: usize = 1_000;
 
 /// A window of 288 by 192 pixels, a border and a table of sixteen colours, drawn by the lines of a script.
@@ -249,7 +250,7 @@ impl Canvas {
     /// Draws picture `k` of a script: the lines before its show line that have not been drawn yet. Pixels that a later
     /// line fills are skipped.
     ///
-    /// The canvas is empty, or it has a picture of this script up to `k`.
+    /// The canvas must be empty, or have a picture of this script with a number of at most `k`.
     pub fn draw_until(&mut self, script: &Script, k: u32)
         requires picture { k < pictures script.now }
         requires before { StandsBefore script.now k self.old }

@@ -288,7 +288,8 @@ fn is_row(x: u16, y: u16, count: usize) -> bool
         && usize::from(y) < WINDOW_HEIGHT
 }
 
-// The colour number after `border` or `fill`. Most lines have a space and one digit there, which need no splitting.
+// The colour number after `border` or `fill`. Most lines have a space and one digit there. This case is read
+// without splitting the line into words.
 #[inline(always)]
 fn colour_number(words: &[u8]) -> Result<u8, ScriptWhy>
     ensures ok { IfOk result (IsColourNumber words.now) }
@@ -301,7 +302,7 @@ fn colour_number(words: &[u8]) -> Result<u8, ScriptWhy>
     }
 }
 
-// The same for all other spellings.
+// The colour number after `border` or `fill`, in any spelling.
 #[inline(never)]
 fn any_colour_number(words: &[u8]) -> Result<u8, ScriptWhy>
     ensures ok { IfOk result (IsColourNumber words.now) }

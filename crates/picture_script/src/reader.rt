@@ -18,7 +18,7 @@ use crate::script::{Script, ScriptLine, Shown};
 use std::alloc::{AllocError, Global};
 use text_lines::{next_line, trim_start, without_mark};
 
-/// The lines of a script so far.
+/// The lines of a script that were read so far.
 #[derive(Drop)]
 pub(crate) struct ScriptDraft {
     pub(crate) lines: Vec<ScriptLine>,
@@ -184,7 +184,7 @@ impl ScriptReader {
         self.let_go(kept);
     }
 
-    // Drops the lines if one of them was not kept.
+    // Drops all lines if there was no memory for the last one.
     fn let_go(&mut self, kept: Result<(), AllocError>)
         ensures { (script : List Drawing) → HasCounted script self.old → OnOk kept (IsKeptBy script self.old)
             → Followed script self.new }
@@ -279,7 +279,7 @@ pub(crate) fn is_passed_over(line: &[u8]) -> bool
     is_nothing(trim_start(line))
 }
 
-// The same for a line without leading blanks.
+// Whether a line without leading blanks is ignored.
 fn is_nothing(rest: &[u8]) -> bool
     ensures { (line : List ℕ) → rest.now ≡ without_blanks line → result ≡ is_passed_over line }
 {

@@ -8,8 +8,8 @@ ghost use Rattle.cdg_instructions.specs.Sizes.{tile_height, window_rows};
 use cdg_instructions::{TILE_HEIGHT, WINDOW_ROWS};
 use std::marker::Model;
 
-/// A line with a command. The colours of a row begin at `first` in the colours of all rows. The order of the fields
-/// leaves no gaps, since a script may have millions of lines.
+/// A line with a command. The colours of a row begin at `first` in the colours of all rows. The order of the
+/// fields avoids padding, since a script may have millions of lines.
 #[derive(Clone, Copy)]
 pub(crate) enum ScriptLine {
     TableColour {
@@ -54,7 +54,7 @@ pub const MOST_PICTURES: usize = 20_000;
 
 /// The lines of a picture script, and when each of its pictures is shown.
 ///
-/// A contract sees the list of its drawing commands.
+/// A contract sees the list of its commands.
 #[derive(Drop)]
 pub struct Script {
     pub(crate) lines: Vec<ScriptLine>,

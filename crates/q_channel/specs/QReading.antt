@@ -1,4 +1,4 @@
--- What 96 bits of the Q channel are read as: a frame, or the reason why they are none.
+-- The reading of 96 bits of the Q channel: a frame, or the reason why they are not a frame.
 use Rattle.std.specs.Prelude.{◌≡◌, ◌≢◌, ℕ, ◌+◌, ◌*◌, Bool, ◌||◌, List, [], ◌∷◌, ◌++◌, map, take, drop, Option, Some, None, Result, Ok, Err, ◌==◌, nat_le, if◌then◌else◌}
 use Rattle.std.specs.Char.{is_ascii_uppercase}
 use Rattle.bit_lists.specs.Counting.{below}
@@ -10,17 +10,17 @@ use Rattle.q_channel.specs.declared.frame.QFrame.{QFrame}
 use Rattle.q_channel.specs.declared.frame.QFault.{QFault}
 use Rattle.q_channel.specs.declared.frame.QFault.TheVariants.{BadCrc, BadField}
 
--- a field by its first bit and its width, with the numbers that it may hold
+-- a field: its first bit, its width, and the numbers that it may have
 pub record FieldRange : Type 0 where
   pub first : ℕ
   pub width : ℕ
   pub allows : ℕ → Bool
 
--- the field with this first bit, this width and these numbers
+-- the field with this first bit and this width that may have these numbers
 abbrev pub range : ℕ → ℕ → (ℕ → Bool) → FieldRange
 range first width allows = record { first = first; width = width; allows = allows }
 
--- so many bits that are zero
+-- a field of `width` bits that are zero
 abbrev pub zeros_at : ℕ → ℕ → FieldRange
 zeros_at first width = range first width (λ n. n == 0)
 
@@ -36,11 +36,11 @@ time_at first = bcd_at first 0 99 ∷ bcd_at (first + 8) 0 59 ∷ bcd_at (first 
 abbrev pub digits_at : ℕ → ℕ → List FieldRange
 digits_at first count = map (λ k. range (first + 4 * k) 4 (λ n. nat_le n 9)) (below count)
 
--- the code of a capital letter: its ASCII code less that of the digit 0
+-- whether a number is the code of a capital letter: its ASCII code minus the code of the digit 0
 abbrev pub is_letter : ℕ → Bool
 is_letter n = is_ascii_uppercase (n + 48)
 
--- the code of a capital letter or of a digit
+-- whether a number is the code of a capital letter or of a digit
 abbrev pub is_letter_or_digit : ℕ → Bool
 is_letter_or_digit n = is_letter n || nat_le n 9
 
@@ -52,8 +52,8 @@ characters_at first count allows = map (λ k. range (first + 6 * k) 6 allows) (b
 abbrev pub program_ranges : List FieldRange
 program_ranges = bcd_at 8 1 99 ∷ bcd_at 16 0 99 ∷ (time_at 24 ++ zeros_at 48 8 ∷ time_at 56)
 
--- an entry of the table of contents: a time, a zero byte, and by its point the first track before a byte of any value
--- and a zero byte, the last track before two zero bytes, or a time
+-- an entry of the table of contents: a time, a zero byte, and three bytes that depend on its point. These are the first
+-- track, any byte and a zero byte; or the last track and two zero bytes; or a time.
 abbrev pub toc_ranges : ℕ → List FieldRange
 toc_ranges point = time_at 24 ++ zeros_at 48 8 ∷ (
     if point == 0xa0 then bcd_at 56 1 99 ∷ zeros_at 72 8 ∷ []
@@ -70,7 +70,7 @@ isrc_ranges =
     characters_at 8 2 is_letter ++ characters_at 20 3 is_letter_or_digit ++ zeros_at 38 2
     ∷ (digits_at 40 7 ++ zeros_at 68 4 ∷ bcd_at 72 0 74 ∷ [])
 
--- the fields that bits of this mode have, in ascending order
+-- the fields of these bits, which depend on their mode, in ascending order
 unfoldable pub ranges_of : List Bool → List FieldRange
 ranges_of message =
     if is_other (field_value message 4 4) (field_value message 8 8) (field_value message 16 8) then []
@@ -89,7 +89,7 @@ first_outside message (r ∷ rest) = if r.allows (field_value message r.first r.
 unfoldable pub first_bad_field : List Bool → Option ℕ
 first_bad_field message = first_outside message (ranges_of message)
 
--- what 96 bits are read as
+-- The reading of the 96 bits is this frame or this fault.
 abbrev pub IsReading : List Bool → Result QFrame QFault → Type 0
 IsReading message (Ok frame) = IsFrame frame message
 IsReading message (Err BadCrc) = drop field_bits message ≢ check_bits (take field_bits message)

@@ -5,7 +5,7 @@ ghost use Rattle.raw_subcode.specs.PlanarBytes.{block_from_planar, planar_form};
 use cdg_io::{Piece, Stage};
 use raw_subcode::{BLOCK_BYTES, Block};
 
-/// Gives the planar form of each block of 96 bytes.
+/// A stage that converts each block of 96 bytes to its planar form.
 #[derive(Clone, Copy)]
 pub struct PlanarForms;
 
@@ -27,7 +27,7 @@ impl Stage for PlanarForms {
     }
 }
 
-/// Gives the block of each planar form of 96 bytes.
+/// A stage that converts each planar form of 96 bytes to its block.
 #[derive(Clone, Copy)]
 pub struct BlockForms;
 
@@ -49,7 +49,7 @@ impl Stage for BlockForms {
     }
 }
 
-// Leaves these bytes in `out`, in the piece that is there where there is one.
+// Leaves these bytes in `out`. If `out` has a piece, it is reused.
 #[inline]
 fn leave(bytes: &[u8; BLOCK_BYTES], out: &mut Option<Piece>)
     ensures { out.new ≡ Some bytes.now }

@@ -1,5 +1,5 @@
-// Frames of the program, which most blocks carry: their fields are tested without the table of ranges, and their line
-// has the digits of the frame as they stand.
+// Frames of the program, which most blocks have. Their fields are tested without the table of ranges, and the
+// digits of the frame are copied into the line.
 ghost use Rattle.std.specs.Prelude.{◌≡◌, ◌≤◌, ◌+◌, ◌/◌, ◌%◌, ◌++◌, ◌∷◌, [], true, None, Ok, length, take, drop};
 ghost use Rattle.bit_lists.specs.Bits.{bits_of_bytes};
 ghost use Rattle.q_channel.specs.QFrame.{field_value, is_bcd_within};
@@ -15,7 +15,7 @@ use crate::kinds::{Kind, is_bcd_within};
 use crate::lines::{digit, six_digits};
 use bit_lists::crc16;
 
-/// The bytes of the line of a frame of the program: each of its parts has one width.
+/// The number of bytes in the line of a frame of the program. Each part of this line has a fixed width.
 pub(crate) const PROGRAM_LINE: usize = 49;
 
 pub(crate) fn is_program_frame(bytes: &[u8; FRAME_BYTES]) -> bool
@@ -34,7 +34,7 @@ pub(crate) fn is_program_frame(bytes: &[u8; FRAME_BYTES]) -> bool
     }
 }
 
-/// Whether the fields of a frame of the program are seen to be in their ranges.
+/// Whether the fields of a frame of the program are in their ranges. Clauses use only the result `true`.
 #[inline]
 #[tactic(auto, using(crate::proofs::Ranges::program_within))]
 pub(crate) fn has_program_fields(message: &Message) -> bool
@@ -47,7 +47,7 @@ pub(crate) fn has_program_fields(message: &Message) -> bool
         && has_time(message, 56)
 }
 
-// Whether a track and an index begin the fields.
+// Whether the first two fields are a track and an index in their ranges.
 #[inline]
 fn has_track_and_index(message: &Message) -> bool
     requires size { length message.now ≡ frame_bits }
@@ -58,7 +58,7 @@ fn has_track_and_index(message: &Message) -> bool
         && is_bcd_within(message.byte_of_frame(16), 0, 99)
 }
 
-// Whether a time begins at a bit.
+// Whether a time in its range begins at a bit.
 #[inline]
 fn has_time(message: &Message, first: u8) -> bool
     requires size { length message.now ≡ frame_bits }
@@ -72,13 +72,13 @@ fn has_time(message: &Message, first: u8) -> bool
         && is_bcd_within(message.byte_of_frame(first + 16), 0, 74)
 }
 
-/// The line of a block with such a frame.
+/// The line of a block with a frame of the program.
 pub(crate) fn program_line(block: u32, bytes: &[u8; FRAME_BYTES]) -> [u8; PROGRAM_LINE]
     requires ranges { first_outside (bits_of_bytes bytes.now) program_ranges ≡ None }
     ensures { result ≡ q_line block (Ok (frame_at Kind.ProgramFrame (bits_of_bytes bytes.now))) }
 {
     let message = Message::of_frame(bytes);
-    // Each digit stands at a place of its own.
+    // Each digit has a fixed place.
     let mut text = *b"000000 0 track 00 index 00 00:00:00 abs 00:00:00\n";
     put(&mut text, 0, &six_digits(block));
     put(&mut text, 7, &[digit(message.field(0, 4) as u8)]);
@@ -93,7 +93,7 @@ pub(crate) fn program_line(block: u32, bytes: &[u8; FRAME_BYTES]) -> [u8; PROGRA
     text
 }
 
-// The digits that a byte of two decimal digits stands for.
+// The ASCII digits of a byte of two decimal digits.
 #[inline]
 fn digits_of(byte: u8) -> [u8; 2]
     ensures { result ≡ (48 + byte / 16) ∷ (48 + byte % 16) ∷ [] }
@@ -101,7 +101,7 @@ fn digits_of(byte: u8) -> [u8; 2]
     [b'0' + byte / 16, b'0' + byte % 16]
 }
 
-// Puts characters at a place of a line.
+// Writes characters at a place of a line.
 #[inline]
 fn put(text: &mut [u8; PROGRAM_LINE], at: usize, characters: &[u8])
     requires { at + length characters.now ≤ length text.old }

@@ -1,4 +1,4 @@
-// The stage that gives the line of each block.
+// The stage that writes the line of each block.
 ghost use Rattle.std.specs.Prelude.{◌≡◌, ◌<◌, Some, if◌then◌else◌, is_err};
 ghost use Rattle.bit_lists.specs.Bits.{bits_of_bytes};
 ghost use Rattle.bit_lists.specs.Counting.{counted};
@@ -13,10 +13,10 @@ use crate::{decode, line};
 use cdg_io::{Piece, Stage};
 use raw_subcode::{BLOCK_BYTES, Block, MOST_UNITS};
 
-// The greatest number that a line can have.
+// The greatest block number that a line can have.
 const LAST: u32 = MOST_UNITS - 1;
 
-/// Gives the line of the Q channel of each block, and counts the frames that are refused.
+/// A stage that writes the line of the Q channel of each block, and counts the refused frames.
 #[derive(Clone, Copy)]
 pub struct QLines {
     /// The number of the next block.
@@ -42,8 +42,8 @@ impl QLines {
         }
     }
 
-    // Puts the line of any frame, with the number of its block. It is a function of its own so that frames of the
-    // program do not pay for its variables.
+    // Writes the line of any frame, with the number of its block. It is a separate function, since frames of
+    // the program do not need its variables.
     #[inline(never)]
     fn put_reading(&mut self, number: u32, frame: &[u8; FRAME_BYTES], piece: &mut Piece)
         requires { number < most_units }

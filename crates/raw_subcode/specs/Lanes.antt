@@ -1,8 +1,8 @@
--- Eight numbers as the bytes of one.
+-- Numbers as the bytes of one number.
 use Rattle.std.specs.Prelude.{ℕ, zero, suc, ◌+◌, ◌-◌, ◌*◌, if◌then◌else◌}
 use Rattle.bit_lists.specs.Bits.{has_bit}
 
--- so many numbers as the bytes of one, the first lowest
+-- the number with the bytes f 0 to f (n - 1), the lowest byte first
 unfoldable pub in_lanes : ℕ → (ℕ → ℕ) → ℕ
 in_lanes zero f = 0
 in_lanes (suc n) f = f 0 + 256 * in_lanes n (λ k. f (suc k))

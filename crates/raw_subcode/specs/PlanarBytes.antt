@@ -1,16 +1,16 @@
--- The bytes of a planar form, and of the block that has one, as the code makes them.
+-- The planar form of a block, and the block of a planar form, byte by byte.
 use Rattle.std.specs.Prelude.{ℕ, ◌+◌, ◌-◌, ◌*◌, ◌%◌, ◌/◌, List, map, slice_index}
 use Rattle.bit_lists.specs.Counting.{below}
 use Rattle.bit_lists.specs.Bits.{has_bit, number_of}
 use Rattle.raw_subcode.specs.Channels.{channel_bit}
 use Rattle.raw_subcode.specs.Sizes.{block_bytes}
 
--- the byte of a channel's bits at eight bytes
+-- the byte with the bits of a channel in eight bytes of a block
 abbrev pub packed_at : List ℕ → ℕ → ℕ → ℕ
 packed_at block channel first =
     number_of (map (λ j. channel_bit channel (slice_index block (first + j))) (below 8))
 
--- the byte of the bits at one place of the eight channels of a planar form
+-- byte i of the block of a planar form: one bit of each of the eight channels
 abbrev pub gathered_at : List ℕ → ℕ → ℕ
 gathered_at planar i = number_of
     (map (λ c. has_bit (7 - i % 8) (slice_index planar (12 * c + i / 8))) (below 8))

@@ -1,6 +1,6 @@
-// The bits of each byte, each in a byte of its own.
+// A table of the bits of each byte, each bit in a byte of its own.
 
-/// The bits of each byte in eight bytes of a number, the highest bit in the lowest of them.
+/// For each byte, its eight bits in the eight bytes of a number. The highest bit is in the lowest byte.
 pub(crate) static LANES: [u64; 256] = [
     0x0000000000000000,
     0x0100000000000000,

@@ -6,7 +6,8 @@ ghost use Rattle.raw_subcode.specs.Channels.{channel_bit};
 use crate::lane_table::LANES;
 use crate::sizes::BLOCK_BYTES;
 
-/// Eight bytes with a P bit, the bits of a byte as Q bits, the highest first, and the symbols from one on.
+/// Eight bytes of a block. Each has this P bit, a bit of `q` as its Q bit (the highest first), and a symbol,
+/// from symbol `first` on.
 #[inline]
 pub(crate) fn built(p: bool, q: u8, symbols: &[u8; BLOCK_BYTES], first: usize) -> [u8; 8]
     requires first { first ≤ 88 }

@@ -1,5 +1,5 @@
-// Eight rows of lanes: the twelve bytes of each channel of a planar form, or the bytes at one place of each eight of
-// a block.
+// Conversions between blocks and planar forms with eight rows of lanes. A row has the twelve bytes of a
+// channel of a planar form, or every eighth byte of a block.
 ghost use Rattle.std.specs.Prelude.{◌≡◌, ◌<◌, ◌≤◌, ◌+◌, ◌-◌, ◌*◌, ◌/◌, ◌%◌, ◌^◌, ◌==◌, ◌&&◌, ℕ, length, slice_index, nat_le, if◌then◌else◌};
 ghost use Rattle.bit_lists.specs.Bits.{has_bit};
 ghost use Rattle.raw_subcode.specs.Channels.{IsPlanarForm};
@@ -34,7 +34,7 @@ pub(crate) fn bytes_to_planar(bytes: &[u8; BLOCK_BYTES]) -> [u8; BLOCK_BYTES]
     one_after_another(turned(place_rows(bytes)))
 }
 
-// The twelve bytes of a channel in a planar form, and four bytes more.
+// The twelve bytes of a channel in a planar form, and four further bytes.
 #[inline]
 fn channel_row(planar: &[u8], channel: usize) -> u8x16
     requires planar { length planar.now ≡ block_bytes }
@@ -49,7 +49,8 @@ fn channel_row(planar: &[u8], channel: usize) -> u8x16
     }
 }
 
-// Eight rows turned: in each lane, the bit at each place of a row is that at the row's place of the place's row.
+// The rows with their bits transposed: in each lane, bit w of row r is bit r of the old row w, counted from
+// the highest bit.
 #[inline]
 fn turned(rows: [u8x16; 8]) -> [u8x16; 8]
     requires { AreRows rows }
@@ -72,7 +73,7 @@ fn turned(rows: [u8x16; 8]) -> [u8x16; 8]
     [c0, c1, c2, c3, c4, c5, c6, c7]
 }
 
-// Two rows, where the bits of the upper that a mask names are exchanged for those of the lower so many places higher.
+// Exchanges the bits of `upper` that are in the mask and the bits of `lower` that are `places` higher.
 #[inline]
 fn exchanged(upper: u8x16, lower: u8x16, places: u8, mask: u8) -> (u8x16, u8x16)
     requires upper { length upper ≡ 16 }
@@ -93,7 +94,7 @@ fn exchanged(upper: u8x16, lower: u8x16, places: u8, mask: u8) -> (u8x16, u8x16)
     (upper ^ other, lower ^ (other << by))
 }
 
-// The first twelve lanes of eight rows, each lane's eight bytes side by side.
+// The first twelve lanes of eight rows, lane by lane.
 #[inline]
 fn side_by_side(rows: [u8x16; 8]) -> [u8; BLOCK_BYTES]
     requires { AreRows rows }
@@ -114,7 +115,7 @@ fn side_by_side(rows: [u8x16; 8]) -> [u8; BLOCK_BYTES]
     bytes
 }
 
-// Puts the lanes of two rows, by turns, behind so many other 32 bytes.
+// Writes the lanes of two rows alternately, from byte 32 * k on.
 #[inline]
 fn put_woven(bytes: &mut [u8], k: usize, even: u8x16, odd: u8x16)
     requires bytes { length bytes.old ≡ block_bytes }
@@ -130,7 +131,7 @@ fn put_woven(bytes: &mut [u8], k: usize, even: u8x16, odd: u8x16)
     second.copy_to_slice(&mut bytes[32 * k + 16..]);
 }
 
-// The lanes of two rows by turns, those of the first half and those of the second.
+// The lanes of two rows alternately: those of the first halves, and those of the second halves.
 #[inline]
 fn woven(even: u8x16, odd: u8x16) -> (u8x16, u8x16)
     requires even { length even ≡ 16 }
@@ -145,7 +146,7 @@ fn woven(even: u8x16, odd: u8x16) -> (u8x16, u8x16)
     even.interleave(odd)
 }
 
-// The bytes at each place of the eights of a block: twelve, and four zeros.
+// Row j has every eighth byte of a block, from byte j on: twelve bytes, and then four zeros.
 #[inline]
 fn place_rows(bytes: &[u8]) -> [u8x16; 8]
     requires { length bytes.now ≡ block_bytes }
@@ -172,7 +173,7 @@ fn place_rows(bytes: &[u8]) -> [u8x16; 8]
     [h0, h1, h2, h3, h4, h5, h6, h7]
 }
 
-// Sixteen bytes of a block, behind so many other sixteen.
+// Sixteen bytes of a block, from byte 16 * m on.
 #[inline]
 fn sixteen(bytes: &[u8], m: usize) -> u8x16
     requires bytes { length bytes.now ≡ block_bytes }
@@ -209,7 +210,7 @@ fn put_row(bytes: &mut [u8], first: usize, row: u8x16)
     row.copy_to_slice(&mut bytes[first..]);
 }
 
-// The last four of the first twelve lanes of a row, and the first twelve of the next.
+// Lanes 8 to 11 of a row, and lanes 0 to 11 of the next row.
 #[inline]
 fn last_sixteen(row: u8x16, next: u8x16) -> u8x16
     requires row { length row ≡ 16 }

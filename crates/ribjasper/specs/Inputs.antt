@@ -24,7 +24,7 @@ unopened_file (Named file) = None
 unopened_file Missing = None
 unopened_file (Empty opener) = None
 
--- It is the file of this name, which this opener is to open.
+-- The input is the file of this name, and this opener will open it.
 abbrev pub IsUnopened : {I F O : Type 0} → O → String Global → InputReader I F O → Type 0
 IsUnopened opener name reader = unopened_file reader ≡ Some (opener, string_bytes name)
 
@@ -66,7 +66,7 @@ ReadsAs stdin_reads file_reads Missing after old new answer = (after ≡ Missing
 ReadsAs stdin_reads file_reads (Empty opener) after old new answer = (after ≡ Empty opener) × (answer ≡ Ok 0)
 ReadsAs stdin_reads file_reads (Unopened opener name) after old new answer = ⊥
 
--- the most that a read of an input is to bring: as much as a pipe holds, or whole pages and whole blocks
+-- the maximum number of bytes that one read of an input returns: as much as a pipe holds, or whole pages and whole blocks
 abbrev pub most_a_read : {I F O : Type 0} → InputReader I F O → ℕ
 most_a_read (Standard stdin opener) = 65536
 most_a_read (Unopened opener name) = 61440

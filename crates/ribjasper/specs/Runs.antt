@@ -69,8 +69,8 @@ pub record RunsOver {I F O W : Type 0} (contents : W → Bytes) (words : List (L
   pub faults : TellsFaults (call (λ s. s.faults) (λ s. s.faults) (λ s. s.faults)
       (first.before, second.before, out.before) (first.after, second.after, out.after)) answer
 
--- The words of a line were run over new sources of the inputs that it names and over an output, in which then
--- what waits was written.
+-- The words of a line were run over new sources of the inputs that it names and over an output. Then the waiting bytes of
+-- the output were written.
 pub record RunsLine (F : Type 0) {I O W : Type 0} (stdin : I) (openers : O × O) (contents : W → Bytes)
     (line : List (String Global)) (out : Change (Buffered W)) (status : Status) : Type 0 where
   pub first_input : InputReader I F O

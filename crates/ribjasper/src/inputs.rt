@@ -18,7 +18,7 @@ const PIPE_READ: usize = 65_536;
 // Whole pages and whole blocks.
 const FILE_READ: usize = 61_440;
 
-/// Where an input comes from. An opener that opens nothing is kept as it is.
+/// The source of an input's bytes. It keeps an opener that opens nothing.
 #[derive(Drop)]
 pub(crate) enum InputReader<'a, I, F, O> {
     Standard(I, O),
@@ -31,7 +31,7 @@ pub(crate) enum InputReader<'a, I, F, O> {
 }
 
 impl<'a, I, F, O> InputReader<'a, I, F, O> {
-    /// The most that a read of it is to bring.
+    /// The maximum number of bytes that one read of the input returns.
     fn most_a_read(&self) -> usize
         ensures { result ≡ most_a_read self.now }
     {
@@ -97,7 +97,7 @@ impl<'a, I: MachineInput + Drop, F: MachineInput + Drop, O: Opener<F> + Drop> In
     F,
     O,
 > {
-    /// A source of it.
+    /// A buffered source of the input.
     pub(crate) fn source(
         self,
         alloc: Global,

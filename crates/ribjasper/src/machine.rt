@@ -98,7 +98,7 @@ impl<R: Files<File = File>> Opener<File> for FilesOf<'_, R> {
 #[derive(Drop)]
 pub(crate) struct MachineStreams<I, O, W, E> {
     pub stdin: I,
-    /// For the first input, and for the second.
+    /// The openers for the first and for the second input.
     pub openers: (O, O),
     pub stdout: W,
     pub stderr: E,

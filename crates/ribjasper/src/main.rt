@@ -42,7 +42,8 @@ fn main(rt: HostRuntime) -> ExitCode {
     run_program(rt.alloc(), env::args(&rt), machine)
 }
 
-// Runs the command of these words, prints its status and returns the exit status. Any machine will do.
+// Runs the command of these words, prints its status and returns the exit status. It works with every
+// machine.
 fn run_program<I, F, O, W, E>(
     alloc: Global,
     words: io::Result<Args>,
@@ -67,8 +68,8 @@ where
     ExitCode::from(status.exit())
 }
 
-// Runs the command of these words on the inputs that they name. It fails only if no memory is found for the words or
-// the buffers.
+// Runs the command of these words on the inputs that they name. It fails only if an allocation for the words
+// or the buffers fails.
 fn run_line<
     I: MachineInput + Drop,
     F: MachineInput + Drop,
@@ -132,7 +133,7 @@ fn parted(line: &[String]) -> (&[String], &[String])
     (&line[..split.words], &line[line.len() - split.names..])
 }
 
-// The status of a run. Without memory for the words or the buffers nothing was run.
+// The status of a run. If an allocation for the words or the buffers failed, nothing was run.
 fn ended(ran: io::Result<Status>) -> Status
     ensures ran { IfOk ran (λ status. result ≡ status) }
     ensures no_memory { OnErr ran (result ≡ Status.NoMemory) }

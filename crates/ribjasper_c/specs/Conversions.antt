@@ -13,7 +13,7 @@ use Rattle.ribjasper_c.specs.declared.converting.Converted.{Converted}
 abbrev pub stream_form : ℕ → Form
 stream_form n = if n == 2 then Sector else form_of n
 
--- these bytes are not whole units, or are too many
+-- These bytes are not whole units, or they are too many.
 abbrev pub IsNoStream : Form → List ℕ → Type 0
 IsNoStream form stream = (length stream % unit_size form ≢ 0) ⊎ (most_units * unit_size form < length stream)
 
@@ -21,7 +21,8 @@ IsNoStream form stream = (length stream % unit_size form ≢ 0) ⊎ (most_units 
 abbrev pub text_size : Form → ℕ → List ℕ → ℕ
 text_size form lead_in stream = symbols_a_slot * word_count form (length stream / unit_size form - lead_in)
 
--- the packs of a stream, and the report: their size, the blocks of the program, and the packs with no codeword near
+-- The text has the packs of a stream. The report has its size, the number of program blocks, and that of packs with no
+-- codeword near.
 pub record IsToldOf (form : Form) (lead_in : ℕ) (stream text : List ℕ) (told : Converted) : Type 0 where
   pub converted : IsConverted form lead_in stream text told.bad
   pub bytes : told.bytes ≡ length text

@@ -31,18 +31,18 @@ abbrev pub IsPlaying : Form → ℕ → List Given → List LivePlayer → Type 
 IsPlaying form lead_in given players = (player : LivePlayer) × (players ≡ player ∷ [])
     × HasPlayed form lead_in given player
 
--- this holds for the one player before and after a call
+-- `goes` holds for the one player before and after a call.
 abbrev pub PlayersGo : List LivePlayer → List LivePlayer → (LivePlayer → LivePlayer → Type 0) → Type 0
 PlayersGo old new goes = (before : LivePlayer) × (after : LivePlayer)
     × (old ≡ before ∷ []) × (new ≡ after ∷ []) × goes before after
 
--- The screen of these blocks. For a raw stream it is also the screen at the end of the program so far.
+-- This is the screen of these blocks. For a raw stream it is also the screen at the end of the program so far.
 pub record IsSeen (form : Form) (lead_in : ℕ) (blocks : List (List ℕ)) (now : Standing) : Type 0 where
   pub last : IsLiveView form lead_in blocks now
   pub so_far : form ≡ Raw → IsLiveViewAt Raw lead_in (length blocks - lead_in) blocks now
 
--- The screen of a player: what its inputs since it began draw, in order. If all inputs are blocks, it is the screen of
--- the blocks; if all are packs, it is what the packs draw.
+-- This is the screen of a player: what its inputs since it began draw, in order. If all inputs are blocks, it is the screen
+-- of the blocks; if all are packs, it is what the packs draw.
 pub record IsShownByPlayer (player : LivePlayer) (now : Standing) : Type 0 where
   pub stands : now ≡ standing_on player
   pub all : (form : Form) (lead_in : ℕ) (given : List Given) → HasPlayed form lead_in given player
@@ -52,7 +52,7 @@ pub record IsShownByPlayer (player : LivePlayer) (now : Standing) : Type 0 where
   pub packs : (form : Form) (lead_in : ℕ) (given : List Given) → HasPlayed form lead_in given player
       → blocks_in given ≡ [] → now ≡ standing_after blank (map instruction_of (packs_given given))
 
--- this holds for the screen of the one player
+-- `tells` holds for the screen of the one player.
 abbrev pub PlayersShow : List LivePlayer → (Standing → Type 0) → Type 0
 PlayersShow players tells = (player : LivePlayer) → players ≡ player ∷ []
     → (now : Standing) × IsShownByPlayer player now × tells now
@@ -71,20 +71,20 @@ pub record IsWrittenBy {F T : Type 0}
   pub called : g.post f (seen, (room, tt)) (tt, (left, tt))
   pub leaves : left.now ≡ new
 
--- the numbers of the colours of the screen's pixels, row by row
+-- These are the colour numbers of the screen's pixels, row by row.
 abbrev pub IsScreen : List ℕ → Standing → Type 0
 IsScreen pixels now = (n : ℕ) → n < screen_pixels
     → slice_index pixels n ≡ screen_pixel now (n % screen_width) (n / screen_width)
 
--- the colours of the table
+-- These are the colours of the table.
 abbrev pub IsTable : List ℕ → Standing → Type 0
 IsTable table now = (k : ℕ) → k < 16 → slice_index table k ≡ slice_index now.colours k
 
--- the levels of the colours
+-- These are the levels of the colours.
 abbrev pub AreLevels : List ℕ → Standing → Type 0
 AreLevels levels now = (k : ℕ) → k < 16 → slice_index levels k ≡ slice_index now.levels k
 
--- red, green and blue of the screen's pixels, row by row
+-- These are red, green and blue of the screen's pixels, row by row.
 abbrev pub ArePictureBytes : List ℕ → Standing → Type 0
 ArePictureBytes bytes now = (n : ℕ) → n < picture_bytes → slice_index bytes n ≡ picture_byte now n
 

@@ -9,7 +9,7 @@ use Rattle.stream_stages.specs.TextListing.{texts_of_lead_in, IsTextListed, IsWh
 use Rattle.ribjasper_c.specs.Conversions.{stream_form}
 use Rattle.ribjasper_c.specs.declared.lead_in.Listed.{Listed}
 
--- the four packs of a block, one after another, eighteen bytes each
+-- These are the four packs of a block, one after another, eighteen bytes each.
 abbrev pub ArePacksOf : List ℕ → List ℕ → Type 0
 ArePacksOf block packs = (k : ℕ) → k < 4 → take 18 (drop (18 * k) packs) ≡ pack_at block k
 
@@ -20,7 +20,7 @@ fault_answer NoSize = pos 9
 fault_answer (Malformed seq byte) = pos 10
 fault_answer NoMemory = pos 7
 
--- the report then: the pack and its byte
+-- the report if packs have no texts: the number of a pack, and of its byte
 abbrev pub fault_told : TextFault → Listed
 fault_told (Missing seq) = record { bytes = 0; seq = seq; byte = 0 }
 fault_told (Malformed seq byte) = record { bytes = 0; seq = seq; byte = byte }

@@ -7,8 +7,8 @@ use Rattle.ribjasper_c.specs.declared.taking.ReadPack.{ReadPack}
 abbrev pub no_pack : ReadPack
 no_pack = record { symbols = []; wrong = pos 0 }
 
--- The words in this order, each as the codeword near it and how many symbols were wrong, or unchanged and -1. The
--- packs after them are unchanged.
+-- The packs are these words in this order: each has the codeword near a word and the number of wrong symbols, or the word
+-- itself and -1. The packs after them are unchanged.
 pub record AreReadAs (words : List (List ℕ)) (old new : List ReadPack) : Type 0 where
   pub told : (i : ℕ) → i < length words
       → IsCorrected (slice_index_or words i []) (slice_index_or words i [])

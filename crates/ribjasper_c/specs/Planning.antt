@@ -9,13 +9,13 @@ use Rattle.disc_plan.specs.declared.stops.PlanStop.{PlanStop}
 use Rattle.disc_plan.specs.declared.stops.PlanStop.TheVariants.{NoRoom, NoMemory}
 use Rattle.disc_plan.specs.declared.told.ToldPlan.{ToldPlan}
 
--- the exit status of the program
+-- the exit status if there is no plan
 abbrev pub stop_answer : PlanStop → ℤ
 stop_answer (NoRoom pictures blocks) = pos 6
 stop_answer NoMemory = pos 7
 stop_answer _ = pos 3
 
--- the report then; if out of memory, the report is unchanged
+-- the report if there is no plan; if the call is out of memory, the report is unchanged
 abbrev pub told_at_stop : ToldPlan → PlanStop → ToldPlan
 told_at_stop old NoMemory = old
 told_at_stop old stop = told_stop stop

@@ -16,7 +16,7 @@ use Rattle.disc_plan.specs.declared.told.ToldSheet.{ToldSheet}
 abbrev pub text_kind : ℕ → CueText
 text_kind n = if n == 1 then Performer else if n == 2 then Songwriter else Title
 
--- the results for a cue sheet: done, too long or no such text, refused, buffer too small, out of memory
+-- This is a result for a cue sheet: done, too long or no such text, refused, buffer too small, out of memory.
 abbrev pub IsSheetAnswer : ℤ → Type 0
 IsSheetAnswer result = (result ≡ pos 0) ⊎ (result ≡ pos 2) ⊎ (result ≡ pos 3) ⊎ (result ≡ pos 6)
     ⊎ (result ≡ pos 7)

@@ -10,7 +10,7 @@ use Rattle.ribjasper_c.specs.declared.surveying.Surveyed.{Surveyed}
 abbrev pub whole_blocks : Form → List ℕ → ℕ
 whole_blocks form bytes = length bytes / unit_size form
 
--- the result for so many whole blocks, with room for so many rows
+-- the result for this number of whole blocks, with room for this number of rows
 abbrev pub survey_answer : ℕ → ℕ → ℕ → ℕ → ℤ
 survey_answer form lead_in blocks room =
     if nat_lt 2 form || nat_lt most_lead_in lead_in then pos 2

@@ -15,7 +15,8 @@ use live_player::{ScreenChange, draw_all, feed_all, pack_change};
 use raw_subcode::BLOCK_BYTES;
 use rw_code::SYMBOLS;
 
-/// Feeds an open player blocks in turn, and reports what may have changed on the screen. 0, or -1 if the player is closed.
+/// Feeds an open player blocks in turn, and reports what may have changed on the screen. Returns 0, or -1 if
+/// the player is closed.
 #[unsafe(no_mangle)]
 pub extern "C" fn ribjasper_player_feed_all(
     player: &mut Playing,
@@ -35,7 +36,8 @@ pub extern "C" fn ribjasper_player_feed_all(
     DONE
 }
 
-/// Draws packs of 24 bytes in turn, and reports what may have changed on the screen. 0, or -1 if the player is closed.
+/// Draws packs of 24 bytes in turn, and reports what may have changed on the screen. Returns 0, or -1 if the
+/// player is closed.
 #[unsafe(no_mangle)]
 pub extern "C" fn ribjasper_player_draw_all(
     player: &mut Playing,
@@ -55,8 +57,8 @@ pub extern "C" fn ribjasper_player_draw_all(
     DONE
 }
 
-/// Reports what a pack may change on a screen that begins `across` pixels further right and `down` pixels further down in
-/// the memory. 0, or -1 if `across` is above 5 or `down` is above 11.
+/// Reports what a pack may change on a screen that begins `across` pixels further right and `down` pixels
+/// further down in the memory. Returns 0, or -1 if `across` is above 5 or `down` is above 11.
 #[unsafe(no_mangle)]
 pub extern "C" fn ribjasper_pack_change(
     pack: &[u8; SYMBOLS],

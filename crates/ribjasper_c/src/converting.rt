@@ -22,11 +22,11 @@ use stream_stages::{BlockPacks, BlockWords};
 #[repr(C)]
 #[derive(Clone, Copy)]
 pub struct Converted {
-    /// The bytes that were written.
+    /// The number of bytes that were written.
     pub bytes: u64,
-    /// The blocks of the program.
+    /// The number of program blocks.
     pub blocks: u32,
-    /// The packs with no codeword near, which are written as zeros.
+    /// The number of packs with no codeword near, which are written as zeros.
     pub bad: u32,
 }
 
@@ -74,7 +74,7 @@ pub extern "C" fn ribjasper_convert(
     if bad == 0 { DONE } else { DAMAGED }
 }
 
-// How many units a stream has, if it has whole units and not too many.
+// The number of units in a stream, if it has whole units and not too many.
 fn units_in(form: Form, stream: &[u8]) -> Option<u32>
     ensures { MatchOption result (IsNoStream form stream.now)
         (λ units. (units ≤ most_units) × (length stream.now ≡ units * unit_size form)) }
@@ -87,7 +87,7 @@ fn units_in(form: Form, stream: &[u8]) -> Option<u32>
     Some(units as u32)
 }
 
-// How many bytes a unit has.
+// The number of bytes in a unit.
 fn size_of_unit(form: Form) -> usize
     ensures { result ≡ unit_size form }
 {
@@ -97,7 +97,7 @@ fn size_of_unit(form: Form) -> usize
     }
 }
 
-// The size of the packs of so many units, in bytes.
+// The size in bytes of the packs of this number of units.
 fn size_of_text(form: Form, lead_in: u32, units: u32) -> usize
     requires { units ≤ most_units }
     ensures { result ≡ symbols_a_slot * word_count form (units - lead_in) }
@@ -109,7 +109,7 @@ fn size_of_text(form: Form, lead_in: u32, units: u32) -> usize
     }
 }
 
-// Writes the packs of whole units to the front of a buffer, and returns how many are bad.
+// Writes the packs of whole units to the front of a buffer, and returns the number of bad packs.
 fn write_packs(form: Form, lead_in: u32, stream: &[u8], units: u32, packs: &mut [u8]) -> u32
     requires few { units ≤ most_units }
     requires whole { length stream.now ≡ units * unit_size form }
@@ -166,7 +166,7 @@ fn put(piece: &Option<Piece>, packs: &mut [u8], at: usize) -> usize
     }
 }
 
-// Writes bytes from a place on, and returns how many.
+// Writes bytes to a buffer from a place on, and returns their number.
 fn copy_to(bytes: &[u8], packs: &mut [u8], at: usize) -> usize
     requires { at + length bytes.now ≤ length packs.old }
     ensures count { result ≡ length bytes.now }
@@ -177,7 +177,7 @@ fn copy_to(bytes: &[u8], packs: &mut [u8], at: usize) -> usize
     bytes.len()
 }
 
-/// The form of a whole stream with a number.
+/// The form of a whole stream that has this number.
 pub(crate) fn stream_form(form: u32) -> Form
     ensures { result ≡ stream_form form }
 {

@@ -19,19 +19,19 @@ use rw_interleave::PACKS_KEPT_BACK;
 #[repr(C)]
 #[derive(Clone, Copy)]
 pub struct PlayerCounts {
-    /// The words so far, each a pack.
+    /// The number of words so far. Each word is a pack.
     pub words: u64,
-    /// The form of its blocks: 0 raw, 1 packs.
+    /// The form of the blocks: 0 raw, 1 packs.
     pub form: u32,
-    /// The blocks of its lead-in, those that came and those still to come.
+    /// The number of lead-in blocks, read or not.
     pub lead_in: u32,
-    /// The blocks that were read.
+    /// The number of blocks that were read.
     pub blocks: u32,
-    /// The words with no codeword near.
+    /// The number of words with no codeword near.
     pub bad: u32,
 }
 
-/// Writes the counts of a player. 0, or -1 if the player is closed.
+/// Writes the counts of a player. Returns 0, or -1 if the player is closed.
 #[unsafe(no_mangle)]
 pub extern "C" fn ribjasper_player_counts(player: &mut Playing, counts: &mut PlayerCounts) -> i32
     ensures counts { result ≡ pos 0 → (live : LivePlayer) → player.old.handle.players ≡ live ∷ []
@@ -66,7 +66,7 @@ fn counted(live: &LivePlayer) -> PlayerCounts
     }
 }
 
-// How many words so many blocks of the program have.
+// The number of words in this number of program blocks.
 fn words_of(form: Form, blocks: u32) -> u64
     ensures { result ≡ word_count form blocks }
 {

@@ -11,8 +11,8 @@ ghost use Rattle.q_channel.specs.declared.frame.QFrame.{QFrame};
 use block_survey::{PlainFrame, frame_of, plain_of};
 use q_channel::{QFault, decode, encode};
 
-/// Reads the twelve bytes of a frame. 0, or 1 if the check is wrong, or 2 if a field is out of its range: then the
-/// number of the first bit of the first such field is written.
+/// Reads the twelve bytes of a frame. Returns 0, or 1 if the check is wrong, or 2 if a field is out of its
+/// range: then the number of the first bit of the first such field is written.
 #[unsafe(no_mangle)]
 pub extern "C" fn ribjasper_q_decode(bytes: &[u8; 12], frame: &mut PlainFrame, bit: &mut u8) -> i32
     ensures frame { result ≡ pos 0 → (found : QFrame) × IsFrame found (bits_of_bytes bytes.now)
@@ -38,7 +38,8 @@ pub extern "C" fn ribjasper_q_decode(bytes: &[u8; 12], frame: &mut PlainFrame, b
     }
 }
 
-/// Writes the twelve bytes of a frame. 0, or -1 if its kind is unknown or a field has an invalid value.
+/// Writes the twelve bytes of a frame. Returns 0, or -1 if its kind is unknown or a field has an invalid
+/// value.
 #[unsafe(no_mangle)]
 pub extern "C" fn ribjasper_q_encode(frame: &PlainFrame, bytes: &mut [u8; 12]) -> i32
     ensures bytes { result ≡ pos 0 → (found : QFrame) × (frame_of_plain frame.now ≡ Some found)

@@ -27,7 +27,7 @@ use subcode_author::Heap;
 #[repr(C)]
 #[derive(Clone, Copy)]
 pub struct Listed {
-    /// The bytes that were written.
+    /// The number of bytes that were written.
     pub bytes: u64,
     /// The number of the pack that is missing or malformed.
     pub seq: u32,
@@ -71,7 +71,7 @@ pub extern "C" fn ribjasper_texts(
     texts_in(&mut Heap::new(alloc), stream, form, lead_in, out, told)
 }
 
-// The same with a heap, which counts failed requests for memory.
+// Does the work of `ribjasper_texts`. The heap counts failed requests for memory.
 fn texts_in(
     heap: &mut Heap,
     stream: &[u8],

@@ -17,9 +17,9 @@ use rw_mend::{MOST_READINGS, MendCounts, Tallies, mend_readings, mend_report, me
 #[repr(C)]
 #[derive(Clone, Copy)]
 pub struct MendedStream {
-    /// The bytes that were written.
+    /// The number of bytes that were written.
     pub bytes: u64,
-    /// The blocks of the program.
+    /// The number of program blocks.
     pub blocks: u32,
     /// The number of words mended in each way.
     pub words: MendCounts,
@@ -57,9 +57,9 @@ pub extern "C" fn ribjasper_mend(
 #[repr(C)]
 #[derive(Clone, Copy)]
 pub struct MendedReadings {
-    /// The bytes that were written.
+    /// The number of bytes that were written.
     pub bytes: u64,
-    /// The blocks of the program.
+    /// The number of program blocks.
     pub blocks: u32,
     /// The number of words from each reading, and of codewords that do not count.
     pub words: Tallies,
@@ -133,13 +133,13 @@ pub extern "C" fn ribjasper_mend_stream(
 #[repr(C)]
 #[derive(Clone, Copy)]
 pub struct MendReported {
-    /// The result of the calls above.
+    /// The result of the same call without a report.
     pub told: MendedReadings,
-    /// Error-free words of each reading that are not in the output.
+    /// The number of error-free words of each reading that are not in the output.
     pub lost: [u32; MOST_READINGS],
 }
 
-/// Mends readings as the call above, and reports which words are lost.
+/// Mends readings like `ribjasper_mend_readings`, and reports the number of lost words of each.
 #[unsafe(no_mangle)]
 pub extern "C" fn ribjasper_mend_report(
     readings: &[u8],
@@ -172,7 +172,7 @@ pub extern "C" fn ribjasper_mend_report(
     outcome(mended.tallies.none)
 }
 
-/// Mends readings into a stream as the call above, and reports which words are lost.
+/// Mends readings like `ribjasper_mend_stream`, and reports the number of lost words of each.
 #[unsafe(no_mangle)]
 pub extern "C" fn ribjasper_mend_stream_report(
     readings: &[u8],
@@ -213,16 +213,17 @@ pub extern "C" fn ribjasper_mend_stream_report(
 // The sizes of the readings of a call.
 #[derive(Clone, Copy)]
 struct Shape {
-    // The bytes of each reading.
+    // The number of bytes in each reading.
     size: usize,
-    // The blocks of the program.
+    // The number of program blocks.
     blocks: u32,
-    // The words of the program.
+    // The number of words in the program.
     words: u32,
 }
 
 impl Shape {
-    // Of readings of this length together. Refuses numbers out of range, and readings that are not whole blocks.
+    // The shape of readings with this total length. Refuses numbers out of range, and readings that are not
+    // whole blocks.
     fn of(length: usize, count: u32, lead_in: u32) -> Result<Shape, i32>
         ensures accepted { shape_refusal length count lead_in ≡ None
             → result ≡ Ok (shape_of (length / count) lead_in) }
@@ -242,7 +243,7 @@ impl Shape {
         Ok(Shape::of_each(size, lead_in))
     }
 
-    // Of readings of this size.
+    // The shape of readings of this size each.
     fn of_each(size: usize, lead_in: u32) -> Shape
         requires { size ≤ block_bytes * most_units }
         ensures { result ≡ shape_of size lead_in }
@@ -255,7 +256,7 @@ impl Shape {
         }
     }
 
-    // Of two readings, with room for their packs.
+    // The shape of two readings. Refuses them also if the room is too small for their packs.
     fn of_two(first: usize, second: usize, lead_in: u32, room: usize) -> Result<Shape, i32>
         ensures shape { IfOk result (λ shape. shape ≡ shape_of first lead_in) }
         ensures taken { OnOk result (refusal_of first second lead_in room ≡ None) }
@@ -278,7 +279,8 @@ impl Shape {
         Ok(shape)
     }
 
-    // Of readings with room for their packs and, if there is any, for sources.
+    // The shape of readings. Refuses them also if a room is too small for their packs or their sources, if
+    // any.
     fn in_packs(
         length: usize,
         count: u32,
@@ -303,7 +305,7 @@ impl Shape {
         Ok(shape)
     }
 
-    // Of readings with room for their stream and for sources.
+    // The shape of readings. Refuses them also if a room is too small for their stream or their sources.
     fn in_stream(
         length: usize,
         count: u32,
@@ -328,7 +330,7 @@ impl Shape {
         Ok(shape)
     }
 
-    // The bytes of the packs.
+    // The size of the packs in bytes.
     fn text(&self) -> usize
         ensures { result ≡ symbols_a_slot * self.now.words }
     {

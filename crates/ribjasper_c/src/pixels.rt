@@ -12,9 +12,9 @@ use crate::answers::{DONE, NOT_DONE};
 use crate::rects::part_of;
 use live_player::{LivePlayer, PixelFormat, ScreenPart, write_pixels};
 
-/// Writes the pixels of a part of the screen, row by row, in a format. Row j begins at byte `stride` times j, and the
-/// bytes between the rows are unchanged. 0, or -1 if the player is closed, the format is unknown, the part is not on
-/// the screen, its rows overlap or the buffer is too small.
+/// Writes the pixels of a part of the screen, row by row, in a format. Row j begins at byte `stride` times j,
+/// and the bytes between the rows are unchanged. Returns 0, or -1 if the player is closed, the format is
+/// unknown, the part is not on the screen, its rows overlap or the buffer is too small.
 #[unsafe(no_mangle)]
 pub extern "C" fn ribjasper_player_pixels(
     player: &mut Playing,
@@ -74,7 +74,7 @@ fn rows_fit(height: u32, row: usize, stride: u32, room: usize) -> bool
     row <= stride && (height == 0 || stride * (height - 1) + row <= room)
 }
 
-// Writes the pixels of a part of the screen of what the player was given since it began.
+// Writes the pixels of a part of the screen. The clause says what the screen shows of the player's inputs.
 fn shown_pixels(
     live: &LivePlayer,
     part: &ScreenPart,
@@ -87,7 +87,7 @@ fn shown_pixels(
     requires room { HasPixelRoom format part.now stride (length out.old) }
     ensures { PlayersShow (live.now ∷ []) (λ now. ShowsPixels format now part.now stride out.old out.new) }
 {
-    // Two laws, for the clause.
+    // These two laws prove the clause.
     live.shows_its_blocks();
     live.shows_its_packs();
     write_pixels(&live.screen, part, format, out, stride);

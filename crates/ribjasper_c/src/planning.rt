@@ -1,4 +1,4 @@
-// The plan of a disc, with a row for each picture of a script; and how many packs a tile needs.
+// The plan of a disc, with a row for each picture of a script; and the number of packs that a tile needs.
 ghost use Rattle.std.specs.Prelude.{◌≡◌, ◌≢◌, ◌<◌, ◌⊎◌, ◌↔◌, pos, ◌≤◌, ℕ, All, negsuc, replicate};
 ghost use Rattle.cdg_io.specs.Causes.{Rose};
 ghost use Rattle.disc_plan.specs.declared.stops.PlanStop.{PlanStop};
@@ -15,8 +15,9 @@ use std::alloc::Global;
 use subcode_author::Heap;
 use tile_author::weight;
 
-/// Plans the pictures of a disc with a lead-in and an audio of so many blocks, and writes a row for each picture to
-/// the front of some rows. The result is an exit status of the program: 0 if no picture is late, 4 if some are.
+/// Plans the pictures of a disc, and writes a row for each picture to the front of some rows. `lead_in` and
+/// `audio` are numbers of blocks. The result is an exit status of the program: 0 if no picture is late, 4 if
+/// some are.
 #[unsafe(no_mangle)]
 pub extern "C" fn ribjasper_plan(
     alloc: Global,
@@ -40,7 +41,7 @@ pub extern "C" fn ribjasper_plan(
     )
 }
 
-// The same with a heap, which counts failed requests for memory.
+// Does the work of `ribjasper_plan`. The heap counts failed requests for memory.
 fn plan_in(
     heap: &mut Heap,
     sheet: &[u8],
@@ -83,8 +84,8 @@ fn stop_answer(stop: &PlanStop) -> i32
     }
 }
 
-/// How many packs a tile of these colours needs on a screen of one other colour: 1 to 4; or -1 if a number is above
-/// 15.
+/// The number of packs, 1 to 4, that a tile of these colours needs on a screen of one other colour; or -1 if
+/// a number is above 15.
 #[unsafe(no_mangle)]
 pub extern "C" fn ribjasper_tile_weight(pixels: &[u8; PIXELS]) -> i32
     ensures weight { All (λ pixel. pixel < 16) pixels.now → result ≡ pos (weight pixels.now) }

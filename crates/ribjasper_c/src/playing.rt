@@ -21,7 +21,7 @@ use std::alloc::{AllocError, Global};
 use std::mem;
 use subcode_author::Heap;
 
-/// A player in the memory of a C program. All zero, it is closed.
+/// A player in the memory of a C program. If all its bytes are 0, it is closed.
 #[repr(C)]
 pub struct Playing {
     pub handle: Handle,
@@ -31,7 +31,7 @@ pub struct Playing {
 }
 
 impl Drop for Playing {
-    /// Frees the player that is held.
+    /// Frees the player, if there is one.
     fn drop(self) {
         let Playing {
             handle,
@@ -47,7 +47,7 @@ impl Drop for Playing {
 }
 
 impl Playing {
-    /// One that holds no player.
+    /// A closed player.
     pub(crate) fn closed(alloc: Global) -> Playing
         ensures closed { result.is_open ≡ false }
         ensures none { result.handle.players ≡ [] }
@@ -59,7 +59,7 @@ impl Playing {
         }
     }
 
-    /// One that holds this player.
+    /// An open player, which owns the player in this box.
     pub(crate) fn of(alloc: Global, player: Box<LivePlayer>) -> Playing
         ensures opened { result.is_open ≡ true }
         ensures held { result.handle.players ≡ player.value ∷ [] }
@@ -71,7 +71,7 @@ impl Playing {
         }
     }
 
-    // The player that is held.
+    // The box of an open player.
     fn into_box(self) -> Box<LivePlayer>
         requires { self.is_open ≡ true }
         ensures { self.handle.players ≡ result.value ∷ [] }
@@ -84,7 +84,7 @@ impl Playing {
         handle.into_box()
     }
 
-    // Takes the player out, and leaves none.
+    // Takes the box out of an open player, which is closed then.
     pub(crate) fn take_out(&mut self) -> Box<LivePlayer>
         requires { self.old.is_open ≡ true }
         ensures { self.old.handle.players ≡ result.value ∷ [] }
@@ -93,7 +93,7 @@ impl Playing {
         mem::replace(self, none).into_box()
     }
 
-    // Holds this player from now on.
+    // Puts a box into a player, which is open then.
     pub(crate) fn put_back(&mut self, player: Box<LivePlayer>)
         ensures opened { self.new.is_open ≡ true }
         ensures held { self.new.handle.players ≡ player.value ∷ [] }
@@ -102,8 +102,8 @@ impl Playing {
     }
 }
 
-/// Opens a player of a raw stream with no lead-in. An open player keeps its memory and restarts. 0, or -1 if out of
-/// memory: then the player is closed.
+/// Opens a player of a raw stream with no lead-in. An open player keeps its memory and restarts. Returns 0,
+/// or -1 if out of memory: then the player is closed.
 #[unsafe(no_mangle)]
 pub extern "C" fn ribjasper_player_open(alloc: Global, player: &mut Playing) -> i32
     ensures { OpensPlayer player.old.is_open player.new.is_open player.new.handle.players result }
@@ -111,7 +111,7 @@ pub extern "C" fn ribjasper_player_open(alloc: Global, player: &mut Playing) -> 
     open_in(&mut Heap::new(alloc), player)
 }
 
-// The same with a heap, which counts failed requests for memory.
+// Does the work of `ribjasper_player_open`. The heap counts failed requests for memory.
 fn open_in(heap: &mut Heap, player: &mut Playing) -> i32
     ensures opens { OpensPlayer player.old.is_open player.new.is_open player.new.handle.players result }
     // The answer is -1 exactly if a request for memory failed.
@@ -134,7 +134,7 @@ fn open_in(heap: &mut Heap, player: &mut Playing) -> i32
     }
 }
 
-// A new player of a raw stream.
+// A new player of a raw stream with no lead-in.
 fn opened(heap: &mut Heap) -> Result<Box<LivePlayer>, AllocError>
     ensures begun { IfOk result (λ live. HasPlayed Form.Raw 0 [] live.value) }
     ensures counted { HasCause heap.old heap.new result }
@@ -151,7 +151,7 @@ pub extern "C" fn ribjasper_player_close(alloc: Global, player: &mut Playing)
     *player = Playing::closed(alloc);
 }
 
-/// Feeds an open player the next block. 0, or -1 if the player is closed.
+/// Feeds an open player the next block. Returns 0, or -1 if the player is closed.
 #[unsafe(no_mangle)]
 pub extern "C" fn ribjasper_player_feed(player: &mut Playing, block: &[u8; BLOCK_BYTES]) -> i32
     ensures feeds { GivesPlayer (Fed block.now ∷ []) (TakesBlock block.now) player.old.handle.players
@@ -166,7 +166,8 @@ pub extern "C" fn ribjasper_player_feed(player: &mut Playing, block: &[u8; BLOCK
     DONE
 }
 
-/// Draws a pack of 24 bytes. Its parity is ignored. The stream is unaffected. 0, or -1 if the player is closed.
+/// Draws a pack of 24 bytes. Its parity is ignored. The stream is unaffected. Returns 0, or -1 if the player
+/// is closed.
 #[unsafe(no_mangle)]
 pub extern "C" fn ribjasper_player_draw(player: &mut Playing, pack: &[u8; SYMBOLS]) -> i32
     ensures draws { GivesPlayer (Drawn pack.now ∷ []) (DrawsPack pack.now) player.old.handle.players
@@ -181,8 +182,9 @@ pub extern "C" fn ribjasper_player_draw(player: &mut Playing, pack: &[u8; SYMBOL
     DONE
 }
 
-/// Restarts with so many lead-in blocks, at most 450,000. The form is 0 for a raw stream, or 1 for a stream of packs,
-/// four in each block. 0, or -1 if the player is closed or a number is out of its range.
+/// Restarts with this number of lead-in blocks, at most 450,000. The form is 0 for a raw stream, or 1 for a
+/// stream of packs, four in each block. Returns 0, or -1 if the player is closed or a number is out of its
+/// range.
 #[unsafe(no_mangle)]
 pub extern "C" fn ribjasper_player_begin(player: &mut Playing, form: u32, lead_in: u32) -> i32
     ensures begun { result ≡ pos 0 → IsPlaying (form_of form) lead_in [] player.new.handle.players }
@@ -197,7 +199,7 @@ pub extern "C" fn ribjasper_player_begin(player: &mut Playing, form: u32, lead_i
     DONE
 }
 
-/// The form of the blocks of a player with a number.
+/// The form of a player's blocks that has this number.
 pub(crate) fn form_of(form: u32) -> Form
     ensures { result ≡ form_of form }
 {

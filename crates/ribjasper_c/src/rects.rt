@@ -10,9 +10,9 @@ use crate::answers::{DONE, NOT_DONE};
 use cdg_instructions::{SCREEN_HEIGHT, SCREEN_WIDTH};
 use live_player::{LivePlayer, ScreenPart};
 
-/// Writes the colour numbers of a part of the screen, row by row. Row j begins at byte `stride` times j, and the bytes
-/// between the rows are unchanged. 0, or -1 if the player is closed, the part is not on the screen, its rows overlap
-/// or the buffer is too small.
+/// Writes the colour numbers of a part of the screen, row by row. Row j begins at byte `stride` times j, and
+/// the bytes between the rows are unchanged. Returns 0, or -1 if the player is closed, the part is not on the
+/// screen, its rows overlap or the buffer is too small.
 #[unsafe(no_mangle)]
 pub extern "C" fn ribjasper_player_rect(
     player: &mut Playing,
@@ -69,14 +69,14 @@ fn has_room(part: &ScreenPart, stride: u32, room: usize) -> bool
     part.width <= stride && (part.height == 0 || stride * (part.height - 1) + part.width <= room)
 }
 
-// Writes the pixels of a part of the screen of what the player was given since it began.
+// Writes the pixels of a part of the screen. The clause says what the screen shows of the player's inputs.
 fn shown_part(live: &LivePlayer, part: &ScreenPart, pixels: &mut [u8], stride: usize)
     requires part { IsOnScreen part.now }
     requires apart { part.now.width ≤ stride }
     requires room { HasRoomFor part.now stride (length pixels.old) }
     ensures { PlayersShow (live.now ∷ []) (λ now. ShowsPart now part.now stride pixels.old pixels.new) }
 {
-    // Two laws, for the clause.
+    // These two laws prove the clause.
     live.shows_its_blocks();
     live.shows_its_packs();
     live.part(part, pixels, stride);

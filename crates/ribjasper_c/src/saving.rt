@@ -16,8 +16,8 @@ use live_player::{AnyPlayer, LivePlayer};
 use std::alloc::{AllocError, Global};
 use subcode_author::Heap;
 
-/// Writes the file of an open player's checkpoint. 0, or -1 if the player is closed or cannot be saved, or 7 if the call is
-/// out of memory.
+/// Writes the file of an open player's checkpoint. Returns 0, or -1 if the player is closed or cannot be
+/// saved, or 7 if the call is out of memory.
 #[unsafe(no_mangle)]
 pub extern "C" fn ribjasper_player_save(
     alloc: Global,
@@ -29,7 +29,7 @@ pub extern "C" fn ribjasper_player_save(
     save_in(&mut Heap::new(alloc), player, file)
 }
 
-// The same with a heap, whose failed requests are known.
+// Does the work of `ribjasper_player_save`. The heap counts failed requests for memory.
 fn save_in(heap: &mut Heap, player: &mut Playing, file: &mut [u8; FILE_BYTES]) -> i32
     ensures saves { SavesPlayer player.old player.new file.old file.new result }
     // The answer is 7 exactly if a request for memory failed.
@@ -62,8 +62,8 @@ fn save(heap: &mut Heap, live: &LivePlayer, file: &mut [u8; FILE_BYTES]) -> i32
     }
 }
 
-/// Restores an open player from a file. 0, or -1 if the player is closed, 7 if the call is out of memory, or 3 if the file is
-/// not valid: then the first byte of the first invalid field is written.
+/// Restores an open player from a file. Returns 0, or -1 if the player is closed, 7 if the call is out of
+/// memory, or 3 if the file is not valid: then the first byte of the first invalid field is written.
 #[unsafe(no_mangle)]
 pub extern "C" fn ribjasper_player_load(
     alloc: Global,
@@ -76,7 +76,7 @@ pub extern "C" fn ribjasper_player_load(
     load_in(&mut Heap::new(alloc), player, file, byte)
 }
 
-// The same with a heap, whose failed requests are known.
+// Does the work of `ribjasper_player_load`. The heap counts failed requests for memory.
 fn load_in(heap: &mut Heap, player: &mut Playing, file: &[u8; FILE_BYTES], byte: &mut u32) -> i32
     ensures loads { LoadsPlayer file.now player.old player.new byte.old byte.new result }
     // The answer is 7 exactly if a request for memory failed.
@@ -135,7 +135,7 @@ fn take_file(heap: &mut Heap) -> Result<CheckpointFile, AllocError>
     heap.asked(CheckpointFile::start)
 }
 
-/// Copies an open player to another open player. 0, or -1 if one of them is closed.
+/// Copies an open player to another open player. Returns 0, or -1 if one of them is closed.
 #[unsafe(no_mangle)]
 pub extern "C" fn ribjasper_player_copy(from: &mut Playing, to: &mut Playing) -> i32
     ensures copied { result ≡ pos 0 → to.new.handle.players ≡ from.old.handle.players }

@@ -15,9 +15,9 @@ use live_player::{Mark, seek_block, seek_pack};
 use raw_subcode::BLOCK_BYTES;
 use rw_code::SYMBOLS;
 
-/// Brings an open player to the state after the first `to` blocks of a stream, from the last mark before, and leaves
-/// marks: mark k, from 0, is for place (k + 1) * every. 0, or -1 if the player is closed or a number is out of its
-/// range.
+/// Brings an open player to the state after the first `to` blocks of a stream, from the last mark before, and
+/// leaves marks: mark k, from 0, is for place (k + 1) * every. Returns 0, or -1 if the player is closed or a
+/// number is out of its range.
 #[unsafe(no_mangle)]
 pub extern "C" fn ribjasper_player_seek(
     player: &mut Playing,
@@ -58,8 +58,9 @@ pub extern "C" fn ribjasper_player_seek(
     DONE
 }
 
-/// Brings an open player to the state after the first `to` packs of a file, from the last mark before, and leaves
-/// marks like the call above. 0, or -1 if the player is closed or a number is out of its range.
+/// Brings an open player to the state after the first `to` packs of a file, from the last mark before, and
+/// leaves marks like `ribjasper_player_seek`. Returns 0, or -1 if the player is closed or a number is out of
+/// its range.
 #[unsafe(no_mangle)]
 pub extern "C" fn ribjasper_player_seek_packs(
     player: &mut Playing,

@@ -23,7 +23,7 @@ pub extern "C" fn ribjasper_sheet(
     sheet_in(&mut Heap::new(alloc), sheet, rows, told)
 }
 
-// The same with a heap, which counts failed requests for memory.
+// Does the work of `ribjasper_sheet`. The heap counts failed requests for memory.
 fn sheet_in(heap: &mut Heap, sheet: &[u8], rows: &mut [SheetRow], told: &mut ToldSheet) -> i32
     ensures writes { WritesRowsOfSheet sheet.now rows.old rows.new told.old told.new result }
     // The answer is 7 exactly if a request for memory failed.
@@ -63,7 +63,7 @@ pub extern "C" fn ribjasper_sheet_text(
     text_in(&mut Heap::new(alloc), sheet, kind, place, out, bytes)
 }
 
-// The same with a heap, which counts failed requests for memory.
+// Does the work of `ribjasper_sheet_text`. The heap counts failed requests for memory.
 fn text_in(
     heap: &mut Heap,
     sheet: &[u8],

@@ -15,7 +15,7 @@ const WIDTH: u32 = SCREEN_WIDTH as u32;
 
 const HEIGHT: u32 = SCREEN_HEIGHT as u32;
 
-// Calls `write` with the player and a buffer. 0, or -1 if the player is closed.
+// Calls `write` with the player and a buffer. Returns 0, or -1 if the player is closed.
 fn show<T, F: FnOnce(&LivePlayer, &mut T)>(player: &mut Playing, out: &mut T, write: F) -> i32
     requires { F.IsAlwaysCallable write }
     ensures shows { result ≡ pos 0 → PlayersShow player.old.handle.players
@@ -36,14 +36,14 @@ fn write_shown<T, F: FnOnce(&LivePlayer, &mut T)>(live: &LivePlayer, out: &mut T
     requires { F.IsAlwaysCallable write }
     ensures { PlayersShow (live.now ∷ []) (IsWrittenBy F.FnOnce write out.old out.new) }
 {
-    // Two laws, for the clause.
+    // These two laws prove the clause.
     live.shows_its_blocks();
     live.shows_its_packs();
     write(live, out);
 }
 
-/// Writes the colour number of a pixel of the screen. 0, or -1 if the player is closed or the place is not on the
-/// screen.
+/// Writes the colour number of a pixel of the screen. Returns 0, or -1 if the player is closed or the place
+/// is not on the screen.
 #[unsafe(no_mangle)]
 pub extern "C" fn ribjasper_player_pixel(
     player: &mut Playing,
@@ -64,7 +64,7 @@ pub extern "C" fn ribjasper_player_pixel(
     show(player, pixel, |live, pixel| *pixel = live.pixel(x, y))
 }
 
-/// Writes the colour numbers of all pixels, row by row. 0, or -1 if the player is closed.
+/// Writes the colour numbers of all pixels, row by row. Returns 0, or -1 if the player is closed.
 #[unsafe(no_mangle)]
 pub extern "C" fn ribjasper_player_screen(
     player: &mut Playing,
@@ -78,7 +78,7 @@ pub extern "C" fn ribjasper_player_screen(
     show(player, pixels, LivePlayer::screen)
 }
 
-/// Writes colour k of the table as 0xRGB. 0, or -1 if the player is closed or k is above 15.
+/// Writes colour k of the table as 0xRGB. Returns 0, or -1 if the player is closed or k is above 15.
 #[unsafe(no_mangle)]
 pub extern "C" fn ribjasper_player_colour(player: &mut Playing, k: u8, colour: &mut u16) -> i32
     ensures shows { result ≡ pos 0
@@ -93,7 +93,7 @@ pub extern "C" fn ribjasper_player_colour(player: &mut Playing, k: u8, colour: &
     show(player, colour, |live, colour| *colour = live.colour(k))
 }
 
-/// Writes the colours of the table, each as 0xRGB. 0, or -1 if the player is closed.
+/// Writes the colours of the table, each as 0xRGB. Returns 0, or -1 if the player is closed.
 #[unsafe(no_mangle)]
 pub extern "C" fn ribjasper_player_colours(player: &mut Playing, table: &mut [u16; 16]) -> i32
     ensures shows { result ≡ pos 0 → PlayersShow player.old.handle.players (λ now. IsTable table.new now) }
@@ -104,7 +104,7 @@ pub extern "C" fn ribjasper_player_colours(player: &mut Playing, table: &mut [u1
     show(player, table, LivePlayer::colours)
 }
 
-/// Writes the levels of the colours, 0 to 63. 0, or -1 if the player is closed.
+/// Writes the levels of the colours, 0 to 63. Returns 0, or -1 if the player is closed.
 #[unsafe(no_mangle)]
 pub extern "C" fn ribjasper_player_levels(player: &mut Playing, levels: &mut [u8; 16]) -> i32
     ensures shows { result ≡ pos 0 → PlayersShow player.old.handle.players (λ now. AreLevels levels.new now) }
@@ -115,7 +115,7 @@ pub extern "C" fn ribjasper_player_levels(player: &mut Playing, levels: &mut [u8
     show(player, levels, LivePlayer::levels)
 }
 
-/// Writes red, green and blue of all pixels, row by row. 0, or -1 if the player is closed.
+/// Writes red, green and blue of all pixels, row by row. Returns 0, or -1 if the player is closed.
 #[unsafe(no_mangle)]
 pub extern "C" fn ribjasper_player_picture(
     player: &mut Playing,
@@ -134,7 +134,7 @@ pub extern "C" fn ribjasper_player_picture(
     )
 }
 
-/// Writes the number of the border's colour. 0, or -1 if the player is closed.
+/// Writes the number of the border's colour. Returns 0, or -1 if the player is closed.
 #[unsafe(no_mangle)]
 pub extern "C" fn ribjasper_player_border(player: &mut Playing, border: &mut u8) -> i32
     ensures shows { result ≡ pos 0 → PlayersShow player.old.handle.players (λ now. border.new ≡ now.border) }
@@ -145,8 +145,8 @@ pub extern "C" fn ribjasper_player_border(player: &mut Playing, border: &mut u8)
     show(player, border, |live, border| *border = live.border())
 }
 
-/// Writes how many pixels further right and further down in the memory the screen begins. 0, or -1 if the player is
-/// closed.
+/// Writes how many pixels further right and further down in the memory the screen begins. Returns 0, or -1 if
+/// the player is closed.
 #[unsafe(no_mangle)]
 pub extern "C" fn ribjasper_player_offsets(
     player: &mut Playing,

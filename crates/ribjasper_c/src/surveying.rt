@@ -14,9 +14,9 @@ use raw_subcode::MOST_UNITS;
 #[repr(C)]
 #[derive(Clone, Copy)]
 pub struct Surveyed {
-    /// The whole blocks, of the lead-in and of the program.
+    /// The number of whole blocks, of the lead-in and of the program.
     pub blocks: u32,
-    /// The bytes after the last whole block.
+    /// The number of bytes after the last whole block.
     pub rest: u32,
 }
 

@@ -15,8 +15,8 @@ use crate::answers::NOT_DONE;
 use raw_subcode::BLOCK_BYTES;
 use rw_code::{SYMBOLS, Word, correct};
 
-/// A corrected pack: the codeword near its 24 symbols and how many of them were wrong; or the symbols and -1 if there
-/// is none.
+/// A corrected pack: the codeword near its 24 symbols, and the number of wrong symbols. If no codeword is
+/// near, it has the symbols as they were read, and -1.
 #[repr(C)]
 #[derive(Clone, Copy)]
 pub struct ReadPack {
@@ -24,8 +24,8 @@ pub struct ReadPack {
     pub wrong: i32,
 }
 
-/// Feeds an open player the next block, and writes the packs that end with it; the rest of the four is unchanged.
-/// Their number, 0 to 4, or -1 if the player is closed.
+/// Feeds an open player the next block, and writes the packs that end with it; the rest of the four is
+/// unchanged. Returns the number of packs, 0 to 4, or -1 if the player is closed.
 #[unsafe(no_mangle)]
 pub extern "C" fn ribjasper_player_take(
     player: &mut Playing,
@@ -59,7 +59,7 @@ pub extern "C" fn ribjasper_player_take(
     read_all(words.as_slice(), packs)
 }
 
-// Corrects words, and returns how many they are.
+// Corrects words, and returns their number.
 fn read_all(words: &[Word], packs: &mut [ReadPack; 4]) -> i32
     requires { length words.now ≤ 4 }
     ensures count { result ≡ pos (length words.now) }
@@ -71,7 +71,7 @@ fn read_all(words: &[Word], packs: &mut [ReadPack; 4]) -> i32
     words.len() as i32
 }
 
-// A word as the codeword near it, or unchanged.
+// The codeword near a word and the number of wrong symbols, or the word and -1 if no codeword is near.
 fn read(word: &Word) -> ReadPack
     ensures { IsCorrected word.now word.now result.symbols result.wrong }
 {
@@ -87,7 +87,7 @@ fn read(word: &Word) -> ReadPack
     }
 }
 
-/// The codeword near a word.
+/// Writes the codeword near a word. Returns the number of wrong symbols, or -1 if no codeword is near.
 #[unsafe(no_mangle)]
 pub extern "C" fn ribjasper_correct(word: &[u8; SYMBOLS], out: &mut [u8; SYMBOLS]) -> i32
     ensures { IsCorrected (map (λ byte. byte % 64) word.now) out.old out.new result }

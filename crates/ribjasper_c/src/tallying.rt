@@ -16,7 +16,8 @@ use crate::answers::{DONE, NOT_DONE};
 use block_survey::{PlayerTally, feed_and_count};
 use raw_subcode::BLOCK_BYTES;
 
-/// Feeds an open player the next block, and counts its words and its frame. 0, or -1 if the player is closed.
+/// Feeds an open player the next block, and counts its words and its frame. Returns 0, or -1 if the player is
+/// closed.
 #[unsafe(no_mangle)]
 pub extern "C" fn ribjasper_player_feed_counted(
     player: &mut Playing,

@@ -40,11 +40,11 @@ web_format levels = if levels == 0 then Rgba else RgbaLevels
 abbrev pub whole_screen : ScreenPart
 whole_screen = record { left = 0; top = 0; width = 300; height = 216 }
 
--- the bytes of a row of the screen, four for each pixel
+-- the number of bytes in a row of the screen, four for each pixel
 abbrev pub picture_stride : ℕ
 picture_stride = 1200
 
--- the border, offsets, colours and levels of a state of the screen
+-- These are the border, offsets, colours and levels of a state of the screen.
 pub record IsShown (now : Standing) (shown : WebShown) : Type 0 where
   pub colours : (k : ℕ) → k < 16 → slice_index shown.colours k ≡ slice_index now.colours k
   pub levels : (k : ℕ) → k < 16 → slice_index shown.levels k ≡ slice_index now.levels k

@@ -11,14 +11,14 @@ use rw_interleave::PACKS_KEPT_BACK;
 #[repr(C)]
 #[derive(Clone, Copy)]
 pub struct WebCounts {
-    /// The words so far, each a pack.
+    /// The number of words so far. Each word is a pack.
     pub words: u64,
-    /// The form of its blocks: 0 raw, 1 packs, 2 sectors.
+    /// The form of the blocks: 0 raw, 1 packs, 2 sectors.
     pub form: u32,
-    /// The blocks of its lead-in, those that came and those still to come.
+    /// The number of lead-in blocks, read or not.
     pub lead_in: u32,
     pub blocks: u32,
-    /// The words with no codeword near.
+    /// The number of words with no codeword near.
     pub bad: u32,
 }
 
@@ -39,7 +39,7 @@ pub extern "C" fn ribjasper_web_counts(player: &PlainPlayer, counts: &mut WebCou
     };
 }
 
-// How many words so many blocks of the program have, in a stream of the form with this number.
+// The number of words in this number of program blocks, in a stream of the form with this number.
 fn words_of(form: u32, blocks: u32) -> u64
     ensures { result ≡ word_count (numbered_form form) blocks }
 {

@@ -12,8 +12,9 @@ use live_player::{Mark, PlainPlayer, form_of, seek_block, seek_pack};
 use raw_subcode::BLOCK_BYTES;
 use rw_code::SYMBOLS;
 
-/// Brings a player to the state after the first `to` blocks of a stream, from the last mark before, and leaves marks:
-/// mark k, from 0, is for place (k + 1) * every. 0, or -1 if a number is out of its range: then nothing is changed.
+/// Brings a player to the state after the first `to` blocks of a stream, from the last mark before, and
+/// leaves marks: mark k, from 0, is for place (k + 1) * every. Returns 0. If a number is out of its range, it
+/// returns -1 and changes nothing.
 #[unsafe(no_mangle)]
 pub extern "C" fn ribjasper_web_seek(
     player: &mut PlainPlayer,
@@ -47,8 +48,8 @@ pub extern "C" fn ribjasper_web_seek(
     0
 }
 
-/// Brings a player to the state after the first `to` packs of a file, in the same way. 0, or -1 if a number is out of
-/// its range: then nothing is changed.
+/// Brings a player to the state after the first `to` packs of a file, and leaves marks like
+/// `ribjasper_web_seek`. Returns 0. If a number is out of its range, it returns -1 and changes nothing.
 #[unsafe(no_mangle)]
 pub extern "C" fn ribjasper_web_seek_packs(
     player: &mut PlainPlayer,

@@ -9,10 +9,11 @@ use rw_code::SYMBOLS;
 use rw_interleave::PACKS_KEPT_BACK;
 use rw_mend::{MOST_READINGS, Tallies, mend_readings};
 
-/// Mends readings of a stream of raw blocks, which are stored one after another, to the front of a buffer, and writes
-/// the source of each word unless `sources` is empty. 0; or 2 if the lead-in is above 450,000 blocks or there are no
-/// readings or more than 254, 3 if the readings are not whole blocks of equal length or are longer than 1,000,000
-/// blocks, or 6 if a buffer is too small. Then nothing is written.
+/// Mends readings of a stream of raw blocks, which are stored one after another, to the front of a buffer,
+/// and writes the source of each word unless `sources` is empty. Returns 0; or 2 if the lead-in is above
+/// 450,000 blocks or there are no readings or more than 254, 3 if the readings are not whole blocks of equal
+/// length or are longer than 1,000,000 blocks, or 6 if a buffer is too small. Unless the result is 0, nothing
+/// is written.
 #[unsafe(no_mangle)]
 pub extern "C" fn ribjasper_web_mend(
     readings: &[u8],

@@ -14,8 +14,9 @@ use live_player::{PlainPlayer, ScreenChange, draw_all, feed_all, form_of};
 use raw_subcode::BLOCK_BYTES;
 use rw_code::SYMBOLS;
 
-/// Restarts with so many lead-in blocks, at most 450,000. The form is 0 for a raw stream, or 1 for a stream of packs,
-/// four in each block. 0, or -1 if a number is out of its range: then nothing is changed.
+/// Restarts with this number of lead-in blocks, at most 450,000. The form is 0 for a raw stream, or 1 for a
+/// stream of packs, four in each block. Returns 0. If a number is out of its range, it returns -1 and changes
+/// nothing.
 #[unsafe(no_mangle)]
 pub extern "C" fn ribjasper_web_begin(player: &mut PlainPlayer, form: u32, lead_in: u32) -> i32
     ensures begun { result ≡ pos 0 → HasPlayed (numbered_form form) lead_in [] (player_of player.new) }
@@ -38,8 +39,8 @@ pub extern "C" fn ribjasper_web_feed(player: &mut PlainPlayer, block: &[u8; BLOC
     player.feed(block);
 }
 
-/// Feeds a player the whole blocks of a stream, which are raw blocks (form 0), blocks of packs (1) or blocks of
-/// sectors (2). Their number.
+/// Feeds a player the whole blocks of a stream, and returns their number. The stream has raw blocks (form 0),
+/// blocks of packs (1) or blocks of sectors (2).
 #[unsafe(no_mangle)]
 pub extern "C" fn ribjasper_web_feed_all(player: &mut PlainPlayer, form: u32, stream: &[u8]) -> u64
     ensures takes { TakesBlocks (blocks_of (numbered_form form) stream.now) (player_of player.old)

@@ -12,7 +12,8 @@ use live_player::PlainPlayer;
 use raw_subcode::{BLOCK_BYTES, Block};
 use rw_code::{SYMBOLS, Word, correct};
 
-/// The codeword near 24 symbols and how many of them were wrong; or the symbols and -1 if there is none.
+/// The codeword near 24 symbols and the number of wrong symbols, or the symbols and -1 if no codeword is
+/// near.
 #[repr(C)]
 #[derive(Clone, Copy)]
 pub struct WebPack {
@@ -20,8 +21,8 @@ pub struct WebPack {
     pub wrong: i32,
 }
 
-/// Feeds a player the next block, and writes the packs that end with it; the rest of the four is unchanged. Their
-/// number, 0 to 4.
+/// Feeds a player the next block, and writes the packs that end with it; the rest of the four is unchanged.
+/// Returns the number of packs, 0 to 4.
 #[unsafe(no_mangle)]
 pub extern "C" fn ribjasper_web_take(
     player: &mut PlainPlayer,
@@ -40,7 +41,7 @@ pub extern "C" fn ribjasper_web_take(
     }
 }
 
-// Corrects words, and returns how many they are.
+// Corrects words, and returns their number.
 fn read_all(words: &[Word], packs: &mut [WebPack; 4]) -> i32
     requires { length words.now ≤ 4 }
     ensures count { result ≡ pos (length words.now) }
@@ -52,7 +53,7 @@ fn read_all(words: &[Word], packs: &mut [WebPack; 4]) -> i32
     words.len() as i32
 }
 
-// A word as the codeword near it, or unchanged.
+// The codeword near a word and the number of wrong symbols, or the word and -1 if no codeword is near.
 fn read(word: &Word) -> WebPack
     ensures { IsTakenAs word.now result.symbols result.wrong }
 {

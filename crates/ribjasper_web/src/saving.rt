@@ -7,8 +7,8 @@ use cdg_checkpoint::{FILE_BYTES, PlainFile, judge};
 use cdg_io::SteadySource;
 use live_player::{AnyPlayer, PlainPlayer, save};
 
-/// Writes the file of a player's checkpoint. 0, or -1 if the player's stream is not raw or is longer than a checkpoint can
-/// count: then the file is unchanged.
+/// Writes the file of a player's checkpoint, and returns 0. If the player's stream is not raw or is longer
+/// than a checkpoint can count, it returns -1 and the file is unchanged.
 #[unsafe(no_mangle)]
 pub extern "C" fn ribjasper_web_save(player: &PlainPlayer, file: &mut [u8; FILE_BYTES]) -> i32
     ensures saves { SavesLive (player_of player.now) file.old file.new result }
@@ -23,8 +23,8 @@ pub extern "C" fn ribjasper_web_save(player: &PlainPlayer, file: &mut [u8; FILE_
     }
 }
 
-/// Restores a player from a file. 0, or 3 if the file is not valid: then the player is unchanged, and the first byte of the
-/// first invalid field is written.
+/// Restores a player from a file, and returns 0. If the file is not valid, it returns 3 and writes the first
+/// byte of the first invalid field; the player is unchanged.
 #[unsafe(no_mangle)]
 pub extern "C" fn ribjasper_web_load(
     player: &mut PlainPlayer,

@@ -9,8 +9,9 @@ use block_survey::{BlockRow, survey, unit_bytes};
 use disc_time::MOST_LEAD_IN;
 use live_player::form_of;
 
-/// Writes a row for each whole block of a stream to the front of some rows. 0; or 2 if the form is above 2 or the
-/// lead-in above 450,000 blocks, or 6 if there are fewer rows than blocks. Then nothing is written.
+/// Writes a row for each whole block of a stream to the front of some rows. Returns 0; or 2 if the form is
+/// above 2 or the lead-in above 450,000 blocks, or 6 if there are fewer rows than blocks. Unless the result
+/// is 0, nothing is written.
 #[unsafe(no_mangle)]
 pub extern "C" fn ribjasper_web_survey(
     stream: &[u8],

@@ -9,8 +9,8 @@ use raw_subcode::{BLOCK_BYTES, Block, SLOTS_A_BLOCK};
 
 const TEXT_PACK: usize = 18;
 
-/// Writes text pack `k` of a block of the lead-in, 0 to 3. 1 if its last two bytes are the check of the others, else
-/// 0; or -1 if there is no such pack.
+/// Writes text pack `k` of a block of the lead-in, 0 to 3. Returns 1 if its last two bytes are the check of
+/// the others, else 0; or -1 if there is no such pack.
 #[unsafe(no_mangle)]
 pub extern "C" fn ribjasper_web_text_pack(
     block: &[u8; BLOCK_BYTES],

@@ -27,8 +27,9 @@ pub fn pressed_packs_come_back()
     packs_are_recovered();
 }
 
-/// A law: `time` blocks after the start of the audio, the screen of such a stream is the screen after 4 * `time`
-/// packs of the file, or after all of them, and no word is bad.
+/// A law: a pressed stream with at most two wrong symbols in each word shows the screens of the file. `time`
+/// blocks after the start of the audio, the screen is that after 4 * `time` packs of the file, or after all
+/// of them, and no word is bad.
 pub fn pressed_files_are_shown()
     ensures text { (form : Form) (lead_in time : ℕ) (others : List ℕ)
         (press : DamagedPress form lead_in others)

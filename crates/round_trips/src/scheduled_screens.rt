@@ -13,8 +13,8 @@ ghost use Rattle.round_trips.specs.Pictured.{GivesPicture, IsHeldAt, IsPictureTe
 use pack_schedule::scheduled_pictures_are_shown;
 use rw_interleave::{found_packs_are_the_text, packs_are_recovered};
 
-/// A law: if damage changed at most two symbols of each word of a stream, its screen is each picture from the ready
-/// time to the hold time of the picture.
+/// A law: a stream whose packs are a schedule of a script shows each picture from its ready time to its hold
+/// time, even if damage changed at most two symbols of each word.
 pub fn screens_show_pictures()
     ensures text { (form : Form) (lead_in time : ℕ) (script : List Drawing) (k : ℕ) (bytes text : List ℕ)
         (bad : ℕ)
@@ -32,8 +32,8 @@ pub fn screens_show_pictures()
     scheduled_pictures_are_shown();
 }
 
-/// A law: a call that shows such a stream at a moment from the ready time to the hold time of a picture writes this
-/// picture, unless a read or a write fails.
+/// A law: if a call shows a stream of `screens_show_pictures` at a moment from the ready time to the hold
+/// time of a picture, it writes this picture, unless a read or a write fails.
 pub fn shown_moments_give_pictures()
     ensures { (form : Form) (lead_in time : ℕ) (all : List ℕ) (left : Bytes) (out : Change Bytes)
         (answer : Result Played PlayStop) (taken : List ℕ) (script : List Drawing) (k : ℕ)

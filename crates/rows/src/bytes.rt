@@ -3,10 +3,10 @@ use anyhow::{Context, Result, bail};
 use std::alloc::{AllocError, Global};
 use std::collections::BTreeMap;
 
-/// What earlier rows wrote, by their names.
+/// The outputs of earlier rows, by the names of the rows.
 pub(crate) type Outputs = BTreeMap<String, Vec<u8>>;
 
-// What an earlier row wrote.
+// The output of the earlier row with this name.
 fn output_of<'a>(outputs: &'a Outputs, name: &str) -> Result<&'a [u8]> {
     match outputs.get(name) {
         Some(output) => Ok(output.as_slice()),
@@ -40,7 +40,7 @@ fn add_times(bytes: &mut Vec<u8>, times: u32, unit: &[u8]) -> Result<()> {
     Ok(())
 }
 
-// Adds the bytes of a unit such as `0a` or `@name` so many times.
+// Adds the bytes of a unit such as `0a` or `@name`, and repeats them `times` times.
 fn add_unit(
     alloc: Global,
     bytes: &mut Vec<u8>,
@@ -62,7 +62,7 @@ fn add_piece(alloc: Global, bytes: &mut Vec<u8>, piece: &str, outputs: &Outputs)
     }
 }
 
-/// The bytes of pieces that blanks part.
+/// The bytes of pieces, which are separated by blanks.
 pub(crate) fn read_pieces(alloc: Global, pieces: &str, outputs: &Outputs) -> Result<Vec<u8>> {
     let mut bytes = Vec::new(alloc);
     for piece in pieces.split_ascii_whitespace() {
@@ -78,7 +78,7 @@ pub(crate) fn change(bytes: &mut [u8], mask: &[u8]) {
     }
 }
 
-// Adds a line, with a time in the place of each `%` in it.
+// Adds a line, with a time in place of each `%`.
 fn add_timed_line(bytes: &mut Vec<u8>, line: &str, time: &str) -> Result<(), AllocError> {
     for byte in line.bytes() {
         if byte == b'%' {
@@ -90,7 +90,7 @@ fn add_timed_line(bytes: &mut Vec<u8>, line: &str, time: &str) -> Result<(), All
     Ok(bytes.push(b'\n')?)
 }
 
-/// Adds a line for each block below a number: each `%` in it stands for the time of the block.
+/// Adds a line for each block below a number, with the time of the block in place of each `%`.
 pub(crate) fn add_timed_lines(
     alloc: Global,
     bytes: &mut Vec<u8>,

@@ -1,4 +1,5 @@
-//! Runs the rows of the named files: each gives a command its words and inputs, and says what comes of it.
+//! Runs the rows of the named files. A row has the words and the inputs of a command, and its expected
+//! result.
 #![tactic(auto)]
 
 mod bytes;
@@ -23,7 +24,7 @@ fn run_one(alloc: Global, row: &mut Row, outputs: &mut Outputs) -> Result<()> {
     Ok(())
 }
 
-// Reads and runs the row of a stanza, and answers whether a command ran.
+// Reads and runs the row of a stanza, and returns whether a command ran.
 fn run_stanza<'a>(
     alloc: Global,
     row: &mut Row<'a>,
@@ -37,7 +38,7 @@ fn run_stanza<'a>(
     Ok(!row.is_given)
 }
 
-// Runs the rows of a text, and answers how many there are.
+// Runs the rows of a text, and returns their number.
 fn run_rows(alloc: Global, text: &str, outputs: &mut Outputs) -> Result<u32> {
     let mut count = 0u32;
     for stanza in text.split("\n\n") {
@@ -51,7 +52,8 @@ fn run_rows(alloc: Global, text: &str, outputs: &mut Outputs) -> Result<u32> {
     Ok(count)
 }
 
-// Prints how many rows a file has, or what is wrong with its first wrong one. Answers whether none is.
+// Prints the number of rows of a file, or the error of its first row that fails. Returns whether no row
+// fails.
 fn run_file(rt: &HostRuntime, name: &str, outputs: &mut Outputs) -> Result<bool> {
     let ran = match fs::read_to_string(rt, name) {
         Ok(text) => run_rows(rt.alloc(), &text, outputs),
@@ -64,7 +66,7 @@ fn run_file(rt: &HostRuntime, name: &str, outputs: &mut Outputs) -> Result<bool>
     Ok(ran.is_ok())
 }
 
-// Runs the files, and answers whether nothing is wrong with any.
+// Runs the files, and returns whether no row fails.
 fn run_files(rt: &HostRuntime) -> Result<bool> {
     let mut outputs = Outputs::new(rt.alloc());
     let mut is_well = true;
@@ -81,7 +83,7 @@ fn main(rt: HostRuntime) -> ExitCode {
         Ok(true) => ExitCode::SUCCESS,
         Ok(false) => ExitCode::FAILURE,
         Err(error) => {
-            // The status tells a failure there.
+            // If this line cannot be printed, the exit status still reports the failure.
             let _told = eprintln!(rt; "{error:#}");
             ExitCode::FAILURE
         }

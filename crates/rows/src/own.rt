@@ -1,9 +1,9 @@
-// A source that has `take` alone and a sink that has `put` alone, neither of which counts anything but its faults.
+// A source with only `take` and a sink with only `put`. They count nothing but their faults.
 ghost use Rattle.std.specs.Prelude.{None, Some};
 
 use cdg_io::{Failed, Sink, Source};
 
-/// Bytes that somebody else holds.
+/// A source of borrowed bytes.
 #[derive(Drop)]
 pub(crate) struct Lent<'a> {
     pub(crate) rest: &'a [u8],
@@ -39,7 +39,7 @@ impl Source for Broken {
     }
 }
 
-/// A vector, which fails where there is no memory for more.
+/// A sink that keeps its bytes in a vector. A write fails if the vector is out of memory.
 #[derive(Drop)]
 pub(crate) struct KeptBytes {
     pub(crate) bytes: Vec<u8>,

@@ -1,48 +1,48 @@
-// A row: the words and the inputs of a run, and what is wanted of it.
+// A row: the words and the inputs of a run, and its expected result.
 use crate::bytes::{Outputs, read_pieces};
 use crate::side::Side;
 use anyhow::{Context, Result, bail, ensure};
 use std::alloc::Global;
 use std::str::FromStr;
 
-// How many bytes an output holds where a row does not say.
+// The number of bytes that an output can hold if the row does not give it.
 const ROOM: usize = 2_000_000;
 
-/// Bytes that stand at a place of the output.
+/// Bytes that are expected at a place of the output.
 #[derive(Drop)]
 pub(crate) struct PlacedBytes {
     pub(crate) place: usize,
     pub(crate) bytes: Vec<u8>,
 }
 
-/// What is wanted of the bytes of an output.
+/// The expected extent of an output.
 #[derive(Drop)]
 pub(crate) enum Extent {
-    /// They are those of the row.
+    /// The output has all bytes of the row.
     Whole,
-    /// They are a shorter beginning of those of the row.
+    /// The output has a shorter beginning of the bytes of the row.
     Beginning,
 }
 
-/// What the command of a row reads its first input from, and writes its output to.
+/// The source of the first input and the sink of the output of a row's command.
 #[derive(Drop)]
 pub(crate) enum Ends {
     /// Memory, in pieces and with calls that fail.
     Memory,
-    /// A source that has `take` alone, and a sink that has `put` alone.
+    /// A source with only `take`, and a sink with only `put`.
     Own,
-    /// The same with a source whose reads all fail.
+    /// A source whose reads all fail, and a sink with only `put`.
     Broken,
 }
 
 #[derive(Drop)]
 pub(crate) struct Row<'a> {
     pub(crate) name: &'a str,
-    /// Bytes to be named, which no command writes.
+    /// Whether the row only gives a name to bytes, and runs no command.
     pub(crate) is_given: bool,
     /// The words of the command line.
     pub(crate) words: Vec<String>,
-    /// How many of them are names of files.
+    /// The number of these words that are names of files.
     pub(crate) names: usize,
     pub(crate) ends: Ends,
     pub(crate) first: Side,
@@ -58,13 +58,13 @@ pub(crate) struct Row<'a> {
     pub(crate) parts: Vec<PlacedBytes>,
     /// Lines of the output.
     pub(crate) lines: Vec<&'a str>,
-    /// How many bytes of each input are not read.
+    /// The numbers of bytes of both inputs that are not read.
     pub(crate) first_left: Option<usize>,
     pub(crate) second_left: Option<usize>,
 }
 
 impl<'a> Row<'a> {
-    /// A row of which nothing is read.
+    /// A row before its first line.
     pub(crate) fn new(alloc: Global) -> Row<'a> {
         Row {
             name: "",
@@ -88,7 +88,7 @@ impl<'a> Row<'a> {
         }
     }
 
-    /// Whether the row says something of the output beside its bytes.
+    /// Whether the row expects something of the output besides its bytes.
     pub(crate) fn has_parts(&self) -> bool {
         self.length.is_some()
             || self.digest.is_some()
@@ -130,7 +130,7 @@ impl<'a> Row<'a> {
         Ok(self.parts.push(PlacedBytes { place, bytes })?)
     }
 
-    // Reads a line that says nothing of an input, nor of the bytes of an output.
+    // Reads a line that is not about the bytes of an input or an output.
     fn read_rest(
         &mut self,
         alloc: Global,
@@ -170,7 +170,7 @@ impl<'a> Row<'a> {
         }
     }
 
-    /// Reads the lines of a row; answers whether there are any that are no comments.
+    /// Reads the lines of a row, and returns whether any of them is not a comment.
     pub(crate) fn read(
         &mut self,
         alloc: Global,

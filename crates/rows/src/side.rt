@@ -5,7 +5,8 @@ use cdg_io::{MemSink, MemSource};
 use std::alloc::{AllocError, Global};
 use std::mem::replace;
 
-/// An input or an output: its bytes, in what pieces it moves them, and which of its calls fail.
+/// An input or an output: its bytes, the sizes of the pieces that it moves, and the numbers of its calls that
+/// fail.
 #[derive(Drop)]
 pub(crate) struct Side {
     pub(crate) bytes: Vec<u8>,
@@ -22,7 +23,7 @@ impl Side {
         }
     }
 
-    /// Reads what a line says of a side, after the word that names the side.
+    /// Reads a line about a side, after the word that names the side.
     pub(crate) fn read(
         &mut self,
         alloc: Global,
@@ -53,7 +54,7 @@ impl Side {
         Ok(())
     }
 
-    // Changes the bits of the bytes so far that are set in pieces.
+    // Changes those bits of the bytes so far that are set in pieces.
     fn change_bits(&mut self, alloc: Global, pieces: &str, outputs: &Outputs) -> Result<()> {
         let mask = read_pieces(alloc, pieces, outputs)?;
         ensure!(mask.len() <= self.bytes.len(), "more bits than bytes");
@@ -61,7 +62,7 @@ impl Side {
         Ok(())
     }
 
-    // Adds a line for each of so many blocks.
+    // Adds a line for each block below a number.
     fn add_timed(&mut self, alloc: Global, value: &str) -> Result<()> {
         let (blocks, line) = value.split_once(' ').context("a number lacks its line")?;
         let blocks = blocks.parse::<u32>()?;
@@ -82,7 +83,7 @@ impl Side {
         Ok(())
     }
 
-    /// The source of an input, whose bytes it takes.
+    /// The source of an input. The bytes are moved out of the side.
     pub(crate) fn source(&mut self, alloc: Global) -> MemSource {
         let Side { bytes, cuts, fails } = replace(self, Side::new(alloc));
         MemSource::new(bytes, cuts, fails)

@@ -33,7 +33,7 @@ fn compare(alloc: Global, what: &str, wanted: &[u8], got: &[u8]) -> Result<()>
     Ok(())
 }
 
-// Fails where a number is not the one that is wanted.
+// Fails if a number is not the expected one.
 fn compare_count(what: &str, wanted: Option<usize>, got: usize) -> Result<()> {
     if let Some(wanted) = wanted {
         ensure!(wanted == got, "{what}: wanted {wanted}, got {got}");
@@ -41,14 +41,14 @@ fn compare_count(what: &str, wanted: Option<usize>, got: usize) -> Result<()> {
     Ok(())
 }
 
-// Fails where these bytes do not stand at their place.
+// Fails if these bytes are not at their place.
 fn compare_part(alloc: Global, part: &PlacedBytes, got: &[u8]) -> Result<()> {
     let rest = got.get(part.place..).unwrap_or(&[]);
     let there = &rest[..rest.len().min(part.bytes.len())];
     compare(alloc, "part of out", &part.bytes, there)
 }
 
-// Fails where the output is no beginning of the bytes of the row, or as long.
+// Fails if the output is not a shorter beginning of the bytes of the row.
 fn compare_beginning(alloc: Global, row: &Row, got: &[u8]) -> Result<()> {
     let whole = row.out.bytes.as_slice();
     let (most, len) = (whole.len(), got.len());
@@ -76,7 +76,7 @@ fn compare_digest(alloc: Global, digest: &str, got: &[u8]) -> Result<()> {
     compare(alloc, "digest of out", digest.as_bytes(), found.as_bytes())
 }
 
-// Fails where the bytes of an output are not those that a row gives.
+// Fails if the bytes of an output are not those of the row.
 fn compare_extent(alloc: Global, row: &Row, got: &[u8]) -> Result<()> {
     match row.extent {
         Extent::Whole if row.has_parts() && row.out.bytes.is_empty() => Ok(()),
@@ -85,7 +85,7 @@ fn compare_extent(alloc: Global, row: &Row, got: &[u8]) -> Result<()> {
     }
 }
 
-// Fails where an output lacks a part or a line that a row wants.
+// Fails if an output lacks a part or a line that a row expects.
 fn compare_parts(alloc: Global, row: &Row, got: &[u8]) -> Result<()> {
     for part in row.parts.iter() {
         compare_part(alloc, part, got)?;
@@ -105,7 +105,7 @@ fn compare_output(alloc: Global, row: &Row, got: &[u8]) -> Result<()> {
     compare_parts(alloc, row, got)
 }
 
-// Fails where a status is not the one that a row wants.
+// Fails if a status is not the one that a row expects.
 fn compare_status(row: &Row, status: Status) -> Result<()> {
     let (wanted, got) = (row.status, status.exit());
     ensure!(wanted == got, "status: wanted {wanted}, got {got}");
@@ -121,7 +121,7 @@ struct RunStreams {
 }
 
 impl RunStreams {
-    // Those of a row, whose inputs they take.
+    // The streams of a row. The bytes of its inputs are moved out of it.
     fn of_row(alloc: Global, row: &mut Row) -> Result<RunStreams, AllocError> {
         let out = row.out.sink(alloc, row.room)?;
         let err = row.err.sink(alloc, 256)?;
@@ -134,7 +134,7 @@ impl RunStreams {
     }
 }
 
-// Runs the words of a row. It fails where they are split elsewhere, or the status is not the one that is wanted.
+// Runs the words of a row. It fails if the split of the words or the status is not the expected one.
 fn run_words(alloc: Global, row: &Row, streams: &mut RunStreams) -> Result<()> {
     let split = split(&row.words);
     compare_count("names", Some(row.names), split.names)?;
@@ -149,7 +149,7 @@ fn run_words(alloc: Global, row: &Row, streams: &mut RunStreams) -> Result<()> {
     compare_status(row, status)
 }
 
-// Fails where what was written, or what is left of the inputs, is not what a row wants.
+// Fails if the outputs, or the rests of the inputs, are not what a row expects.
 fn compare_streams(alloc: Global, row: &Row, streams: &RunStreams) -> Result<()> {
     compare(alloc, "err", &row.err.bytes, streams.err.bytes())?;
     compare_output(alloc, row, streams.out.bytes())?;
@@ -161,14 +161,14 @@ fn compare_streams(alloc: Global, row: &Row, streams: &RunStreams) -> Result<()>
     )
 }
 
-// Runs a row on its streams, and answers what it wrote.
+// Runs a row on its streams, and returns its output.
 fn run_streams(alloc: Global, row: &Row, streams: &mut RunStreams) -> Result<Vec<u8>> {
     run_words(alloc, row, streams)?;
     compare_streams(alloc, row, streams)?;
     Ok(streams.out.bytes().to_vec(alloc)?)
 }
 
-// Runs the words of a row from a first input to an own sink, and answers what it wrote.
+// Runs the words of a row on a first input, with a sink of `KeptBytes`, and returns its output.
 fn run_own<S: Source>(alloc: Global, row: &Row, first: &mut S) -> Result<Vec<u8>> {
     let mut second = Lent {
         rest: row.second.bytes.as_slice(),
@@ -185,19 +185,19 @@ fn run_own<S: Source>(alloc: Global, row: &Row, first: &mut S) -> Result<Vec<u8>
     Ok(out.bytes)
 }
 
-// Runs a row on bytes in memory, and answers what it wrote.
+// Runs a row on bytes in memory, and returns its output.
 fn run_in_memory(alloc: Global, row: &mut Row) -> Result<Vec<u8>> {
     let mut streams = RunStreams::of_row(alloc, row)?;
     run_streams(alloc, row, &mut streams)
 }
 
-// Runs a row over a source that lends the bytes of its first input.
+// Runs a row on a source that borrows the bytes of its first input.
 fn run_lent(alloc: Global, row: &Row) -> Result<Vec<u8>> {
     let rest = row.first.bytes.as_slice();
     run_own(alloc, row, &mut Lent { rest })
 }
 
-/// Runs a row, and answers what it wrote. It fails where that is not what the row wants.
+/// Runs a row, and returns its output. It fails if a result is not what the row expects.
 pub(crate) fn run_row(alloc: Global, row: &mut Row) -> Result<Vec<u8>> {
     if row.is_given {
         return Ok(replace(&mut row.out.bytes, Vec::new(alloc)));

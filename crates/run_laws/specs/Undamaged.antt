@@ -11,7 +11,7 @@ use Rattle.stream_stages.specs.TextListing.{IsWholeInput}
 abbrev pub form_words : Form → List ℕ → List (List ℕ)
 form_words form symbols = map (form_word form symbols) (below (word_count form (length symbols / 96)))
 
--- Whole units in which each word is a codeword.
+-- These are whole units in which each word is a codeword.
 pub record IsCleanStream (form : Form) (lead_in : ℕ) (bytes : List ℕ) : Type 0 where
   pub input : IsWholeInput form bytes
   pub codewords : (n : ℕ) → n < word_count form (length (program_symbols form bytes lead_in) / 96)

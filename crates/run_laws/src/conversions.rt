@@ -61,7 +61,7 @@ pub fn scheduled_streams_show_their_pictures()
     shown_moments_give_pictures();
 }
 
-/// A law: of a stream whose words are all codewords a conversion writes these words.
+/// A law: if all words of a stream are codewords, a conversion writes these words.
 pub fn clean_streams_give_their_words()
     ensures { (lead_in : ℕ) (form : Form) (call : Call Bytes) (status : Status)
         → IsRun (Convert lead_in form) call status
@@ -109,8 +109,8 @@ pub fn scratched_streams_are_damaged()
     scratched_streams_are_recovered();
 }
 
-/// A law: from two readings, each damaged in at most two symbols of each word, every pack is merged, wherever the
-/// damage is.
+/// A law: if each of two readings is damaged in at most two symbols of each word, a merge recovers every
+/// pack. The places of the damage do not matter.
 pub fn damaged_readings_give_their_packs()
     ensures { (lead_in : ℕ) (call : Call Bytes) (status : Status) → IsRun (Merge lead_in) call status
         → IfSome call.first.before (λ one. IfSome call.second.before (λ other. (blocks : ℕ)
@@ -128,8 +128,8 @@ pub fn players_go_on_from_saved_streams()
         → HasPlayed Raw lead_in given back }
 {}
 
-/// A law: the file of a player that was fed the blocks of a stream is what `save` writes of them. So `resume` does with
-/// it and the rest what `screen` does with the whole.
+/// A law: the file of a player that was fed the blocks of a stream is the file that `save` writes for them.
+/// So `resume` of this file and the rest has the same status and output as `screen` of the whole stream.
 pub fn streams_go_on_from_saved_players()
     ensures { (lead_in : ℕ) (given : List Given) (bytes : List ℕ) (saved : LivePlayer)
         → AreBlocksOf bytes given → IsFirstPart lead_in bytes → HasPlayed Raw lead_in given saved

@@ -33,7 +33,7 @@ ghost use Rattle.cdg_cmd.specs.declared.status.Which.TheVariants.{Second};
 use round_trips::{copied_text_lists_are_answered, text_lists_are_answered};
 use subcode_author::{accepted_scripts_are_in_order, each_disc_has_one_answer};
 
-/// A law: where all of a sheet and a script is accepted their stream is written.
+/// A law: if a sheet and a script are accepted, their stream is written.
 pub fn accepted_discs_are_written()
     ensures { (lead_in audio : ℕ) (sheet : CueSheet) (script : List Drawing) (call : Call Bytes)
         (status : Status)
@@ -48,18 +48,18 @@ pub fn accepted_discs_are_written()
 
 /// A law: each refusal of `author` is the status if its reason is the first that applies.
 pub fn refusals_are_told()
-    // Of the cue sheet,
+    // These are the refusals of the cue sheet.
     ensures sheet { (lead_in audio : ℕ) (why : Refusal) (call : Call Bytes) (status : Status)
         → IsRun (Author lead_in audio) call status
         → IfSome call.first.before (λ cue. IsSheetStop (Some cue) (Refused why)
         → RefusesWith (Refused why) call.out status) }
-    // of the script,
+    // These are the refusals of the script.
     ensures script { (lead_in audio : ℕ) (sheet : CueSheet) (why : Refusal) (call : Call Bytes)
         (status : Status)
         → IsRun (Author lead_in audio) call status
         → IfSome call.first.before (λ cue. IfSome call.second.before (λ text. IsSheetText cue sheet
         → IsScriptStop (Some text) (Refused why) → RefusesWith (Refused why) call.out status)) }
-    // and of the disc that both ask for.
+    // These are the refusals of the disc of both.
     ensures disc { (lead_in audio : ℕ) (sheet : CueSheet) (script : List Drawing) (why : AuthorStop)
         (call : Call Bytes)
         (status : Status) → IsRun (Author lead_in audio) call status → why ≢ stop.NoMemory
@@ -73,8 +73,8 @@ pub fn refusals_are_told()
     accepted_scripts_are_in_order();
 }
 
-/// A law: of an authored stream with a lead-in `text` writes each string of the sheet that is not empty, or none
-/// where the sheet has no text.
+/// A law: for an authored stream with a lead-in, `text` writes each string of the sheet that is not empty, or
+/// none if the sheet has no text.
 pub fn authored_texts_are_written()
     ensures strings { (lead_in audio : ℕ) (sheet : CueSheet) (script : List Drawing) (packs : List (List ℕ))
         (call : Call Bytes) (status : Status) → IsRun (Text lead_in Raw) call status
@@ -92,7 +92,7 @@ pub fn authored_texts_are_written()
     text_lists_are_answered();
 }
 
-/// A law: the same of blocks or sectors with that lead-in.
+/// A law: `authored_texts_are_written` for blocks or sectors with the lead-in of an authored stream.
 pub fn copied_texts_are_written()
     ensures strings { (lead_in audio : ℕ) (form : Form) (sheet : CueSheet) (script : List Drawing)
         (bytes : List ℕ)

@@ -1,4 +1,4 @@
--- The sums of a word as the code keeps them, and what its steps do with them.
+-- The sums of a word as the code stores them, and the steps that find wrong symbols.
 use Rattle.std.specs.Prelude.{◌≡◌, ◌≢◌, ℕ, ◌+◌, ◌-◌, ◌*◌, ◌/◌, ◌%◌, ◌^◌, ◌<◌, ◌≤◌, List, [], ◌∷◌, ◌++◌, take, bit_xor}
 use Rattle.gf64.specs.Field.{product, alpha_power}
 use Rattle.rw_code.specs.declared.pack.LastFour.{LastFour}
@@ -19,7 +19,7 @@ pub record AreSyndromes (word : List ℕ) (lanes : ℕ) : Type 0 where
   pub first_four : (j : ℕ) → j < 2 → lane (4 + j) lanes ≡ weighted_sum j (take 4 word)
   pub bound : lanes < 2 ^ 36
 
--- what a symbol at a position adds to these lanes
+-- The lanes are what a symbol at a position adds to the six sums.
 pub record IsEntry (position symbol lanes : ℕ) : Type 0 where
   pub whole : (j : ℕ) → j < 4 → lane j lanes ≡ product (alpha_power (j * (last_position - position))) symbol
   pub first_four : (j : ℕ) → j < 2 → position < 4
@@ -36,7 +36,7 @@ ContinuesTo n old symbol new =
 abbrev pub value_at : ℕ → LastFour → ℕ
 value_at j last = weighted_sum j (last.cubic ∷ last.square ∷ last.linear ∷ last.constant ∷ [])
 
--- the lanes of the four sums over all symbols
+-- The four sums over all symbols are lanes 0 to 3.
 pub record AreLanes (lanes : ℕ) (sums : Sums) : Type 0 where
   pub zeroth : sums.zeroth ≡ lane 0 lanes
   pub first : sums.first ≡ lane 1 lanes
@@ -45,18 +45,18 @@ pub record AreLanes (lanes : ℕ) (sums : Sums) : Type 0 where
 
 -- ---- Wrong symbols. An error is the sum of a wrong symbol and the right one.
 
--- an error at a position
+-- The number is an error at this position: it is not 0.
 pub record IsError (position error : ℕ) : Type 0 where
   pub place : position < word_symbols
   pub below : error < symbol_values
   pub wrong : error ≢ 0
 
--- the lanes of a word with one error
+-- The lanes are those of a word with this error only.
 pub record IsOneWrong (lanes position error : ℕ) : Type 0 where
   pub is_error : IsError position error
   pub entry : IsEntry position error lanes
 
--- the lanes of a word with two errors, e at position i and f at a later position j
+-- The lanes are those of a word with two errors, e at position i and f at a later position j.
 pub record AreTwoWrong (lanes i e j f : ℕ) : Type 0 where
   pub apart : i < j
   pub first : IsError i e
@@ -68,7 +68,7 @@ abbrev pub AreErrors : ℕ → TwoErrors → Type 0
 AreErrors lanes errors =
     AreTwoWrong lanes errors.first.position errors.first.value errors.second.position errors.second.value
 
--- the sums at 0 and 1 of two errors at these positions
+-- Sums 0 and 1 are those of a word with two errors, e and f, at these positions.
 pub record AreTwoSums (sums : Sums) (places : Places) (e f : ℕ) : Type 0 where
   pub first_error : IsError places.first e
   pub second_error : IsError places.second f
@@ -76,7 +76,7 @@ pub record AreTwoSums (sums : Sums) (places : Places) (e f : ℕ) : Type 0 where
   pub first : sums.first ≡ bit_xor (product (alpha_power (last_position - places.first)) e)
       (product (alpha_power (last_position - places.second)) f)
 
--- The polynomial of the sums that is 0 at the powers of both wrong positions, where two are wrong: its coefficients.
+-- The polynomial has these coefficients. If two symbols are wrong, it is 0 at the powers of alpha of both positions.
 pub record IsLocator (sums : Sums) (locator : Locator) : Type 0 where
   pub square : locator.square ≡ bit_xor (product sums.first sums.first) (product sums.zeroth sums.second)
   pub linear : locator.linear ≡ bit_xor (product sums.first sums.second) (product sums.zeroth sums.third)

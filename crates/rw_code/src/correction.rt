@@ -1,4 +1,4 @@
-// The codeword near a word, and the wrong symbols by which it is found.
+// Correction of a word: its wrong symbols, and the codeword near it.
 ghost use Rattle.std.specs.Prelude.{◌≡◌, ◌≢◌, ◌<◌, ◌+◌, ◌-◌, ◌*◌, ◌%◌, ℕ, MatchOption, Some, IfSome};
 ghost use Rattle.rw_code.specs.Codeword.{IsCodeword, IsWord, differences, Reads};
 ghost use Rattle.rw_code.specs.Syndromes.{AreSyndromes, IsOneWrong, AreErrors, IsEntry, IsError, AreTwoWrong, AreTwoSums, IsLocator, IsLocatorOf, IsPair};
@@ -16,11 +16,11 @@ use gf64::Sym;
 pub struct Fixed {
     /// The codeword.
     pub pack: Pack,
-    /// At how many positions the word differs from it: at most two.
+    /// The number of positions at which the word differs from the codeword: at most two.
     pub wrong: u8,
 }
 
-/// The codeword near a word, if there is one: the one that differs from it at two positions at most.
+/// The codeword that differs from a word at two positions at most, if there is one.
 pub fn correct(received: &Word) -> Option<Fixed>
     ensures reads { GivesFixed received.now result }
     ensures word { IsWord received.now }
@@ -37,7 +37,8 @@ pub fn correct(received: &Word) -> Option<Fixed>
     correct_by_sums(received)
 }
 
-/// The codeword near a word, by the sums of the word only. It suits words that are not near the idle pack.
+/// The codeword near a word, computed as in `correct` but without the test whether the word is near the idle
+/// pack. It suits words that are not near the idle pack.
 pub fn correct_by_sums(received: &Word) -> Option<Fixed>
     ensures reads { GivesFixed received.now result }
     ensures word { IsWord received.now }
@@ -51,7 +52,7 @@ pub fn correct_by_sums(received: &Word) -> Option<Fixed>
     correct_by(received, syndromes)
 }
 
-// The codeword near a word that is no codeword, by its syndromes.
+// The codeword near a word that is not a codeword, from the syndromes of the word.
 fn correct_by(received: &Word, syndromes: Syndromes) -> Option<Fixed>
     requires no_codeword { ¬ IsCodeword received.now }
     requires syndromes { AreSyndromes received.now syndromes.lanes }
@@ -77,7 +78,7 @@ fn without_one(received: &Word, syndromes: Syndromes, error: SymbolError) -> Fix
     ensures wrong { result.wrong ≡ differences received.now result.pack }
 {
     let right = received.plus(error.position, error.value);
-    // Both are words: the sums of the one are known from those of the other.
+    // Both are words. So the sums of `right` follow from those of `received`.
     words_have_24_symbols(received);
     words_have_24_symbols(&right);
     Fixed {
@@ -97,7 +98,7 @@ fn without_two(received: &Word, syndromes: Syndromes, errors: TwoErrors) -> Fixe
     let TwoErrors { first, second } = errors;
     let half = received.plus(first.position, first.value);
     let right = half.plus(second.position, second.value);
-    // Both are words: the sums of the one are known from those of the other.
+    // Both are words. So the sums of `right` follow from those of `received`.
     words_have_24_symbols(received);
     words_have_24_symbols(&right);
     Fixed {
@@ -121,7 +122,7 @@ struct TwoErrors {
 }
 
 impl SymbolError {
-    // The part of the error in the six sums.
+    // What the error adds to the six sums.
     #[inline]
     fn entry(&self) -> u64
         requires { self.now.position < word_symbols }
@@ -151,7 +152,7 @@ fn one_error(syndromes: Syndromes) -> Option<SymbolError>
     })
 }
 
-// The position whose power is the first sum over the zeroth.
+// The position whose power of alpha is sum 1 divided by sum 0.
 #[inline]
 fn single_position(zeroth: Sym, first: Sym) -> Option<usize>
     ensures only { (i : ℕ) → IsError i zeroth → product (alpha_power (last_position - i)) zeroth ≡ first
@@ -168,7 +169,7 @@ fn single_position(zeroth: Sym, first: Sym) -> Option<usize>
     Some(SYMBOLS - 1 - exponent)
 }
 
-// The two wrong symbols of a word, if two are wrong.
+// The two wrong symbols of a word, if exactly two symbols are wrong.
 fn two_errors(syndromes: Syndromes) -> Option<TwoErrors>
     ensures { MatchOption result
         ((i e j f : ℕ) → ¬ AreTwoWrong syndromes.lanes i e j f)
@@ -188,7 +189,7 @@ fn two_errors(syndromes: Syndromes) -> Option<TwoErrors>
     Some(errors)
 }
 
-// A square polynomial that is 0 at the powers of both wrong positions, where two are wrong.
+// A quadratic polynomial. If two symbols are wrong, it is 0 at the powers of alpha of both positions.
 #[derive(Clone, Copy)]
 struct Locator {
     square: Sym,
@@ -203,7 +204,8 @@ struct Places {
     second: usize,
 }
 
-// How two powers of alpha lie to each other.
+// The difference of the exponents of two powers of alpha, and the logarithm of their sum if the lower power
+// is 1.
 #[derive(Clone, Copy)]
 struct Pair {
     difference: usize,
@@ -221,8 +223,9 @@ impl Locator {
         }
     }
 
-    // The two positions at whose powers it is 0. The logarithm of its constant times its square coefficient over
-    // the square of its linear one depends on the difference of their exponents alone.
+    // The two positions at whose powers of alpha the polynomial is 0. The quotient
+    // `square * constant / linear^2` depends only on the difference of the two exponents, so a table maps its
+    // logarithm to this difference.
     #[inline]
     fn places(self) -> Option<Places>
         ensures only { (i j : ℕ) → i < j → j < word_symbols → IsLocatorOf self i j
@@ -249,7 +252,7 @@ impl Locator {
     }
 }
 
-// The pair of powers of which the product over the square of the sum has this logarithm.
+// The pair of powers for which the product, divided by the square of the sum, has this logarithm.
 #[inline]
 fn pair_at(ratio: usize) -> Pair
     requires { ratio < 63 }
@@ -263,7 +266,7 @@ fn pair_at(ratio: usize) -> Pair
     }
 }
 
-// The errors at two positions that have the first two sums.
+// The errors at two positions, from sums 0 and 1.
 fn errors_at(sums: &Sums, places: Places) -> Option<TwoErrors>
     requires { (places.first < places.second) × (places.second < word_symbols) }
     ensures only { (e f : ℕ) → AreTwoSums sums.now places e f → result ≡ Some (record {
@@ -296,7 +299,7 @@ fn errors_at(sums: &Sums, places: Places) -> Option<TwoErrors>
     })
 }
 
-// The power of alpha that the sum at 1 has at a position.
+// The power of alpha by which sum 1 multiplies the symbol at a position.
 #[inline]
 fn power_at(i: usize) -> Sym
     requires { i < word_symbols }
@@ -305,14 +308,14 @@ fn power_at(i: usize) -> Sym
     Sym::alpha((SYMBOLS - 1 - i) as u32)
 }
 
-// The difference of the exponents, and 0 where there is no such pair.
+// The difference of the exponents for each logarithm, or 0 if no pair has this logarithm.
 static DIFFERENCES: [u8; 63] = [
     21, 0, 3, 0, 6, 0, 13, 5, 12, 0, 0, 0, 0, 16, 10, 0, 0, 0, 7, 4, 0, 0, 0, 0, 11, 0, 0, 18, 20,
     0, 0, 0, 15, 19, 0, 0, 14, 0, 8, 0, 0, 2, 0, 0, 0, 9, 0, 0, 22, 17, 0, 0, 1, 0, 0, 0, 23, 0, 0,
     0, 0, 0, 0,
 ];
 
-// The logarithm of the sum of the two powers, where the lower exponent is 0.
+// The logarithm of the sum of the two powers if the lower exponent is 0, or 0 if there is no pair.
 static SUMS: [u8; 63] = [
     42, 0, 32, 0, 1, 0, 35, 62, 2, 0, 0, 0, 0, 33, 61, 0, 0, 0, 26, 24, 0, 0, 0, 0, 25, 0, 0, 27,
     59, 0, 0, 0, 23, 56, 0, 0, 52, 0, 48, 0, 0, 12, 0, 0, 0, 45, 0, 0, 50, 47, 0, 0, 6, 0, 0, 0,

@@ -66,7 +66,7 @@ impl Pack {
     {
         let headed = with_head(head);
         let word = with_whole_parity(&with_body(headed, &body));
-        // Both are words: their places are compared one by one.
+        // Both are words: the proof compares them position by position.
         words_have_24_symbols(&headed);
         words_have_24_symbols(&word);
         Pack { word }
@@ -90,7 +90,7 @@ impl Pack {
     }
 }
 
-// The two parity symbols after some symbols, by which their sums at 0 and 1 are 0.
+// The two parity symbols that follow some symbols and make sums 0 and 1 equal to 0.
 #[derive(Clone, Copy)]
 struct FirstParity {
     high: Sym,
@@ -98,7 +98,7 @@ struct FirstParity {
 }
 
 impl FirstParity {
-    // Those after one more symbol: the remainder by (x + 1)(x + α).
+    // The parity symbols after one more symbol: the remainder of the division by (x + 1)(x + α).
     fn push(self, symbol: Sym) -> FirstParity
         ensures { ContinuesTo 2 (self.high ∷ self.low ∷ []) symbol (result.high ∷ result.low ∷ []) }
     {
@@ -110,7 +110,7 @@ impl FirstParity {
     }
 }
 
-// What is added to the last four symbols of a word: the coefficients of a polynomial.
+// Four numbers to add to the last four symbols of a word, as the coefficients of a polynomial.
 #[derive(Clone, Copy)]
 struct LastFour {
     cubic: Sym,
@@ -174,7 +174,7 @@ impl LastFour {
     }
 }
 
-// The word with these first two symbols, parity symbols at 2 and 3, and else zeros.
+// The word with these symbols at 0 and 1, parity symbols at 2 and 3, and zeros at 4 to 23.
 fn with_head(head: [Sym; 2]) -> Word
     ensures head { (k : ℕ) → k < 2 → slice_index result k ≡ slice_index head k }
     ensures first_four { (j : ℕ) → j < 2 → weighted_sum j (take 4 result) ≡ 0 }
@@ -210,7 +210,7 @@ fn with_whole_parity(word: &Word) -> Word
     ensures kept { (k : ℕ) → k < 20 → slice_index result k ≡ slice_index word.now k }
     ensures whole { (j : ℕ) → j < 4 → weighted_sum j result ≡ 0 }
 {
-    // Four of its 24 symbols are the last ones.
+    // The word has 24 symbols, so the last four are at 20 to 23.
     words_have_24_symbols(word);
     let last = LastFour::of(Syndromes::of(word));
     word.plus(20, last.cubic)

@@ -1,4 +1,4 @@
-// The six sums of a word that are 0 for a codeword.
+// The six sums of a word. A word is a codeword if all six are 0.
 ghost use Rattle.std.specs.Prelude.{◌≡◌, ◌<◌, ◌↔◌, IsTrue};
 ghost use Rattle.rw_code.specs.Sizes.{word_symbols, symbol_values};
 ghost use Rattle.rw_code.specs.Codeword.{IsCodeword};
@@ -14,7 +14,7 @@ pub(crate) struct Syndromes {
     pub(crate) lanes: u64,
 }
 
-/// The sums of a word over all symbols, at 0 to 3.
+/// Sums 0 to 3 of a word, over all its symbols.
 #[derive(Clone, Copy)]
 pub(crate) struct Sums {
     pub(crate) zeroth: Sym,
@@ -60,7 +60,7 @@ impl Syndromes {
     }
 }
 
-/// The part of a symbol at a position in the six sums.
+/// What a symbol at a position adds to the six sums.
 #[inline]
 pub(crate) fn entry(position: usize, symbol: usize) -> u64
     requires position { position < word_symbols }
@@ -70,7 +70,8 @@ pub(crate) fn entry(position: usize, symbol: usize) -> u64
     SYNDROMES[position][symbol]
 }
 
-// The parts of all symbols at a position, by those of 1, 2, 4, 8, 16 and 32: the part of a sum is the sum of the parts.
+// What each symbol at a position adds to the sums, from the numbers for the symbols 1, 2, 4, 8, 16 and 32.
+// The number for a sum of symbols is the sum of their numbers.
 macro_rules! parts {
     ($one:literal, $two:literal, $four:literal, $eight:literal, $sixteen:literal, $last:literal) => {
         parts!($one, $two, $four; 0, $eight, $sixteen, $eight ^ $sixteen, $last, $eight ^ $last,
@@ -82,8 +83,8 @@ macro_rules! parts {
     };
 }
 
-// The six sums of the word with one symbol, by its position and its number: six bits for each, lowest first the four
-// over all symbols and then the two over the first four.
+// What a symbol adds to the six sums, by its position and its value. Each sum has six bits. From the lowest
+// bit on, the order is: the four sums over all symbols, and the two sums over the first four symbols.
 static SYNDROMES: [[u64; SYMBOL_VALUES]; SYMBOLS] = [
     parts!(
         8607705665,

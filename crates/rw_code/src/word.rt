@@ -1,4 +1,4 @@
-// A word, its symbols one by one, and how far it is from zeros.
+// Words: their symbols, and the number of symbols that are not 0.
 ghost use Rattle.std.specs.Prelude.{◌≡◌, ◌<◌, ◌%◌, ◌++◌, ◌+◌, ◌≤◌, take, drop, ◌↔◌, IsTrue, All, List, ℕ, length, map, min, slice_index, slice_set, replicate, bit_xor};
 ghost use Rattle.rw_code.specs.Sizes.{word_symbols, symbol_values};
 ghost use Rattle.rw_code.specs.Codeword.{IsWord, IsNear, differences};
@@ -11,7 +11,7 @@ use std::simd::prelude::*;
 /// How many symbols a word has (IEC 60908).
 pub const SYMBOLS: usize = 24;
 
-/// How many values a symbol has: it is six bits.
+/// How many values a symbol has: it has six bits.
 pub(crate) const SYMBOL_VALUES: usize = 64;
 
 /// A word of 24 symbols.
@@ -41,7 +41,7 @@ impl Default for Word {
 }
 
 impl Word {
-    /// The word of the low six bits of the bytes.
+    /// The word whose symbols are the low six bits of the bytes.
     pub fn new(bytes: &[u8; SYMBOLS]) -> Word
         ensures { result ≡ map (λ byte. byte % 64) bytes.now }
     {
@@ -52,7 +52,7 @@ impl Word {
         Word { bytes: low }
     }
 
-    /// The word of three times eight symbols, each below 64.
+    /// The word of three lists of eight symbols, each below 64.
     #[inline]
     pub fn of_eights(low: [u8; 8], middle: [u8; 8], high: [u8; 8]) -> Word
         requires { All (λ symbol. symbol < symbol_values) (low ++ middle ++ high) }
@@ -89,12 +89,12 @@ impl Word {
         ensures near { IsTrue result ↔ IsNear self.now idle_pack }
         ensures word { IsWord self.now }
     {
-        // A proof knows the invariant where a field is named.
+        // Reading the field gives the prover the invariant.
         let _ = &self.bytes;
         self.weight() <= 2
     }
 
-    /// How many symbols are not 0: at how many positions the word differs from the idle pack.
+    /// The number of symbols that are not 0. At these positions, the word differs from the idle pack.
     #[inline]
     pub fn weight(&self) -> u8
         ensures count { result ≡ differences self.now idle_pack }
@@ -131,11 +131,11 @@ impl Word {
 pub fn words_have_24_symbols(word: &Word)
     ensures { IsWord word.now }
 {
-    // A proof knows the invariant where a field is named.
+    // Reading the field gives the prover the invariant.
     let _ = &word.bytes;
 }
 
-// A 1 for each of eight symbols that is not 0.
+// For each of eight symbols: 0 if the symbol is 0, and otherwise 1.
 #[inline]
 fn ones(symbols: &[u8]) -> u8x8
     requires { length symbols.now ≡ 8 }

@@ -7,25 +7,25 @@ use Rattle.rw_interleave.specs.Interleave.{span, swapped}
 use Rattle.rw_interleave.specs.Gathering.{last_seven}
 use Rattle.rw_code.specs.Packs.{idle_pack}
 
--- the symbol at a position of the slot that comes with the last of some packs: that of the pack whose symbol falls
--- there, and 0 before the first
+-- the symbol at a position of the slot of the last pack: it belongs to the pack that is `position % 8` packs before the
+-- last one, or is 0 if there is no such pack
 unfoldable pub spread_symbol : List (List ℕ) → ℕ → ℕ
 spread_symbol packs position =
     if nat_lt (position % span) (length packs)
     then slice_index (slice_index_or packs (length packs - position % span - 1) []) (swapped position) else 0
 
--- the slot that comes with the last of some packs
+-- the slot that is written for the last of some packs
 unfoldable pub spread_over : List (List ℕ) → List ℕ
 spread_over packs = map (spread_symbol packs) (below symbols_a_slot)
 
--- the packs kept after one more
+-- the last packs after one more pack
 unfoldable pub spread_next : List (List ℕ) → List ℕ → List (List ℕ)
 spread_next packs pack = last_seven (packs ++ pack ∷ [])
 
--- a slot comes with each pack
+-- the slot that is written for a pack; it is never `None`
 unfoldable pub spread_gives : List (List ℕ) → List ℕ → Option (List ℕ)
 spread_gives packs pack = Some (spread_over (packs ++ pack ∷ []))
 
--- packs followed by idle packs, so many in all
+-- packs, followed by idle packs up to `count` packs
 abbrev pub filled_with_idle : ℕ → List (List ℕ) → List (List ℕ)
 filled_with_idle count packs = packs ++ replicate (count - length packs) idle_pack

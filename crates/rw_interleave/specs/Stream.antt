@@ -35,8 +35,8 @@ bad_count found = count_by is_none found
 abbrev pub all_packs : Form → ℕ → List (List ℕ) → List (List ℕ)
 all_packs form blocks packs = packs ++ replicate (word_count form blocks - length packs) idle_pack
 
--- `others` contains each word of `symbols` with at most two wrong symbols. Each further word of `others` has at most two
--- symbols that are not 0.
+-- `others` contains each word of `symbols` with at most two wrong symbols. In a cooked stream, `others` has further words
+-- after these; each has at most two symbols that are not 0.
 pub record IsDamaged (symbols : List ℕ) (form : Form) (others : List ℕ) : Type 0 where
   pub size : length others ≡ length symbols
   pub words : (n : ℕ) → n < whole_packs (length symbols / block_bytes)

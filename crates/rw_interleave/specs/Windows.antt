@@ -1,4 +1,4 @@
--- The last seven slots of a stream of blocks, and the block behind them, as bytes in a row. Code calls the sizes by the
+-- The last seven slots of a stream of blocks, and the block after them, as bytes in a row. Code calls the sizes by the
 -- names of src/gather.rt.
 use Rattle.std.specs.Prelude.{◌≡◌, ℕ, ◌+◌, ◌*◌, ◌%◌, ◌<◌, ◌≤◌, Bool, true, List, ◌++◌, length, map, slice_index}
 use Rattle.std.specs.List.{range_with_len}
@@ -9,15 +9,15 @@ use Rattle.rw_code.specs.Sizes.{symbol_values}
 use Rattle.rw_interleave.specs.Gathering.{gather_gives, gather_next}
 use Rattle.rw_interleave.specs.Interleave.{packs_kept_back}
 
--- the bytes of the last seven slots
+-- the number of bytes in the last seven slots
 abbrev pub before_bytes : ℕ
 before_bytes = 168
 
--- the bytes of the first three of them
+-- the number of bytes in the first three of these slots
 abbrev pub early_bytes : ℕ
 early_bytes = 72
 
--- the bytes of a row: the seven slots and a block behind them
+-- the number of bytes in a row: the seven slots and the block after them
 abbrev pub row_bytes : ℕ
 row_bytes = 264
 
@@ -25,15 +25,15 @@ row_bytes = 264
 unfoldable pub slot_in : List ℕ → ℕ → List ℕ
 slot_in bytes k = map (λ i. slice_index bytes (symbols_a_slot * k + i) % 64) (below symbols_a_slot)
 
--- so many slots of some bytes, from one on
+-- `count` slots of some bytes, from slot `first` on
 unfoldable pub slots_in : List ℕ → ℕ → ℕ → List (List ℕ)
 slots_in bytes first count = map (slot_in bytes) (range_with_len first count)
 
--- the last slots after the four of a block
+-- the last slots after the four slots of a block
 abbrev pub slots_after_block : List (List ℕ) → List ℕ → List (List ℕ)
 slots_after_block slots block = run_state gather_next slots (slots_in block 0 slots_a_block)
 
--- the words that come with them
+-- the words that the four slots of a block complete
 abbrev pub words_from_block : List (List ℕ) → List ℕ → List (List ℕ)
 words_from_block slots block = run_gives gather_next gather_gives slots (slots_in block 0 slots_a_block)
 
@@ -41,17 +41,17 @@ words_from_block slots block = run_gives gather_next gather_gives slots (slots_i
 abbrev pub four_in : List ℕ → ℕ → List ℕ
 four_in bytes at = map (λ i. slice_index bytes (at + i)) (below 4)
 
--- four bytes, each at the next place of the next slot
+-- four bytes, each one slot and one place after the previous one
 abbrev pub sloping_in : List ℕ → ℕ → List ℕ
 sloping_in bytes at = map (λ i. slice_index bytes (at + (symbols_a_slot + 1) * i)) (below 4)
 
--- the bytes of the last seven slots and of the block behind them are symbols
+-- The bytes of the last seven slots and of the block after them are symbols.
 abbrev pub AreRowSymbols : List ℕ → List ℕ → List ℕ → Type 0
 AreRowSymbols early late block = (n : ℕ) → n < row_bytes
     → slice_index (early ++ (late ++ block)) n < symbol_values
 
--- The bytes of the last seven slots of a stream, of which so many have come, are symbols. Quiet is only a window of
--- seven slots of zeros.
+-- The bytes of the last seven slots of a stream are symbols. `count` of these slots were read. If `quiet` is true, all
+-- seven were read and all their symbols are 0.
 pub record IsWindow (bytes : List ℕ) (count : ℕ) (quiet : Bool) : Type 0 where
   pub size : length bytes ≡ before_bytes
   pub few : count ≤ packs_kept_back

@@ -1,4 +1,4 @@
-// The words of a block behind seven slots, sixteen symbols at a time.
+// The words that a block completes after seven slots, computed from sixteen symbols at a time.
 ghost use Rattle.std.specs.Prelude.{◌≡◌, ◌<◌, ◌≤◌, ◌+◌, ◌%◌, ◌/◌, ◌==◌, if◌then◌else◌, ◌++◌, drop, length, map, slice_index, take};
 ghost use Rattle.bit_lists.specs.Counting.{below};
 ghost use Rattle.raw_subcode.specs.Sizes.{slots_a_block};
@@ -13,8 +13,8 @@ use raw_subcode::{BLOCK_BYTES, SLOTS_A_BLOCK};
 use rw_code::Word;
 use std::simd::prelude::*;
 
-// The word of the symbols at positions 0 to 7 and 16 to 23 of its slots, and of those between, which are the first eight
-// of the others. 1 and 18, 2 and 5, 3 and 23 are exchanged (`swapped`).
+// The word of these symbols: `outer` has positions 0 to 7 and 16 to 23, and the first eight of `middle` are
+// positions 8 to 15. Positions 1 and 18, 2 and 5, 3 and 23 are exchanged (`swapped`).
 #[inline(always)]
 pub(crate) fn word(outer: u8x16, middle: u8x16) -> Word
     requires outer { length outer ≡ 16 }
@@ -35,7 +35,7 @@ pub(crate) fn word(outer: u8x16, middle: u8x16) -> Word
     Word::of_eights(low, between, high)
 }
 
-// The bytes at the next place of each next slot, four from each of four places on.
+// Four bytes from each of four places on. Each byte is one slot and one place after the previous one.
 #[inline(always)]
 pub(crate) fn turned(
     early: &[u8; EARLY_BYTES],
@@ -62,7 +62,7 @@ pub(crate) fn turned(
     by_twos(by_ones(zeroth, first), by_ones(second, third))
 }
 
-// Every second lane of two vectors, alternately.
+// The even lanes of one vector and the odd lanes of the other, each at its place.
 #[inline(always)]
 fn by_ones(even: u8x16, odd: u8x16) -> u8x16
     requires even { length even ≡ 16 }
@@ -76,7 +76,7 @@ fn by_ones(even: u8x16, odd: u8x16) -> u8x16
     )
 }
 
-// Two lanes of one vector, then two of the other, alternately.
+// Alternately two lanes of one vector and two lanes of the other, each at its place.
 #[inline(always)]
 fn by_twos(even: u8x16, odd: u8x16) -> u8x16
     requires even { length even ≡ 16 }
@@ -90,7 +90,7 @@ fn by_twos(even: u8x16, odd: u8x16) -> u8x16
     )
 }
 
-// Four bytes from each of four places on.
+// Four adjacent bytes from each of four places on.
 #[inline(always)]
 fn fours(
     early: &[u8; EARLY_BYTES],
@@ -125,7 +125,8 @@ fn eight(low: u8x4, high: u8x4) -> u8x8
     low.shuffle(high, [0, 1, 2, 3, 4, 5, 6, 7])
 }
 
-// Four bytes of the last seven slots and a block behind them, from one on. None of the three lists ends within four.
+// Four adjacent bytes of the last seven slots and the block after them. All four are in one of the three
+// arrays, since `at` and the lengths of the arrays are multiples of four.
 #[inline(always)]
 fn four(
     early: &[u8; EARLY_BYTES],

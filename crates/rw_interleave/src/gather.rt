@@ -92,7 +92,8 @@ impl Gather {
         word
     }
 
-    /// Whether a block completes four words of zeros and leaves the slots unchanged. `false` says nothing.
+    /// A quick test whether a block completes four words of zeros and leaves the slots unchanged. If the
+    /// result is `false`, this is unknown.
     #[inline(always)]
     pub fn stays_idle(&self, block: &[u8; BLOCK_BYTES]) -> bool
         ensures next { result ≡ true → self.now ≡ slots_after_block self.now block.now }
@@ -119,8 +120,9 @@ impl Gather {
 
     /// Reads a block without the test for idle blocks, and returns the words that it completes.
     ///
-    /// Position p of the slots is in slot p % 8. So four positions from a multiple of four on are in four slots, one
-    /// after the other, each at the next place. The numbers are the places of positions 0, 4, 16 and 20 of each word, and of
+    /// The symbol for position p of a word is in slot p % 8 of the eight slots of the word. So the symbols
+    /// for four positions, from a multiple of four on, are in four consecutive slots, each one place after
+    /// the previous one. The numbers below are the places of positions 0, 4, 16 and 20 of each word, and of
     /// positions 8 and 12 of two words.
     #[inline(never)]
     pub fn gather_block(&mut self, block: &[u8; BLOCK_BYTES]) -> ArrayVec<Word, SLOTS_A_BLOCK>
@@ -148,7 +150,7 @@ impl Gather {
         words
     }
 
-    // Moves the slots up by those of a block.
+    // Makes the four slots of a block the last ones of the seven.
     #[inline(always)]
     fn move_up(&mut self, block: &[u8; BLOCK_BYTES])
         ensures { self.new ≡ slots_after_block self.old block.now }
@@ -184,7 +186,7 @@ impl Stage for Gather {
     }
 }
 
-// Whether seven slots have come, with no symbol but 0.
+// Whether seven slots were read and all their symbols are 0.
 #[inline]
 fn are_quiet(early: &[u8; EARLY_BYTES], late: &[u8; BLOCK_BYTES], count: usize) -> bool
     ensures full { result ≡ true → packs_kept_back ≤ count }
@@ -198,7 +200,7 @@ fn are_quiet(early: &[u8; EARLY_BYTES], late: &[u8; BLOCK_BYTES], count: usize) 
     are_idle(early)
 }
 
-// The seven slots of a row, with zeros before a byte.
+// The seven slots of a row, with zeros before byte `first`.
 fn slots_from(row: &[u8; ROW_BYTES], first: usize) -> [u8; BEFORE_BYTES]
     requires { first ≤ before_bytes }
     ensures zeros { (n : ℕ) → n < first → slice_index result n ≡ 0 }
@@ -221,7 +223,8 @@ fn alone(slot: &Slot) -> [u8; BLOCK_BYTES]
     block
 }
 
-// The word whose last symbol is in the slot behind seven others, of which so many have come.
+// The word whose last symbol is in the first slot of the block, if all seven slots before this slot were
+// read.
 fn last_word(
     early: &[u8; EARLY_BYTES],
     late: &[u8; BLOCK_BYTES],
@@ -240,17 +243,18 @@ fn last_word(
     Some(word_at(early, late, block, 0))
 }
 
-/// A law: for any slots since the start, the words given are those by places, each as soon as its last symbol has come.
+/// A law: the words of all slots since the start are the words that `word_of` defines by their places. Each
+/// word is returned as soon as its last symbol was read.
 pub fn gather_gives_words()
     ensures { (slots : List (List ℕ)) → All (λ slot. length slot ≡ symbols_a_slot) slots
         → run_gives gather_next gather_gives [] slots
         ≡ map (word_of (concat slots)) (below (whole_of_slots (length slots))) }
 {}
 
-// The bytes of the slots before a block of which a word may have symbols.
+// The number of bytes in the seven slots before a block, in which the words of the block may have symbols.
 pub(crate) const BEFORE_BYTES: usize = PACKS_KEPT_BACK * SYMBOLS_A_SLOT;
 
-// The bytes of the first three of them.
+// The number of bytes in the first three of these slots.
 pub(crate) const EARLY_BYTES: usize = BEFORE_BYTES - BLOCK_BYTES;
 
 const ROW_BYTES: usize = BEFORE_BYTES + BLOCK_BYTES;
@@ -267,7 +271,7 @@ fn are_idle(bytes: &[u8]) -> bool
     all % 64 == 0
 }
 
-// The last seven slots, and behind them the symbols of a block: the low six bits of its bytes.
+// The last seven slots, followed by the symbols of a block: the low six bits of its bytes.
 #[inline(always)]
 fn row_of(
     early: &[u8; EARLY_BYTES],
@@ -286,7 +290,7 @@ fn row_of(
     row
 }
 
-// Puts bytes from a place on, and leaves those before it.
+// Writes bytes from a place on. The bytes before this place do not change.
 #[inline(always)]
 fn put(row: &mut [u8; ROW_BYTES], at: usize, bytes: &[u8])
     requires { at + length bytes.now ≤ row_bytes }
@@ -298,7 +302,7 @@ fn put(row: &mut [u8; ROW_BYTES], at: usize, bytes: &[u8])
     }
 }
 
-// Puts the symbols of a block behind the slots before it.
+// Writes the symbols of a block after the seven slots of a row.
 #[inline(always)]
 fn put_symbols(row: &mut [u8; ROW_BYTES], block: &[u8; BLOCK_BYTES])
     ensures before { (n : ℕ) → n < before_bytes → slice_index row.new n ≡ slice_index row.old n }
@@ -321,7 +325,7 @@ fn three_slots(row: &[u8; ROW_BYTES], at: usize) -> [u8; EARLY_BYTES]
     slots
 }
 
-// The bytes of the four slots behind those.
+// The bytes of the four slots after these three.
 #[inline(always)]
 fn four_slots(row: &[u8; ROW_BYTES], at: usize) -> [u8; BLOCK_BYTES]
     requires { at ≤ block_bytes }
@@ -354,9 +358,9 @@ fn last_three(four: &[u8; BLOCK_BYTES]) -> [u8; EARLY_BYTES]
     slots
 }
 
-// The word of eight slots from one on. Symbol i of a pack goes to position p of the slots (`swapped`), p % 8 slots
-// later: it stands 24 * (p % 8) + p bytes from there, which are written here as numbers. So symbol 1, which goes to
-// position 18, stands at 24 * 2 + 18 = 66.
+// The word of eight slots, from slot `first` on. Symbol i of a pack is written at position p (`swapped`),
+// p % 8 slots later. So its distance from the first slot is 24 * (p % 8) + p bytes; the code has these
+// numbers. For example, symbol 1 is at position 18, and its distance is 24 * 2 + 18 = 66.
 #[inline]
 fn word_at(
     early: &[u8; EARLY_BYTES],
@@ -403,8 +407,8 @@ fn word_at(
     )
 }
 
-// Symbol i of the last seven slots and a block behind them. It stands in line, so that a place that is known costs
-// nothing.
+// Symbol i of the last seven slots and the block after them. It is inlined, so that a constant place needs no
+// comparison.
 #[inline(always)]
 fn symbol(
     early: &[u8; EARLY_BYTES],

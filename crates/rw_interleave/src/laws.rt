@@ -1,4 +1,4 @@
-// What is recovered from a stream.
+// Laws on the packs that are recovered from a stream.
 ghost use Rattle.std.specs.Prelude.{◌≡◌, ◌<◌, ◌*◌, ◌/◌, All, List, Option, Some, ℕ, length, map};
 ghost use Rattle.std.specs.List.{concat};
 ghost use Rattle.bit_lists.specs.Counting.{below};
@@ -13,8 +13,8 @@ ghost use Rattle.rw_interleave.specs.Texts.{cdg_bytes};
 use raw_subcode::Form;
 use rw_code::{Pack, each_word_has_one_finding, only_one_codeword_is_near};
 
-/// A law: something is recovered from any symbols below 64, and nothing else is, so what is recovered depends on the
-/// form and the symbols alone.
+/// A law: for any symbols below 64, there is exactly one result of the correction. So it depends only on the
+/// form and the symbols.
 pub fn one_list_is_recovered()
     ensures some { (form : Form) (symbols : List ℕ) → All (λ symbol. symbol < symbol_values) symbols
         → (found : List (Option (List ℕ))) × IsRecovered form symbols found }
@@ -25,7 +25,7 @@ pub fn one_list_is_recovered()
     each_word_has_one_finding();
 }
 
-/// A law: from damage of at most two symbols a word every pack is recovered.
+/// A law: if at most two symbols of each word are wrong, every pack is recovered.
 pub fn packs_are_recovered()
     ensures { (form : Form) (blocks : ℕ) (symbols others : List ℕ) (packs : List (List ℕ))
         (found : List (Option (List ℕ)))
@@ -38,7 +38,7 @@ pub fn packs_are_recovered()
     Pack::idle().word();
 }
 
-/// A law: where every word is a codeword, these are what is found.
+/// A law: if every word is a codeword, the result of the correction is these words.
 pub fn clean_words_are_found()
     ensures { (form : Form) (symbols : List ℕ) (found : List (Option (List ℕ)))
         → ((n : ℕ) → n < word_count form (length symbols / block_bytes)
@@ -50,14 +50,14 @@ pub fn clean_words_are_found()
     only_one_codeword_is_near();
 }
 
-/// A law: where every pack was found, the text is the packs, and none is bad.
+/// A law: if every pack was found, the written text consists of these packs, and no word is bad.
 pub fn found_packs_are_the_text()
     ensures text { (packs : List (List ℕ)) → cdg_bytes (map (λ pack. Some pack) packs) ≡ concat packs }
     ensures bad { (packs : List (List ℕ)) → bad_count (map (λ pack. Some pack) packs) ≡ 0 }
 {}
 
-/// A law: symbols that differ in bursts, each of at most sixteen and at least 192 apart, differ in at most two of
-/// each word.
+/// A law: if all different symbols are in bursts of at most sixteen symbols, with at least 192 symbols
+/// between two bursts, each word has at most two different symbols.
 pub fn bursts_are_damage()
     ensures raw { (blocks : ℕ) (symbols others : List ℕ) → length symbols ≡ block_bytes * blocks
         → DiffersInBursts symbols others

@@ -5,11 +5,11 @@ use Rattle.rw_mend.specs.declared.agreements.Agreements.{Agreements}
 use Rattle.rw_mend.specs.declared.agreements.Agreements.TheVariants.{Nothing, Alone, Several}
 use Rattle.rw_mend.specs.declared.candidates.Candidate.{Candidate}
 
--- the pair i, j comes before the pair of these two
+-- The pair i, j comes before the pair `one`, `other`.
 abbrev pub IsEarlier : ℕ → ℕ → ℕ → ℕ → Type 0
 IsEarlier one other i j = (j < other) ⊎ ((j ≡ other) × (i < one))
 
--- Some two pairs agree on different codewords.
+-- Two pairs agree on different codewords.
 pub record DiffersSomewhere (candidates : List Candidate) : Type 0 where
   pub i : ℕ
   pub j : ℕ
@@ -21,7 +21,7 @@ pub record DiffersSomewhere (candidates : List Candidate) : Type 0 where
   pub other_is : IsPairAgreed candidates k l other
   pub differ : one ≢ other
 
--- Some pair agrees on this codeword, and no earlier one on another.
+-- A pair agrees on this codeword, and no pair before the pair `one`, `other` agrees on another codeword.
 pub record IsAloneBefore (candidates : List Candidate) (one other : ℕ) (codeword : List ℕ) : Type 0 where
   pub first : ℕ
   pub second : ℕ
@@ -29,7 +29,7 @@ pub record IsAloneBefore (candidates : List Candidate) (one other : ℕ) (codewo
   pub alone : (i j : ℕ) (another : List ℕ) → IsEarlier one other i j → IsPairAgreed candidates i j another
       → another ≡ codeword
 
--- what is known after the pairs before these two
+-- The agreements are those of the pairs before the pair `one`, `other`.
 abbrev pub ArePairAgreements : List Candidate → ℕ → ℕ → Agreements → Type 0
 ArePairAgreements candidates one other Nothing = (i j : ℕ) (codeword : List ℕ) → IsEarlier one other i j
     → ¬ IsPairAgreed candidates i j codeword

@@ -1,4 +1,4 @@
--- What a reading of a word gives.
+-- The candidate of a reading at a word.
 use Rattle.std.specs.Prelude.{◌≡◌, ℕ, ◌==◌, ◌&&◌, ◌||◌, Bool, true, false, not, if◌then◌else◌, List, [], ◌∷◌, Option, Some, None, IfSome, slice_index_or}
 use Rattle.std.specs.List.{list_any}
 use Rattle.rw_code.specs.Codeword.{Reads, differences}
@@ -11,7 +11,7 @@ use Rattle.rw_mend.specs.declared.candidates.WordReading.{WordReading}
 use Rattle.rw_mend.specs.declared.candidates.Candidate.{Candidate}
 use Rattle.rw_mend.specs.declared.candidates.Candidate.TheVariants.{Silent, Lost, Near}
 
--- where a codeword is given, the word is read as it, and its wrong symbols are counted
+-- If the result is a codeword, the word is corrected to it, and the number of its wrong symbols is right.
 abbrev pub GivesNear : List ℕ → Option Fixed → Type 0
 GivesNear word given =
     IfSome given (λ fixed. Reads word fixed.pack × (fixed.wrong ≡ differences word fixed.pack))
@@ -26,17 +26,17 @@ abbrev pub doubts_of : Coverage → List ℕ → List ℕ → ℕ
 doubts_of Partly word codeword = if is_idle_pack codeword then 3 else differences word codeword
 doubts_of coverage word codeword = differences word codeword
 
--- what a word that was read gives: the codeword that is found for it, or the lost word itself
+-- the candidate of a word that was read: the codeword that is found for it, or the lost word itself
 abbrev pub candidate_found : WordReading → Option (List ℕ) → Candidate
 candidate_found reading (Some codeword) = Near codeword (doubts_of reading.coverage reading.word codeword)
 candidate_found reading None = Lost reading.word
 
--- and nothing where it was not read
+-- the candidate of a word by its coverage: `Silent` if the word was not read
 abbrev pub candidate_covered : Coverage → WordReading → Candidate
 candidate_covered Unread reading = Silent
 candidate_covered coverage reading = candidate_found reading (finding reading.word)
 
--- what a reading of a word gives by itself
+-- the candidate of a reading at a word, regardless of the other readings
 unfoldable pub candidate_of : WordReading → Candidate
 candidate_of reading = candidate_covered reading.coverage reading
 
@@ -69,7 +69,7 @@ is_graphics_candidate candidate = false
 abbrev pub used_modes : List ℕ
 used_modes = 8 ∷ 9 ∷ 10 ∷ 24 ∷ []
 
--- whether the mode and item of a codeword are among them
+-- whether the mode and item of a codeword are among those that discs carry
 abbrev pub has_used_mode : List ℕ → Bool
 has_used_mode codeword = list_any (λ mode. slice_index_or codeword 0 0 == mode) used_modes
 

@@ -1,4 +1,4 @@
--- The codeword that the readings of a word give together.
+-- The mended codeword of a word, chosen from the candidates of its readings.
 use Rattle.std.specs.Prelude.{◌≡◌, ℕ, ◌==◌, ◌&&◌, ◌||◌, ◌<◌, Bool, true, false, nat_lt, List, length, count_by, slice_index_or, Option, Some, None}
 use Rattle.std.specs.List.{list_all, list_any}
 use Rattle.rw_code.specs.Codeword.{differences}
@@ -14,12 +14,12 @@ abbrev pub is_near : Candidate → Bool
 is_near (Near pack doubts) = true
 is_near candidate = false
 
--- whether it is this codeword
+-- whether a candidate is this codeword
 abbrev pub is_of : List ℕ → Candidate → Bool
 is_of codeword (Near pack doubts) = differences pack codeword == 0
 is_of codeword candidate = false
 
--- how many of the candidates are this codeword
+-- the number of candidates that are this codeword
 abbrev pub votes : List Candidate → List ℕ → ℕ
 votes candidates codeword = count_by (is_of codeword) candidates
 
@@ -36,7 +36,7 @@ abbrev pub is_best : List Candidate → Candidate → Bool
 is_best candidates (Near pack doubts) = list_all (stands candidates pack doubts) candidates
 is_best candidates candidate = false
 
--- candidate r of some
+-- the candidate of reading r
 abbrev pub candidate_of_reading : List Candidate → ℕ → Candidate
 candidate_of_reading candidates r = slice_index_or candidates r Silent
 
@@ -46,38 +46,39 @@ pub record IsFirstBest (candidates : List Candidate) (r : ℕ) : Type 0 where
   pub best : is_best candidates (candidate_of_reading candidates r) ≡ true
   pub first : (k : ℕ) → k < r → is_best candidates (candidate_of_reading candidates k) ≡ false
 
--- two candidates agree on a codeword: both are words that were read and are near none, and these agree on it
+-- Two candidates agree on a codeword: both words were read, no codeword is near either, and the words agree on this
+-- codeword.
 abbrev pub AreAgreed : Candidate → Candidate → List ℕ → Type 0
 AreAgreed (Lost first) (Lost second) codeword = IsAgreed first second codeword
 AreAgreed one other codeword = ⊥
 
--- two of the candidates agree on it
+-- Candidates i and j agree on this codeword.
 pub record IsPairAgreed (candidates : List Candidate) (i j : ℕ) (codeword : List ℕ) : Type 0 where
   pub before : i < j
   pub within : j < length candidates
   pub agreed : AreAgreed (candidate_of_reading candidates i) (candidate_of_reading candidates j) codeword
 
--- Some two agree on it, and no two on another one.
+-- Two candidates agree on this codeword, and no two agree on another.
 pub record IsAgreedAlone (candidates : List Candidate) (codeword : List ℕ) : Type 0 where
   pub one : ℕ
   pub other : ℕ
   pub agreed : IsPairAgreed candidates one other codeword
   pub alone : (i j : ℕ) (another : List ℕ) → IsPairAgreed candidates i j another → another ≡ codeword
 
--- a candidate is this codeword
+-- The candidate is this codeword.
 abbrev pub IsOf : List ℕ → Candidate → Type 0
 IsOf codeword (Near pack doubts) = pack ≡ codeword
 IsOf codeword candidate = ⊥
 
--- The codeword is that of the best candidate, named by the first reading that has it; or, where no candidate is a codeword, the
--- one on which two readings agree.
+-- This is the mended codeword, with its source. Either reading r is the first whose candidate is best, and the codeword is
+-- this candidate. Or no candidate is a codeword, and two candidates agree on this codeword.
 abbrev pub IsMendedBy : WordSource → List Candidate → List ℕ → Type 0
 IsMendedBy (Reading r) candidates codeword = IsFirstBest candidates r
     × IsOf codeword (candidate_of_reading candidates r)
 IsMendedBy Agreed candidates codeword =
     (list_any is_near candidates ≡ false) × IsAgreedAlone candidates codeword
 
--- what is found for the candidates of a word: the mended codeword and its source, or nothing where there is none
+-- This is the result for the candidates of a word: the mended codeword and its source, or None if there is none.
 abbrev pub IsMending : List Candidate → Option Mended → Type 0
 IsMending candidates (Some mended) = IsMendedBy mended.source candidates mended.pack
 IsMending candidates None =

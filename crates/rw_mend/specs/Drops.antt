@@ -7,56 +7,56 @@ use Rattle.rw_mend.specs.Words.{given_at}
 use Rattle.rw_mend.specs.declared.candidates.Candidate.{Candidate}
 use Rattle.rw_mend.specs.declared.candidates.Candidate.TheVariants.{Silent}
 
--- Some reading gives graphics at word m.
+-- Some reading has graphics at word m.
 pub record HasGraphics (programs : List (List ℕ)) (m : ℕ) : Type 0 where
   pub reading : ℕ
   pub within : reading < length programs
   pub graphics : is_graphics_candidate (given_at programs reading m) ≡ true
 
--- Reading r misses graphics at word m: it gives the idle pack where another gives graphics.
+-- Reading r misses graphics at word m: it has the idle pack, and some reading has graphics.
 pub record Misses (programs : List (List ℕ)) (r m : ℕ) : Type 0 where
   pub idle : is_idle_candidate (given_at programs r m) ≡ true
   pub graphics : HasGraphics programs m
 
--- word k is one of two words, or lies between them
+-- Word k is word n or word m, or lies between them.
 abbrev pub IsBetween : ℕ → ℕ → ℕ → Type 0
 IsBetween n m k = ((n ≤ k) × (k ≤ m)) ⊎ ((m ≤ k) × (k ≤ n))
 
--- Reading r of so many words lacks graphics at word n: it misses graphics at some word, and is quiet from there to n.
+-- Reading r lacks graphics at word n of `words` words: it misses graphics at some word, and is quiet from there to n.
 pub record Lacks (words : ℕ) (programs : List (List ℕ)) (r n : ℕ) : Type 0 where
   pub word : ℕ
   pub within : word < words
   pub quiet : (k : ℕ) → k < words → IsBetween n word k → is_quiet_candidate (given_at programs r k) ≡ true
   pub misses : Misses programs r word
 
--- It gives the idle pack there.
+-- Reading r lacks graphics at word n, and has the idle pack there.
 pub record IsLacking (words : ℕ) (programs : List (List ℕ)) (r n : ℕ) : Type 0 where
   pub idle : is_idle_candidate (given_at programs r n) ≡ true
   pub lacks : Lacks words programs r n
 
--- Reading r gives a doubtful codeword at word n where some reading is quiet.
+-- Reading r has a doubtful codeword at word n, and some reading is quiet there.
 pub record IsDoubted (programs : List (List ℕ)) (r n : ℕ) : Type 0 where
   pub doubtful : is_doubtful_candidate (given_at programs r n) ≡ true
   pub reading : ℕ
   pub within : reading < length programs
   pub quiet : is_quiet_candidate (given_at programs reading n) ≡ true
 
--- the codeword of reading r at word n does not count
+-- The codeword of reading r at word n does not count.
 abbrev pub IsDropped : ℕ → List (List ℕ) → ℕ → ℕ → Type 0
 IsDropped words programs r n = IsLacking words programs r n ⊎ IsDoubted programs r n
 
--- the candidate of reading r at word n: nothing if its codeword does not count, or else what it has there
+-- This is the candidate of reading r at word n: nothing if its codeword does not count, or else what it has there.
 abbrev pub IsSaid : ℕ → List (List ℕ) → ℕ → ℕ → Candidate → Type 0
 IsSaid words programs n r candidate = (IsDropped words programs r n × (candidate ≡ Silent))
     ⊎ ((¬ IsDropped words programs r n) × (candidate ≡ given_at programs r n))
 
--- the candidates of all readings at word n
+-- These are the candidates of all readings at word n.
 pub record AreCandidates (words : ℕ) (programs : List (List ℕ)) (n : ℕ)
     (candidates : List Candidate) : Type 0 where
   pub count : length candidates ≡ length programs
   pub each : (r : ℕ) → r < length programs → IsSaid words programs n r (candidate_of_reading candidates r)
 
--- At so many of the first n words the codeword of reading r does not count: there is a mark for each.
+-- The codeword of reading r does not count at `count` of the first n words. `marks` says at which.
 pub record IsDropCount (words : ℕ) (programs : List (List ℕ)) (r n count : ℕ) : Type 0 where
   pub marks : List Bool
   pub size : length marks ≡ n
@@ -65,7 +65,7 @@ pub record IsDropCount (words : ℕ) (programs : List (List ℕ)) (r n count : �
       (¬ IsDropped words programs r k)
   pub is : count ≡ count_by (λ mark. mark) marks
 
--- the same of each reading; the counts behind them are 0
+-- These are the counts of `IsDropCount` for each reading. The counts behind them are 0.
 pub record AreDropCounts (words : ℕ) (programs : List (List ℕ)) (n : ℕ) (counts : List ℕ) : Type 0 where
   pub each : (r : ℕ) → r < length programs
       → IsDropCount words programs r n (slice_index_or counts r 0)

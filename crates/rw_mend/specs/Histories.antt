@@ -3,7 +3,7 @@ use Rattle.std.specs.Prelude.{◌≡◌, ◌≢◌, ℕ, ◌+◌, ◌/◌, ◌%�
 use Rattle.rw_mend.specs.Words.{block_at, is_blank_block, is_unread_block}
 use Rattle.rw_mend.specs.declared.cover.BlockHistory.{BlockHistory}
 
--- whether the two or three blocks under word n are unread, and whether they are without symbols
+-- The history says whether each of the two or three blocks under word n is unread, and whether all its symbols are 0.
 pub record IsHistory (program : List ℕ) (n : ℕ) (history : BlockHistory) : Type 0 where
   pub first : history.first ≡ is_unread_block (block_at program (n / 4))
   pub second : history.second ≡ is_unread_block (block_at program (n / 4 + 1))
@@ -12,6 +12,6 @@ pub record IsHistory (program : List ℕ) (n : ℕ) (history : BlockHistory) : T
   pub second_blank : history.second_blank ≡ is_blank_block (block_at program (n / 4 + 1))
   pub third_blank : n % 4 ≢ 0 → history.third_blank ≡ is_blank_block (block_at program (n / 4 + 2))
 
--- from block `from` on, the first so many blocks of a program are those of another
+-- From block `from` to before block `blocks`, the blocks of a program equal those of the first reading.
 pub record AreSameFrom (first program : List ℕ) (blocks from : ℕ) : Type 0 where
   pub each : (b : ℕ) → from ≤ b → b < blocks → block_at program b ≡ block_at first b

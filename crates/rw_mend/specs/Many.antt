@@ -12,16 +12,16 @@ use Rattle.rw_mend.specs.declared.choice.Mended.{Mended}
 use Rattle.rw_mend.specs.declared.tallies.Tallies.{Tallies}
 use Rattle.rw_mend.specs.declared.candidates.Candidate.{Candidate}
 
--- the programs of so many readings that lie one behind another
+-- the programs of `count` readings that lie one behind another
 abbrev pub programs_of : ℕ → ℕ → List ℕ → List (List ℕ)
 programs_of count lead_in readings = map (program_of lead_in) (parts count (length readings / count) readings)
 
--- how many words each of them has
+-- the number of words in each of `count` readings
 abbrev pub words_in_each : ℕ → ℕ → List ℕ → ℕ
 words_in_each count lead_in readings = whole_packs (length readings / count / block_bytes - lead_in)
 
 -- The words of all readings are mended. Their text is at the front of a buffer. If there is room, the bytes that name their
--- sources are at the front of another. What is behind them stays.
+-- sources are at the front of another. The bytes behind them are unchanged.
 pub record AreAllMendedInto (count lead_in : ℕ) (readings old new old_sources new_sources : List ℕ)
     (tallies : Tallies) : Type 0 where
   pub said : List (List Candidate)
@@ -37,8 +37,8 @@ pub record AreAllMendedInto (count lead_in : ℕ) (readings old new old_sources 
   pub sources : words_in_each count lead_in readings ≤ length old_sources
       → new_sources ≡ map source_byte found ++ drop (words_in_each count lead_in readings) old_sources
 
--- The same, and how many words of each reading are lost: its codeword has no wrong symbol and counts, and the output has
--- another one or none.
+-- The words are mended as in `AreAllMendedInto`. `lost` counts the lost words of each reading: a lost word has a codeword
+-- with no wrong symbol that counts, and the output has another one or none.
 pub record AreAllReported (count lead_in : ℕ) (readings old new old_sources new_sources : List ℕ)
     (tallies : Tallies) (lost : List ℕ) : Type 0 where
   pub into : AreAllMendedInto count lead_in readings old new old_sources new_sources tallies

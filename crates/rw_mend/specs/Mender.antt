@@ -10,7 +10,7 @@ use Rattle.rw_mend.specs.Silences.{AreSilences, IsCalm}
 use Rattle.rw_mend.specs.declared.readings.Readings.{Readings}
 use Rattle.rw_mend.specs.declared.mender.Mender.{Mender}
 
--- The words before n were come to.
+-- The mender has passed the words before word n.
 pub record IsDecoding (readings : Readings) (n : ℕ) (mender : Mender) : Type 0 where
   pub are : AreHeldReadings readings
   pub words : mender.words ≡ whole_packs (size_in readings / block_bytes)
@@ -26,7 +26,7 @@ pub record IsDecoding (readings : Readings) (n : ℕ) (mender : Mender) : Type 0
   pub calm : IsCalm (programs_in readings) n mender.calm
   pub dropped : AreDropCounts mender.words (programs_in readings) n mender.dropped
 
--- It is at word n: it has the candidates of its readings, and it can advance to the next word.
+-- The mender is at word n: it has the candidates of the readings, and it can advance to the next word.
 pub record HasComeTo (readings : Readings) (n : ℕ) (mender : Mender) : Type 0 where
   pub decoding : IsDecoding readings (n + 1) mender
   pub said : (r : ℕ) → r < readings.count

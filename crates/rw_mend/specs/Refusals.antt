@@ -4,9 +4,10 @@ use Rattle.disc_time.specs.Counts.{most_lead_in}
 use Rattle.raw_subcode.specs.Sizes.{block_bytes, most_units, symbols_a_slot}
 use Rattle.rw_interleave.specs.Interleave.{whole_packs}
 
--- Why so many readings of these sizes together are not mended, as an exit number of the program: 2 where the lead-in is too
--- long or there are none or too many, else 3 where they are not whole blocks of equal length, or too many blocks, else 6
--- where the room is smaller than their packs, or there is room for sources and it is smaller than their words.
+-- why readings are not mended, as an exit status of the program. The status is 2 if the lead-in is too long, or if there
+-- are no readings or too many. Otherwise it is 3 if the readings are not whole blocks of equal length, or have too many
+-- blocks. Otherwise it is 6 if the room is too small for the packs, or the room for sources, if any, is too small for the
+-- words.
 abbrev pub readings_refusal : ℕ → ℕ → ℕ → ℕ → ℕ → Option ℕ
 readings_refusal length_of_all count lead_in room sources =
     if nat_lt most_lead_in lead_in || (count == 0) || nat_lt 254 count then Some 2

@@ -8,7 +8,7 @@ use Rattle.rw_mend.specs.declared.cover.BlockHistory.{BlockHistory}
 use Rattle.rw_mend.specs.declared.readings.Readings.{Readings}
 use Rattle.rw_mend.specs.declared.candidates.Candidate.{Candidate}
 
--- a history where there is none
+-- a default history
 abbrev pub no_history : BlockHistory
 no_history = record {
   first = false;
@@ -19,16 +19,16 @@ no_history = record {
   third_blank = false;
 }
 
--- the histories of all readings at word n
+-- These are the histories of all readings at word n.
 pub record AreHistories (programs : List (List ℕ)) (n : ℕ) (histories : List BlockHistory) : Type 0 where
   pub each : (r : ℕ) → r < length programs
       → IsHistory (slice_index_or programs r []) n (slice_index_or histories r no_history)
 
--- from a block on, the first so many blocks of each reading are those of the first reading
+-- For each reading, the blocks from its block in `from` to before block `blocks` equal those of the first reading.
 pub record AreFollowed (readings : Readings) (blocks : ℕ) (from : List ℕ) : Type 0 where
   pub each : (r : ℕ) → r < readings.count
       → AreSameFrom (program_in readings 0) (program_in readings r) blocks (slice_index_or from r 0)
 
--- a row has what each reading gives for word n by itself
+-- A row has the candidate of each reading at word n, regardless of the other readings.
 pub record IsRow (programs : List (List ℕ)) (n : ℕ) (row : List Candidate) : Type 0 where
   pub each : (r : ℕ) → r < length programs → candidate_of_reading row r ≡ given_at programs r n

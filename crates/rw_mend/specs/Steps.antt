@@ -1,4 +1,4 @@
--- What is done after the first words of some readings.
+-- The state after the first words of some readings were mended.
 use Rattle.std.specs.Prelude.{◌≡◌, ℕ, ◌*◌, ◌<◌, ◌≤◌, List, [], ◌++◌, length, map, drop, slice_index_or, Option, None}
 use Rattle.raw_subcode.specs.Sizes.{symbols_a_slot}
 use Rattle.rw_mend.specs.Choice.{IsMending}
@@ -13,7 +13,7 @@ use Rattle.rw_mend.specs.declared.readings.Readings.{Readings}
 use Rattle.rw_mend.specs.declared.streams.MendCounts.{MendCounts}
 use Rattle.rw_mend.specs.declared.candidates.Candidate.{Candidate}
 
--- The first n of so many words are mended, and their packs are written; their candidates and findings have this property.
+-- The first n of `words` words are mended, and their packs are written. `has` is true for their candidates and results.
 pub record IsMendedTo (readings : Readings) (words n : ℕ) (before packs : List ℕ)
     (has : List (List Candidate) → List (Option Mended) → Type 0) : Type 0 where
   pub said : List (List Candidate)
@@ -26,18 +26,18 @@ pub record IsMendedTo (readings : Readings) (words n : ℕ) (before packs : List
   pub text : packs ≡ mended_text found ++ drop (symbols_a_slot * n) before
   pub has_it : has said found
 
--- the words are counted by their ways
+-- The words are counted by the way in which they are mended.
 abbrev pub AreCounted : MendCounts → List (List Candidate) → List (Option Mended) → Type 0
 AreCounted counts said found = AreCounts (ways_of said found) counts
 
--- The counts of the words, and the bytes that name their sources, if there is room for all words.
+-- The tallies count the words, and `sources` has the bytes that name their sources if there is room for all words.
 pub record AreTold (before : List ℕ) (words : ℕ) (sources : List ℕ) (tallies : Tallies)
     (said : List (List Candidate)) (found : List (Option Mended)) : Type 0 where
   pub tallies_are : AreTallies found tallies
   pub size : length sources ≡ length before
   pub put : words ≤ length before → sources ≡ map source_byte found ++ drop (length found) before
 
--- the same, and how many words of each reading are lost
+-- The words are counted as in `AreTold`, and `lost` counts the lost words of each reading.
 abbrev pub AreReported : List ℕ → ℕ → List ℕ → Tallies → List ℕ → List (List Candidate) → List (Option Mended)
     → Type 0
 AreReported before words sources tallies lost said found =

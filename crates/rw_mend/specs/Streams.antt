@@ -14,7 +14,7 @@ use Rattle.rw_mend.specs.declared.candidates.Candidate.{Candidate}
 use Rattle.rw_mend.specs.declared.ways.Way.{Way}
 use Rattle.rw_mend.specs.declared.ways.Way.TheVariants.{Both, First, Second, Together}
 
--- what the readings say at each word of some programs, and what is found for it
+-- These are the candidates of the readings at each word of some programs, and the result for each word.
 pub record AreMended (words : ℕ) (programs : List (List ℕ)) (said : List (List Candidate))
     (found : List (Option Mended)) : Type 0 where
   pub said_count : length said ≡ words
@@ -22,22 +22,22 @@ pub record AreMended (words : ℕ) (programs : List (List ℕ)) (said : List (Li
   pub candidates : (n : ℕ) → n < words → AreCandidates words programs n (slice_index_or said n [])
   pub each : (n : ℕ) → n < words → IsMending (slice_index_or said n []) (slice_index_or found n None)
 
--- the symbols of a mended codeword, or zeros where there is none
+-- the symbols of a mended codeword, or zeros if there is none
 abbrev pub mended_bytes : Option Mended → List ℕ
 mended_bytes (Some mended) = mended.pack
 mended_bytes None = idle_pack
 
--- the text of what is found, 24 bytes for each word
+-- the text of the results, 24 bytes for each word
 abbrev pub mended_text : List (Option Mended) → List ℕ
 mended_text found = flat_map mended_bytes found
 
--- a text has room for the words of so many blocks
+-- A text has room for the words of this number of blocks.
 abbrev pub HasWordRoom : ℕ → List ℕ → Type 0
 HasWordRoom blocks text = symbols_a_slot * whole_packs blocks ≤ length text
 
 -- ---- Two readings.
 
--- the way in which a codeword of two readings is mended: both candidates are it, or one alone, or both agree on it
+-- the way in which a word of two readings is mended: both candidates are the codeword, or only one is, or both agree on it
 abbrev pub way_by : WordSource → List Candidate → List ℕ → Way
 way_by (Reading r) candidates codeword = if votes candidates codeword == 2 then Both
     else (if r == 0 then First else Second)
@@ -52,7 +52,7 @@ abbrev pub ways_of : List (List Candidate) → List (Option Mended) → List (Op
 ways_of (candidates ∷ said) (found ∷ rest) = way_of candidates found ∷ ways_of said rest
 ways_of said found = []
 
--- whether a word is mended in this way
+-- whether two ways are the same
 abbrev pub is_way : Way → Way → Bool
 is_way Both Both = true
 is_way First First = true
@@ -64,7 +64,7 @@ abbrev pub is_mended_by : Way → Option Way → Bool
 is_mended_by way (Some own) = is_way way own
 is_mended_by way None = false
 
--- how many words are mended in each way, and how many are not
+-- The counts say how many words are mended in each way, and how many are not mended.
 pub record AreCounts (ways : List (Option Way)) (counts : MendCounts) : Type 0 where
   pub both : counts.both ≡ count_by (is_mended_by Both) ways
   pub of_first : counts.of_first ≡ count_by (is_mended_by First) ways
@@ -72,7 +72,7 @@ pub record AreCounts (ways : List (Option Way)) (counts : MendCounts) : Type 0 w
   pub agreed : counts.agreed ≡ count_by (is_mended_by Together) ways
   pub none : counts.none ≡ count_by is_none ways
 
--- The words of both readings are mended, and their text stands at the front of a buffer; what is behind it stays.
+-- The words of both readings are mended, and their text is at the front of a buffer. The bytes behind it are unchanged.
 pub record IsMendedInto (lead_in : ℕ) (first second old new : List ℕ) (counts : MendCounts) : Type 0 where
   pub said : List (List Candidate)
   pub found : List (Option Mended)

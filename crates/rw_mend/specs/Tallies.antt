@@ -5,11 +5,11 @@ use Rattle.rw_mend.specs.declared.choice.WordSource.{WordSource}
 use Rattle.rw_mend.specs.declared.choice.WordSource.TheVariants.{Reading, Agreed}
 use Rattle.rw_mend.specs.declared.tallies.Tallies.{Tallies}
 
--- the byte in place of a source where there is no codeword
+-- the byte for a word without a codeword
 abbrev pub no_source : ℕ
 no_source = 255
 
--- the byte that names where a codeword comes from: the number of a reading, 254 where two agree, 255 where there is none
+-- the byte that names the source of a codeword: the number of a reading, or 254 if two readings agree
 abbrev pub source_number : WordSource → ℕ
 source_number (Reading r) = r
 source_number Agreed = 254
@@ -18,12 +18,13 @@ abbrev pub source_byte : Option Mended → ℕ
 source_byte (Some mended) = source_number mended.source
 source_byte None = no_source
 
--- a source that can be counted
+-- The source can be counted.
 abbrev pub HasSource : WordSource → Type 0
 HasSource (Reading r) = r < 254
 HasSource Agreed = ⊤
 
--- How many words have the codeword of each reading, or one on which two agree, and how many have none.
+-- The tallies count the words whose codeword is from each reading, those on which two readings agree, and those without
+-- one.
 pub record AreTallies (found : List (Option Mended)) (tallies : Tallies) : Type 0 where
   pub of_reading : (r : ℕ) → r < 254
       → slice_index_or tallies.of_reading r 0 ≡ count_by (λ f. source_byte f == r) found

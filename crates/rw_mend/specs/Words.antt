@@ -14,15 +14,15 @@ use Rattle.rw_mend.specs.declared.candidates.Candidate.{Candidate}
 abbrev pub program_of : ℕ → List ℕ → List ℕ
 program_of lead_in bytes = drop (block_bytes * lead_in) bytes
 
--- a block of the program
+-- block b of a program
 abbrev pub block_at : List ℕ → ℕ → List ℕ
 block_at program b = slice_range program (block_bytes * b) (block_bytes * b + block_bytes)
 
--- a program of so many bytes has all blocks under word n
+-- A program of `size` bytes has all blocks under word n.
 abbrev pub HoldsWord : ℕ → ℕ → Type 0
 HoldsWord n size = block_bytes * ((n + 7) / 4) + block_bytes ≤ size
 
--- whether a block is without symbols: all are 0
+-- whether all symbols of a block are 0
 abbrev pub is_blank_block : List ℕ → Bool
 is_blank_block block = list_all (λ symbol. symbol == 0) (symbols_of block)
 
@@ -30,7 +30,7 @@ is_blank_block block = list_all (λ symbol. symbol == 0) (symbols_of block)
 abbrev pub is_unread_block : List ℕ → Bool
 is_unread_block block = list_all (λ byte. byte == 0) block
 
--- the blocks in which the symbols of word n stand, which are those of eight slots
+-- the blocks under word n: those of the eight slots that have its symbols
 abbrev pub blocks_under : List ℕ → ℕ → List (List ℕ)
 blocks_under program n = map (block_at program) (range_with_len (n / 4) ((n + 7) / 4 - n / 4 + 1))
 
@@ -46,6 +46,6 @@ reading_at program n = record {
   coverage = coverage_of (blocks_under program n);
 }
 
--- what reading r of some programs gives for word n by itself
+-- the candidate of reading r of some programs at word n, regardless of the other readings
 abbrev pub given_at : List (List ℕ) → ℕ → ℕ → Candidate
 given_at programs r n = candidate_of (reading_at (slice_index_or programs r []) n)

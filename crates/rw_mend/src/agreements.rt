@@ -10,18 +10,19 @@ use crate::choice::is_same;
 use rw_code::{Pack, Word};
 use rw_merge::agree;
 
-// The codewords on which some pairs agree.
+// What is known after some pairs of readings about the codewords on which they agree.
 #[derive(Clone, Copy)]
 pub(crate) enum Agreements {
-    // None.
+    // No pair agrees on a codeword.
     Nothing,
-    // One.
+    // All pairs that agree have this codeword.
     Alone { pack: Pack },
-    // More than one.
+    // Some pairs agree on different codewords.
     Several,
 }
 
-/// The codeword on which two of the readings agree that are near none, where all that agree agree on the same.
+/// The codeword on which readings agree that have no near codeword. `None` if no two agree, or if pairs agree
+/// on different codewords.
 pub(crate) fn agreed(candidates: &[Candidate]) -> Option<Pack>
     ensures { MatchOption result
         ((codeword : List ℕ) → ¬ IsAgreedAlone candidates.now codeword)
@@ -40,7 +41,7 @@ pub(crate) fn agreed(candidates: &[Candidate]) -> Option<Pack>
 }
 
 impl Agreements {
-    // Looks at one pair more.
+    // Examines one more pair, readings `i` and `j`.
     fn add(&mut self, candidates: &[Candidate], i: usize, j: usize)
         requires before { i < j }
         requires within { j < length candidates.now }
@@ -52,7 +53,7 @@ impl Agreements {
         }
     }
 
-    // With the codeword on which one pair more agrees.
+    // These agreements, with the codeword of one more pair.
     fn and(&self, pack: &Pack) -> Agreements
         ensures { (candidates : List Candidate) (i j : ℕ) → IsPairAgreed candidates i j pack.now
             → ((another : List ℕ) → IsPairAgreed candidates i j another → another ≡ pack.now)
@@ -72,7 +73,7 @@ impl Agreements {
     }
 }
 
-// The codeword on which two words agree that were read and are near none.
+// The codeword on which two readings agree. Both must have been read, and no codeword may be near either.
 fn of_pair(one: &Candidate, other: &Candidate) -> Option<Pack>
     ensures { MatchOption result
         ((codeword : List ℕ) → ¬ AreAgreed one.now other.now codeword)

@@ -1,4 +1,4 @@
-// What a reading of a word gives.
+// The candidate of a reading at a word.
 ghost use Rattle.std.specs.Prelude.{◌≡◌, ◌==◌, List, ℕ, slice_index_or};
 ghost use Rattle.std.specs.List.{list_any};
 ghost use Rattle.rw_code.specs.Codeword.{IsWord, differences};
@@ -13,11 +13,11 @@ use rw_merge::differing;
 /// How much of a word a drive has read.
 #[derive(Clone, Copy, Debug, PartialEq, Eq)]
 pub enum Coverage {
-    /// Each block under it.
+    /// Every block under the word.
     Whole,
-    /// Some of its blocks, but not all.
+    /// Some blocks under the word, but not all.
     Partly,
-    /// None of them.
+    /// No block under the word.
     Unread,
 }
 
@@ -26,36 +26,37 @@ pub enum Coverage {
 pub struct WordReading {
     /// The symbols as they were read.
     pub word: Word,
-    /// How much of it was read.
+    /// How much of the word was read.
     pub coverage: Coverage,
 }
 
-/// What a reading of a word gives.
+/// The candidate of a reading at a word: the codeword that is near the word, if there is one.
 #[derive(Clone, Copy)]
 pub enum Candidate {
-    /// Nothing: it was not read, or its idle pack does not count.
+    /// No candidate: the word was not read, or its codeword does not count.
     Silent,
-    /// It was read, and no codeword is near it.
+    /// The word was read, and no codeword is near it.
     Lost {
         /// The symbols as they were read.
         word: Word,
     },
-    /// A codeword is near it.
+    /// A codeword is near the word.
     Near {
         /// The codeword.
         pack: Pack,
-        /// In how many symbols the word differs from it.
+        /// The distance: the number of symbols in which the word differs from the codeword. The idle pack has
+        /// the distance 3 if the word was read partly.
         doubts: u8,
     },
 }
 
-/// The most wrong symbols of a word that is near a codeword.
+/// The maximum number of wrong symbols in a word that is near a codeword.
 pub(crate) const MOST_WRONG: u8 = 2;
 
-// More than for any other codeword near a word.
+// The distance of the idle pack if some block is unread. No other near codeword has so great a distance.
 const IDLE_DOUBTS: u8 = 3;
 
-/// What a reading of a word gives by itself.
+/// The candidate of a reading at a word, regardless of the other readings.
 pub fn decode(reading: &WordReading) -> Candidate
     ensures { result ≡ candidate_of reading.now }
 {
@@ -71,7 +72,7 @@ pub fn decode(reading: &WordReading) -> Candidate
     }
 }
 
-/// The same, beside what another reading gives, which is most often the same codeword: that one is tried first.
+/// Computes `decode`, but tries the codeword of another reading first, which is usually the same.
 #[inline]
 pub(crate) fn decode_likely(other: &Candidate, reading: &WordReading) -> Candidate
     ensures { result ≡ candidate_of reading.now }
@@ -88,7 +89,7 @@ pub(crate) fn decode_likely(other: &Candidate, reading: &WordReading) -> Candida
     }
 }
 
-// The codeword that a candidate is, where a word is near it.
+// The codeword of a candidate, if the word is near it.
 #[inline]
 fn near(candidate: &Candidate, word: &Word) -> Option<Fixed>
     ensures near { GivesNear word.now result }
@@ -102,7 +103,7 @@ fn near(candidate: &Candidate, word: &Word) -> Option<Fixed>
     }
 }
 
-// A codeword, where a word is near it.
+// This codeword, if the word is near it.
 #[inline]
 fn near_pack(pack: &Pack, word: &Word) -> Option<Fixed>
     ensures { GivesNear word.now result }
@@ -114,7 +115,7 @@ fn near_pack(pack: &Pack, word: &Word) -> Option<Fixed>
     Some(Fixed { pack: *pack, wrong })
 }
 
-/// What a reading gives by itself of a word without symbols.
+/// The candidate of a reading at a word whose symbols are all 0.
 #[inline]
 pub(crate) fn decode_blank(coverage: Coverage) -> Candidate
     ensures { (reading : WordReading) → reading.coverage ≡ coverage → reading.word ≡ idle_pack
@@ -133,7 +134,7 @@ pub(crate) fn decode_blank(coverage: Coverage) -> Candidate
     }
 }
 
-// The distance of a codeword: in how many symbols the word differs from it.
+// The distance of a codeword: the number of wrong symbols, or 3 for the idle pack if some block is unread.
 fn doubts(coverage: Coverage, fixed: &Fixed) -> u8
     ensures { (word : List ℕ) → fixed.now.wrong ≡ differences word fixed.now.pack
         → result ≡ doubts_of coverage word fixed.now.pack }
@@ -152,7 +153,7 @@ fn is_idle_pack(pack: &Pack) -> bool
 }
 
 impl Candidate {
-    /// Whether it is near the idle pack.
+    /// Whether the candidate is the idle pack.
     pub(crate) fn is_idle(&self) -> bool
         ensures { result ≡ is_idle_candidate self.now }
     {
@@ -162,7 +163,7 @@ impl Candidate {
         }
     }
 
-    /// Whether it is near the idle pack, or nothing was read.
+    /// Whether the candidate is the idle pack, or nothing was read.
     pub(crate) fn is_quiet(&self) -> bool
         ensures { result ≡ is_quiet_candidate self.now }
     {
@@ -172,7 +173,7 @@ impl Candidate {
         }
     }
 
-    /// Whether it shows that the word is not idle.
+    /// Whether the candidate shows that the word is not idle.
     pub(crate) fn is_graphics(&self) -> bool
         ensures { result ≡ is_graphics_candidate self.now }
     {
@@ -184,7 +185,8 @@ impl Candidate {
         }
     }
 
-    /// Whether it is a codeword of a mode and item that no disc carries, and some symbol is wrong.
+    /// Whether the candidate is a doubtful codeword: not the idle pack, of a mode and item that no disc
+    /// carries, and with a wrong symbol.
     pub(crate) fn is_doubtful(&self) -> bool
         ensures { result ≡ is_doubtful_candidate self.now }
     {

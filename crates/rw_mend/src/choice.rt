@@ -1,4 +1,4 @@
-// The codeword that the readings of a word give together.
+// The mended codeword of a word, chosen from the candidates of its readings.
 ghost use Rattle.std.specs.Prelude.{◌≡◌, ◌≢◌, ◌==◌, ◌≤◌, ◌<◌, true, false, ℕ, length, MatchOption};
 ghost use Rattle.std.specs.List.{list_any};
 ghost use Rattle.rw_code.specs.Codeword.{differences};
@@ -9,12 +9,12 @@ use crate::Candidate;
 use crate::agreements::agreed;
 use rw_code::Pack;
 
-/// Where a mended codeword comes from.
+/// The source of a mended codeword.
 #[derive(Clone, Copy)]
 pub enum WordSource {
-    /// The reading with this number gives it.
+    /// The codeword is that of the reading with this number.
     Reading(u8),
-    /// Two readings agree on it.
+    /// Two readings agree on the codeword.
     Agreed,
 }
 
@@ -23,16 +23,16 @@ pub enum WordSource {
 pub struct Mended {
     /// The codeword.
     pub pack: Pack,
-    /// Where it comes from.
+    /// The source of the codeword.
     pub source: WordSource,
 }
 
-/// The most readings that are mended at once.
+/// The maximum number of readings in one call.
 pub const MOST_READINGS: usize = 254;
 
-/// The codeword that the readings of a word give together: the one with the fewest symbols against it; of several with
-/// as few the one that most readings give; or, where none gives one, the one on which two readings agree. `None` exactly
-/// where there is none.
+/// The mended codeword of a word: the codeword with the smallest distance, and among several the one that
+/// most readings have. If no reading has a codeword, it is the codeword on which two readings agree. `None`
+/// if there is no such codeword.
 #[inline(always)]
 pub fn mend(candidates: &[Candidate]) -> Option<Mended>
     requires { length candidates.now ≤ 254 }
@@ -65,7 +65,8 @@ fn of_reading(candidates: &[Candidate], r: usize) -> Option<Mended>
     }
 }
 
-// The codeword on which two readings agree. It is a function of its own so that other words do not pay for its variables.
+// The mended codeword on which two readings agree. It is a separate function so that other words do not pay
+// for its variables.
 #[inline(never)]
 fn of_two(candidates: &[Candidate]) -> Option<Mended>
     requires none { list_any is_near candidates.now ≡ false }
@@ -111,7 +112,7 @@ fn stands_beside_all(candidates: &[Candidate], pack: &Pack, doubts: u8) -> bool
         .all(|candidate| stands(candidates, pack, doubts, candidate))
 }
 
-// Whether a codeword stands beside a candidate.
+// Whether a codeword is at least as good as another candidate.
 fn stands(candidates: &[Candidate], pack: &Pack, doubts: u8, candidate: &Candidate) -> bool
     ensures { result ≡ stands candidates.now pack.now doubts candidate.now }
 {
@@ -128,7 +129,7 @@ fn stands(candidates: &[Candidate], pack: &Pack, doubts: u8, candidate: &Candida
     }
 }
 
-/// How many candidates are a codeword.
+/// The number of candidates that are this codeword.
 #[inline(always)]
 pub(crate) fn votes(candidates: &[Candidate], pack: &Pack) -> usize
     ensures { result ≡ votes candidates.now pack.now }
@@ -139,7 +140,7 @@ pub(crate) fn votes(candidates: &[Candidate], pack: &Pack) -> usize
         .count()
 }
 
-// Whether a candidate is a codeword.
+// Whether a candidate is this codeword.
 fn is_of(pack: &Pack, candidate: &Candidate) -> bool
     ensures { result ≡ is_of pack.now candidate.now }
 {

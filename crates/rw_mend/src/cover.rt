@@ -1,4 +1,4 @@
-// Which blocks under a word were not read.
+// The coverage of words: which blocks under a word were not read.
 ghost use Rattle.std.specs.Prelude.{true, ◌≡◌, ◌≢◌, ◌==◌, ◌≤◌, ◌<◌, ◌+◌, ◌-◌, ◌*◌, ◌/◌, ◌%◌, ◌^◌, List, ℕ, length, if◌then◌else◌};
 ghost use Rattle.std.specs.List.{list_all};
 ghost use Rattle.rw_mend.specs.Words.{HoldsWord, block_at, blocks_under, coverage_of, is_blank_block, is_unread_block};
@@ -8,8 +8,8 @@ ghost use Rattle.raw_subcode.specs.Sizes.{block_bytes};
 use crate::Coverage;
 use raw_subcode::BLOCK_BYTES;
 
-/// Whether the blocks under a word are unread, and whether they are without symbols: two of them, or three where the word
-/// does not begin with its block.
+/// Whether each block under a word is unread, and whether all its symbols are 0. A word has two blocks under
+/// it, or three if it does not begin with its block.
 #[derive(Clone, Copy)]
 pub(crate) struct BlockHistory {
     first: bool,
@@ -21,7 +21,7 @@ pub(crate) struct BlockHistory {
 }
 
 impl BlockHistory {
-    /// Nothing is known yet.
+    /// A history before the first word.
     pub(crate) fn new() -> BlockHistory {
         BlockHistory {
             first: false,
@@ -33,7 +33,7 @@ impl BlockHistory {
         }
     }
 
-    /// Of word n of a program.
+    /// The history at word `n` of a program.
     pub(crate) fn at(program: &[u8], n: usize) -> BlockHistory
         requires { HoldsWord n (length program.now) }
         ensures { IsHistory program.now n result }
@@ -54,7 +54,7 @@ impl BlockHistory {
         history
     }
 
-    /// Comes to word n of a program from the word before it.
+    /// Advances to word `n` of a program from the word before it.
     pub(crate) fn advance(&mut self, program: &[u8], n: usize)
         requires before { 0 < n → IsHistory program.now (n - 1) self.old }
         requires within { HoldsWord n (length program.now) }
@@ -76,7 +76,7 @@ impl BlockHistory {
         }
     }
 
-    /// Whether no block under word n has a symbol.
+    /// Whether all symbols in the blocks under word `n` are 0.
     #[inline]
     pub(crate) fn is_blank(&self, n: usize) -> bool
         ensures { result ≡ true → (self.now.first_blank ≡ true) × (self.now.second_blank ≡ true)
@@ -104,7 +104,7 @@ impl BlockHistory {
     }
 }
 
-// How much was read where all blocks, or any, are unread.
+// The coverage of a word. `all` and `any` say whether all its blocks are unread, and whether any is.
 fn covered(all: bool, any: bool) -> Coverage
     ensures { result ≡ (if all then Coverage.Unread else (if any then Coverage.Partly else Coverage.Whole)) }
 {
@@ -117,7 +117,7 @@ fn covered(all: bool, any: bool) -> Coverage
     }
 }
 
-// Whether a block of a program is without symbols.
+// Whether all symbols of block `b` of a program are 0.
 #[inline]
 fn is_blank_at(program: &[u8], b: usize) -> bool
     requires { block_bytes * b + block_bytes ≤ length program.now }
@@ -127,7 +127,7 @@ fn is_blank_at(program: &[u8], b: usize) -> bool
     is_blank(&program[at..at + BLOCK_BYTES])
 }
 
-// Whether a block is without symbols.
+// Whether all symbols of a block are 0.
 #[inline]
 fn is_blank(block: &[u8]) -> bool
     ensures { result ≡ is_blank_block block.now }
@@ -163,7 +163,7 @@ fn is_unread(block: &[u8]) -> bool
     most == 0
 }
 
-// Whether all symbols of a block are 0: all are looked at, which is faster than to stop at the first.
+// Whether all symbols of a block are 0. A loop over all symbols is faster than one that stops early.
 fn has_no_symbol(block: &[u8]) -> bool
     ensures { result ≡ list_all (λ byte. byte % 64 == 0) block.now }
 {

@@ -154,10 +154,10 @@ pub fn a_reading_that_counts_alone_is_converted()
         → new ≡ cdg_bytes found ++ drop (length (cdg_bytes found)) old }
 {}
 
-/// A law: the order of the readings decides only which reading is named as the source, where several have the same
-/// codeword at the same distance. In any order, the calls write the same packs. The numbers of agreed words and of words
-/// without a codeword are the same, and so is the number of codewords of each reading that do not count. If two readings
-/// are exchanged, the numbers of words that only one of them has are exchanged.
+/// A law: the order of the readings decides only which reading is named as the source, if several have the
+/// same codeword at the same distance. In any order, the calls write the same packs. The numbers of agreed
+/// words and of words without a codeword are the same, and so is the number of codewords of each reading that
+/// do not count. If two readings are exchanged, the numbers of words that only one of them has are exchanged.
 pub fn the_order_of_readings_changes_names_alone()
     ensures words { (words : ℕ) (programs others : List (List ℕ)) (said saying : List (List Candidate))
         (found other : List (Option Mended)) → IsPermutation programs others

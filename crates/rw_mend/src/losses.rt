@@ -7,7 +7,7 @@ use crate::choice::is_same;
 use crate::{Candidate, Mended};
 use rw_code::Pack;
 
-/// Counts a lost word of each reading that has one.
+/// Adds one to the count of each reading whose candidate is lost.
 pub(crate) fn count_lost(candidates: &[Candidate], found: &Option<Mended>, lost: &mut [u32])
     requires room { length candidates.now ≤ length lost.old }
     requires few { (r : ℕ) → r < length candidates.now → slice_index_or lost.old r 0 < 4000000 }
@@ -25,7 +25,7 @@ pub(crate) fn count_lost(candidates: &[Candidate], found: &Option<Mended>, lost:
     }
 }
 
-// Whether a candidate is a codeword with no wrong symbol that was not found.
+// Whether a candidate is lost: it is a codeword with no wrong symbol, and not the mended codeword.
 #[inline]
 fn is_lost(found: &Option<Mended>, candidate: &Candidate) -> bool
     ensures { result ≡ is_lost found.now candidate.now }

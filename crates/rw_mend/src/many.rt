@@ -23,13 +23,14 @@ use raw_subcode::BLOCK_BYTES;
 pub struct MendReport {
     /// The number of words mended in each way, and of codewords that do not count.
     pub tallies: Tallies,
-    /// Error-free words of each reading that are not in the output.
+    /// The number of error-free words of each reading that are not in the output.
     pub lost: [u32; MOST_READINGS],
 }
 
-/// Mends readings of a raw stream, 1 to 254 of equal length that lie one behind another, word by word: writes 24 bytes
-/// for each word of the program, which are the blocks after the lead-in, to the front of a buffer: the symbols of its
-/// codeword, or zeros where there is none; and, where there is room for any, a byte for each word that names its source.
+/// Mends readings of a raw stream, word by word: 1 to 254 readings of equal length that lie one behind
+/// another. For each word of the program (the blocks after the lead-in) it writes 24 bytes to the front of
+/// `packs`: the symbols of the codeword, or zeros if there is none. If `sources` has room, it also writes the
+/// source of each word, one byte.
 pub fn mend_readings(
     readings: &[u8],
     count: usize,
@@ -48,7 +49,7 @@ pub fn mend_readings(
     mend_report(readings, count, lead_in, packs, sources).tallies
 }
 
-/// The same, with a report of the words that are lost.
+/// Mends readings like `mend_readings`, and also counts the lost words of each reading.
 pub fn mend_report(
     readings: &[u8],
     count: usize,
@@ -76,7 +77,7 @@ pub fn mend_report(
     )
 }
 
-// The same for a first reading in a slice of its own.
+// Mends readings like `mend_report`; the first reading has a slice of its own.
 fn mend_split(
     first: &[u8],
     others: &[u8],
@@ -105,7 +106,7 @@ fn mend_split(
     mend_all(&all, packs, sources)
 }
 
-// The same of readings in a struct.
+// Mends readings like `mend_report`; the readings are in a struct.
 fn mend_all(readings: &Readings, packs: &mut [u8], sources: &mut [u8]) -> MendReport
     requires readings { AreHeldReadings readings.now }
     requires few { size_in readings.now ≤ block_bytes * most_units }

@@ -1,4 +1,4 @@
-// The words of some readings in turn.
+// The state while some readings are mended word by word.
 ghost use Rattle.std.specs.Prelude.{◌≡◌, ◌<◌, ◌≤◌, ◌+◌, ◌-◌, ◌*◌, ◌/◌, if◌then◌else◌, ℕ, length, take, slice_index_or};
 ghost use Rattle.std.specs.List.{list_any};
 ghost use Rattle.raw_subcode.specs.Sizes.{block_bytes, most_units};
@@ -19,28 +19,29 @@ use crate::silences::{Silence, advance_all};
 use raw_subcode::{BLOCK_BYTES, SLOTS_A_BLOCK};
 use rw_interleave::PACKS_KEPT_BACK;
 
-// The blocks under the first word.
+// The number of blocks under the first word.
 const BLOCKS_OF_FIRST: usize = 2;
 
-/// Comes to the words of some readings in turn.
+/// Advances through the words of some readings, and finds the candidates at each word.
 #[derive(Drop)]
 pub(crate) struct Mender {
     words: usize,
     histories: [BlockHistory; MOST_READINGS],
-    // For each reading, a block from which on all that were come to are those of the first reading.
+    // For each reading, the number of a block. From it on, all blocks so far equal those of the first
+    // reading.
     same_from: [usize; MOST_READINGS],
-    // What the readings give for the word by themselves.
+    // The candidates of the readings at the word, each regardless of the other readings.
     given: GivenRow,
     silences: [Silence; MOST_READINGS],
-    // From the word that follows up to this one no reading gives graphics.
+    // The number of a word. No reading has graphics from the next word to before this word.
     calm: usize,
     said: [Candidate; MOST_READINGS],
-    // At how many words the codeword of a reading does not count.
+    // For each reading, the number of words so far at which its codeword does not count.
     dropped: [u32; MOST_READINGS],
 }
 
 impl Mender {
-    /// Before the first word.
+    /// A mender before the first word.
     pub(crate) fn new(readings: &Readings) -> Mender
         requires readings { AreHeldReadings readings.now }
         requires few { size_in readings.now ≤ block_bytes * most_units }
@@ -65,8 +66,8 @@ impl Mender {
         self.words
     }
 
-    /// Comes to word n from the word before it. It stands in line in the loops over all words, whose counts of readings
-    /// it then knows.
+    /// Advances to word `n` from the word before it. It is inlined into the loops over all words, so that the
+    /// compiler knows their number of readings.
     #[inline(always)]
     pub(crate) fn come_to(&mut self, readings: &Readings, n: usize)
         requires within { n < self.old.words }
@@ -104,7 +105,7 @@ impl Mender {
         &self.said[..count]
     }
 
-    /// At how many words so far the codeword of each reading does not count.
+    /// For each reading, the number of words so far at which its codeword does not count.
     pub(crate) fn dropped(&self) -> [u32; MOST_READINGS]
         ensures { result ≡ self.now.dropped }
     {

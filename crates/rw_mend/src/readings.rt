@@ -1,4 +1,4 @@
-// Readings of one stream in memory, and from which block on one is the same as the first.
+// Readings of one stream in memory, and the blocks in which a reading equals the first.
 ghost use Rattle.std.specs.Prelude.{◌≡◌, ◌<◌, length, true, ◌≤◌, ◌+◌, ◌*◌, ◌/◌};
 ghost use Rattle.rw_mend.specs.Readings.{AreHeldReadings, program_in, size_in};
 ghost use Rattle.rw_mend.specs.Histories.{AreSameFrom};
@@ -12,9 +12,9 @@ use raw_subcode::{BLOCK_BYTES, SLOTS_A_BLOCK};
 pub(crate) struct Readings<'a> {
     pub(crate) first: &'a [u8],
     pub(crate) others: &'a [u8],
-    /// How many they are together.
+    /// The number of readings, including the first.
     pub(crate) count: usize,
-    /// How many bytes of each belong to the lead-in.
+    /// The number of lead-in bytes in each reading.
     pub(crate) start: usize,
 }
 
@@ -34,8 +34,8 @@ impl<'a> Readings<'a> {
     }
 }
 
-/// Comes to word n from the word before it, with a block from which on all blocks of a program up to the last one under
-/// the word are those of the first.
+/// Advances to word `n` from the word before it. From block `same_from` to the last block under the word, all
+/// blocks of a program equal those of the first reading.
 #[inline]
 #[tactic(auto, using(crate::proofs::Alike::followed_on, crate::proofs::Alike::followed_anew))]
 pub(crate) fn follow(first: &[u8], program: &[u8], n: usize, same_from: &mut usize)
@@ -52,7 +52,7 @@ pub(crate) fn follow(first: &[u8], program: &[u8], n: usize, same_from: &mut usi
     }
 }
 
-// Whether a block of a program is that of the first.
+// Whether block `b` of a program equals that of the first reading.
 #[inline]
 fn is_same_at(first: &[u8], program: &[u8], b: usize) -> bool
     requires first { block_bytes * b + block_bytes ≤ length first.now }
@@ -63,7 +63,7 @@ fn is_same_at(first: &[u8], program: &[u8], b: usize) -> bool
     are_same(&first[at..at + BLOCK_BYTES], &program[at..at + BLOCK_BYTES])
 }
 
-// Whether all bytes of two blocks are the same: all are looked at, which is faster than to stop at the first.
+// Whether two blocks are equal. A loop over all bytes is faster than one that stops early.
 #[inline]
 fn are_same(one: &[u8], other: &[u8]) -> bool
     requires one { length one.now ≡ block_bytes }

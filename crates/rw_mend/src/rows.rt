@@ -1,4 +1,4 @@
-// The words of some readings in turn.
+// The candidates of all readings at one word.
 ghost use Rattle.std.specs.Prelude.{◌≡◌, ◌<◌, ◌≤◌, ◌+◌, ◌-◌, ◌*◌, ◌/◌, ℕ, length, slice_index, slice_index_or, take, if◌then◌else◌};
 ghost use Rattle.raw_subcode.specs.Channels.{symbols_of};
 ghost use Rattle.raw_subcode.specs.Sizes.{symbols_a_slot};
@@ -23,21 +23,21 @@ use raw_subcode::SLOTS_A_BLOCK;
 use rw_code::{SYMBOLS, Word};
 use rw_interleave::place;
 
-/// What each reading gives for a word.
+/// The candidate of each reading at a word, regardless of the other readings.
 #[derive(Clone, Copy)]
 pub(crate) struct GivenRow {
     candidates: [Candidate; MOST_READINGS],
 }
 
 impl GivenRow {
-    /// Of no word yet.
+    /// A row before the first word.
     pub(crate) fn new() -> GivenRow {
         GivenRow {
             candidates: [Candidate::Silent; MOST_READINGS],
         }
     }
 
-    /// Those of the first readings.
+    /// The candidates of the first `count` readings.
     pub(crate) fn candidates(&self, count: usize) -> &[Candidate]
         requires { count ≤ 254 }
         ensures candidates { result.now ≡ take count self.now.candidates }
@@ -47,7 +47,7 @@ impl GivenRow {
     }
 }
 
-/// Decodes what each reading gives for word n, to which the histories come from the word before.
+/// Decodes the candidate of each reading at word `n`, and advances the histories to this word.
 pub(crate) fn decode_all(
     readings: &Readings,
     n: usize,
@@ -81,7 +81,7 @@ pub(crate) fn decode_all(
     decode_others(readings, n, &first, histories, same_from, row);
 }
 
-// What the first reading gives for a word.
+// The first reading, and its candidate at a word.
 #[derive(Clone, Copy)]
 struct FirstReading<'a> {
     program: &'a [u8],
@@ -89,7 +89,7 @@ struct FirstReading<'a> {
     candidate: Candidate,
 }
 
-// The same of all readings but the first.
+// Decodes the candidates of all readings except the first.
 #[inline]
 fn decode_others(
     readings: &Readings,
@@ -133,7 +133,8 @@ fn decode_others(
     }
 }
 
-// Decodes what one reading gives beside the first: the same, where the blocks under the word are the same.
+// Decodes the candidate of one reading. If its blocks under the word equal those of the first reading, their
+// candidates are equal.
 #[inline]
 #[tactic(auto, using(crate::proofs::Alike::same_candidate, crate::proofs::Alike::same_history))]
 fn decode_beside(
@@ -163,7 +164,8 @@ fn decode_beside(
     }
 }
 
-// Decodes what one reading gives, beside what another gives. It stands in line, so that what it decodes waits in registers.
+// Decodes the candidate of one reading, and tries the codeword of another reading first. It is inlined, so
+// that its result stays in registers.
 #[inline(always)]
 fn decode_one(
     other: &Candidate,
@@ -181,7 +183,7 @@ fn decode_one(
     *candidate = decoded(other, program, n, history);
 }
 
-/// What one reading gives for word n. One without symbols, as most are, is not looked at again.
+/// The candidate of one reading at word `n`. Most blocks have no symbols other than 0, and need no decoding.
 #[inline]
 pub(crate) fn decoded(
     other: &Candidate,
@@ -199,7 +201,7 @@ pub(crate) fn decoded(
     decode_likely(other, &reading(program, n, history))
 }
 
-/// The candidate of each reading at a word, given what all readings have there.
+/// Finds the candidate of each reading at a word from what all readings have there.
 pub(crate) fn say_all(
     some_quiet: bool,
     row: &[Candidate],
@@ -238,7 +240,7 @@ fn is_left(some_quiet: bool, silence: Silence, given: &Candidate) -> bool
     silence.lacks() && given.is_idle() || some_quiet && given.is_doubtful()
 }
 
-/// Counts a word of each reading whose codeword does not count.
+/// Adds one to the count of each reading whose codeword does not count.
 pub(crate) fn count_left(
     some_quiet: bool,
     row: &[Candidate],
@@ -292,8 +294,8 @@ pub(crate) fn word_at(program: &[u8], n: usize) -> Word
     Word::new(&bytes)
 }
 
-// Picks the bytes in which they stand. It is a function of its own so that each goes where it belongs at once, and waits
-// in no register for the others.
+// Picks the bytes with the symbols of word `n`. It is a separate function, so that each byte is stored at
+// once and does not wait in a register for the others.
 #[inline(never)]
 fn pick(program: &[u8], n: usize, bytes: &mut [u8; SYMBOLS])
     requires { symbols_a_slot * (n + 8) ≤ length program.now }

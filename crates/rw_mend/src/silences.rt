@@ -23,7 +23,7 @@ pub(crate) struct Silence {
 }
 
 impl Silence {
-    /// Before the first word.
+    /// A silence before the first word.
     pub(crate) fn new() -> Silence
         ensures { (words r : ℕ) (programs : List (List ℕ)) → IsSilence words programs r 0 result }
     {
@@ -41,8 +41,8 @@ impl Silence {
         self.lacks
     }
 
-    /// Advances to word n from the word before it. A reading that stays quiet still lacks graphics, or still does not. If a
-    /// reading becomes quiet, its words are examined to the end of the quiet run.
+    /// Advances to word `n` from the word before it. While a reading stays quiet, `lacks` does not change. If
+    /// a reading becomes quiet, its words are examined to the end of the quiet run.
     #[inline]
     fn advance(
         &mut self,
@@ -78,7 +78,8 @@ impl Silence {
     }
 }
 
-/// Comes to word n from the word before it, with a word up to which no reading gives graphics.
+/// Advances the silences of all readings to word `n` from the word before it. No reading has graphics from
+/// word `n` to before word `calm`.
 pub(crate) fn advance_all(
     readings: &Readings,
     words: usize,
@@ -107,8 +108,8 @@ pub(crate) fn advance_all(
     }
 }
 
-// Whether reading r is quiet from word n to one at which it misses graphics. It is a function of its own so that words
-// at which no silence begins do not pay for its variables.
+// Whether reading `r` is quiet from word `n` to a word at which it misses graphics. It is a separate function
+// so that words at which no silence begins do not pay for its variables.
 #[inline(never)]
 fn will_miss(
     readings: &Readings,
@@ -149,7 +150,7 @@ fn will_miss(
     false
 }
 
-// Whether reading r misses graphics at word n, to which all have come.
+// Whether reading `r` misses graphics at the current word `n`.
 fn misses_here(row: &[Candidate], r: usize, n: usize, calm: &mut usize) -> bool
     requires reading { r < length row.now }
     requires number { n < 2 ^ 63 }
@@ -164,7 +165,7 @@ fn misses_here(row: &[Candidate], r: usize, n: usize, calm: &mut usize) -> bool
     row[r].is_idle()
 }
 
-// Whether reading r, which is quiet at word m, misses graphics there.
+// Whether reading `r` misses graphics at word `m`, at which it is quiet.
 #[inline]
 fn misses_at(
     readings: &Readings,
@@ -193,7 +194,7 @@ fn misses_at(
     has_graphics_at(readings, m, calm)
 }
 
-// Whether some reading gives graphics at word n, to which all have come.
+// Whether some reading has graphics at the current word `n`.
 fn has_graphics_here(row: &[Candidate], n: usize, calm: &mut usize) -> bool
     requires { n < 2 ^ 63 }
     ensures told { (programs : List (List ℕ)) → length programs ≡ length row.now → IsRow programs n row.now
@@ -214,7 +215,8 @@ fn is_any_graphics(row: &[Candidate]) -> bool
     row.iter().any(|candidate| candidate.is_graphics())
 }
 
-// Whether some reading gives graphics at word m, which lies ahead. None does up to a word that it keeps.
+// Whether some reading has graphics at a later word `m`. No reading has graphics from the current word to
+// before word `calm`.
 fn has_graphics_at(readings: &Readings, m: usize, calm: &mut usize) -> bool
     requires readings { AreHeldReadings readings.now }
     requires within { HoldsWord m (size_in readings.now) }
@@ -250,7 +252,8 @@ fn is_any_graphics_at(readings: &Readings, m: usize) -> bool
     false
 }
 
-// Whether a reading gives graphics at word m: few words of a silence have more symbols than the idle pack may be read with.
+// Whether a reading has graphics at word `m`. Few words of a silence have more than two symbols other than 0,
+// and only these are decoded.
 #[inline]
 fn is_graphics_at(program: &[u8], m: usize) -> bool
     requires { HoldsWord m (length program.now) }
@@ -267,7 +270,7 @@ fn is_graphics_at(program: &[u8], m: usize) -> bool
     .is_graphics()
 }
 
-// Whether a reading is quiet at word m: it is not decoded.
+// Whether a reading is quiet at word `m`. The number of its symbols other than 0 decides, without decoding.
 #[inline]
 fn is_quiet_at(program: &[u8], m: usize, history: &BlockHistory) -> bool
     requires within { HoldsWord m (length program.now) }

@@ -15,24 +15,25 @@ use crate::{Mended, mend};
 use raw_subcode::BLOCK_BYTES;
 use rw_code::SYMBOLS;
 
-/// How many words of two readings are mended in each way.
+/// The number of words of two readings that are mended in each way.
 #[repr(C)]
 #[derive(Clone, Copy, Debug, PartialEq, Eq)]
 pub struct MendCounts {
-    /// Words whose codeword both readings give.
+    /// Words whose codeword both readings have.
     pub both: u32,
-    /// Words whose codeword is that of the first reading alone.
+    /// Words whose codeword only the first reading has.
     pub of_first: u32,
-    /// Words whose codeword is that of the second alone.
+    /// Words whose codeword only the second reading has.
     pub of_second: u32,
-    /// Words whose codeword is the one on which both agree.
+    /// Words on whose codeword the two readings agree.
     pub agreed: u32,
     /// Words with no codeword.
     pub none: u32,
 }
 
-/// Mends two readings of a raw stream, word by word: writes 24 bytes for each word of the program, which are the blocks
-/// after the lead-in, to the front of a buffer: the symbols of its codeword, or zeros where there is none.
+/// Mends two readings of a raw stream, word by word. For each word of the program (the blocks after the
+/// lead-in) it writes 24 bytes to the front of `packs`: the symbols of the codeword, or zeros if there is
+/// none.
 pub fn mend_streams(first: &[u8], second: &[u8], lead_in: u32, packs: &mut [u8]) -> MendCounts
     requires equal { length first.now ≡ length second.now }
     requires whole { length first.now % block_bytes ≡ 0 }
@@ -49,7 +50,7 @@ pub fn mend_streams(first: &[u8], second: &[u8], lead_in: u32, packs: &mut [u8])
     mend_two(&readings, packs)
 }
 
-// The same of readings that lie one behind another.
+// Mends two readings like `mend_streams`; the readings are in a struct.
 fn mend_two(readings: &Readings, packs: &mut [u8]) -> MendCounts
     requires readings { AreHeldReadings readings.now }
     requires few { size_in readings.now ≤ block_bytes * most_units }
@@ -70,7 +71,7 @@ fn mend_two(readings: &Readings, packs: &mut [u8]) -> MendCounts
 }
 
 impl MendCounts {
-    // Of no words.
+    // The counts before the first word.
     fn zero() -> MendCounts
         ensures { AreCounts [] result }
     {
@@ -83,7 +84,7 @@ impl MendCounts {
         }
     }
 
-    // Counts one word more.
+    // Counts one more word by the way in which it is mended.
     fn add(&mut self, found: &Option<Way>)
         requires both { self.old.both < 4000000 }
         requires of_first { self.old.of_first < 4000000 }
@@ -103,7 +104,7 @@ impl MendCounts {
     }
 }
 
-/// Puts what is found for word n.
+/// Writes the symbols of the codeword of word `n` in their place, or zeros if there is none.
 pub(crate) fn put(packs: &mut [u8], n: usize, found: &Option<Mended>)
     requires { symbols_a_slot * n + symbols_a_slot ≤ length packs.old }
     ensures packs { packs.new ≡ take (symbols_a_slot * n) packs.old ++ mended_bytes found.now

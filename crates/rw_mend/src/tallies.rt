@@ -11,26 +11,26 @@ use crate::{Mended, WordSource};
 #[repr(C)]
 #[derive(Clone, Copy)]
 pub struct Tallies {
-    /// Words whose codeword is the one on which two readings agree.
+    /// Words on whose codeword two readings agree.
     pub agreed: u32,
     /// Words with no codeword.
     pub none: u32,
-    /// Zero.
+    /// Reserved, always 0.
     pub reserved: u32,
-    /// Words whose codeword is that of each reading.
+    /// For each reading, the words whose codeword is from it.
     pub of_reading: [u32; MOST_READINGS],
-    /// Words at which the codeword of each reading does not count.
+    /// For each reading, the words at which its codeword does not count.
     pub dropped: [u32; MOST_READINGS],
 }
 
-/// In place of the number of a reading: two readings agree on the codeword.
+/// The byte instead of the number of a reading if two readings agree on the codeword.
 pub const AGREED: u8 = 254;
 
-/// In place of the number of a reading: there is no codeword.
+/// The byte instead of the number of a reading if there is no codeword.
 pub const NO_READING: u8 = 255;
 
 impl Tallies {
-    /// Of no words.
+    /// The counts before the first word.
     pub(crate) fn new() -> Tallies
         ensures { AreTallies [] result }
     {
@@ -43,7 +43,7 @@ impl Tallies {
         }
     }
 
-    /// Counts one word more.
+    /// Counts one more word by its source.
     pub(crate) fn add(&mut self, found: &Option<Mended>)
         requires source { IfSome found.now (λ mended. HasSource mended.source) }
         requires agreed { self.old.agreed < 4000000 }
@@ -63,7 +63,7 @@ impl Tallies {
 }
 
 impl Tallies {
-    // Counts one word more of a reading.
+    // Counts one more word whose codeword is from reading `r`.
     fn add_reading(&mut self, r: usize)
         requires within { r < 254 }
         requires few { slice_index_or self.old.of_reading r 0 < 4000000 }
@@ -77,7 +77,7 @@ impl Tallies {
     }
 }
 
-/// Puts the source of what is found for word n, where there is room for any.
+/// Writes the byte that names the source of word `n`, if there is room for it.
 pub(crate) fn put_source(sources: &mut [u8], n: usize, found: &Option<Mended>)
     ensures size { length sources.new ≡ length sources.old }
     ensures put { n < length sources.old

@@ -5,16 +5,16 @@ ghost use Rattle.rw_mend.specs.Streams.{way_by, way_of};
 use crate::choice::votes;
 use crate::{Candidate, Mended, WordSource};
 
-/// Where the codeword of a word of two readings comes from.
+/// The way in which a word of two readings is mended.
 #[derive(Clone, Copy)]
 pub(crate) enum Way {
-    /// Both readings give it.
+    /// Both readings have the codeword.
     Both,
-    /// The first reading alone gives it.
+    /// Only the first reading has the codeword.
     First,
-    /// The second reading alone gives it.
+    /// Only the second reading has the codeword.
     Second,
-    /// Both agree on it.
+    /// The two readings agree on the codeword.
     Together,
 }
 

@@ -6,7 +6,7 @@ use Rattle.rw_merge.specs.declared.elimination.WordSums.{WordSums}
 use Rattle.rw_merge.specs.Places.{IsOutside}
 use Rattle.raw_subcode.specs.Sizes.{symbols_a_slot}
 
--- the first n of these, at most four, are sums of the word over all its symbols
+-- The first n of these sums, at most four, are those of the word over all its symbols.
 pub record AreFirstSums (n : ℕ) (word : List ℕ) (sums : WordSums) : Type 0 where
   pub zeroth : 0 < n → sums.zeroth ≡ weighted_sum 0 word
   pub first : 1 < n → sums.first ≡ weighted_sum 1 word
@@ -20,7 +20,7 @@ cleared power [] = []
 cleared power (symbol ∷ rest) =
     product (bit_xor (alpha_power (length rest)) power) symbol ∷ cleared power rest
 
--- a word with these four sums, whose symbols outside of these positions are 0
+-- The errors are a word with these four sums. Its symbols outside of these positions are 0.
 pub record ArePlacedErrors (sums : WordSums) (places errors : List ℕ) : Type 0 where
   pub is_word : IsWord errors
   pub have_sums : AreFirstSums 4 errors sums

@@ -18,7 +18,7 @@ use Rattle.rw_merge.specs.declared.merge.Merged.{Merged}
 use Rattle.rw_merge.specs.declared.merge.MergeStop.{MergeStop}
 use Rattle.rw_merge.specs.declared.merge.MergeStop.TheVariants.{FirstFault, SecondFault, WriteFault, TooLong, Torn, SecondTorn, Unequal}
 
--- The agreed codewords (if any) for the words of two readings with `blocks` program blocks.
+-- These are the agreed codewords, if any, for the words of two readings with `blocks` program blocks.
 pub record IsMerged (blocks : ℕ) (first second : List ℕ) (found : List (Option (List ℕ))) : Type 0 where
   pub count : length found ≡ whole_packs blocks
   pub each : (n : ℕ) → n < whole_packs blocks
@@ -37,8 +37,8 @@ abbrev pub GivesMergedText : ℕ → ℕ → List ℕ → List ℕ → List ℕ 
 GivesMergedText n lead_in first second text = (bad : ℕ)
     × IsMergedText lead_in (take (n * block_bytes) first) (take (n * block_bytes) second) text bad
 
--- The result for two inputs of these lengths if no read and no write fails. The first block that is not whole in both
--- decides, in this order: a part of a block in the first input, a part in the second input, a block in only one input.
+-- This is the result for two inputs of these lengths if no read and no write fails. The first block that is not whole in
+-- both decides, in this order: a part of a block in the first input, a part in the second input, a block in only one input.
 abbrev pub IsAnswer : ℕ → Result Merged MergeStop → ℕ → ℕ → Type 0
 IsAnswer lead_in (Ok merged) first second = (first ≤ most_units * block_bytes) × (second ≡ first)
     × (first % block_bytes ≡ 0)
@@ -60,15 +60,15 @@ IsAnswer lead_in (Err FirstFault) first second = ⊤
 IsAnswer lead_in (Err SecondFault) first second = ⊤
 IsAnswer lead_in (Err WriteFault) first second = ⊤
 
--- The same for two whole inputs, if both reveal their bytes.
+-- This is the result for two whole inputs if both reveal their bytes.
 abbrev pub IsAnswerTo : ℕ → Result Merged MergeStop → Bytes → Bytes → Type 0
 IsAnswerTo lead_in result first second =
     IfSome first (λ xs. IfSome second (λ ys. IsAnswer lead_in result (length xs) (length ys)))
 
--- The consumed bytes of two inputs if one of them had no further whole block or a read of it failed. If this was the
--- first input, the second input was read for the same number of whole blocks. If it was the second input, whole
--- blocks of the first were consumed, and of the second less than a block more than of the first. A failed read came
--- before any byte after the last allowed block.
+-- These numbers of bytes of two inputs were consumed in turn. Suppose that one input had no further whole block, or that a
+-- read of it failed. If it was the first input, the second input was read for the same number of whole blocks. If it was
+-- the second input, whole blocks of the first were consumed, and of the second less than a block more than of the first. A
+-- failed read came before any byte after the last allowed block.
 abbrev pub TakesInTurn : Result Merged MergeStop → ℕ → ℕ → Type 0
 TakesInTurn (Err FirstFault) first second = (second ≡ first / block_bytes * block_bytes)
     × (first ≤ most_units * block_bytes)
@@ -110,17 +110,17 @@ FirstIsAtEnd (Ok merged) left = IsAtEnd left
 FirstIsAtEnd (Err (Torn block)) left = IsAtEnd left
 FirstIsAtEnd (Err stop) left = ⊤
 
--- The same for the second input.
+-- The second input is at its end, if the result requires it.
 abbrev pub EndsSecond : Result Merged MergeStop → Option (List ℕ) → Type 0
 EndsSecond (Ok merged) left = IsAtEnd left
 EndsSecond (Err (SecondTorn block)) left = IsAtEnd left
 EndsSecond (Err stop) left = ⊤
 
--- The end of an input was recorded once,
+-- The end of an input was recorded once.
 abbrev pub Told : Change Count → Type 0
 Told ends = RoseOnce ends.before ends.after
 
--- or was not recorded.
+-- The end of an input was not recorded.
 abbrev pub Untold : Change Count → Type 0
 Untold ends = ends.after ≡ ends.before
 

@@ -12,15 +12,15 @@ use Rattle.rw_merge.specs.declared.merge.Merged.{Merged}
 use Rattle.rw_merge.specs.declared.merge.MergeStop.{MergeStop}
 use Rattle.rw_merge.specs.declared.merge.MergeStop.TheVariants.{FirstFault, SecondFault, WriteFault}
 
--- The bytes of two readings with the same number of blocks: `lead_in` blocks of the lead-in and `blocks` of the
+-- These are the bytes of two readings with the same number of blocks: `lead_in` blocks of the lead-in and `blocks` of the
 -- program.
 pub record AreReadings (lead_in blocks : ℕ) (first second : List ℕ) : Type 0 where
   pub few : lead_in + blocks ≤ most_units
   pub first_size : length first ≡ (lead_in + blocks) * block_bytes
   pub second_size : length second ≡ (lead_in + blocks) * block_bytes
 
--- Of program symbols that carry these packs there are two readings in which, for each word, twice the symbols that
--- both have equally wrong and those in which they differ are at most four.
+-- These are two readings of program symbols that carry the packs. In each word, twice the number of symbols in which both
+-- are equal and wrong, plus the number of symbols in which they differ, is at most four.
 pub record IsReadTwice (lead_in blocks : ℕ) (packs : List (List ℕ)) (first second : List ℕ) : Type 0 where
   pub readings : AreReadings lead_in blocks first second
   pub symbols : List ℕ
@@ -31,8 +31,8 @@ pub record IsReadTwice (lead_in blocks : ℕ) (packs : List (List ℕ)) (first s
       + differences (word_of (program_symbols Raw first lead_in) n)
       (word_of (program_symbols Raw second lead_in) n) ≤ 4
 
--- Of program symbols that carry these packs there are two readings, each damaged in at most two symbols of each word,
--- wherever these are.
+-- These are two readings of program symbols that carry the packs. Each is damaged in at most two symbols of each word, at
+-- any places.
 pub record IsDamagedTwice (lead_in blocks : ℕ) (packs : List (List ℕ)) (first second : List ℕ) : Type 0 where
   pub readings : AreReadings lead_in blocks first second
   pub symbols : List ℕ

@@ -25,15 +25,15 @@ use Rattle.raw_subcode.specs.Sizes.{block_bytes, symbols_a_slot}
 abbrev pub leading_slots : ℕ → List ℕ → List (List ℕ)
 leading_slots count bytes = map symbols_of (parts count symbols_a_slot bytes)
 
--- the last slots after some more
+-- the window after these slots
 abbrev pub window_after : List (List ℕ) → List (List ℕ) → List (List ℕ)
 window_after window slots = run_state gather_next window slots
 
--- the words that come with these
+-- the words that these slots complete
 abbrev pub words_after : List (List ℕ) → List (List ℕ) → List (List ℕ)
 words_after window slots = run_gives gather_next gather_gives window slots
 
--- what is found for the words of two readings, one after another
+-- These are the agreed codewords of the words of two readings, one after another.
 unfoldable pub AreAgreements : List (List ℕ) → List (List ℕ) → List (Option (List ℕ)) → Type 0
 AreAgreements [] [] [] = ⊤
 AreAgreements (x ∷ xs) (y ∷ ys) (f ∷ fs) = IsAgreement x y f × AreAgreements xs ys fs
@@ -44,7 +44,7 @@ abbrev pub AreAgreedPacks : List (List ℕ) → List (List ℕ) → Packs → Ty
 AreAgreedPacks first second packs = (found : List (Option (List ℕ))) × AreAgreements first second found
     × (packs.bytes ≡ cdg_bytes found) × (packs.bad ≡ bad_count found) × (length found ≤ 4)
 
--- the packs that come with a block of each reading, after the last slots of both
+-- These are the packs that end with a block of each reading, after these windows.
 abbrev pub MergesBlocks : Windows → List ℕ → List ℕ → Packs → Type 0
 MergesBlocks windows first second packs =
     AreAgreedPacks (words_from_block windows.first first) (words_from_block windows.second second) packs
@@ -62,7 +62,7 @@ pub record Taken : Type 0 where
 abbrev pub taken_of : List ℕ → Option (List ℕ) → Taken
 taken_of bytes left = record { bytes = bytes; left = left }
 
--- The consumed bytes of both inputs when the pair of blocks with this number was read.
+-- These bytes of both inputs were consumed when the pair of blocks with this number was read.
 abbrev pub IsPairRead : ℕ → Result Bool MergeStop → Taken → Taken → Type 0
 IsPairRead block (Ok true) first second = (length first.bytes ≡ block_bytes)
     × (length second.bytes ≡ block_bytes)
@@ -81,7 +81,7 @@ IsPairRead block (Err (Unequal n)) first second = (n ≡ block)
     ⊎ ((first.bytes ≡ []) × (length second.bytes ≡ block_bytes) × IsAtEnd first.left))
 IsPairRead block (Err stop) first second = ⊥
 
--- the same where nothing more may follow
+-- These bytes of both inputs were consumed when the end of both inputs was checked.
 abbrev pub IsEndRead : Result (Unit {0}) MergeStop → Taken → Taken → Type 0
 IsEndRead (Ok done) first second =
     (first.bytes ≡ []) × (second.bytes ≡ []) × IsAtEnd first.left × IsAtEnd second.left
@@ -91,7 +91,7 @@ IsEndRead (Err FirstFault) first second = (first.bytes ≡ []) × (second.bytes 
 IsEndRead (Err SecondFault) first second = (first.bytes ≡ []) × (second.bytes ≡ [])
 IsEndRead (Err stop) first second = ⊥
 
--- The counts of the ends of both inputs at this time.
+-- The ends of both inputs were recorded as this result requires, when a pair of blocks was read.
 abbrev pub EndsOfPair : Result Bool MergeStop → ℕ → ℕ → Change Count → Change Count → Type 0
 EndsOfPair (Ok true) one other first second = Untold first × Untold second
 EndsOfPair (Ok false) one other first second = Told first × Told second
@@ -104,13 +104,14 @@ ReadsPair block result one other first second = ReadsBoth
     × (result ≡ Ok true → (xs ≡ one) × (ys ≡ other)))
     (EndsOfPair result) (λ bytes. bytes / block_bytes) first second
 
--- A byte of each was asked for, where nothing more may follow.
+-- A byte of each input was requested, to check that nothing follows.
 abbrev pub ReadsNoMore : Result (Unit {0}) MergeStop → ReadInput → ReadInput → Type 0
 ReadsNoMore result first second = ReadsBoth
     (λ xs ys. IsEndRead result (taken_of xs first.left.after) (taken_of ys second.left.after))
     (EndsBoth result) (λ bytes. bytes) first second
 
--- So many bytes of an input were asked for: these came, the last of it where they are fewer, or a read failed.
+-- `size` bytes of an input were requested. These bytes were read, up to the end of the input if they are fewer, or a read
+-- failed.
 pub record AsksFor {E : Type 0} (size : ℕ) (input : ReadInput) (faults : Change ℕ) (result : Result ℕ E)
     (room : List ℕ) : Type 0 where
   pub size_is : length room ≡ size
@@ -121,22 +122,22 @@ pub record AsksFor {E : Type 0} (size : ℕ) (input : ReadInput) (faults : Chang
   pub cause : HasCause faults.before faults.after result
   pub counts : TellsRead size size input.counts result
 
--- A count of faults rose,
+-- A count of faults rose.
 abbrev pub Rises : Change ℕ → Type 0
 Rises count = (count.before ≤ count.after) × Rose count.before count.after
 
--- or stayed.
+-- A count of faults is unchanged.
 abbrev pub Stays : Change ℕ → Type 0
 Stays count = count.after ≡ count.before
 
--- How the faults of both inputs are counted where a pair of blocks, or their end, is looked for.
+-- The faults of both inputs were counted as this result requires, when a pair of blocks, or the end of both, was read.
 abbrev pub CountsReadFaults : {A : Type 0} → Result A MergeStop → Change ℕ → Change ℕ → Type 0
 CountsReadFaults (Err FirstFault) first second = Rises first × Stays second
 CountsReadFaults (Err SecondFault) first second = Stays first × Rises second
 CountsReadFaults (Err WriteFault) first second = ⊥
 CountsReadFaults result first second = Stays first × Stays second
 
--- How the faults of both inputs and of the output are counted in a merge.
+-- The faults of both inputs and of the output were counted as this result of a merge requires.
 abbrev pub CountsFaults : Result Merged MergeStop → Change ℕ → Change ℕ → Change ℕ → Type 0
 CountsFaults (Err FirstFault) first second out = Rises first × Stays second × Stays out
 CountsFaults (Err SecondFault) first second out = Stays first × Rises second × Stays out

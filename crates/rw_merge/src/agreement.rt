@@ -12,8 +12,9 @@ use rw_code::{Pack, Word, correct, correct_by_sums};
 // The maximum number of doubts against an agreed codeword.
 const MOST_DOUBTS: u8 = 4;
 
-/// The codeword that is agreed for two readings of a word: twice the symbols that both have equally wrong and those
-/// in which they differ are at most four. There is at most one such codeword, and `None` exactly where there is none.
+/// The codeword on which two readings of a word agree: twice the number of symbols in which both are equal
+/// and wrong, plus the number in which they differ, is at most four. There is at most one such codeword, and
+/// `None` exactly if there is none.
 pub fn agree(a: &Word, b: &Word) -> Option<Pack>
     ensures agreed { GivesAgreed a.now b.now result }
     ensures only { (one other : List ℕ) → IsAgreed a.now b.now one → IsAgreed a.now b.now other
@@ -50,7 +51,7 @@ fn is_idle_agreed(a: &Word, b: &Word) -> bool
     true
 }
 
-// The same for readings that differ in few symbols.
+// The agreed codeword of two readings that differ in one to four symbols.
 fn agree_apart(a: &Word, b: &Word) -> Option<Pack>
     requires differ { a.now ≢ b.now }
     requires few { differences a.now b.now ≤ 4 }

@@ -57,10 +57,10 @@ pub(crate) fn next_block<S: Source, K: Sink>(
     fill(source, block)
 }
 
-/// Reads a byte, as `fill` does.
+/// Reads a byte like `fill`.
 ///
 /// # Errors
-/// `Failed` where a read failed.
+/// `Failed` if a read failed.
 pub(crate) fn next_byte<S: Source>(source: &mut S) -> Result<usize, Failed>
     ensures { (byte : List ℕ) × AsksFor 1 (read_input S.Source source.old source.new)
         (change S.faults source.old source.new) result byte }

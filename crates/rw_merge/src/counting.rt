@@ -44,7 +44,8 @@ pub fn differing(first: &Word, second: &Word) -> u8
     count
 }
 
-/// Twice the symbols in which the readings are equal and not the word's, and those in which they differ.
+/// The doubts against a word: two for each symbol in which the readings are equal and differ from the word,
+/// and one for each symbol in which the readings differ.
 pub(crate) fn doubts(first: &Word, second: &Word, word: &Word) -> u8
     ensures count { result ≡ 2 * equally_wrong first.now second.now word.now
         + differences first.now second.now }

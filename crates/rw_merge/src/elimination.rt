@@ -10,7 +10,8 @@ use crate::places::WrongPlaces;
 use gf64::Sym;
 use rw_code::{SYMBOLS, Word};
 
-/// Sums of a word over all its symbols: at j each symbol counts times the j-th power of its position's power.
+/// Four sums over the symbols of a word. In sum j, each symbol is multiplied by the j-th power of its
+/// position's power of alpha.
 #[derive(Clone, Copy)]
 pub(crate) struct WordSums {
     pub(crate) zeroth: Sym,
@@ -32,7 +33,7 @@ impl WordSums {
         }
     }
 
-    /// The sums in which a position has no part. One sum fewer is known than before.
+    /// The sums without the symbol at a position. One sum fewer is known than before.
     pub(crate) fn without(&self, position: usize) -> WordSums
         requires { position < symbols_a_slot }
         ensures { (n : ℕ) (word : List ℕ) → n < 4 → AreFirstSums (suc n) word self.now
@@ -47,7 +48,7 @@ impl WordSums {
         }
     }
 
-    // The error at a position, where only symbols at it and at three others are wrong.
+    // The error at a position, if only the symbols at this and at three other positions are wrong.
     fn error_at(&self, at: usize, one: usize, two: usize, three: usize) -> Sym
         requires at { at < symbols_a_slot }
         requires one { (one < symbols_a_slot) × (one ≢ at) }
@@ -106,7 +107,7 @@ fn sum(word: &Word, j: u32) -> Sym
     sum
 }
 
-/// The power of alpha that the sum at 1 has at a position.
+/// The power of alpha of a position: the factor of its symbol in sum 1.
 pub(crate) fn power_at(position: usize) -> Sym
     requires { position < symbols_a_slot }
     ensures { result ≡ alpha_power (23 - position) }

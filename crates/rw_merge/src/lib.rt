@@ -19,13 +19,14 @@ pub use agreement::agree;
 pub use counting::differing;
 pub use merge::{MergeStop, Merged, Merger, two_readings_give_packs};
 
-/// A law: for no two words are two codewords agreed.
+/// A law: two readings of a word agree on at most one codeword.
 pub fn only_one_codeword_is_agreed()
     ensures { (first second one other : List ℕ) → IsWord first → IsWord second
         → IsAgreed first second one → IsAgreed first second other → one ≡ other }
 {}
 
-/// A law: for any two readings there is one merged text at most, so how the inputs are cut changes nothing.
+/// A law: the bytes of two readings determine their merged text, regardless of the pieces in which the inputs
+/// deliver them.
 pub fn one_text_is_merged()
     ensures { (lead_in : ℕ) (first second text other : List ℕ) (bad count : ℕ)
         → IsMergedText lead_in first second text bad → IsMergedText lead_in first second other count

@@ -19,23 +19,23 @@ use rw_interleave::{Gather, found_packs_are_the_text};
 use std::alloc::{AllocError, Global};
 use std::marker::Model;
 
-/// What was merged of two whole inputs.
+/// The result for two whole inputs.
 #[derive(Clone, Copy, Debug, PartialEq, Eq)]
 pub struct Merged {
-    /// The blocks of the program, which are those after the lead-in.
+    /// The number of program blocks: all blocks after the lead-in.
     pub blocks: u32,
-    /// The words for which no codeword is agreed.
+    /// The number of words with no agreed codeword.
     pub bad: u32,
 }
 
-/// Why a merge stopped before the end of two whole inputs. Blocks are counted from 0.
+/// Why a merge ended before it had done its work. Blocks are counted from 0.
 #[derive(Clone, Copy, Debug, PartialEq, Eq)]
 pub enum MergeStop {
     /// A read of the first input failed.
     FirstFault,
     /// A read of the second input failed.
     SecondFault,
-    /// A write failed: the sink took a prefix of the text.
+    /// A write failed; the sink has a prefix of the text.
     WriteFault,
     /// Both inputs have 1,000,000 blocks, and one of them has more.
     TooLong,
@@ -47,8 +47,8 @@ pub enum MergeStop {
     Unequal { blocks: u32 },
 }
 
-/// A law: from two readings that have enough of each word together, every pack is merged. So it is where each
-/// reading is damaged in at most two symbols of each word.
+/// A law: every pack is recovered from two readings that agree on the codeword of each word. They agree if
+/// each reading is damaged in at most two symbols of each word.
 pub fn two_readings_give_packs()
     ensures text { (lead_in blocks : ℕ) (packs : List (List ℕ)) (first second text : List ℕ) (bad : ℕ)
         → IsReadTwice lead_in blocks packs first second → IsMergedText lead_in first second text bad
@@ -76,7 +76,7 @@ impl Model for Merger {
 }
 
 impl Merger {
-    /// Makes both windows, which lie in the merger itself.
+    /// A merger before its first pair of readings. It contains both windows.
     pub fn new() -> Merger
         ensures { result ≡ record { first = []; second = [] } }
     {
@@ -86,7 +86,7 @@ impl Merger {
         }
     }
 
-    /// `new` in the form that callers were promised. It allocates nothing and never fails.
+    /// Makes a merger like `new`. Older callers expect this signature; it allocates nothing and never fails.
     pub fn start(_alloc: Global) -> Result<Merger, AllocError>
         ensures made { IsOk result }
         ensures fresh { IfOk result (λ m. m ≡ record { first = []; second = [] }) }
@@ -97,17 +97,17 @@ impl Merger {
     /// Writes the packs on which two readings of a stream agree, as their blocks are read: 24 bytes each, every
     /// byte below 64.
     ///
-    /// `lead_in` is at most 450,000 blocks, which are passed over. A block of the first input is read and then one
-    /// of the second. A word for which no codeword is agreed is written as 24 zeros, and counted in `Merged::bad`.
-    /// Of B blocks of the program 4B - 7 packs are written.
+    /// `lead_in` is at most 450,000 blocks, which are skipped. A block of the first input is read, and then a
+    /// block of the second. A word with no agreed codeword is written as 24 zeros, and counted in
+    /// `Merged::bad`. For B program blocks, 4B - 7 packs are written.
     ///
     /// # Errors
     ///
-    /// At the first block that not both inputs have whole: `Torn` where the first ends within it, else `SecondTorn`
-    /// where the second does, else `Unequal`, where one input has it. `TooLong` where both have 1,000,000 blocks and
-    /// a byte follows in either. All these come after the packs of all whole pairs are written, and the faults of
-    /// reading after those of the pairs that were read. After `WriteFault` the sink holds a prefix, and no later
-    /// block was read.
+    /// The first block that is not whole in both inputs decides: `Torn` if the first input ends within it,
+    /// else `SecondTorn` if the second input does, else `Unequal` if only one input has it. `TooLong` if both
+    /// inputs have 1,000,000 blocks and a byte follows in either. These stops come after the packs of all
+    /// whole pairs were written, and a failed read after those of the pairs that were read. After
+    /// `WriteFault` the sink has a prefix of the packs, and no later block was read.
     pub fn run<S: Source, T: Source, K: Sink>(
         &mut self,
         lead_in: u32,
@@ -123,7 +123,7 @@ impl Merger {
         ensures restores { IfSome (S.left first.old) (λ xs. IfSome (T.left second.old) (λ ys.
             (blocks : ℕ) (packs : List (List ℕ)) → IsReadTwice lead_in blocks packs xs ys
             → MergeRestores result blocks (K.held out.old) (K.held out.new) (concat packs))) }
-        // So it does where each is damaged in at most two symbols of each word, wherever these are.
+        // The same is true if each reading is damaged in at most two symbols of each word, at any places.
         ensures repairs { IfSome (S.left first.old) (λ xs. IfSome (T.left second.old) (λ ys.
             (blocks : ℕ) (packs : List (List ℕ)) → IsDamagedTwice lead_in blocks packs xs ys
             → MergeRestores result blocks (K.held out.old) (K.held out.new) (concat packs))) }
@@ -144,7 +144,7 @@ impl Merger {
         self.merge_pairs(lead_in, first, second, out)
     }
 
-    // The same from empty windows on.
+    // Merges two readings like `run`, from empty windows.
     fn merge_pairs<S: Source, T: Source, K: Sink>(
         &mut self,
         lead_in: u32,
@@ -197,7 +197,7 @@ impl Merger {
         }
     }
 
-    // The packs that come with a pair of program blocks.
+    // Gathers a pair of program blocks, and sets `packs` to the packs that end with it.
     fn merge(&mut self, first: &[u8; BLOCK_BYTES], second: &[u8; BLOCK_BYTES], packs: &mut Packs)
         requires { length self.old.first ≡ length self.old.second }
         ensures first { self.new.first ≡ slots_after_block self.old.first first.now }
@@ -212,7 +212,7 @@ impl Merger {
         self.merge_words(first, second, packs);
     }
 
-    // Whether four words of zeros come with each block of a pair, and the windows stay as they are.
+    // Whether each block of a pair completes four words of zeros and leaves its window unchanged.
     fn stay_idle(&self, first: &[u8; BLOCK_BYTES], second: &[u8; BLOCK_BYTES]) -> bool
         ensures first { result ≡ true
             → self.now.first ≡ slots_after_block self.now.first first.now }
@@ -226,7 +226,7 @@ impl Merger {
         self.first.stays_idle(first) && self.second.stays_idle(second)
     }
 
-    // The same as `merge`, where there may be something to gather.
+    // Does the work of `merge` for a pair of blocks that may not be idle.
     #[inline(never)]
     fn merge_words(
         &mut self,

@@ -11,7 +11,7 @@ use cdg_io::Piece;
 use raw_subcode::BLOCK_BYTES;
 use rw_code::{Pack, SYMBOLS, Word};
 
-/// The packs of a pair of blocks, and for how many words none was agreed.
+/// The packs of a pair of blocks, and the number of words with no agreed codeword.
 #[derive(Drop)]
 pub(crate) struct Packs {
     pub(crate) bytes: Piece,
@@ -26,7 +26,8 @@ impl Packs {
         }
     }
 
-    /// Becomes what is found for the words that come with a pair of blocks, at most four of each.
+    /// Sets the packs to those agreed for the words that end with a pair of blocks, at most four words of
+    /// each.
     pub(crate) fn set_agreed(&mut self, first: &[Word], second: &[Word])
         requires same { length first.now ≡ length second.now }
         requires few { length first.now ≤ 4 }
@@ -39,7 +40,7 @@ impl Packs {
         }
     }
 
-    /// Becomes what is found for four pairs of words of zeros.
+    /// Sets the packs to those agreed for four pairs of words of zeros.
     #[inline]
     pub(crate) fn set_idle(&mut self)
         ensures { AreAgreedPacks (replicate slots_a_block idle_pack)
@@ -49,7 +50,7 @@ impl Packs {
         self.bad = 0;
     }
 
-    // Adds what is agreed for a word: zeros where nothing is.
+    // Adds the agreed pack of a word, or zeros if there is none.
     fn add(&mut self, pack: Option<Pack>)
         requires bytes { length self.old.bytes ≤ 72 }
         requires bad { self.old.bad < 4 }

@@ -10,11 +10,11 @@ use crate::merge::MergeStop;
 use cdg_io::{Failed, Sink, Source};
 use raw_subcode::BLOCK_BYTES;
 
-/// Reads a block of the first input, and then one of the second; before a read the output passes on what waits. False
-/// where both inputs are at their end.
+/// Reads a block of the first input, and then a block of the second. Before a read, the output writes its
+/// waiting bytes. The result is false if both inputs are at their end.
 ///
 /// # Errors
-/// A stop, where there is no whole block of both: all but the faults say the number of the block.
+/// A stop if not both inputs have a whole block. Every stop except a fault has the number of the block.
 pub(crate) fn next_pair<S: Source, T: Source, K: Sink>(
     first: &mut S,
     second: &mut T,
@@ -54,10 +54,10 @@ pub(crate) fn next_pair<S: Source, T: Source, K: Sink>(
     Ok(true)
 }
 
-/// Sees that no byte follows in either input.
+/// Checks that no byte follows in either input.
 ///
 /// # Errors
-/// `TooLong` where one does.
+/// `TooLong` if a byte follows, or a fault if a read failed.
 pub(crate) fn nothing_follows<S: Source, T: Source>(
     first: &mut S,
     second: &mut T,

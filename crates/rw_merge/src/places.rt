@@ -1,4 +1,4 @@
-// At which positions the first of two readings may be wrong.
+// The positions at which the first of two readings may be wrong.
 ghost use Rattle.std.specs.Prelude.{◌≡◌, ◌≢◌, ◌<◌, ◌-◌, [], ◌∷◌, List, ℕ, MatchOption};
 ghost use Rattle.gf64.specs.Field.{product, alpha_power};
 ghost use Rattle.rw_merge.specs.Agreement.{IsAgreed};
@@ -53,7 +53,7 @@ pub(crate) fn wrong_places(first: &Word, second: &Word, sums: &WordSums) -> Opti
     }
 }
 
-// Four positions at which all errors are, where these are at two positions and at most at one further.
+// Four positions that include all errors, if the errors are at two known positions and at most one other.
 fn with_further(sums: &WordSums, first: usize, second: usize) -> Option<WrongPlaces>
     requires first { first < symbols_a_slot }
     requires second { (second < symbols_a_slot) × (second ≢ first) }
@@ -77,7 +77,7 @@ fn with_further(sums: &WordSums, first: usize, second: usize) -> Option<WrongPla
     Some(with_unused(first, second, third))
 }
 
-// Three positions and one more.
+// Three positions, and a fourth that differs from them.
 fn with_unused(first: usize, second: usize, third: usize) -> WrongPlaces
     requires first { first < symbols_a_slot }
     requires second { (second < symbols_a_slot) × (second ≢ first) }
@@ -95,7 +95,7 @@ fn with_unused(first: usize, second: usize, third: usize) -> WrongPlaces
     }
 }
 
-// The only position whose power leads from the zeroth of the sums to the first.
+// The only position whose power, multiplied by sum 0, is sum 1.
 fn further_position(sums: &WordSums) -> Option<usize>
     requires { sums.now.zeroth ≢ 0 }
     ensures { MatchOption result

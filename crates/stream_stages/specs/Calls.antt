@@ -13,7 +13,7 @@ use Rattle.stream_stages.specs.declared.played.Played.{Played}
 use Rattle.stream_stages.specs.declared.played.PlayStop.{PlayStop}
 use Rattle.stream_stages.specs.declared.played.PlayStop.TheVariants.{ReadFault, WriteFault, Torn, TooLong, PastEnd, Text}
 
--- the result for these bytes: `count bytes` blocks, and the text that is written
+-- The result counts `count bytes` blocks. `writes` relates the bytes to the written text and to the number of bad entries.
 pub record IsPlayed (writes : List ℕ → List ℕ → ℕ → Type 0) (count : List ℕ → ℕ) (bytes : List ℕ)
     (played : Played) (text : List ℕ) : Type 0 where
   pub blocks : played.blocks ≡ count bytes
@@ -23,7 +23,7 @@ pub record IsPlayed (writes : List ℕ → List ℕ → ℕ → Type 0) (count :
 abbrev pub blocks_played : Form → ℕ → List ℕ → ℕ
 blocks_played form lead_in bytes = length bytes / unit_size form - lead_in
 
--- how a call reads if it writes while it reads
+-- the reading of a call that writes while it reads
 abbrev pub in_turn : (List ℕ → List ℕ → ℕ → Type 0) → Form → ℕ → Reading Played PlayStop
 in_turn writes form lead_in = record {
   cut = record { size = unit_size form; limit = most_units };
@@ -47,7 +47,7 @@ is_early_in_turn stop = is_early stop
 abbrev pub IsEarly : PlayStop → Type 0
 IsEarly stop = IsTrue (is_early stop)
 
--- how a call reads if it writes only after it read everything
+-- the reading of a call that writes only after it read everything
 abbrev pub at_end : (List ℕ → List ℕ → ℕ → Type 0) → Form → ℕ → WholeReading Played PlayStop
 at_end writes form lead_in = record {
   cut = record { size = unit_size form; limit = most_units };
@@ -56,7 +56,7 @@ at_end writes form lead_in = record {
   gives = IsPlayed writes (blocks_played form lead_in);
 }
 
--- the stops of a call that plays a stream to its end: it shows no moment and lists no texts
+-- A call that shows no moment and lists no texts can have this stop.
 abbrev pub IsStreamStop : PlayStop → Type 0
 IsStreamStop ReadFault = ⊤
 IsStreamStop WriteFault = ⊤
@@ -65,25 +65,25 @@ IsStreamStop TooLong = ⊤
 IsStreamStop (PastEnd blocks) = ⊥
 IsStreamStop (Text fault) = ⊥
 
--- the stops of a call that shows a moment
+-- A call that shows a moment can have this stop.
 abbrev pub IsMomentStop : PlayStop → Type 0
 IsMomentStop (PastEnd blocks) = ⊤
 IsMomentStop stop = IsStreamStop stop
 
--- the stops of a call that lists texts
+-- A call that lists texts can have this stop.
 abbrev pub IsListStop : PlayStop → Type 0
 IsListStop (Text fault) = ⊤
 IsListStop stop = IsStreamStop stop
 
--- how a call that writes while it reads records the end of the input
+-- A call that writes while it reads recorded the end of its input once, unless it stopped before the end.
 abbrev pub EndInTurn : Result Played PlayStop → Count → Count → Type 0
 EndInTurn = ToldUnless is_early_in_turn
 
--- how a call that writes only after it read everything records the end of the input
+-- A call that writes only after it read everything recorded the end of its input once, unless it stopped before the end.
 abbrev pub EndFirst : Result Played PlayStop → Count → Count → Type 0
 EndFirst = ToldUnless is_early
 
--- the result for an input of `len` bytes if no read and no write fails
+-- This is the result for an input of `len` bytes, in units of `size` bytes, if no read and no write fails.
 abbrev pub IsAnsweredBy : Result Played PlayStop → ℕ → ℕ → Type 0
 IsAnsweredBy (Ok played) size len = (len ≤ most_units * size) × (len % size ≡ 0)
 IsAnsweredBy (Err (Torn block)) size len = (len ≤ most_units * size) × (len % size ≢ 0) × (block ≡ len / size)

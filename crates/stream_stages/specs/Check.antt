@@ -26,19 +26,19 @@ found_passes test None = false
 abbrev pub is_known : ℕ → Bool
 is_known code = list_any (λ c. c == code) known_codes
 
--- the kind of a pack follows from its first two symbols: an idle pack draws nothing
+-- whether a pack is idle: the first of its symbols, the mode, is 0
 abbrev pub is_idle : ℕ → ℕ → Bool
 is_idle mode code = mode == 0
 
--- a graphics instruction
+-- whether a pack has a known instruction for graphics
 abbrev pub is_graphics : ℕ → ℕ → Bool
 is_graphics mode code = mode == 9 && is_known code
 
--- graphics, but none of its instructions
+-- whether a pack has the mode of graphics, but no known instruction
 abbrev pub is_unknown : ℕ → ℕ → Bool
 is_unknown mode code = mode == 9 && not (is_known code)
 
--- a pack of another mode
+-- whether a pack is neither idle nor of the mode of graphics
 abbrev pub is_foreign : ℕ → ℕ → Bool
 is_foreign mode code = not (mode == 0 || mode == 9)
 
@@ -79,7 +79,7 @@ check_text lead_in program words found readings =
     (count_by (found_passes is_unknown) found) (count_by (found_passes is_foreign) found)
     ++ frame_count_lines (count_by is_ok readings) (count_by is_err readings)))
 
--- The text is the counts of these bytes.
+-- The text lists the counts for these bytes, and `bad` is the number of bad words.
 pub record IsCheckListed (form : Form) (lead_in : ℕ) (bytes text : List ℕ) (bad : ℕ) : Type 0 where
   pub found : List (Option (List ℕ))
   pub recovered : IsRecovered form (program_symbols form bytes lead_in) found

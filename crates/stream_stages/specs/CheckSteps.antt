@@ -37,7 +37,7 @@ kind_counted s mode code = record s {
   foreign = tick (is_foreign mode code) s.foreign;
 }
 
--- one more word that is corrected to the idle pack
+-- the counts after one more word that is corrected to the idle pack and has this number of wrong symbols
 abbrev pub near_counted : NearIdle → ℕ → NearIdle
 near_counted near wrong = record {
   clean = near.clean + (if wrong == 0 then 1 else 0);

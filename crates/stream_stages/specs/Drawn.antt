@@ -7,7 +7,7 @@ use Rattle.cdg_screen.specs.Standing.{Standing, standing_after}
 use Rattle.stream_stages.specs.Steps.{bad_next}
 use Rattle.stream_stages.specs.declared.painting.Painting.{Painting}
 
--- the screen after the correction of a word; without a codeword it stays the same
+-- the screen after a corrected word; a word without a codeword changes nothing
 abbrev pub entry_drawn : Standing → Option (List ℕ) → Standing
 entry_drawn standing (Some codeword) = standing_after standing (meaning codeword ∷ [])
 entry_drawn standing None = standing

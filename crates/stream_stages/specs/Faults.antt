@@ -5,7 +5,8 @@ use Rattle.stream_stages.specs.declared.played.Played.{Played}
 use Rattle.stream_stages.specs.declared.played.PlayStop.{PlayStop}
 use Rattle.stream_stages.specs.declared.played.PlayStop.TheVariants.{ReadFault, WriteFault}
 
--- The fault counts of an input and of an output, each before and after the call.
+-- The result is a fault only if its count rose. The counts are those of an input and of an output, before and after the
+-- call.
 pub record TellsStops (source source' out out' : ℕ) (answer : Result Played PlayStop) : Type 0 where
   pub read : TellsFault ReadFault source source' answer
   pub write : TellsFault WriteFault out out' answer

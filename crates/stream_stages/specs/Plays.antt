@@ -1,4 +1,4 @@
--- What a call that plays a whole stream does with its input and its output, and what it returns.
+-- The input, the output and the result of a call that plays a whole stream.
 use Rattle.std.specs.Prelude.{◌≡◌, ◌≢◌, ℕ, Bool, List, length, Result, IfErr, IfSome}
 use Rattle.cdg_io.specs.Change.{Passed, passed}
 use Rattle.cdg_io.specs.Reads.{ToldUnless}
@@ -37,21 +37,21 @@ call_by_length form is_early puts = record {
   answers = λ result all. IsAnsweredBy result (unit_size form) (length all);
 }
 
--- writes the packs of a stream while it reads
+-- the call that writes the packs of a stream while it reads
 abbrev pub conversion : Form → ℕ → StreamCall
 conversion form lead_in = call_by_length form is_early_in_turn (Converts form lead_in)
 
--- writes the lines of the Q channel while it reads
+-- the call that writes the lines of the Q channel while it reads
 abbrev pub frame_listing : Form → ℕ → StreamCall
 frame_listing form lead_in =
     call_by_length form is_early_in_turn (Streams (in_turn (IsQListed form) form lead_in))
 
--- writes the counts after it read everything
+-- the call that writes the counts after it read everything
 abbrev pub checking : Form → ℕ → StreamCall
 checking form lead_in =
     call_by_length form is_early (WritesAtEnd (at_end (IsCheckListed form lead_in) form lead_in))
 
--- writes the screen at a moment, in the way `write`, after it read everything
+-- the call that writes the screen at a moment after it read everything; `write` makes the text from the screen
 abbrev pub showing : (Standing → List ℕ) → Moment → StreamCall
 showing write at = record {
   puts = Shows write at;
@@ -60,7 +60,7 @@ showing write at = record {
   answers = λ result all. IsShownBy result at.lead_in at.time (unit_size at.form) (length all);
 }
 
--- writes the texts of the lead-in after it read everything
+-- the call that writes the texts of the lead-in after it read everything
 abbrev pub text_listing : Form → ℕ → StreamCall
 text_listing form lead_in = record {
   puts = ListsTexts form lead_in;
@@ -74,7 +74,7 @@ pub record Plays {S K : Type 0} (call : StreamCall) (source : Source S) (sink : 
     (before after : S × K) (result : Result Played PlayStop) : Type 0 where
   pub taken : List ℕ
   pub puts : call.puts (passed source.left sink.held before after) result taken
-  -- for each input, it stops only with these stops
+  -- a stop is one of the possible stops, also if the input does not reveal its bytes
   pub stops : IfErr result call.may_stop
   -- if nothing failed, the result is that of the whole input
   pub answer : IfSome (source.left before.0) (λ all. call.answers result all)
@@ -87,7 +87,7 @@ pub record Plays {S K : Type 0} (call : StreamCall) (source : Source S) (sink : 
 abbrev pub LeavesUnwritten : {K : Type 0} → K → K → Result Played PlayStop → Type 0
 LeavesUnwritten before after result = IfErr result (λ stop. stop ≢ WriteFault → after ≡ before)
 
--- Such a call that writes only after it read everything: if nothing is written, the output is unchanged.
+-- A call played a stream, and wrote only after it read everything. If it wrote nothing, the output is unchanged.
 pub record PlaysThenWrites {S K : Type 0} (call : StreamCall) (source : Source S) (sink : Sink K)
     (before after : S × K) (result : Result Played PlayStop) : Type 0 where
   pub plays : Plays call source sink before after result

@@ -37,7 +37,7 @@ pub record Moment : Type 0 where
 abbrev pub moment : Form → ℕ → ℕ → Moment
 moment form lead_in time = record { form = form; lead_in = lead_in; time = time }
 
--- The text is the screen at a moment, in the way `write`.
+-- The text is what `write` makes from the screen at a moment. `bad` counts the bad words before the moment.
 pub record IsWrittenAt (write : Standing → List ℕ) (at : Moment) (bytes text : List ℕ)
     (bad : ℕ) : Type 0 where
   pub found : List (Option (List ℕ))
@@ -67,7 +67,7 @@ pub record Shows (write : Standing → List ℕ) (at : Moment) (passed : Passed)
   pub reached : IfOk result (λ played. at.time ≤ played.blocks)
   pub past_end : (blocks : ℕ) → result ≡ Err (PastEnd blocks) → EndsBefore at taken blocks
 
--- the result for an input of `len` bytes if no read and no write fails
+-- This is the result for an input of `len` bytes, in units of `size` bytes, if no read and no write fails.
 abbrev pub IsShownBy : Result Played PlayStop → ℕ → ℕ → ℕ → ℕ → Type 0
 IsShownBy (Ok played) lead_in time size len = (len ≤ most_units * size) × (len % size ≡ 0)
     × (time ≤ len / size - lead_in)

@@ -8,10 +8,10 @@ use Rattle.stream_stages.specs.declared.counting.WordCounts.{WordCounts}
 abbrev pub words_of : {G : Type 0} → Then BlockWords G → BlockWords
 words_of s = s.first
 
--- the part that draws their packs
+-- the part that draws the packs
 abbrev pub painting_of : Then BlockWords Painting → Painting
 painting_of s = s.second
 
--- the part that counts them
+-- the part that counts the words
 abbrev pub counts_of : Then BlockWords WordCounts → WordCounts
 counts_of s = s.second

@@ -34,12 +34,12 @@ window_gives Raw window slot = gather_gives window slot
 window_gives Sector window slot = gather_gives window slot
 window_gives Cooked window slot = Some slot
 
--- these words, or four idle packs
+-- the words of a block; None means four idle packs
 abbrev pub words_or_idle : Option (ArrayVec (List ℕ)) → ArrayVec (List ℕ)
 words_or_idle (Some words) = words
 words_or_idle None = record { items = replicate slots_a_block idle_pack }
 
--- these words, or no words
+-- the words of a block; None means no words
 abbrev pub words_or_none : Option (ArrayVec (List ℕ)) → List (List ℕ)
 words_or_none (Some words) = words.items
 words_or_none None = []
@@ -93,6 +93,6 @@ packs_next s block = record {
   bad = bad_with s.bad (words_give s.words block);
 }
 
--- its output for a block: the bytes of the packs
+-- the output of the stage for a block: the bytes of the packs
 unfoldable pub packs_give : BlockPacks → List ℕ → Option (List ℕ)
 packs_give s block = Some (text_of_words (words_give s.words block))

@@ -32,7 +32,7 @@ pub record IsTextListed (form : Form) (lead_in : ℕ) (bytes text : List ℕ) (b
   pub text_is : text ≡ text_lines texts (packs_in form lead_in bytes)
   pub none_bad : bad ≡ 0
 
--- Without memory the packs hold texts; each other fault is that of the packs.
+-- The fault is `NoMemory` only if the packs hold texts. Any other fault is the fault of the packs.
 abbrev pub IsTextFault : TextFault → Result Texts TextFault → Type 0
 IsTextFault NoMemory texts = IsOk texts
 IsTextFault fault texts = texts ≡ Err fault
@@ -52,7 +52,7 @@ IsWholeInput form all = (length all ≤ most_units * unit_size form) × (length 
 abbrev pub GivesTexts : Form → ℕ → List ℕ → Type 0
 GivesTexts form lead_in all = IsWholeInput form all × IsOk (texts_of_lead_in form lead_in all)
 
--- the result for an input if no read and no write fails
+-- This is the result for an input if no read and no write fails.
 abbrev pub IsListedBy : Result Played PlayStop → Form → ℕ → List ℕ → Type 0
 IsListedBy (Ok played) form lead_in all = GivesTexts form lead_in all
 IsListedBy (Err (Text fault)) form lead_in all = IsWholeInput form all

@@ -26,7 +26,7 @@ use Rattle.stream_stages.specs.declared.played.Played.{Played}
 use Rattle.stream_stages.specs.declared.played.PlayStop.{PlayStop}
 use Rattle.stream_stages.specs.declared.played.PlayStop.TheVariants.{ReadFault, WriteFault, Torn, TooLong, PastEnd, Text}
 
--- a step for blocks as a step for units
+-- makes a step for units from a step for blocks: it uses the block of a unit
 abbrev pub on_units : {S A : Type 0} → Form → (S → List ℕ → A) → S → List ℕ → A
 on_units form step s unit = step s (block_of form unit)
 
@@ -83,7 +83,7 @@ viewed blocks time bad = if nat_lt blocks time then Err (PastEnd blocks) else Ok
   bad = bad;
 })
 
--- the text packs that were read, and the text that is written
+-- The call wrote the texts of the packs that were read, or stopped for this reason.
 abbrev pub WritesTexts : LeadInTexts → ℕ → Option (List ℕ) → Option (List ℕ) → Result Played PlayStop → Type 0
 WritesTexts s blocks held held' (Ok played) =
     (played.blocks ≡ blocks) × (played.bad ≡ 0)

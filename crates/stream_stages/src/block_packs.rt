@@ -187,7 +187,7 @@ fn block_of(bytes: &[u8]) -> &[u8; BLOCK_BYTES]
     }
 }
 
-// The bytes of the corrected word; or zeros, and the word counts as bad.
+// The bytes of the corrected word. If a word cannot be corrected, its bytes are zeros and it counts as bad.
 fn recovered(word: &Word, bad: &mut u32) -> [u8; SYMBOLS_A_SLOT]
     ensures bytes { result ≡ entry_bytes (finding word.now) }
     ensures size { length result ≡ symbols_a_slot }
@@ -202,7 +202,7 @@ fn recovered(word: &Word, bad: &mut u32) -> [u8; SYMBOLS_A_SLOT]
     }
 }
 
-// A quick test whether each word is corrected to the idle pack.
+// Whether a quick test shows that each word is corrected to the idle pack.
 #[inline]
 fn are_near_idle(words: &ArrayVec<Word, SLOTS_A_BLOCK>) -> bool
     requires { IsCodeword idle_pack }
@@ -217,7 +217,7 @@ fn are_near_idle(words: &ArrayVec<Word, SLOTS_A_BLOCK>) -> bool
     true
 }
 
-// Writes zeros to the front of a buffer. The zeros of a whole block take a few steps.
+// Writes `count` zeros to the front of a buffer, and returns `count`.
 #[inline]
 fn put_zeros(place: &mut [u8], count: usize) -> usize
     requires { count ≤ length place.old }

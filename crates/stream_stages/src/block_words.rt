@@ -95,13 +95,13 @@ impl BlockWords {
         self.gather.reset();
     }
 
-    /// A quick test whether a block changes nothing and completes four idle words. It is inlined, so that a run of
-    /// blocks costs only one look at each byte.
+    /// Whether a quick test shows that a block changes nothing and completes four idle words. It is inlined,
+    /// so that a run of blocks reads each byte only once.
     #[inline(always)]
     pub fn stays_idle(&self, block: &[u8; BLOCK_BYTES]) -> bool
         ensures { result ≡ true → IdlesOn self.now block.now }
     {
-        // The test of the gatherer refuses most busy blocks at once.
+        // The gatherer's test comes first, since it rejects most busy blocks at once.
         if !self.gather.stays_idle(block) || self.lead_in > 0 {
             return false;
         }

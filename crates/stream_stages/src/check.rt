@@ -51,8 +51,8 @@ impl Checker {
     ///
     /// # Errors
     ///
-    /// `Torn`, `TooLong` and `ReadFault`, as the input causes them; nothing is written then. After `WriteFault` the
-    /// sink has a prefix of the text.
+    /// After `Torn`, `TooLong` or `ReadFault` nothing is written. After `WriteFault` the sink has a prefix of
+    /// the text.
     pub fn check<S: Source, K: Sink>(
         &mut self,
         lead_in: u32,

@@ -132,7 +132,7 @@ impl WordCounts {
         requires { IsCodeword idle_pack }
         ensures { self.new ≡ counts_next self.old words.now }
     {
-        // If no such word was counted, adding changes nothing.
+        // A count has 32 bits, so adding 0 to it changes nothing.
         counts_fit(self.idle);
         let mut near = NearIdle::none();
         for word in words.as_slice() {
@@ -168,7 +168,7 @@ impl WordCounts {
         }
     }
 
-    // Corrects a word and counts it. The idle pack is not near.
+    // Corrects and counts a word that is not near the idle pack.
     fn count_corrected(&mut self, word: &Word)
         ensures { self.new ≡ count_next self.old word.now }
     {

@@ -76,8 +76,8 @@ impl TextLister {
     ///
     /// # Errors
     ///
-    /// `Text` if the packs hold no texts or no memory is available for the texts; `Torn`, `TooLong` and `ReadFault`,
-    /// as the input causes them; nothing is written then. After `WriteFault` the sink has a prefix of the lines.
+    /// `Text` if the packs hold no texts, or if no memory is available for the texts. After `Text`, `Torn`,
+    /// `TooLong` or `ReadFault` nothing is written. After `WriteFault` the sink has a prefix of the lines.
     pub fn text_list<S: Source, K: Sink>(
         &mut self,
         alloc: Global,

@@ -59,7 +59,7 @@ impl Painting {
         self.screen.what_stands_is_whole();
     }
 
-    // Corrects and draws a word, if the number of packs allows it.
+    // Corrects and draws a word, if packs are still to be drawn.
     #[tactic(auto, unfolding(crate::specs::Drawn::draw_next))]
     fn draw(&mut self, word: &Word)
         ensures { self.new ≡ draw_next self.old word.now }

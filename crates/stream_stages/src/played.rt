@@ -27,11 +27,12 @@ use rw_code::each_word_has_one_finding;
 pub struct Played {
     /// The number of program blocks: all blocks after the lead-in.
     pub blocks: u32,
-    /// The number of words with no codeword within two symbols; some calls count something else, as they state.
+    /// The number of words with no codeword within two symbols. Some calls count something else, as their
+    /// comments say.
     pub bad: u32,
 }
 
-/// Why a call stopped before the end of a whole input.
+/// Why a call ended before it had done its work.
 #[derive(Clone, Copy, Debug, PartialEq, Eq)]
 pub enum PlayStop {
     /// A read failed.

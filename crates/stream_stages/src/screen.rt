@@ -56,8 +56,8 @@ impl Viewer {
     ///
     /// # Errors
     ///
-    /// `PastEnd` if the program has fewer than `at` blocks; `Torn`, `TooLong` and `ReadFault`, as the input causes
-    /// them; nothing is written then. After `WriteFault` the sink has a prefix of the picture.
+    /// `PastEnd` if the program has fewer than `at` blocks. After `PastEnd`, `Torn`, `TooLong` or `ReadFault`
+    /// nothing is written. After `WriteFault` the sink has a prefix of the picture.
     pub fn screen_at<S: Source, K: Sink>(
         &mut self,
         lead_in: u32,
@@ -137,7 +137,7 @@ impl Viewer {
         }
     }
 
-    // The result, if the program reaches the moment.
+    // The result, or `PastEnd` if the program ends before the moment.
     fn viewed(&self, pumped: Pumped, lead_in: u32, at: u32) -> Result<Played, PlayStop>
         ensures { result ≡ viewed (pumped.units - lead_in) at (painting_of self.now.views.blocks).bad }
     {

@@ -35,19 +35,19 @@ stream_slot bytes n = symbols_of (take symbols_a_slot (drop (symbols_a_slot * n)
 abbrev pub slots_before : List ℕ → ℕ → List (List ℕ)
 slots_before bytes n = map (stream_slot bytes) (below n)
 
--- what a gatherer holds after the first blocks
+-- the slots in a gatherer after the first b blocks
 abbrev pub gathered_before : List ℕ → ℕ → List (List ℕ)
 gathered_before bytes b = run_state gather_next [] (slots_before bytes (slots_a_block * b))
 
--- the words that come with block b
+-- the words that end with block b
 abbrev pub words_with_stream_block : List ℕ → ℕ → List (List ℕ)
 words_with_stream_block bytes b =
     run_gives gather_next gather_gives (gathered_before bytes b)
     (slots_in (stream_block bytes b) 0 slots_a_block)
 
--- ---- Words and pictures, where these symbols are damaged from those that carry these packs.
+-- ---- Words and pictures. The symbols `others` are damaged, and `symbols` carry the packs.
 
--- the first words were counted, and what their packs mean was carried out
+-- The first n words were counted, and the instructions of their packs were carried out.
 pub record AreTaken (symbols : List ℕ) (packs : List (List ℕ)) (others : List ℕ) (n : ℕ)
     (replay : Replay) : Type 0 where
   pub one : replay.one ≡ differing 1 n symbols others
@@ -57,24 +57,24 @@ pub record AreTaken (symbols : List ℕ) (packs : List (List ℕ)) (others : Lis
   pub meant : AreMeantBy (take n packs) instrs
   pub screen : replay.screen ≡ standing_after blank instrs
 
--- every picture that was ready after n slots was shown, and the next one is not ready yet
+-- Every picture that was ready after n slots was shown, and the next one is not ready yet.
 pub record AreCompared (script : List Drawing) (n : ℕ) (gallery : Gallery) : Type 0 where
   pub equal : gallery.equal ≡ gallery.next
   pub later : gallery.next < pictures script → n < slots_a_block * ready_time script gallery.next
 
--- both, after n slots
+-- `AreTaken` and `AreCompared` hold after n slots.
 pub record AreTakenAndCompared (script : List Drawing) (symbols : List ℕ) (packs : List (List ℕ))
     (others : List ℕ) (n : ℕ) (replay : Replay) (gallery : Gallery) : Type 0 where
   pub taken : AreTaken symbols packs others (whole_of_slots n) replay
   pub compared : AreCompared script n gallery
 
--- n words of a stream were read; the stream differs by such damage from any schedule of the script
+-- n words of a stream were played, if this stream is a damaged schedule of the script.
 abbrev pub HasTaken : List Drawing → List ℕ → ℕ → Replay → Type 0
 HasTaken script bytes n replay = (symbols : List ℕ) (packs : List (List ℕ))
     → IsDamagedSchedule script (length bytes / block_bytes) symbols packs (symbols_of bytes)
     → AreTaken symbols packs (symbols_of bytes) n replay
 
--- b blocks of the stream were played
+-- b blocks of a stream were played, if this stream is a damaged schedule of the script.
 abbrev pub HasShown : List Drawing → List ℕ → ℕ → Replay → Gallery → Type 0
 HasShown script bytes b replay gallery = (symbols : List ℕ) (packs : List (List ℕ))
     → IsDamagedSchedule script (length bytes / block_bytes) symbols packs (symbols_of bytes)
@@ -82,7 +82,7 @@ HasShown script bytes b replay gallery = (symbols : List ℕ) (packs : List (Lis
 
 -- ---- The course of a trial.
 
--- the course has gone over the first blocks of a stream, with the scratches of a seed
+-- The course has processed the first blocks of a stream, with the scratches of a seed.
 pub record HasGoneOver (script : List Drawing) (seed : ℕ) (bytes : List ℕ) (course : Course) : Type 0 where
   pub scratches : course.scratches ≡ scratches_after seed bytes course.blocks
   pub gather : course.gather ≡ gathered_before (scratched 0 seed bytes) course.blocks

@@ -35,8 +35,8 @@ trial_blocks count = pause_blocks + trial_audio count
 unfoldable pub all_changes : List Drawing → ℕ
 all_changes script = sum_by (λ k. length (planned_change script k)) (below (pictures script))
 
--- The text of a trial: from the stream of the generated script and the same stream with scratches, where no word is
--- bad and every picture is shown when it is ready.
+-- This is the text of a trial, made from the stream of the generated script and the same stream with scratches. No word is
+-- bad, and every picture is shown when it is ready.
 pub record IsTrial (seed count : ℕ) (text : List ℕ) : Type 0 where
   pub sheet : CueSheet
   pub sheet_is : read_cue trial_text ≡ Ok sheet
@@ -52,7 +52,7 @@ pub record IsTrial (seed count : ℕ) (text : List ℕ) : Type 0 where
       text ≡ input_lines seed count (trial_blocks count) number (all_changes script)
       ++ output_lines (differing 1 number symbols others) (differing 2 number symbols others) 0 count
 
--- The output of a call that writes the lines of a trial, for an output that reveals its bytes and its faults.
+-- This is the output of a call that writes the lines of a trial, for an output that reveals its bytes and its faults.
 pub record WritesTrial {T K : Type 0} (held : K → Bytes) (faults : K → ℕ) (seed count : ℕ) (before after : K)
     (result : Result T TrialStop) : Type 0 where
   -- the lines were written

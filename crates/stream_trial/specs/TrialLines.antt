@@ -6,14 +6,14 @@ use Rattle.bit_lists.specs.Digits.{line_feed}
 unfoldable pub trial_count_line : List ℕ → ℕ → List ℕ
 trial_count_line name n = name ++ codes " " ++ decimal n ++ line_feed
 
--- the lines on what was made
+-- the lines on the script and the stream
 unfoldable pub input_lines : ℕ → ℕ → ℕ → ℕ → ℕ → List ℕ
 input_lines seed count blocks packs changes =
     trial_count_line (codes "seed") seed ++ (trial_count_line (codes "pictures") count
     ++ (trial_count_line (codes "blocks") blocks
     ++ (trial_count_line (codes "packs") packs ++ trial_count_line (codes "changes") changes)))
 
--- the lines on what was found
+-- the lines on the results
 unfoldable pub output_lines : ℕ → ℕ → ℕ → ℕ → List ℕ
 output_lines one two bad equal =
     trial_count_line (codes "one") one

@@ -8,7 +8,7 @@ use cdg_instructions::{SCREEN_HEIGHT, SCREEN_WIDTH, TILE_HEIGHT, TILE_WIDTH};
 use cdg_screen::Screen;
 use picture_script::Canvas;
 
-// The first column and row of the window, and the first past it.
+// The first column and row of the window, and the first column and row after it.
 const LEFT: u32 = TILE_WIDTH as u32;
 
 const RIGHT: u32 = SCREEN_WIDTH as u32 - LEFT;

@@ -37,7 +37,7 @@ impl Course {
             → HasGoneOver script seed bytes course) }
         ensures counted { HasCause heap.old heap.new result }
     {
-        // For the scratches: before the first block.
+        // A law on the scratches before the first block.
         scratches_go_block_by_block();
         Ok(Course {
             scratches: Scratches::start(0, seed),
@@ -59,7 +59,8 @@ impl Course {
             → block.now ≡ stream_block bytes self.old.blocks
             → HasGoneOver script.now seed bytes self.old → HasGoneOver script.now seed bytes self.new }
     {
-        // For the block with scratches, the words that come with it, and the picture that is shown when it is ready.
+        // Laws on the block with scratches, the words that end with it, and the picture that is shown when it
+        // is ready.
         scratches_go_block_by_block();
         scratches_are_bursts();
         gather_gives_words();

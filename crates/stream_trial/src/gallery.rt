@@ -21,7 +21,7 @@ pub(crate) struct Gallery {
 }
 
 impl Gallery {
-    /// Before the first picture.
+    /// A gallery before the first picture.
     pub(crate) fn start(heap: &mut Heap) -> Result<Gallery, AllocError>
         ensures canvas { IfOk result
             (λ gallery. (script : List Drawing) → StandsBefore script 0 gallery.canvas) }

@@ -15,10 +15,10 @@ use cue_sheet::{CueStop, Sheet};
 use picture_script::{Script, ScriptStop};
 use subcode_author::Heap;
 
-// The most bytes of the lines of colours in a generated script.
+// The maximum number of bytes in the lines of colours of a generated script.
 const COLOURS_BYTES: usize = 230;
 
-// The most bytes of the lines of each picture.
+// The maximum number of bytes in the lines of each picture.
 const PICTURE_BYTES: usize = 95;
 
 const SHEET: &[u8] = b"\
@@ -32,7 +32,7 @@ pub(crate) fn parse_script(heap: &mut Heap, seed: u64, pictures: u32) -> Result<
     ensures err { IfErr result (λ stop. stop ≡ NoMemory) }
     ensures counted { HasCause heap.old heap.new result }
 {
-    // For the grammar, which refuses no generated script, and for the length of its text.
+    // Laws: the grammar accepts every generated script, and its text is short.
     generated_scripts_are_read();
     generated_scripts_are_short();
     let room = COLOURS_BYTES + PICTURE_BYTES * pictures as usize + 1;
@@ -45,7 +45,8 @@ pub(crate) fn parse_script(heap: &mut Heap, seed: u64, pictures: u32) -> Result<
     }
 }
 
-// Writes the generated script of a seed to an empty text. There is more room than the script takes, so no write fails.
+// Writes the generated script of a seed to an empty text. The text has more room than the script needs, so no
+// write fails.
 fn write_text(seed: u64, pictures: u32, text: &mut ScriptText)
     requires few { (1 ≤ pictures) × (pictures ≤ most_generated) }
     requires empty { text.old.sink.held ≡ [] }
@@ -63,7 +64,7 @@ pub(crate) fn parse_sheet(heap: &mut Heap) -> Result<Sheet, TrialStop>
     ensures err { IfErr result (λ stop. stop ≡ NoMemory) }
     ensures counted { HasCause heap.old heap.new result }
 {
-    // For the grammar, which does not refuse the sheet.
+    // A law: the grammar accepts the sheet.
     trial_sheet_is_read();
     match heap.sheet(SHEET) {
         Ok(sheet) => Ok(sheet),

@@ -27,7 +27,7 @@ pub(crate) fn plan_changes(
     ensures err { IfErr result (λ stop. stop ≡ NoMemory) }
     ensures counted { HasCause heap.old heap.new result }
 {
-    // For the survey, which refuses no generated script.
+    // A law: the survey refuses no generated script.
     generated_scripts_are_ready();
     let room = heap.asked(|alloc| SurveyRoom::start(alloc, script.pictures()))?;
     match survey_in(room, script, blocks) {

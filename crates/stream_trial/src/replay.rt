@@ -53,7 +53,7 @@ impl Replay {
             → HasTaken script bytes (whole_packs b) self.old
             → HasTaken script bytes (whole_packs (b + 1)) self.new }
     {
-        // For the places of the words in the stream, and the screen after each.
+        // Laws on the places of the words in the stream, and on the screen after each word.
         gather_gives_words();
         instructions_in_turn();
         for j in 0..words.len() {
@@ -69,7 +69,7 @@ impl Replay {
         ensures far { ((codeword : List ℕ) → ¬ Reads word.now codeword) → TakesBad self.old self.new }
         ensures more { (most : ℕ) → IsBelow most self.old → IsBelow (most + 1) self.new }
     {
-        // For the codeword that is near.
+        // A law: at most one codeword is near a word.
         only_one_codeword_is_near();
         match correct(word) {
             Some(fixed) => {

@@ -80,7 +80,7 @@ impl<'a> TrialRun<'a> {
             → IsDamagedSchedule script (length others / block_bytes) symbols packs (symbols_of others)
             → IsPlayedOut script (length others / block_bytes) symbols (symbols_of others) result }
     {
-        // For the size of the stream with scratches.
+        // A law on the size of the stream with scratches.
         scratches_are_bursts();
         // A law: the pictures of a script are in order.
         self.script.times_rise_and_colours_are_in_range();

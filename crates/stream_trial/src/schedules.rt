@@ -17,8 +17,9 @@ use cdg_workload::generated_scripts_have_times;
 use pack_schedule::{Stop, needs_are_fewest, planned_changes_are_changes};
 use subcode_author::AuthorStop;
 
-/// A law: each picture of a generated script is ready in time, since at least 3,120 packs are free for it, so a
-/// survey refuses none in a program that lasts until the last one's hold time, and that program holds them all.
+/// A law: each picture of a generated script is ready in time, since at least 3,120 packs are free for it. A
+/// program that lasts until the hold time of the last picture holds all pictures, so a survey refuses none of
+/// them.
 pub fn generated_scripts_are_ready()
     ensures pixels { (seed count k x y : ℕ) → picture_pixel (generated_drawings seed count) k x y < 16 }
     ensures free { (seed count k : ℕ) → k < count → 3120 ≤ free_packs (generated_drawings seed count) k }
@@ -33,8 +34,8 @@ pub fn generated_scripts_are_ready()
     needs_are_fewest();
 }
 
-/// A law: a generated script is authored with each sheet that has a layout for this length, and room for its texts in
-/// the lead-in.
+/// A law: a generated script is authored with each sheet that has a layout for this length, if the lead-in
+/// has room for the texts of the sheet.
 pub fn generated_scripts_are_authored()
     ensures accepted { (sheet : CueSheet) (seed count lead_in audio : ℕ) → HasLayout sheet audio
         → 800 * count + 20 ≤ program_blocks sheet audio → HasRoom sheet lead_in
@@ -49,9 +50,9 @@ pub fn generated_scripts_are_authored()
     generated_scripts_have_times();
 }
 
-/// A law: the text of the sheet of a trial is read as this sheet, which lies on a disc of two seconds and the audio,
-/// so each generated script is written with it and no lead-in where the audio lasts until the last picture's hold
-/// time.
+/// A law: the text of the sheet of a trial is read as this sheet, and its disc has two seconds and the audio.
+/// So each generated script is authored with this sheet and no lead-in, if the audio lasts until the hold
+/// time of the last picture.
 pub fn trial_sheet_is_read()
     ensures read { read_cue trial_text ≡ Ok trial_sheet }
     ensures need { audio_need trial_sheet ≡ 1 }

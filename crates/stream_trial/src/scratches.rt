@@ -1,4 +1,4 @@
-// What scratches leave of an authored stream.
+// Authored streams with scratches.
 ghost use Rattle.std.specs.Prelude.{◌≡◌, ◌<◌, List, [], Option, Some, ℕ, length, map, slice_index_or};
 ghost use Rattle.raw_subcode.specs.Channels.{program_symbols};
 ghost use Rattle.rw_code.specs.Codeword.{Reads, differences};
@@ -15,7 +15,7 @@ use raw_subcode::Form;
 use rw_code::only_one_codeword_is_near;
 use rw_interleave::packs_are_recovered;
 
-/// A law: from an authored stream with scratches every pack is recovered.
+/// A law: every pack of an authored stream is recovered from the stream with scratches.
 pub fn scratched_streams_are_recovered()
     ensures size { (lead_in seed : ℕ) (bytes : List ℕ)
         → length (scratched lead_in seed bytes) ≡ length bytes }
@@ -35,8 +35,8 @@ pub fn scratched_streams_are_recovered()
     packs_are_recovered();
 }
 
-/// A law: each word of an authored stream with scratches is near its pack and near no other codeword, and it has as
-/// many wrong symbols as differ between the two streams.
+/// A law: each word of an authored stream with scratches is near its pack and near no other codeword. The
+/// number of its wrong symbols is the number of its symbols in which the two streams differ.
 pub fn scratched_words_are_near()
     ensures reads { (sheet : CueSheet) (script : List Drawing) (lead_in audio seed : ℕ) (bytes : List ℕ)
         (packs : List (List ℕ)) (n : ℕ)

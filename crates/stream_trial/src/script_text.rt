@@ -33,7 +33,7 @@ impl ScriptText {
 }
 
 impl Sink for ScriptText {
-    // How much room there is, which stays, and then the text.
+    // The size of the room, which never changes, and then the text.
     ghost held = { λ s. Some (s.sink.room ∷ s.sink.held) };
 
     ghost faults = { λ s. s.sink.faults };

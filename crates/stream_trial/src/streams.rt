@@ -44,7 +44,7 @@ pub(crate) fn play_stream(
     ensures err { IfErr result (λ stop. stop ≡ NoMemory) }
     ensures counted { HasCause heap.old heap.new result }
 {
-    // For what scratches leave of the stream, and the sheet that it is written with.
+    // Laws on the damage by scratches, and on the sheet of the stream.
     scratches_are_bursts();
     scratches_are_damage();
     trial_sheet_is_read();
@@ -73,7 +73,7 @@ fn write_stream(
     ensures err { IfErr result (λ stop. stop ≡ NoMemory) }
     ensures counted { HasCause heap.old heap.new result }
 {
-    // For the author, which refuses neither the sheet nor the script.
+    // A law: the author refuses neither the sheet nor the script.
     trial_sheet_is_read();
     let sheet = parse_sheet(heap)?;
     let written = author_run(heap, &sheet, script, planned, pictures, run);
@@ -85,7 +85,8 @@ fn write_stream(
     }
 }
 
-// The same with a given sheet. A run accepts more blocks than the stream has, so no write fails.
+// Writes the stream of a sheet and a generated script to a run. The run accepts more blocks than the stream
+// has, so no write fails.
 fn author_run(
     heap: &mut Heap,
     sheet: &Sheet,
@@ -107,7 +108,8 @@ fn author_run(
     ensures stop { IfErr result (λ stop. stop ≡ AuthorStop.NoMemory) }
     ensures wants { TellsFault AuthorStop.NoMemory heap.old heap.new result }
 {
-    // For the author, which refuses neither, and for what a failed write would leave.
+    // Laws: the author refuses neither the sheet nor the script, and a failed write leaves a prefix of the
+    // stream.
     trial_sheet_is_read();
     accepted_scripts_have_streams();
     sheet.tracks_are_in_order();
@@ -116,7 +118,7 @@ fn author_run(
     author_planned(heap, sheet, script, planned, 0, audio, run)
 }
 
-/// How many blocks the audio has.
+/// The number of blocks of audio.
 pub(crate) fn count_audio(pictures: u32) -> u32
     requires { pictures ≤ most_generated }
     ensures { result ≡ trial_audio pictures }
@@ -124,7 +126,7 @@ pub(crate) fn count_audio(pictures: u32) -> u32
     BLOCKS_A_PICTURE * pictures + BLOCKS_HELD
 }
 
-/// How many blocks the program has: a pause comes before the audio.
+/// The number of program blocks: a pause comes before the audio.
 pub(crate) fn count_blocks(pictures: u32) -> u32
     requires { pictures ≤ most_generated }
     ensures { result ≡ trial_blocks pictures }

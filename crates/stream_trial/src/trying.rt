@@ -17,7 +17,7 @@ use rw_interleave::whole_packs;
 use std::alloc::AllocError;
 use subcode_author::Heap;
 
-/// Why the lines of a trial were not written, or not whole.
+/// Why the lines of a trial were not written, or only in part.
 #[derive(Clone, Copy, PartialEq, Eq, Debug)]
 pub enum TrialStop {
     /// A write failed.
@@ -46,11 +46,13 @@ impl From<Failed> for TrialStop {
     }
 }
 
-/// Writes the stream of the generated script of a seed, scratches it with the same seed, corrects and plays it, and
-/// compares the screen with each picture when it is ready. Then writes nine lines: `seed`, `pictures`, `blocks`,
-/// `packs`, `changes` (the instructions of all changes), `one` and `two` (the words corrected in one symbol and in
-/// two), `bad` (the words with no codeword near) and `equal` (the pictures that stood on the screen), each with its
-/// number. There are 1 to 500 pictures. The stream has 800 blocks a picture and 170 more. It is never held: each of its
+/// Writes the stream of the generated script of a seed, scratches it with the same seed, corrects and plays
+/// it, and compares the screen with each picture when it is ready. Then writes nine lines, each with its
+/// number: `seed`, `pictures`, `blocks`, `packs`, `changes` (the instructions of all changes), `one` and
+/// `two` (the words corrected in one symbol and in two), `bad` (the words with no codeword near) and `equal`
+/// (the pictures that the screen showed in time). There are 1 to 500 pictures. The stream has 800 blocks a
+/// picture and 170 more. It is never stored: each block is scratched, corrected and played as soon as it is
+/// written.
 /// blocks is scratched, corrected and played as soon as it is written.
 ///
 /// # Errors
@@ -75,14 +77,14 @@ pub fn trial<K: Sink>(
     }
 }
 
-// What the lines of a trial say.
+// The report of a trial.
 fn make_report(heap: &mut Heap, seed: u64, pictures: u32) -> Result<Report, TrialStop>
     requires { (1 ≤ pictures) × (pictures ≤ most_generated) }
     ensures report { IfOk result (λ report. IsTrial seed pictures (told report)) }
     ensures err { IfErr result (λ stop. stop ≡ NoMemory) }
     ensures counted { HasCause heap.old heap.new result }
 {
-    // The contents of the generated script and of the sheet.
+    // Laws on the contents of the generated script and of the sheet.
     generated_scripts_are_read();
     generated_scripts_have_times();
     trial_sheet_is_read();

@@ -48,12 +48,12 @@ stream_bytes layout texts lead_in blocks symbols =
     flat_map (lead_in_block layout texts lead_in) (below lead_in)
     ++ flat_map (program_block layout symbols) (below blocks)
 
--- a block with this P bit in all its bytes and this frame
+-- The block has this P bit in each byte, and this frame.
 pub record HasChannels (block : List ℕ) (paused : Bool) (frame : QFrame) : Type 0 where
   pub p : p_bits block ≡ replicate block_bytes paused
   pub q : IsFrame frame (q_bits block)
 
--- a block of 96 bytes with these channels and these symbols
+-- The list is a block of 96 bytes with this P bit, this frame and these symbols.
 pub record IsBuilt (block : List ℕ) (paused : Bool) (frame : QFrame) (symbols : List ℕ) : Type 0 where
   pub size : length block ≡ block_bytes
   pub are_bytes : All (λ byte. byte < 256) block

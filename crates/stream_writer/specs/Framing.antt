@@ -12,7 +12,8 @@ use Rattle.stream_writer.specs.Blocks.{HasChannels}
 abbrev pub raw_block : List ℕ → ℕ → List ℕ
 raw_block bytes n = slice_index_or (blocks_of Raw bytes) n []
 
--- the program of a disc with its P bits and frames, after a lead-in with its table of contents and these text packs
+-- The bytes are a lead-in with the table of contents and these text packs, followed by the program of a disc with its P
+-- bits and frames.
 pub record HasFraming (layout : DiscLayout) (packs : List (List ℕ)) (lead_in : ℕ)
     (bytes : List ℕ) : Type 0 where
   pub size : length bytes ≡ block_bytes * (lead_in + layout.blocks)

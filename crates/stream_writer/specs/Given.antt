@@ -22,21 +22,21 @@ use Rattle.stream_writer.specs.Framing.{HasFraming}
 abbrev pub symbols_from : List (List ℕ) → List (List ℕ) → List ℕ
 symbols_from before packs = concat (run_gives spread_next spread_gives before packs)
 
--- the packs after the first ones
+-- The packs of `Later` are those of `Comes` after the first `many` packs.
 abbrev pub ComesLater : (ℕ → List ℕ → Type 0) → ℕ → (ℕ → List ℕ → Type 0) → Type 0
 ComesLater Comes many Later = (n : ℕ) (pack : List ℕ) → Later n pack → Comes (many + n) pack
 
--- exactly the packs of the first blocks were read
+-- Exactly the packs of the first `blocks` blocks were read.
 abbrev pub ComesAfterBlocks : (ℕ → List ℕ → Type 0) → ℕ → (ℕ → List ℕ → Type 0) → Type 0
 ComesAfterBlocks Comes blocks Later = ComesLater Comes (slots_a_block * blocks) Later
 
--- these are the next packs, from this number on
+-- These are the next `many` packs, from number `first` on.
 pub record AreGiven (Comes : ℕ → List ℕ → Type 0) (first many : ℕ) (packs : List (List ℕ)) : Type 0 where
   pub count : length packs ≡ many
   pub each : (k : ℕ) → k < many → Comes (first + k) (slice_index_or packs k [])
   pub codewords : All IsCodeword packs
 
--- the slot for one more pack, and the unfinished packs of the spreader before and after it
+-- The slot is written for one more pack. `before` and `after` are the unfinished packs of the spreader.
 pub record TakesPack (Comes : ℕ → List ℕ → Type 0) (before after : List (List ℕ))
     (slot pack : List ℕ) : Type 0 where
   pub comes : Comes 0 pack
@@ -44,20 +44,20 @@ pub record TakesPack (Comes : ℕ → List ℕ → Type 0) (before after : List 
   pub after_is : after ≡ spread_next before pack
   pub slot_is : Some slot ≡ spread_gives before pack
 
--- the last unfinished packs of the spreader are idle, this many of them
+-- The last `quiet` of the unfinished packs of the spreader are idle.
 pub record AreQuiet (packs : List (List ℕ)) (quiet : ℕ) : Type 0 where
   pub few : length packs ≤ packs_kept_back
   pub before : List (List ℕ)
   pub idle : packs ≡ before ++ replicate quiet idle_pack
 
--- the symbols for some packs, and the unfinished packs of the spreader before and after them
+-- The symbols are written for these packs. `waiting` has the unfinished packs of the spreader before and after them.
 pub record TakesPacks (Comes : ℕ → List ℕ → Type 0) (many : ℕ) (waiting : Change (List (List ℕ)))
     (symbols : List ℕ) (packs : List (List ℕ)) : Type 0 where
   pub given_are : AreGiven Comes 0 many packs
   pub symbols_are : symbols ≡ symbols_from waiting.before packs
   pub after_is : waiting.after ≡ run_state spread_next waiting.before packs
 
--- program blocks with these packs were written
+-- Program blocks with these packs were written.
 pub record PutsProgram (layout : DiscLayout) (Comes : ℕ → List ℕ → Type 0) (blocks : ℕ)
     (held : Change Bytes) (packs : List (List ℕ)) : Type 0 where
   pub given_are : AreGiven Comes 0 (slots_a_block * blocks) packs
@@ -67,7 +67,7 @@ pub record PutsProgram (layout : DiscLayout) (Comes : ℕ → List ℕ → Type 
       → IsBuilt (program_block layout (symbols_from [] packs) b) (p_bit layout b) (program_frame layout b)
       (symbols_at (symbols_from [] packs) b)
 
--- a prefix of the first program blocks with these packs was written; it ends inside the last of them
+-- A prefix of the first program blocks with these packs was written. It ends inside the last of them.
 pub record PutsPart (layout : DiscLayout) (Comes : ℕ → List ℕ → Type 0) (held : Change Bytes) (n : ℕ)
     (packs : List (List ℕ)) : Type 0 where
   pub within : n ≤ layout.blocks
@@ -93,7 +93,7 @@ framing_of layout texts lead_in = record { layout = layout; texts = texts; lead_
 abbrev pub framed_bytes : Framing → ℕ → List (List ℕ) → List ℕ
 framed_bytes around n packs = stream_bytes around.layout around.texts around.lead_in n (symbols_from [] packs)
 
--- a stream with these packs was written
+-- A stream with these packs was written.
 pub record PutsStream (around : Framing) (Comes : ℕ → List ℕ → Type 0) (held : Change Bytes)
     (packs : List (List ℕ)) : Type 0 where
   pub given_are : AreGiven Comes 0 (slots_a_block * around.layout.blocks) packs
@@ -103,7 +103,7 @@ pub record PutsStream (around : Framing) (Comes : ℕ → List ℕ → Type 0) (
   pub symbols_are : program_symbols Raw (framed_bytes around around.layout.blocks packs) around.lead_in
       ≡ symbols_from [] packs
 
--- a prefix of the lead-in and the first program blocks with these packs was written; it ends inside the last of them
+-- A prefix of the lead-in and the first program blocks with these packs was written. It ends inside the last of them.
 pub record PutsStreamPart (around : Framing) (Comes : ℕ → List ℕ → Type 0) (held : Change Bytes) (n : ℕ)
     (packs : List (List ℕ)) : Type 0 where
   pub within : n ≤ around.layout.blocks
@@ -113,7 +113,7 @@ pub record PutsStreamPart (around : Framing) (Comes : ℕ → List ℕ → Type 
   pub in_turn : (m : ℕ) → n ≡ m + 1
       → AppendsBetween held.before held.after (framed_bytes around m packs) (framed_bytes around n packs)
 
--- the bytes have this framing, and their program carries these packs of the source
+-- The bytes have this framing, and their program carries these packs of the source.
 pub record CarriesComing (around : Framing) (Comes : ℕ → List ℕ → Type 0) (bytes : List ℕ)
     (packs : List (List ℕ)) : Type 0 where
   pub given_are : AreGiven Comes 0 (whole_packs around.layout.blocks) packs

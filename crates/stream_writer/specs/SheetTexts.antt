@@ -7,7 +7,7 @@ use Rattle.cdtext_packs.specs.Texts.{Texts, unless_empty}
 use Rattle.cdtext_packs.specs.declared.kinds.TextKind.{TextKind}
 use Rattle.cdtext_packs.specs.declared.kinds.TextKind.TheVariants as kind
 
--- for the album and each track in order
+-- a string for the album and for each track, in order
 abbrev pub for_each : CueSheet → (ℕ → List ℕ) → List (List ℕ)
 for_each sheet string = map string (below (length sheet.tracks + 1))
 

@@ -5,7 +5,7 @@ use Rattle.stream_writer.specs.Needs.{IsLeadInShort, IsTextTooLong}
 use Rattle.stream_writer.specs.declared.sheet_texts.LeadInStop.{LeadInStop}
 use Rattle.stream_writer.specs.declared.sheet_texts.LeadInStop.TheVariants.{TextTooLong, LeadInShort}
 
--- each refusal and its cause
+-- This is the reason why a lead-in is too short.
 abbrev pub IsLeadInRefusal : CueSheet → ℕ → LeadInStop → Type 0
 IsLeadInRefusal sheet lead_in (TextTooLong packs) = IsTextTooLong sheet lead_in packs
 IsLeadInRefusal sheet lead_in (LeadInShort need) = IsLeadInShort sheet lead_in need

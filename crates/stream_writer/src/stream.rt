@@ -30,8 +30,9 @@ use toc_model::Layout;
 // After this many idle packs, another idle pack adds only zeros and does not change the spreader.
 const ALL_QUIET: u8 = PACKS_KEPT_BACK as u8;
 
-// Writes the symbols of the next block over zeros. The block takes four more packs from the source. `quiet` counts the
-// idle packs at the end of those taken before. It is inlined, since most blocks are quiet.
+// Writes the symbols of the next block over zeros. It reads four more packs from the source. `quiet` is the
+// number of idle packs since the last other pack, at most seven. The function is inlined, since most blocks
+// are idle.
 #[inline(always)]
 pub(crate) fn next_symbols<P: PackSource>(
     source: &mut P,
@@ -53,7 +54,7 @@ pub(crate) fn next_symbols<P: PackSource>(
     put_slots(source, spread, quiet, symbols);
 }
 
-// The same for a block that is not skipped.
+// Writes the symbols of the next block over zeros, if the source did not skip its packs.
 fn put_slots<P: PackSource>(
     source: &mut P,
     spread: &mut Spread,
@@ -75,7 +76,7 @@ fn put_slots<P: PackSource>(
     }
 }
 
-// Writes the symbols of the next slot over zeros. The slot takes one more pack from the source.
+// Writes the symbols of the next slot over zeros. It reads one more pack from the source.
 fn next_slot<P: PackSource>(source: &mut P, spread: &mut Spread, quiet: &mut u8, slot: &mut [u8])
     requires quiet { AreQuiet spread.old quiet.old }
     requires zeros { slot.old ≡ replicate symbols_a_slot 0 }

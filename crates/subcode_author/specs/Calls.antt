@@ -18,20 +18,20 @@ pub record WritesDisc {T K : Type 0} (held : K → Bytes) (faults : K → ℕ) (
   -- the authored stream with the planned changes was written
   pub authored : OnOk result ((bytes : List ℕ) × (packs : List (List ℕ)) × IsWrittenStream disc bytes packs
       × Appends (held before) (held after) bytes)
-  -- none was written, and then nothing was, unless a write failed
+  -- no stream was written: then nothing was written, unless a write failed
   pub untouched : IfErr result (λ stop. stop ≢ WriteFault → after ≡ before)
   pub write_fault : TellsFault WriteFault (faults before) (faults after) result
   -- a write failed, and a prefix of the lead-in and of program blocks with packs of the script was written
   pub part : result ≡ Err WriteFault
       → (n : ℕ) × (packs : List (List ℕ)) × PutsScriptPart disc (held before) (held after) n packs
 
--- The result of a call that writes the authored stream of any disc.
+-- This is the result of a call that writes the authored stream of a disc.
 pub record AnswersDisc {T : Type 0} (disc : Disc) (result : Result T AuthorStop) : Type 0 where
   pub accepted : OnOk result (IsAccepted disc.sheet disc.script disc.lead_in disc.audio)
-  -- what is sent for each picture is a change for it: no list without scrolls that brings it is shorter
+  -- the instructions that are sent for each picture are a change for it: no shorter list without scrolls shows it
   pub fewest : OnOk result ((k : ℕ) → k < pictures disc.script
       → IsChange disc.script k (planned_change disc.script k))
-  -- why no stream was written
+  -- the reason why no stream was written
   pub stop : IfErr result (IsAuthorStop disc.sheet disc.script disc.lead_in disc.audio)
   -- a late picture cannot be ready, whatever instructions without scrolls are sent
   pub late : (picture need free : ℕ) → result ≡ Err (Late picture need free)

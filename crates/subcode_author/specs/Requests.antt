@@ -4,7 +4,7 @@ use denote.Param.Members.{Once}
 use denote.Ref.{MutBor}
 use Rattle.std.specs.Global.{Global}
 
--- a call of f with the allocator, at a `&mut` to x and one to y, may return r and leave these values there
+-- A call of f with the allocator, a `&mut` to x and a `&mut` to y may return r and change x to x' and y to y'.
 pub record ReturnsWith {F X Y R : Type 0}
     (g : Once F (Global × (MutBor X × (MutBor Y × Unit {0}))) (R × (MutBor X × (MutBor Y × Unit {0}))))
     (f : F) (x : X) (y : Y) (r : R) (x' : X) (y' : Y) : Type 0 where

@@ -50,7 +50,7 @@ pub(crate) fn plan_script(
     Ok(planned)
 }
 
-/// Everything that `write_stream` needs, allocated.
+/// The inputs of `write_stream`, which need allocated memory.
 #[derive(Drop)]
 struct StreamInputs<'a> {
     layout: Layout,
@@ -126,7 +126,8 @@ fn allocate_inputs<'a>(
 ///
 /// # Errors
 ///
-/// Those of `author_stream` except `Late`, `WriteFault` and `NoMemory`, in the same order. It allocates nothing.
+/// The errors of `author_stream` except `Late`, `WriteFault` and `NoMemory`, in the same order. It allocates
+/// nothing.
 pub fn accept_disc(
     sheet: &Sheet,
     script: &Script,
@@ -237,7 +238,7 @@ pub fn author_stream<K: Sink>(
     author_in(&mut Heap::new(alloc), sheet, script, lead_in, length, out)
 }
 
-/// The same as `author_stream`, with a heap that counts failed requests.
+/// Writes the subcode of a disc like `author_stream`, with a heap that counts failed requests.
 pub fn author_in<K: Sink>(
     heap: &mut Heap,
     sheet: &Sheet,

@@ -111,7 +111,8 @@ impl Heap {
         answer
     }
 
-    /// The same for a call that changes two values, for example an input and an output.
+    /// Makes a call that requests memory and changes two values, for example an input and an output. Counts a
+    /// failed request.
     pub fn asked_with<X, Y, T, E: MemoryStop, F: FnOnce(Global, &mut X, &mut Y) -> Result<T, E>>(
         &mut self,
         first: &mut X,

@@ -82,9 +82,9 @@ pub fn accepted_scripts_have_streams()
     spread_carries();
 }
 
-/// A law: each sheet and script, with their lead-in and audio, are accepted or refused, and not both, and they are
-/// refused for one reason alone, with one set of numbers. So `author_stream` answers a refusal exactly where its
-/// reason holds, but for want of memory.
+/// A law: a sheet and a script, with their lead-in and audio, are either accepted or refused, for exactly one
+/// reason with one set of numbers. So, unless memory runs out, `author_stream` returns a refusal if and only
+/// if its reason applies.
 pub fn each_disc_has_one_answer()
     ensures some { (sheet : CueSheet) (script : List Drawing) (lead_in audio : ℕ) → AreColoursInRange script
         → ((k x y : ℕ) → picture_pixel script k x y < 16)

@@ -10,15 +10,15 @@ use toc_model::LayoutStop;
 /// The reason why a stream was not written, or only a part of it.
 #[derive(Clone, Copy, PartialEq, Eq, Debug)]
 pub enum AuthorStop {
-    /// The audio is too short: the index lines need so many blocks.
+    /// The audio is too short: the index lines need this many blocks.
     LengthShort { need: u32 },
-    /// The program would have so many blocks.
+    /// The program would have this many blocks.
     DiscTooLong { blocks: u32 },
     /// The last picture is held for longer than these program blocks.
     PastEnd { blocks: u32 },
-    /// The texts need so many packs, and 256 are the most.
+    /// The texts need this many packs, and the maximum is 256.
     TextTooLong { packs: u32 },
-    /// The lead-in needs so many blocks.
+    /// The lead-in needs this many blocks.
     LeadInShort { need: u32 },
     /// The first picture that cannot be ready, the packs that it needs, and the packs that are free for it.
     Late { picture: u32, need: u32, free: u32 },

@@ -83,8 +83,8 @@ impl Player {
     ///
     /// # Errors
     ///
-    /// `PastEnd` if the program has fewer than `at` blocks; `Torn`, `TooLong` and `ReadFault`, as the input causes
-    /// them; nothing is written then. After `WriteFault` the sink has a prefix of the picture.
+    /// `PastEnd` if the program has fewer than `at` blocks. After `PastEnd`, `Torn`, `TooLong` or `ReadFault`
+    /// nothing is written. After `WriteFault` the sink has a prefix of the picture.
     pub fn screen_at<S: Source, K: Sink>(
         &mut self,
         lead_in: u32,
@@ -127,8 +127,8 @@ impl Player {
     ///
     /// # Errors
     ///
-    /// `Torn`, `TooLong` and `ReadFault`, as the input causes them; nothing is written then. After `WriteFault` the
-    /// sink has a prefix of the text.
+    /// After `Torn`, `TooLong` or `ReadFault` nothing is written. After `WriteFault` the sink has a prefix of
+    /// the text.
     pub fn check<S: Source, K: Sink>(
         &mut self,
         lead_in: u32,
@@ -168,8 +168,8 @@ impl Player {
     ///
     /// # Errors
     ///
-    /// `Text` if the packs hold no texts or no memory is available for the texts; `Torn`, `TooLong` and `ReadFault`,
-    /// as the input causes them; nothing is written then. After `WriteFault` the sink has a prefix of the lines.
+    /// `Text` if the packs hold no texts, or if no memory is available for the texts. After `Text`, `Torn`,
+    /// `TooLong` or `ReadFault` nothing is written. After `WriteFault` the sink has a prefix of the lines.
     pub fn text_list<S: Source, K: Sink>(
         &mut self,
         alloc: Global,

@@ -1,4 +1,4 @@
-// What promised types derive.
+// The traits that public types derive.
 use cdg_checkpoint::{Checkpointer, ResumeStop, Resumed};
 use cdg_cmd::{Command, Refusal, Split, Status, Which};
 use cdg_instructions::{Instr, Tile};
@@ -26,7 +26,7 @@ fn is_copied<T: Copy + Clone>() {}
 
 fn is_compared<T: Copy + Clone + PartialEq + Eq>() {}
 
-// An answer of a call, or a choice that a caller makes.
+// Whether a type has the traits of a result of a call, or of a choice that a caller makes.
 fn is_plain<T: Copy + Clone + PartialEq + Eq + Debug>() {}
 
 fn is_shown<T: PartialEq + Eq + Debug + Drop>() {}

@@ -1,5 +1,5 @@
-//! The names that callers are promised, each with its signature, its parts and what it derives, as a caller would use them.
-//! What is hidden, renamed or given another type no longer compiles here.
+//! The public names of the library, each with its signature, its fields and its derived traits, as a caller
+//! would use them. If a name is hidden or renamed, or gets another type, this crate no longer compiles.
 #![tactic(auto)]
 
 mod commands;

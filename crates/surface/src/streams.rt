@@ -174,7 +174,7 @@ fn put_whole<K: Sink>(out: &mut K, piece: &[u8]) -> Result<(), Failed> {
     put_all(out, piece)
 }
 
-// Each source and sink by its trait.
+// Calls of sources and sinks through their traits.
 fn take<S: Source>(source: &mut S, buf: &mut [u8; 1]) -> Result<usize, Failed> {
     source.take(buf)
 }
@@ -183,7 +183,7 @@ fn put<K: Sink>(sink: &mut K, piece: &[u8; 1]) -> Result<usize, Failed> {
     sink.put(piece)
 }
 
-// Stages by their trait, alone and one behind another.
+// Calls of stages through their trait: single stages, and stages one behind another.
 fn feed<I, O, G: Stage<Item = I, Out = O>>(stage: &mut G, item: &I) -> Option<O> {
     stage.feed(item)
 }

@@ -7,7 +7,7 @@ use Rattle.std.specs.Char.{is_ascii_digit}
 use Rattle.disc_time.specs.Counts.{blocks_a_minute, blocks_a_second}
 pub use Rattle.disc_time.specs.Counts.{most_text_bytes}
 
--- a list that is not empty
+-- whether a list is not empty
 abbrev pub is_some_bytes : List ℕ → Bool
 is_some_bytes s = not (length s == 0)
 
@@ -28,7 +28,7 @@ after_line text = after_first (λ b. b == 10) text
 abbrev pub lines_of : List ℕ → List (List ℕ)
 lines_of text = lines_in (without_mark text)
 
--- spaces and tabs
+-- whether a byte is a space or a tab
 abbrev pub is_blank : ℕ → Bool
 is_blank b = b == 32 || b == 9
 
@@ -49,7 +49,7 @@ words_in line = filter is_some_bytes (slice_split is_blank line)
 unfoldable pub first_word : List ℕ → List ℕ
 first_word line = before_first is_blank line
 
--- the rest after the first word and the blanks behind it
+-- the rest of a line after the first word and the blanks that follow it
 unfoldable pub argument_of : List ℕ → List ℕ
 argument_of line = without_blanks (drop (length (first_word line)) line)
 
@@ -59,7 +59,7 @@ number_in least most word =
     if nat_le least (length word) && nat_le (length word) most
     && list_all is_ascii_digit word then Some (digits_value 10 word) else None
 
--- two digits
+-- the value of a word of two decimal digits
 abbrev pub two_digit_number : List ℕ → Option ℕ
 two_digit_number word = number_in 2 2 word
 

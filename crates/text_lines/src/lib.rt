@@ -82,7 +82,8 @@ pub fn trim(line: &[u8]) -> &[u8]
     &rest[..end]
 }
 
-/// The first word of a trimmed line, and its argument: the rest after that word and the blanks behind it.
+/// The first word of a trimmed line, and its argument: the rest after this word and the blanks that follow
+/// it.
 pub fn split_command(line: &[u8]) -> (&[u8], &[u8])
     ensures word { result.0.now ≡ first_word line.now }
     ensures argument { result.1.now ≡ argument_of line.now }

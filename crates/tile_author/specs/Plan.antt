@@ -65,7 +65,7 @@ planned draws row column pixels j =
 unfoldable pub delta : List ℕ → List ℕ → List ℕ
 delta old new = map (λ p. bit_xor (slice_index old p) (slice_index new p)) (below tile_pixels)
 
--- whether the old and the new pixels of a tile are equal
+-- whether the old and the new pixels of a tile are equal, or two other lists of at most 72 numbers; a missing number is 0
 unfoldable pub are_equal : List ℕ → List ℕ → Bool
 are_equal old new = list_all (λ d. d == 0) (delta old new)
 

@@ -17,10 +17,10 @@ pub const MOST_STEPS: usize = 4;
 /// The number of values of four bits.
 pub(crate) const NUMBERS: usize = 16;
 
-/// Independent numbers of four bits, in the order of their addition, and for each number the selection of members whose
-/// combination it is.
+/// Independent numbers of four bits, in the order of their addition, and for each number of four bits the
+/// selection of members whose combination is this number, if any.
 ///
-/// A contract sees the members.
+/// A contract sees the list of the members.
 #[derive(Drop)]
 pub(crate) struct Basis {
     members: ArrayVec<u8, MOST_STEPS>,

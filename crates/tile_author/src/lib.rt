@@ -17,7 +17,7 @@ use basis::Basis;
 pub use basis::MOST_STEPS;
 use cdg_instructions::{Instr, PIXELS, Tile};
 
-/// The length of a shortest list of tile instructions of one place that turns the old tile into the new one.
+/// The length of a shortest list of tile instructions for one place that turns the old tile into the new one.
 pub fn steps(old: &Tile, new: &Tile) -> u8
     ensures value { result ≡ steps old.now new.now }
     ensures least { (row column : ℕ) → row < row_values → column < column_values
@@ -27,7 +27,7 @@ pub fn steps(old: &Tile, new: &Tile) -> u8
     steps_of_weight(old, new, weight(new))
 }
 
-/// The same as `steps` if the weight of the new tile is known.
+/// The result of `steps`, if the weight of the new tile is known.
 pub fn steps_of_weight(old: &Tile, new: &Tile, drawn: u8) -> u8
     requires { drawn ≡ weight new.now }
     ensures value { result ≡ steps old.now new.now }
@@ -45,7 +45,7 @@ pub fn steps_of_weight(old: &Tile, new: &Tile, drawn: u8) -> u8
     drawn.min(combined)
 }
 
-/// A shortest list of tile instructions of this place that turns the old tile into the new one.
+/// A shortest list of tile instructions for this place that turns the old tile into the new one.
 pub fn plan(old: &Tile, new: &Tile, row: u8, column: u8) -> ArrayVec<Instr, 4>
     requires row { row < screen_rows }
     requires column { column < screen_columns }
@@ -115,13 +115,15 @@ fn changes(old: &Tile, new: &Tile) -> Option<[u8; PIXELS]>
     }
 }
 
-/// A law: if each of some independent numbers is a combination of given numbers, there are at least as many given ones.
+/// A law: if each of some independent numbers is a combination of given numbers, there are at least as many
+/// given numbers.
 pub fn independent_are_few()
     ensures { (given independent : List ℕ) → list_all (is_combination given) independent ≡ true
         → are_independent independent ≡ true → length independent ≤ length given }
 {}
 
-/// A law: each pixel's difference is the combination of its selection, and each combination has one selection.
+/// A law: the difference of each pixel is the combination of the members in its selection. Different
+/// selections have different combinations.
 pub fn selections_are_the_only_ones()
     ensures makes { (pixels : List ℕ) (p : ℕ) → p < length pixels
         → let d = bit_xor (slice_index pixels 0) (slice_index pixels p) in combination (basis pixels)

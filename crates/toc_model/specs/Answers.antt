@@ -6,7 +6,7 @@ use Rattle.toc_model.specs.Places.{DiscLayout, layout_of, audio_need, program_bl
 use Rattle.toc_model.specs.declared.layout.LayoutStop.{LayoutStop}
 use Rattle.toc_model.specs.declared.layout.LayoutStop.TheVariants.{LengthShort, DiscTooLong, NoMemory}
 
--- each refusal and its cause; a short audio file is reported before a long disc
+-- This is the reason why there is no layout. A short audio file is reported before a long disc.
 abbrev pub IsLayoutRefusal : CueSheet → ℕ → LayoutStop → Type 0
 IsLayoutRefusal sheet audio (LengthShort need) = (need ≡ audio_need sheet) × (audio < audio_need sheet)
 IsLayoutRefusal sheet audio (DiscTooLong blocks) = (audio_need sheet ≤ audio)
@@ -14,14 +14,14 @@ IsLayoutRefusal sheet audio (DiscTooLong blocks) = (audio_need sheet ≤ audio)
 IsLayoutRefusal sheet audio NoMemory = (audio_need sheet ≤ audio)
     × (program_blocks sheet audio ≤ most_program)
 
--- the number of program blocks of a sheet and an audio file, or the reason why they have no layout; nothing is
--- allocated
+-- The result is the number of program blocks of a sheet and an audio file, or the reason why they have no layout. This
+-- reason is never `NoMemory`.
 abbrev pub IsBlockCount : CueSheet → ℕ → Result ℕ LayoutStop → Type 0
 IsBlockCount sheet audio (Ok blocks) = (audio_need sheet ≤ audio)
     × (program_blocks sheet audio ≤ most_program) × (blocks ≡ program_blocks sheet audio)
 IsBlockCount sheet audio (Err stop) = IsLayoutRefusal sheet audio stop × (stop ≢ NoMemory)
 
--- the layout of a sheet and an audio file, or the reason why there is none
+-- The result is the layout of a sheet and an audio file, or the reason why there is none.
 abbrev pub IsLayoutAnswer : CueSheet → ℕ → Result DiscLayout LayoutStop → Type 0
 IsLayoutAnswer sheet audio (Ok layout) = (audio_need sheet ≤ audio)
     × (program_blocks sheet audio ≤ most_program) × (layout ≡ layout_of sheet audio)

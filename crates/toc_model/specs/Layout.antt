@@ -54,7 +54,7 @@ abbrev pub time_in_track : TrackPlace → ℕ → ℕ
 time_in_track place block = if nat_lt block (music_begin place) then music_begin place - block
     else block - music_begin place
 
--- whether a block is in the pause of a track: at least two seconds before its index 01
+-- whether a block is in the pause of a track, which is before its index 01 and at least two seconds long
 abbrev pub is_paused_for : ℕ → TrackPlace → Bool
 is_paused_for block place =
     nat_le (music_begin place - max pause_blocks (music_begin place - place.begin)) block
@@ -102,14 +102,16 @@ toc_entries layout =
     ++ (first.control, First first.number 0) ∷ (last.control, Last last.number) ∷
     (last.control, LeadOut layout.blocks) ∷ []
 
--- the frame of a lead-in block: each entry three times in a row, over and over, and the time until 00:00:00
+-- the frame of lead-in block l: each entry is repeated three times in a row, and then all entries again; the time of the
+-- last block is 99:59:74
 abbrev pub toc_frame : DiscLayout → ℕ → ℕ → QFrame
 toc_frame layout lead_in l =
     let place = l / entry_copies % (length layout.tracks + disc_entries) in
     let entry = slice_index_or (toc_entries layout) place (0, First 0 0) in
     Toc entry.0 entry.1 (time_count - lead_in + l)
 
--- a place: its numbers in range, its pause before its music, at least two seconds into the disc
+-- The place of a track is valid: its values are in range, and it does not begin after its music. The music begins at least
+-- two seconds after the start of the disc.
 pub record IsPlace (place : TrackPlace) : Type 0 where
   pub number : (1 ≤ place.number) × (place.number ≤ most_tracks)
   pub control : place.control < control_values
@@ -118,7 +120,8 @@ pub record IsPlace (place : TrackPlace) : Type 0 where
   pub begins : place.begin ≤ music_begin place
   pub late : pause_blocks ≤ music_begin place
 
--- a layout: 1 to 99 tracks in order, the first from block 0, each with its music inside the disc
+-- The layout is valid: it has 1 to 99 tracks in order, the first one begins at block 0, and the music of each track begins
+-- inside the disc.
 pub record IsLayout (layout : DiscLayout) : Type 0 where
   pub catalogue : ForSome layout.catalogue (λ number. IsTrue (is_catalogue_number number))
   pub count : (1 ≤ length layout.tracks) × (length layout.tracks ≤ most_tracks)

@@ -33,9 +33,9 @@ const ISRC_TURN: u32 = 99;
 /// The reason why a sheet has no layout for an audio file.
 #[derive(PartialEq, Eq, Debug, Drop)]
 pub enum LayoutStop {
-    /// The audio is too short: the index lines need so many blocks.
+    /// The audio is too short: the index lines need this many blocks.
     LengthShort { need: u32 },
-    /// The program would have so many blocks.
+    /// The program would have this many blocks.
     DiscTooLong { blocks: u32 },
     /// Memory ran out.
     NoMemory,
@@ -56,7 +56,7 @@ impl From<AllocError> for LayoutStop {
 ///
 /// # Errors
 ///
-/// Those of `Layout::from_cue` except `NoMemory`, in the same order.
+/// The errors of `Layout::from_cue` except `NoMemory`, in the same order.
 pub fn count_blocks(sheet: &Sheet, length: u32) -> Result<u32, LayoutStop>
     requires { length ≤ most_program }
     ensures { IsBlockCount sheet.now length result }
@@ -139,7 +139,7 @@ impl Layout {
         })
     }
 
-    /// The number of program blocks, which is where the lead-out begins.
+    /// The number of program blocks. The lead-out begins at the block with this number.
     pub fn blocks(&self) -> u32
         ensures blocks { result ≡ self.now.blocks }
         ensures bound { result ≤ most_program }
