@@ -6,7 +6,7 @@ use borrow.Rule.Slice.PartMut.{put_mid, post_of}
 use Rattle.cdg_io.proofs.Bytes.{take-put_mid_on}
 use Rattle.std.specs.Io.KnownBytes.{Appends, Consumes}
 
--- what was given stands behind what the buffer held
+-- the output is behind the earlier bytes of the buffer
 pub given_behind : (buffer new given rest : List ℕ) (end k n : ℕ) → end ≤ length buffer → n ≡ length given
     → new ≡ given ++ rest
     → Appends (Some (take end buffer)) (Some (take (end + n) (put_mid end k buffer new))) given
@@ -28,7 +28,7 @@ unit_taken row size n m first last long =
       sym (take-append-drop n row) ∙ ap (λ l. take n row ++ l) (sym rest),
     )
 
--- behind what was given the buffer is as it was
+-- behind the output, the buffer is unchanged
 pub rest_stays : (buffer new given old : List ℕ) (end k n : ℕ) → end ≤ length buffer
     → length buffer ≤ end + k → n ≡ length given
     → new ≡ given ++ drop n (slice_range buffer end (length buffer)) → drop end buffer ≡ drop end old
