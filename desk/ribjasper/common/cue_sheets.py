@@ -3,7 +3,7 @@ import re
 
 from .times import spelled
 
-# The bits of CONTROL, and what a sheet calls them.
+# The bits of CONTROL, and their names in a sheet.
 FLAGS = ((2, b"DCP"), (8, b"4CH"), (1, b"PRE"))
 PRE_EMPHASIS, COPY, DATA, FOUR_CHANNELS = 1, 2, 4, 8
 # A disc of one track, on which scripts are planned and packs are pressed.
@@ -23,7 +23,7 @@ def spelled_text(text: bytes) -> bytes | None:
 
 
 def spelled_name(name: bytes) -> bytes:
-    """The name of a file without what a sheet cannot spell."""
+    """The name of a file without characters that a sheet cannot contain."""
     return re.sub(rb'["\x00-\x1f\x7f]', b"_", name)
 
 

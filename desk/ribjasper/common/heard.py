@@ -10,7 +10,7 @@ Identity = tuple[object, ...]
 
 
 class Heard:
-    """The regular files that were opened to read since this was made, by what two names of a file have in common."""
+    """The identities of the regular files that were opened for reading since this object was made."""
 
     def __init__(self) -> None:
         self.files: dict[Identity, str] = {}

@@ -1,4 +1,4 @@
-"""Kinds of files that commands write, and how one that is there already is known to be of a kind."""
+"""The kinds of files that commands write, and how to recognize the kind of an existing file."""
 import os
 import re
 from typing import Callable, NamedTuple
@@ -62,7 +62,7 @@ def _is_film(head: bytes, _: int) -> bool:
 
 
 def _is_text_packs(head: bytes, size: int) -> bool:
-    """Packs of 18 bytes whose first byte is that of a kind of text, with four bytes in front or without."""
+    """Packs of 18 bytes whose first byte is a kind of text, with or without four bytes in front."""
     at = size % 18
     return at in (0, 1, 4, 5) and size >= 18 and 0x80 <= head[at & 4] <= 0x8F
 

@@ -8,7 +8,7 @@ from typing import Iterator
 from .failures import Refusal
 from .output import tell
 
-# The lines of a sheet whose texts go onto the disc.
+# The lines of a sheet whose texts are written onto the disc.
 TEXT_LINE = re.compile(rb"[ \t]*(TITLE|PERFORMER|SONGWRITER)[ \t]", re.IGNORECASE)
 
 

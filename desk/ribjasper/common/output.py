@@ -1,5 +1,5 @@
-"""What the desk writes. There is one way for all commands: `Outputs` takes the files that a call reads and those that
-it is to write, refuses what would cost the user a file, and lets all outputs appear together or none of them."""
+"""How the desk writes, the same for all commands: `Outputs` gets the files that a call reads and those that it writes,
+refuses everything that would destroy a file of the user, and lets either all outputs appear or none."""
 import argparse
 import contextlib
 import io
@@ -36,7 +36,7 @@ KEPT_IN_MEMORY = 1 << 26
 COPIED_AT_ONCE = 1 << 20
 # What is read as a whole is never longer: a device would have no end.
 MOST_READ = 1 << 28
-# What pip calls packages whose modules have another name.
+# The names in pip of packages whose modules have other names.
 PIP_NAMES = {"PIL": "Pillow"}
 ALL_MODES = stat.S_IRWXU | stat.S_IRWXG | stat.S_IRWXO
 
@@ -90,7 +90,7 @@ def complain(message: str) -> None:
 
 
 def write_text(text: str, to: TextIO | None = None) -> None:
-    """A text on standard output, or on what takes its place."""
+    """Writes a text to standard output, or to its replacement."""
     if _bar is not None:
         _bar.clear()
     with writing(STANDARD_OUTPUT):
@@ -125,7 +125,7 @@ def add_json(parser: argparse.ArgumentParser) -> None:
 
 
 def flush() -> None:
-    """Brings what was printed to where standard output goes."""
+    """Flushes printed text to standard output."""
     with writing(STANDARD_OUTPUT):
         sys.stdout.flush()
 
@@ -199,7 +199,7 @@ class Output:
                 os.fsync(file.fileno())
 
     def send(self) -> None:
-        """Writes what waits to a stream."""
+        """Writes the waiting bytes to a stream."""
         with writing(self.name):
             if self.part is not None:
                 self.part.seek(0)
@@ -210,8 +210,8 @@ class Output:
                     _copy(file, self.target)
 
     def put(self, placed: Sequence["Output"], is_alone: bool) -> None:
-        """Gives a file its name; what had it is kept until all files of the call have theirs."""
-        # What came there while the command was at work is judged as what was there before.
+        """Renames a file to its name; an old file of this name is kept until all files of the call have their names."""
+        # A file that appeared there during the call is judged like one that was there before.
         self.target = Target(self.target.name)
         self.check()
         if self.target.is_stream or self.target.identity() in [one.target.identity() for one in placed]:
@@ -242,7 +242,7 @@ class Output:
         link_or_move(self.target.path, self.kept)
 
     def take_back(self) -> None:
-        """Puts back what was there before."""
+        """Restores the old file."""
         with contextlib.suppress(OSError):
             if self.kept is not None and os.path.lexists(self.kept):
                 os.replace(self.kept, self.target.path)
@@ -250,7 +250,7 @@ class Output:
                 os.unlink(self.target.path)
 
     def drop(self) -> None:
-        """Removes what waits or was kept."""
+        """Removes temporary files and kept old files."""
         if self.part is not None:
             with contextlib.suppress(Failure, OSError):
                 self.part.close()
@@ -317,7 +317,7 @@ class Outputs:
             raise _is_read(output, read)
 
     def _check_alone(self, output: Output, inputs: dict[tuple[object, ...], str]) -> None:
-        """Refuses an output that is an input, another output, or what standard output is written to."""
+        """Refuses an output that is an input, another output, or the file to which standard output is redirected."""
         target = output.target
         if target.found is not None and stat.S_ISCHR(target.found.st_mode):
             return
@@ -332,7 +332,7 @@ class Outputs:
 
     @property
     def printed(self) -> TextIO:
-        """Where the call prints: standard output, or standard error if an output takes that."""
+        """The stream for printed text: standard output, or standard error if an output uses that."""
         return sys.stderr if DASH in self.all else sys.stdout
 
     def table(self, names: Sequence[str], as_json: bool = False) -> Table:
@@ -356,7 +356,7 @@ class Outputs:
         return self._output(name).path(ending)
 
     def drop(self) -> None:
-        """Forgets what was written: nothing appears."""
+        """Discards all outputs: nothing appears."""
         with held_back():
             for output in self.all.values():
                 output.drop()
@@ -392,8 +392,8 @@ class Outputs:
                     os.rmdir(folder)
 
     def _appear(self) -> None:
-        """Lets all outputs appear that were opened. What a stream was sent cannot be taken back, so streams come first:
-        if one of them fails no file appears."""
+        """Lets all opened outputs appear. Bytes that were sent to a stream cannot be taken back, so streams come first:
+        if one of them fails, no file appears."""
         flush()
         opened = [output for output in self.all.values() if output.part is not None or output.waits is not None]
         for output in opened:

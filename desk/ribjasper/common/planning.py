@@ -23,7 +23,7 @@ class Reason(enum.IntEnum):
 
 
 class Why(Reason):
-    """Why there is no plan."""
+    """The reason why there is no plan."""
 
     TEXT_TOO_LONG = 1
     SHEET_REFUSED = 2
@@ -129,7 +129,7 @@ def plan(sheet: bytes, script: bytes, audio: int, lead_in: int = LONGEST_LEAD_IN
 
 # The maximum number of refused lines of a text that are reported.
 MOST_CAUSES = 20
-# What later lines of a sheet depend on: if one of these is refused, what follows cannot be judged.
+# Later lines of a sheet depend on these: if one of them is refused, the later ones cannot be judged.
 NEEDED_LATER = (b"FILE", b"TRACK", b"INDEX")
 
 

@@ -59,14 +59,13 @@ class Player:
         call("ribjasper_player_begin")(self._handle, form, lead_in)
 
     def feed(self, blocks: bytes) -> Change:
-        """Feeds whole blocks of 96 bytes; what of the screen may have changed."""
+        """Feeds whole blocks of 96 bytes; returns the change of the screen."""
         change = Change()
         call("ribjasper_player_feed_all")(self._handle, blocks, len(blocks) // BLOCK, change)
         return change
 
     def draw(self, packs: bytes) -> Change:
-        """Draws packs of 24 bytes, as those of a .cdg file, and ignores their parity; what of the screen may have
-        changed."""
+        """Draws packs of 24 bytes, as in a .cdg file, and ignores their parity; returns the change of the screen."""
         change = Change()
         call("ribjasper_player_draw_all")(self._handle, packs, len(packs) // PACK, change)
         return change
@@ -94,7 +93,7 @@ class Player:
             raise ValueError(f"ribjasper_player_seek answers {status}")
 
     def take(self, block: bytes) -> list[Pack]:
-        """Feeds a block, and returns the packs that came with it."""
+        """Feeds a block, and returns the packs that end with it."""
         packs = (Pack * PACKS_A_BLOCK)()
         count = call("ribjasper_player_take")(self._handle, block, packs)
         return list(packs[: max(0, count)])

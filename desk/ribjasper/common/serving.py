@@ -39,7 +39,7 @@ class Answer(NamedTuple):
 
 
 class Asked(NamedTuple):
-    """A request: its path behind the token, its query, and for a change the table that came with it."""
+    """A request: its path after the token, its query, and for a change its table."""
 
     path: str
     query: dict[str, str]

@@ -24,7 +24,7 @@ class Target:
             raise Refusal("''", "is not the name of a file")
         with reading(self.name):
             self.found = None if self.is_dash else _found(self.name)
-        # Where the links lead that are in the name: they stay, and what they name is replaced.
+        # The target of the links in the name: the links remain, and the file that they name is overwritten.
         self.path = os.path.realpath(self.name)
         self.folder = os.path.dirname(self.path)
 
@@ -34,7 +34,7 @@ class Target:
         return self.is_dash or (self.found is not None and not stat.S_ISREG(self.found.st_mode))
 
     def identity(self) -> tuple[object, ...]:
-        """What two names of one file have in common, also of one that is still to come."""
+        """The identity of a file, the same for all its names, also if it does not exist yet."""
         if self.is_dash:
             return (DASH,)
         if self.found is not None:

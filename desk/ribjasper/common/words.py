@@ -1,4 +1,4 @@
-"""Arguments of the command line that several commands take."""
+"""Arguments of the command line that several commands have."""
 import argparse
 from typing import Callable, TypeAlias
 

@@ -28,8 +28,8 @@ class Flat(NamedTuple):
 
 @dataclass(frozen=True)
 class ImageOptions:
-    """How an image is read: which frame of a file that has several, and whether it fills its place and loses what is
-    beyond, or is shown whole on a ground in the colour of its edge."""
+    """How an image is read: which frame of a file with several, and whether it fills its place and is cropped, or is
+    shown completely on a background in the colour of its edge."""
 
     frame: int | None = None
     crop: bool = False
@@ -40,7 +40,7 @@ def image_package() -> Any:
 
 
 def read_image(path: Path, how: ImageOptions = ImageOptions()) -> Any:
-    """The image of a file in its right orientation, in red, green and blue, on black where it is transparent."""
+    """The image of a file in its right orientation, in red, green and blue, with black where it is transparent."""
     pictures = image_package()
     with reading(path):
         image = pictures.open(path)
@@ -168,12 +168,12 @@ def simplify(flat: Flat, most_error: float) -> None:
 
 @functools.lru_cache(maxsize=None)
 def weight(numbers: int) -> int:
-    """How many packs a tile takes that has the colours whose bits are set."""
+    """The number of packs for a tile with the colours whose bits are set."""
     return tile_weight(frozenset(number for number in range(COLOURS) if numbers >> number & 1))
 
 
 def numbered(flat: Flat, free: Sequence[int]) -> list[int]:
-    """A number for each colour, of those that are free, so that the tiles of three and more colours take few packs."""
+    """Assigns a free number to each colour, so that tiles of three and more colours need few packs."""
     sets = Counter(tuple(sorted(set(pixels_of(flat.rows, left, top)))) for left, top in tiles_of(flat.rows))
     many = {colours: count for colours, count in sets.items() if len(colours) > 2}
     numbers = list(free)
@@ -203,7 +203,7 @@ PLAIN = 2.0
 
 
 def flat_of(image: Any, most: int = COLOURS, simple: float = PLAIN, dither: bool = False) -> Flat:
-    """The image in few colours, and its tiles in fewer; one that has no more colours than that is taken as it is."""
+    """The image in few colours, and its tiles in even fewer; an image with no more colours than that is unchanged."""
     flat = in_colours(image, most, dither)
     if not dither and len(set(image.getdata())) > most:
         simplify(flat, simple)
@@ -254,7 +254,7 @@ def border_number(raster: Raster, used: Sequence[int], border: Colour) -> int:
 
 
 def placed_lines(flat: Flat, column: int, row: int, first: int) -> list[str]:
-    """The lines that draw an image from a tile on, over anything that is there."""
+    """The lines that draw an image from a tile on, over any picture."""
     left, top = TILE_WIDTH * column, TILE_HEIGHT * row
     numbers = numbered(flat, range(first, COLOURS))
     colours = [f"colour {number} {colour.word()}" for number, colour in sorted(zip(numbers, flat.colours))]

@@ -11,7 +11,7 @@ from ..common.output import package
 from .bidi import in_sight, levels_of
 from .raster import WIDTH
 
-# A bold font that the system comes with.
+# A bold font that the system has.
 FONTS_OF_SYSTEMS = {
     "win32": Path(os.environ.get("WINDIR", "C:/Windows")) / "Fonts" / "arialbd.ttf",
     "darwin": Path("/System/Library/Fonts/Supplemental/Arial Bold.ttf"),
@@ -34,7 +34,7 @@ FALLBACKS = tuple(
 )
 # A character that no font has: its picture is the one for missing letters.
 NO_LETTER = "\U0010ffff"
-# Whether a font file has a letter, as far as that was asked.
+# Whether a font file has a letter, for letters that were looked up before.
 KNOWN: dict[tuple[Path, str], bool] = {}
 # The box that replaces a missing letter on request, and a sign that joins a letter to the next one.
 BOX, JOINER = "\u25a1", "\u200d"
@@ -62,7 +62,7 @@ class Font:
     between the ground and the full colour."""
 
     def __init__(self, paths: Sequence[Path], size: int, is_plain: bool = False, others: "Others" = ()):
-        # Voices whose letters are those of other files, or of a size that has this ratio to the other letters.
+        # Voices whose letters come from other files, or have another size, with this ratio to the other letters.
         self.others = others
         self._fonts: dict[int, Font] = {}
         self._given: tuple[Path, ...] = tuple(paths)
@@ -217,7 +217,7 @@ class Font:
 
 @functools.lru_cache(maxsize=256)
 def font_of(paths: tuple[Path, ...], size: int, is_plain: bool = False, others: Others = ()) -> Font:
-    """A font that is kept, with what it knows of texts, for songs that are planned again after a change."""
+    """A font that is kept with its data about texts, for songs that are planned again after a change."""
     return Font(paths, size, is_plain, others)
 
 

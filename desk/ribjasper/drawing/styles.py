@@ -12,7 +12,7 @@ from ..common.output import read_file
 from .colours import Colour, blend, read_colour
 from .raster import BLACK, COLOURS, HEIGHT, Raster, TILE_HEIGHT
 
-# The styles that ship, and where fonts are looked for by their names.
+# The styles in the package, and where fonts are searched by their names.
 FOLDER = Path(__file__).parent / "styles"
 FOLDERS_OF_SYSTEMS = {
     "win32": (
@@ -121,7 +121,7 @@ class Style:
         return HEIGHT // TILE_HEIGHT // self.rows
 
     def top(self, slot: int) -> int:
-        """The first pixel row of a row of a page; rows that are left over come above the first."""
+        """The first pixel row of a row of a page; pixel rows that are left over are above the first row."""
         above = HEIGHT // TILE_HEIGHT - self.rows * self.slot_rows
         return TILE_HEIGHT * (above + self.slot_rows * slot)
 
@@ -165,7 +165,7 @@ def middle(colours: Sequence[Colour]) -> Colour:
 
 
 class TomlTable:
-    """A table of TOML whose keys are asked for one by one; what is no such thing is refused by its name."""
+    """A table of TOML whose keys are read one by one; a wrong value is refused with its name."""
 
     def __init__(self, path: Path, values: dict[str, Any]):
         self.path, self.values = path, dict(values)
@@ -214,7 +214,7 @@ class TomlTable:
         return [TomlTable(self.path, one) for one in found or []]
 
     def end(self) -> None:
-        """Refuses what was not asked for."""
+        """Refuses keys that were not read."""
         if self.values:
             raise Refusal(self.path, f"knows nothing of {', '.join(map(repr, self.values))}")
 

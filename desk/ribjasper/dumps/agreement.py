@@ -9,7 +9,7 @@ from .survey import has_graphics_bits
 
 
 class Packs(NamedTuple):
-    """The packs of a stream, and a byte for each, 1 where it is not idle."""
+    """The packs of a stream, and a byte for each, 1 if it is not idle."""
 
     content: bytes
     busy: bytes

@@ -30,7 +30,7 @@ REACH = MOST_OFFSET * SAMPLE // AUDIO
 
 
 class FileSectors(NamedTuple):
-    """Sectors of a file: where the first begins, how many bytes apart they are, and how many there are."""
+    """Sectors of a file: the place of the first, the distance between them in bytes, and their number."""
 
     path: str
     start: int
@@ -49,7 +49,7 @@ class Image:
         return sum(it.sectors for it in self.stretches)
 
     def read(self, first: int, count: int) -> bytes:
-        """The bytes of sectors; zeros where there are none."""
+        """The bytes of sectors, with zeros for missing ones."""
         parts = []
         place, left = first, count
         if place < 0:
@@ -172,7 +172,7 @@ def sheet_beside(path: str) -> str | None:
 
 
 def open_disc(path: str, words: DumpOptions = DumpOptions()) -> CutDisc:
-    """An image with its tracks: sectors with subcode, whose Q channel names the tracks, or other sectors with a
+    """An image with its tracks: sectors with subcode, whose Q channel gives the tracks, or other sectors with a
     sheet."""
     sheet, size = sheet_beside(path), DumpFile(path).size
     is_plain = path == sheet or (sheet is not None and size % AUDIO == 0 and size % SECTOR != 0)
@@ -202,7 +202,7 @@ def track_bytes(cut: CutDisc, track: CutTrack, offset: int = 0) -> Iterator[byte
 
 
 def sound(cut: CutDisc, first: int, count: int) -> bytes:
-    """The audio of sectors; zeros where there are none, or data."""
+    """The audio of sectors, with zeros for missing ones and for data."""
     content = bytearray(cut.image.read(first, count))
     for track in cut.tracks:
         if track.is_data:

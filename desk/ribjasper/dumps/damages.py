@@ -34,7 +34,7 @@ class Damage(NamedTuple):
 
 
 def damaged(survey: Survey) -> bytes:
-    """A byte for each block, not zero where anything is wrong with it."""
+    """A byte for each block, not zero if anything is wrong with it."""
     words = (survey.column(name) for name in ("one", "two", "bad"))
     return either(*words, survey.bad_frames, survey.empty)
 

@@ -16,23 +16,23 @@ WINDOW, FEW, ENOUGH, MANY = 1 << 17, 64, 12, 64
 # How often random bytes are good by chance: a Q frame of any kind, one with fields of its own, one with fields and no
 # check, a word with a codeword near it, and the first symbols of a pack of graphics.
 CHANCE_FRAME, CHANCE_FIELDS, CHANCE_UNCHECKED, CHANCE_WORD, CHANCE_PACK = 2**-16, 1e-9, 1e-5, 1.6e-5, 9 / 4096
-# How unlikely chance has to be.
+# The greatest probability of chance for a form that is accepted.
 UNLIKELY = 1e-8
-# A form that explains the share SURE of the non-empty units is taken at once. A form that explains less than the share
-# COMPARABLE of the best form's units is excluded. From the share AS_MUCH on, it counts as equally good.
+# A form that explains the share SURE of the non-empty units is accepted at once. A form that explains less than the
+# share COMPARABLE of the best form's units is excluded. From the share AS_MUCH on, it counts as equally good.
 SURE, COMPARABLE, AS_MUCH = 0.9, 0.7, 0.95
 # A form is excluded if another form explains this many times more frames.
 FAR_LESS = 10
-# Where the best form explains so much, no stranger ones are tried.
+# If the best form explains this share, no unusual ones are tried.
 LIKELY_BY_Q, LIKELY_BY_WORDS = 0.2, 0.5
-# Q decides before words do, unless it explains less than so much and words are likely.
+# Q decides before words do, unless it explains less than this share and words are likely.
 LITTLE = 0.05
 # The minimum share of graphics packs in a file of packs without parity, and the minimum share of words that are not
 # idle.
 LEAST_PACKS, LEAST_WORDS = 0.2, 0.05
 # The minimum share of non-empty blocks whose frames have valid fields, if the checks of the frames may be missing.
 LEAST_UNCHECKED = 0.25
-# A header that is longer than a unit ends, up to here, where a frame is good or a block empty.
+# A header longer than a unit ends before this place, at a good frame or an empty block.
 MOST_HEADER = 4096
 # Unusual forms are tried in STRANGE_WINDOWS windows. If the length of a file does not determine its header, TRIED_UNITS
 # units are tried from each byte on, or from each fourth byte on for sectors.
@@ -109,14 +109,14 @@ class Found(NamedTuple):
         return Explained(False, it.carrying / it.busy, it.carrying) if is_so else None
 
     def is_sure_among(self, others: Sequence["Found"]) -> bool:
-        """Whether nothing better can come: it explains nearly all, and no less than the others that were tried."""
+        """Whether no better form can follow: it explains nearly all units, and no less than the other forms so far."""
         found = self.explained()
         if found is None or not found.by_q or found.share < SURE:
             return False
         return all(found.size >= AS_MUCH * it.size for other in others if (it := other.explained()))
 
     def is_likely(self) -> bool:
-        """Whether nothing else has to be tried."""
+        """Whether no other form has to be tried."""
         found = self.explained()
         return found is not None and found.share >= (LIKELY_BY_Q if found.by_q else LIKELY_BY_WORDS)
 
@@ -184,7 +184,7 @@ def best_form(candidates: Sequence[Found]) -> Found | None:
     by_q = [it for it in explaining if it[0].by_q]
     by_words = [it for it in explaining if not it[0].by_q]
     if by_q and (max(it[0].share for it in by_q) >= LITTLE or not any(found.is_likely() for _, found in by_words)):
-        # A form with longer units may meet some good frames of the right one, where most frames are bad.
+        # If most frames are bad, a form with longer units may hit some good frames of the right one.
         most = max(it[0].size for it in by_q)
         explaining = [it for it in by_q if FAR_LESS * it[0].size >= most]
     else:
@@ -219,7 +219,8 @@ def tried(
 
 
 def offsets(windows: Sequence[Window], form: Form) -> Iterator[int]:
-    """At which bytes, up to the length of a unit, units of a form may begin: where frames, or words, are good."""
+    """The bytes, up to the length of a unit, at which units of a form may begin, because frames or words are good
+    there."""
     for skip in range(0, form.unit, SECTOR_STEP if form.is_in_sectors() else 1):
         found = 0
         for window in windows:
@@ -252,7 +253,7 @@ def is_all_zeros(dump: DumpFile) -> bool:
 
 
 def past_header(dump: DumpFile, found: Found) -> Found:
-    """The same form behind the whole of a header that is longer than a unit, where what comes first is unlikely to be
+    """The same form behind the whole of a header that is longer than a unit, if the bytes before are unlikely to be
     damage."""
     explained = found.explained()
     if not found.skip or found.form.unit != BLOCK or explained is None or not explained.by_q or explained.share < SURE:
@@ -278,7 +279,7 @@ def as_named(dump: DumpFile, found: Found) -> Found:
 
 
 def stages(dump: DumpFile, windows: Sequence[Window], skip: int | None) -> Iterator[Iterator[Found]]:
-    """What is tried, the likeliest first: each form; those with their bits or bytes in another order; a header whose
+    """The forms to try, the likeliest first: each form; those with their bits or bytes in another order; a header whose
     length does not follow from that of the file; and other places of the file."""
     skips = None if skip is None else [skip]
     plain = [form for form in PLAIN_FORMS if has_units(dump, form)]
@@ -294,8 +295,8 @@ def stages(dump: DumpFile, windows: Sequence[Window], skip: int | None) -> Itera
 
 
 def form_of(dump: DumpFile, skip: int | None = None) -> tuple[Found | None, list[str]]:
-    """The form of a dump and its header, or none and what speaks against each form. A header that is given is not
-    searched for."""
+    """The form of a dump and its header, or None and the reasons against each form. A header is not searched if it is
+    given."""
     seen: list[Found] = []
     found = None
     if not any(has_units(dump, form) for form in PLAIN_FORMS):

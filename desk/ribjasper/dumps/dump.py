@@ -1,4 +1,4 @@
-"""A dump: a file of blocks in one of the forms, and its subcode as the library takes it."""
+"""A dump: a file of blocks in one of the forms, and its subcode in the form for the library."""
 import io
 import os
 import stat
@@ -48,7 +48,7 @@ class DumpFile:
             raise Refusal(self.path, cause(error)) from None
 
     def blocks(self, form: Form, first: int = 0, count: int | None = None) -> bytes:
-        """The subcode of units, blocks of 96 bytes: raw ones, or packs where the form has packs."""
+        """The subcode of units, blocks of 96 bytes: raw blocks, or packs if the form has packs."""
         left = self.units(form) - first if count is None else count
         if form.blocks(left) > library.MOST_BLOCKS:
             raise Refusal(self.path, f"has more than {library.MOST_BLOCKS} blocks")

@@ -61,7 +61,7 @@ def edc_codes(sectors: Sequence[bytes], layout: EdcLayout) -> list[bytes]:
 
 
 def layout_of(sector: bytes) -> EdcLayout | None:
-    """Where a sector has its code; none in mode 0, whose bytes are zeros."""
+    """The place of the code in a sector; None in mode 0, whose bytes are zeros."""
     if sector[MODE] == 1:
         return MODE_1
     if sector[MODE] == 2:

@@ -70,9 +70,9 @@ class Source:
         return max(self.survey.first, PAUSE - first.shift) if first.shift < PAUSE else self.survey.first
 
     def in_file(self, time: int) -> int:
-        """The time of the file, in blocks from where its audio begins."""
+        """The time of the file, in blocks from the beginning of its audio."""
         return max(0, self.block_of(time) - self.origin())
 
     def end_in_file(self, time: int) -> int:
-        """The time of the file at which what comes before an absolute time ends."""
+        """The time of the file at which everything before an absolute time ends."""
         return max(0, self.end_at(time) - self.origin())

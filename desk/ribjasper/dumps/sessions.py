@@ -80,7 +80,7 @@ def lead_out_of(frame: QFrame) -> int | None:
 
 
 def zones_of(blocks: Iterator[int], is_lead_in: bool) -> list[Zone]:
-    """Blocks in turn as zones."""
+    """Blocks, one after another, as zones."""
 
     def near(before: tuple[int, int, int], behind: tuple[int, int, int]) -> tuple[int, int, int] | None:
         return (before[0], behind[1], before[2] + behind[2]) if behind[0] - before[1] <= APART else None
@@ -195,7 +195,7 @@ def numbers_of(
 def sessions_of(
     layout: Layout, numbers: Mapping[int, int], begins: Mapping[int, int], end: int, companions: Companions | None
 ) -> list[Session]:
-    """The sessions of tracks whose session and beginning are known, of a dump whose program ends at a time."""
+    """The sessions of tracks whose session and beginning are known, in a dump whose program ends at a time."""
     found = []
     of = sorted(set(numbers.values()))
     for place, session in enumerate(of):

@@ -43,7 +43,7 @@ class SubmittedSession(NamedTuple):
 
 
 class ChangedFrame(NamedTuple):
-    """A frame that was changed by design: its time and address, its bytes, and what differs in the right check."""
+    """A frame that was changed by design: its time and address, its bytes, and the difference of its check."""
 
     time: str
     lba: int
@@ -150,7 +150,7 @@ def submitted_track(track: Track, end: int, hashed: cutting.Hashed | None) -> Su
 
 
 def ends_of(found: QDisc) -> Iterator[int]:
-    """Where each track ends: where the next one of its session begins, or at the lead-out."""
+    """The end of each track: the beginning of the next one in its session, or the lead-out."""
     lead_outs = {session.number: session.lead_out for session in found.sessions}
     for track, behind in zip(found.tracks, [*found.tracks[1:], None]):
         is_last = behind is None or behind.session != track.session

@@ -115,7 +115,7 @@ def look_alone(task: FileTask, how: How) -> Examined:
 
 
 def finder(distributed: Any, folder: str) -> Any:
-    """Prepares each worker: it learns where the desk is."""
+    """Prepares each worker by telling it the path of the desk."""
 
     class Finder(distributed.WorkerPlugin):  # type: ignore[misc]
         def setup(self, worker: Any) -> None:

@@ -37,7 +37,7 @@ style = "night"
 # Seconds of silence between the tracks.
 gap = 2
 """
-NEW_TRACK = """
+NEW_TRACK ="""
 [[track]]
 lyrics = {lyrics}
 sound = {sound}
@@ -46,7 +46,7 @@ singer = {singer}
 # picture = "title.png"
 # isrc = "GBAAA2600001"
 """
-NEW_PAIR = """
+NEW_PAIR ="""
 [[track]]
 pair = {pair}
 title = {title}
@@ -83,8 +83,8 @@ def entry_of(lyrics: Path, sound: Path, song: Song, folder: Path) -> str:
 
 @dataclass
 class ListedTrack:
-    """A song of the list: its lyrics and its sound, or a finished pair; its texts; how it looks, and what is done with
-    its sound."""
+    """A song of the list: its lyrics and its sound, or a finished pair; its texts; its look, and the treatment of its
+    sound."""
 
     lyrics: Path
     sound: Path | None
@@ -110,7 +110,7 @@ class Album:
 
 @dataclass
 class Ready:
-    """A track whose sound is ready, and its blocks; of a pair also its packs."""
+    """A track whose sound is ready, and its blocks; for a pair also its packs."""
 
     track: ListedTrack
     sound: Path

@@ -73,7 +73,7 @@ def ass_time(value: str, song: Song, number: int) -> float:
 
 
 def add_event(song: Song, event: Event, name: str) -> None:
-    """The lines of one event, none where it has no text."""
+    """The lines of one event, none if it has no text."""
     missing = [field for field in ("Start", "End", "Text") if field not in event.values]
     for field in missing:
         song.fault(event.number, f"the event has no field {field}")
@@ -101,7 +101,7 @@ def event_pieces(text: str, start: float, end: float) -> list[tuple[str, float, 
     """The pieces of an event between its overrides, each with the time at which it is sung; drawings are none."""
     parts: list[tuple[str, float, float]] = []
     at, sung, until, is_drawing = 0, start, start, False
-    # Behind the last brace that closes there is no override: an open one is not looked for at each brace.
+    # After the last closing brace there is no override, so an open one is not searched at each brace.
     for override in OVERRIDE.finditer(text, 0, text.rfind("}") + 1):
         parts.append(("" if is_drawing else text[at : override.start()], sung, until))
         for drawing in DRAWING.findall(override[1]):

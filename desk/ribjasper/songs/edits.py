@@ -141,7 +141,7 @@ def free_key(score: Score) -> int:
 
 
 def fill_before(words: list[Word], place: int, time: float) -> None:
-    """Words in front of one that are not timed come evenly between the last timed one and a time."""
+    """Spreads the untimed words before a word evenly between the last timed one and a time."""
     first = next((at for at in range(place) if not words[at].is_timed), place)
     begin = min(time, (words[first - 1].end or 0.0) if first else time)
     step = (time - begin) / max(1, place - first)
@@ -151,7 +151,7 @@ def fill_before(words: list[Word], place: int, time: float) -> None:
 
 
 def started(words: Sequence[Word], place: int, time: float) -> list[Word]:
-    """Moves one word to a time; the others give way, so that times never go back."""
+    """Moves one word to a time; the others are moved as needed, so that times never go back."""
     made = list(words)
     fill_before(made, place, time)
     before = made[place - 1] if place else None
@@ -258,7 +258,7 @@ def cleared(line: ScoreLine) -> ScoreLine:
 
 
 def move(score: Score, edit: Edit) -> Score:
-    """Words, lines, or everything from a time on move by some seconds; what stays is never passed."""
+    """Moves words, lines, or everything from a time on by some seconds, but not past words that are not moved."""
     moved = moved_words(score, edit)
     by = number_of(edit, "by")
     least, most = bounds(score, moved)
@@ -305,7 +305,7 @@ def bounds(score: Score, moved: dict[int, set[int]]) -> tuple[float, float]:
 
 
 def shifted(line: ScoreLine, places: set[int], by: float) -> ScoreLine:
-    """Moves some words of a line. If the word in front of a moved one ended where that one began, it still does."""
+    """Moves some words of a line. If the word before a moved one ended at its beginning, it still does."""
     if not places or not by:
         return line
     words = list(line.words)
@@ -468,7 +468,7 @@ def voice(score: Score, edit: Edit) -> Score:
 
 
 def page(score: Score, edit: Edit) -> Score:
-    """A page begins with a line, or does not have to."""
+    """Sets or removes a line's mark that it begins a page."""
     place = score.place_of(key_of(edit["line"]))
     return with_line(score, place, replace(score.lines[place], new_page=bool(edit["page"])))
 

@@ -13,7 +13,7 @@ NAMES = {"utf-16-le": "UTF-16", "utf-16-be": "UTF-16", "utf-16": "UTF-16", "cp93
 SUPERSETS = {"gb2312": "gb18030", "gbk": "gb18030", "euc_kr": "cp949", "shift_jis": "cp932", "tis-620": "cp874"}
 # A detector that is less sure is not believed.
 LEAST_SURE = 0.5
-# Parts of a text: kana that show Shift-JIS, and letters beyond ASCII that an alphabet has to hold.
+# Parts of a text: kana that show Shift-JIS, and letters beyond ASCII that an alphabet must cover.
 LEAST_KANA, LEAST_COVERED = 0.2, 0.95
 # The letters beyond ASCII of languages in Latin script, by the encoding of their old files. Detectors do not
 # distinguish these encodings.
@@ -51,8 +51,8 @@ def shown_name(name: str) -> str:
 
 
 def encoding_of(content: bytes) -> Guess | None:
-    """The encoding of a text, or nothing if no guess is good enough. UTF-16 without a mark has zeros where it has Latin
-    letters."""
+    """The encoding of a text, or None if no guess is good enough. In UTF-16 without a mark, Latin letters have zero
+    bytes."""
     for mark, name in MARKS:
         if content.startswith(mark):
             return Guess(name)

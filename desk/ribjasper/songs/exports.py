@@ -65,7 +65,8 @@ def as_srt(song: Song) -> str:
 
 
 def voices_first(lines: list[Line]) -> list[Line]:
-    """The lines, with the first one of each voice in front, since programs number voices as they come."""
+    """The lines, with the first line of each voice in front, because programs number voices in the order of the
+    file."""
     first: dict[int, Line] = {}
     for line in lines:
         first.setdefault(line.voice, line)
@@ -95,7 +96,7 @@ def name_of(song: Song, voice: int) -> str:
 
 
 def timed(line: Line, letters: Spelling) -> str:
-    """Each word with how long it is sung; what passes between two words belongs to no word."""
+    """Each word with its duration; the time between two words belongs to neither."""
     text, now = "", hundredths(line.start)
     parts = line.syllables
     for one, following in zip(parts, [*parts[1:], None]):

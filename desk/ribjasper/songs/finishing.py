@@ -51,7 +51,7 @@ class PairFiles:
         return [(self.cdg, kinds.CDG)] + [(self.sound, kinds.SOUND)] * (not self.is_there)
 
     def write(self, outputs: Outputs, packs: bytes, sound: Path, song: Song) -> None:
-        """Writes the graphics and the sound, as it is to be heard."""
+        """Writes the graphics and the treated sound."""
         if self.is_packed:
             write_zip(outputs, self.packed, packs, sound, song, self.ending)
             return

@@ -95,7 +95,7 @@ class Journal:
     sums: dict[str, str | None] = field(default_factory=dict)
 
     def content(self) -> bytes:
-        """The journal as a file: a table for what was opened, one for each edit, and one for where it is."""
+        """The journal as a file: a table for the opened files, one for each edit, and one for the current position."""
         files = [None if one is None else base64.b64encode(one).decode() for one in (self.lyrics, self.more)]
         head = {"ribjasper-studio": VERSION, "lyrics": files[0], "more": files[1]}
         last = {"at": self.at, "saved": self.saved, "sums": self.sums}

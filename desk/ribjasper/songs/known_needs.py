@@ -11,7 +11,7 @@ from ..common.times import spelled
 from ..drawing.raster import Raster, TILE_HEIGHT, span_lines, lines_between, spans
 from .pages import ColumnStep, Placed
 
-# The most places of pages whose needs are kept.
+# The greatest number of places of pages whose needs are kept.
 MOST_KEPT = 2_000
 FIRST = "00:01:00"
 
@@ -25,7 +25,7 @@ class StepNeeds:
 
 
 class Known:
-    """Answers by what they depend on: the whole screen before a place is drawn, and what its steps bring."""
+    """Needs by what they depend on: the whole screen before a place is drawn, and the pixels of its steps."""
 
     def __init__(self) -> None:
         self.answers: dict[bytes, StepNeeds] = {}
@@ -62,7 +62,7 @@ def need_key(placed: Placed, steps: Sequence[ColumnStep], ground: Raster) -> byt
 
 @dataclass
 class Waiting:
-    """Steps of a place whose pictures are in the script, from one number on."""
+    """The steps of a place whose pictures are in the script, from one number on."""
 
     key: bytes
     steps: list[ColumnStep]
@@ -102,7 +102,7 @@ class Asker:
             for number, row in zip(area, found.after):
                 self.ground.rows[number][:] = row
             return
-        # The script has what the known steps in front of these brought.
+        # The script must contain the pixels of the known steps before these.
         if stale := list(spans(self.scripted.rows, self.ground.rows)):
             self.show(span_lines(stale))
         first = self.count

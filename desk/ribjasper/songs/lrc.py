@@ -18,7 +18,7 @@ INSERTS = ("image", "picture", "colour", "color")
 
 @dataclass
 class Stamped:
-    """A line of an LRC file at one of its times: the pieces of text, each with its own time where it has one."""
+    """A line of an LRC file at one of its times: the pieces of text, each with its own time if it has one."""
 
     number: int
     written: str
@@ -83,8 +83,8 @@ def later_ones(stamped: list[Stamped]) -> list[Stamped | None]:
 
 
 def tell_order(song: Song, stamped: list[Stamped]) -> None:
-    """Notes each line that is earlier than one before it, or at the same time; a line that comes at several times may
-    be earlier."""
+    """Notes each line that is earlier than the previous one, or at the same time; a line with several times may be
+    earlier."""
     counts = Counter(one.number for one in stamped)
     once = [one for one in stamped if counts[one.number] == 1 and not one.is_empty()]
     for before, one in zip(once, once[1:]):
@@ -106,7 +106,7 @@ def offset_of(value: str, song: Song, number: int) -> float:
 
 
 def stamps_of(line: str) -> tuple[list[tuple[float, str]], str]:
-    """The times in front of a line, also as they are written, and what follows."""
+    """The times in front of a line, their spelling, and the rest of the line."""
     starts, at = [], 0
     while stamp := STAMP.match(line, at):
         starts.append((seconds(*stamp.groups()), stamp[0].rstrip()))

@@ -13,9 +13,10 @@ from .songs import Line, Syllable
 # The minimum lengths of a rest, in seconds: after REST a new page begins although the page is not full; after
 # COUNTED_REST dots count down to the next line; after SHOWN_REST a page shows how long the rest is.
 REST, COUNTED_REST, SHOWN_REST = 3.0, 6.0, 12.0
-# What is left of a page goes so long after its last word; a page after a long rest comes so long before its first.
+# The rest of a page disappears GOES seconds after its last word; a page after a long rest appears COMES seconds before
+# its first word.
 GOES, COMES = 2.0, 6.0
-# A row comes into a place so long after what was sung there, where a short page may choose.
+# On a short page, a row appears this long after the row before it in its place was sung.
 ROOM_BEFORE = 1.5
 # The dots that count a line in go out a second after each other.
 DOTS = 3
@@ -42,16 +43,16 @@ Row = tuple[int, bytes]
 
 
 def over(ground: bytes, inks: bytes) -> bytes:
-    """Inks over a row of the ground, which is seen where they are 0."""
+    """Inks over a row of the background, which is visible where they are 0."""
     seen = int.from_bytes(ground, "big") & int.from_bytes(inks.translate(NO_INK), "big")
     return (seen | int.from_bytes(inks, "big")).to_bytes(len(inks), "big")
 
 
 @dataclass(eq=False)
 class Placed:
-    """Letters in one of the places of a page, or none where it is to be empty; when they are sung, in seconds; and what
-    was there before them. What is not sung is only shown. It is not drawn before `begin`, nor before the row that it
-    follows in the order of singing."""
+    """Letters in one of the places of a page, or None to empty the place; the times at which they are sung, in seconds;
+    and the letters before them. Letters that are not sung are only shown. They are drawn neither before `begin` nor
+    before the row that they follow in the order of singing."""
 
     slot: int
     top: int
@@ -70,8 +71,8 @@ class Placed:
 
     @property
     def lit_end(self) -> float:
-        """The time at which all of it is lit; a line whose end is a guess may stay longer. An empty place has the time
-        of its previous line."""
+        """The time at which the whole row is lit; a line whose end is a guess may remain longer. An empty place has the
+        time of its previous line."""
         if not self.letters:
             return self.before.lit_end if self.before else self.end
         return self.letters.syllables[-1].end
@@ -132,7 +133,7 @@ class ColumnStep(Step):
     right: int
 
     def rows(self) -> Iterable[Row]:
-        """The rows that may change, with what they have in these columns."""
+        """The rows that may change, with their content in these columns."""
         raise NotImplementedError
 
     def differing(self, raster: Raster) -> list[Row]:
@@ -159,7 +160,7 @@ class ColumnStep(Step):
 
 
 class Draw(ColumnStep):
-    """They come, or go, over the empty page."""
+    """Letters appear on, or disappear from, the empty page."""
 
     def rows(self) -> Iterable[Row]:
         return zip(self.placed.area, self.placed.rows)
@@ -183,7 +184,7 @@ class DotOut(ColumnStep):
 
 @dataclass
 class Group:
-    """The rows of a page, before they have their places; where they are counted in; and the second before which
+    """The rows of a page, before they get their places; the place of their countdown; and the second before which
     nothing of them is drawn."""
 
     rows: list[tuple[Line, list[list[Syllable]]]] = field(default_factory=list)
@@ -273,8 +274,8 @@ class Screen:
 
 @dataclass
 class SongPage:
-    """What is to be drawn of a page, in its order, and what it is made of. A page that follows quickly does not wait
-    until the one in front of it is left."""
+    """The rows to draw for a page, in order, and the group from which the page is made. A page that follows quickly
+    does not wait until the previous one has disappeared."""
 
     placed: list[Placed]
     group: Group

@@ -47,7 +47,7 @@ def read_pair(path: Path, sound: Path | None = None) -> Pair:
 
 
 def unpacked(path: Path) -> tuple[bytes, Path]:
-    """The graphics of a ZIP file, and its sound as a file that is there while the desk runs."""
+    """The graphics in a ZIP file, and its sound as a file that exists while the desk runs."""
     with reading(path):
         try:
             with zipfile.ZipFile(path) as together:
@@ -94,8 +94,9 @@ def listed(packs: bytes) -> list[bytes]:
 
 
 def clean(packs: list[bytes]) -> list[bytes] | None:
-    """The packs with presets of the memory and the border and both packs of colours behind those that are lost, at
-    places whose own packs change nothing, so that all others keep their times; nothing if there is no room."""
+    """The packs with presets of the memory and the border and both packs of colours, inserted after the lost packs at
+    places whose own packs change nothing, so that all others keep their times; None if there are not enough such
+    places."""
     memory = border = 0
     colours = {LOW: bytes(16), HIGH: bytes(16)}
     for pack in packs[:LOST]:
@@ -147,7 +148,7 @@ def moves(packs: Sequence[bytes]) -> bool:
 
 
 def unmoved(packs: list[bytes]) -> list[bytes]:
-    """The packs of a track with two more at its first idle places, which undo what another track has left moved."""
+    """The packs of a track with two more packs at its first idle places, which undo the scroll of an earlier track."""
     idle = [place for place in range(LOST + 4, len(packs)) if not any(packs[place])][:2]
     colour = next((pack[4] & 15 for pack in packs[LOST:] if instruction(pack) == MEMORY), 0)
     for place, pack in zip(idle, (pack_of(SCROLL, [colour]), pack_of(TRANSPARENT, []))):

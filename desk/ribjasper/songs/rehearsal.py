@@ -1,5 +1,5 @@
-"""The pictures of a score while it is edited: its packs, what of it is late, and notes; made in the background, always of
-the newest score."""
+"""The pictures of a score during editing: its packs, its late rows, and notes; made in the background, always from the
+newest score."""
 import threading
 from dataclasses import dataclass, field, replace
 from pathlib import Path
@@ -22,7 +22,7 @@ from .tracks import as_pair, track_packs
 
 @dataclass
 class Late:
-    """A row that cannot be shown at its time: the number of its line, what is wrong, and by how many seconds."""
+    """A row that cannot be shown at its time: the number of its line, the problem, and the delay in seconds."""
 
     line: int
     what: str
@@ -31,7 +31,8 @@ class Late:
 
 @dataclass
 class Rehearsed:
-    """What became of a score: the packs of its .cdg file, what is late, notes, and why there is nothing if so."""
+    """The result for a score: the packs of its .cdg file, the late rows, notes, and the reason if there are no
+    packs."""
 
     revision: int
     packs: bytes = b""
@@ -145,7 +146,7 @@ class Rehearsal:
                 self.changed.notify_all()
 
     def wait(self, revision: int, seconds: float) -> Rehearsed | None:
-        """What was made of a revision or of a later one; nothing if that takes longer."""
+        """The result for a revision or a later one; None if that takes longer."""
         with self.changed:
             self.changed.wait_for(lambda: self.is_over or bool(self.done and self.done.revision >= revision), seconds)
             return self.done if self.done and self.done.revision >= revision else None

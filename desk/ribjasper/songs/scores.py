@@ -1,5 +1,5 @@
-"""A song while it is edited: an immutable score, whose words may have no times yet. Two scores that hold the same are
-equal, and a score without changes gives back the files that it was opened from."""
+"""A song during editing: an immutable score, whose words may have no times yet. Two scores with the same content are
+equal, and a score without changes reproduces the files from which it was opened."""
 import re
 from dataclasses import dataclass, field
 from typing import Any, Iterable, NamedTuple
@@ -57,7 +57,7 @@ class ScoreLine:
 
 
 class Picture(NamedTuple):
-    """A picture or a colour between verses; without a time it comes after the line that begins at `after`."""
+    """A picture or a colour between verses; without a time, it follows the line that begins at `after`."""
 
     what: str
     start: float | None
@@ -111,7 +111,7 @@ class Score:
 
     @property
     def untimed(self) -> list[int]:
-        """The numbers of the lines whose words do not all have times."""
+        """The numbers of the lines in which some words have no times."""
         return [number for number, line in enumerate(self.lines, 1) if not line.is_timed]
 
 
@@ -120,7 +120,7 @@ RANGES = {"rows": (LEAST_ROWS, MOST_ROWS), "size": (LEAST_SIZE, MOST_SIZE), "lea
 
 
 def look_of(table: dict[str, Any]) -> Look:
-    """The look that a table holds; what it does not name, or what does not fit, is the default."""
+    """The look in a table; missing and invalid values are the defaults."""
     found = {name: value for name, value in table.items() if value is not None and fits(name, value)}
     return Look(**{name: tuple(value) if isinstance(value, list) else value for name, value in found.items()})
 
@@ -187,7 +187,7 @@ def score_of_text(text: str, song: Song) -> Score:
 
 
 def filled(words: Iterable[Word]) -> list[Syllable]:
-    """Words as syllables of a song; those without times come at the end of those with times."""
+    """Words as syllables of a song; those without times are placed at the end of those with times."""
     made, now = list[Syllable](), 0.0
     for word in words:
         start = now if word.start is None else word.start
@@ -198,8 +198,7 @@ def filled(words: Iterable[Word]) -> list[Syllable]:
 
 
 def song_of(score: Score, like: Song) -> Song:
-    """The song of a score, whose lines have the numbers of the score; a line whose first word has no time is left
-    out."""
+    """The song of a score, whose lines have the numbers of the score, without lines whose first word has no time."""
     lines = [
         Line(number, filled(one.words), one.is_whole, written(one), one.until, one.new_page)
         for number, one in enumerate(score.lines, 1)
@@ -232,7 +231,7 @@ def document_for(score: Score, opened: Document, first: Score) -> Document:
 
 
 def last_end(start: float, following: float | None) -> float:
-    """Where the last word of a line is taken to end that begins at a time."""
+    """The estimated end of the last word of a line that begins at a time."""
     last = start + LONGEST_WORD
     return last if following is None else max(start, min(last, following))
 

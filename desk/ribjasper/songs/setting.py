@@ -20,7 +20,7 @@ PIECE = re.compile(r"\s*\S+\s*")
 
 @dataclass
 class SungPart:
-    """A syllable, or what of it has one direction, and its first pixel and the one behind its last."""
+    """A syllable, or a part of it with one direction; its first pixel, and the pixel after its last one."""
 
     syllable: Syllable
     left: int
@@ -30,8 +30,8 @@ class SungPart:
 
 @dataclass
 class Letters:
-    """A row of a line on the screen: the numbers of its pixels, 0 where the ground is seen, and its
-    syllables in the order of reading."""
+    """A row of a line on the screen: the numbers of its pixels, 0 where the background is visible, and its syllables in
+    the order of reading."""
 
     line: Line
     rows: list[bytes]
@@ -77,12 +77,13 @@ def word_pieces(text: str) -> list[str]:
 
 
 def is_closing(letter: str) -> bool:
-    """Whether no line begins with a letter: blanks, marks and signs that belong to what comes before them."""
+    """Whether a line must not begin with this letter: spaces, marks and signs that belong to the text before them."""
     return letter.isspace() or unicodedata.category(letter) in ("Pe", "Pf", "Po", "Mn", "Lm")
 
 
 def spelled_with(text: str, font: Font, has_boxes: bool) -> str:
-    """A text without the letters that no font has, or with a box for each; what only joins or changes them goes too."""
+    """A text without letters that no font has, or with a box for each; letters that only join or modify them are
+    removed."""
     missing = font.missing(text)
     if not missing:
         return text
@@ -148,7 +149,7 @@ def lettered(syllable: Syllable) -> list[tuple[Syllable, Syllable]]:
 
 
 def joined_letters(letters: list[Syllable]) -> list[Syllable]:
-    """Letters of a piece as one syllable where one follows the other without a break."""
+    """Letters of a piece, joined into one syllable if they follow each other without a pause."""
     joined: list[Syllable] = []
     for letter in letters:
         last = joined[-1] if joined else None
@@ -174,8 +175,8 @@ def wrapped(line: Line, font: Font) -> list[list[list[Syllable]]]:
 
 
 def sung_later(rows: list[list[list[Syllable]]]) -> list[list[list[Syllable]]]:
-    """The same rows; where words on several of them have one time, those on a later row are sung
-    later, in proportion to the letters before them."""
+    """The same rows; if words on several rows have the same time, those on later rows are sung later, in proportion to
+    the letters before them."""
     for number, row in enumerate(rows[:-1]):
         last = row[-1][-1]
         here = [syllable for word in row for syllable in word if syllable.start == last.start]

@@ -135,7 +135,7 @@ def decoded_texts(texts: list[bytes], song: Song, encoding: str | None) -> list[
 
 
 def put_in_order(song: Song) -> None:
-    """Lines in the order of their times; those whose words go back, or that no disc is long enough for, are faults."""
+    """Sorts the lines by their times; lines whose words go back in time, or exceed the length of a disc, are errors."""
     song.lines.sort(key=lambda line: line.start)
     if len(song.lines) > MOST_LINES:
         song.faults = [f"there are {len(song.lines):,} lines that are sung, and {MOST_LINES:,} are the most"]
@@ -155,7 +155,7 @@ def put_in_order(song: Song) -> None:
 
 
 def clip(song: Song) -> None:
-    """What would be sung before the audio begins is sung from its beginning on, or left out where it would be over."""
+    """Moves words before the beginning of the audio to its beginning, or drops them if they would be over by then."""
     kept = []
     for line in song.lines:
         if line.end <= 0:

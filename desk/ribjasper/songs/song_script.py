@@ -1,4 +1,4 @@
-"""The script of a song: a title, its pages, and what is lit when, so that the plan finds nothing late."""
+"""The script of a song: a title, its pages, and the times at which words are lit, so that no picture is late."""
 import bisect
 import functools
 import itertools
@@ -33,14 +33,14 @@ from .timeline import (
 )  # fmt: skip
 
 BLOCKS = BLOCKS_A_SECOND
-# A black picture is held through the pause, so that all that is drawn comes with the audio; the four packs that set it
-# have room behind the pause, and so have two more.
+# A black picture is held through the pause, so that all drawing begins with the audio; the four packs that set it fit
+# behind the pause, and so do two more.
 BEGIN = times.PAUSE + 4
 THROUGH_PAUSE = f"show 00:00:20 {spelled(BEGIN)}"
 # The blocks of audio that the longest disc has behind its pause.
 LONGEST_AUDIO = 449_999 - times.PAUSE
-# A line stays this long when it is sung; a title and a legend are shown so long at least, and are gone so long before
-# the first word; a last page comes if it can be shown so long.
+# A line stays STAYS blocks after it is sung. A title and a legend are shown for at least TITLE_STAYS, and disappear
+# BEFORE_FIRST before the first word; a last page is shown if it can remain for LAST_STAYS.
 STAYS, TITLE_STAYS, BEFORE_FIRST = BLOCKS // 5, 2 * BLOCKS, 3 * BLOCKS
 LAST_STAYS = 3 * BLOCKS
 # More letters of a title than a page has room for.
@@ -48,8 +48,8 @@ LONGEST_TITLE = 1_000
 # Losses and numbers of colours that are tried until a title needs few enough packs, and the loss of a background.
 TITLE_LOSSES = ((PLAIN, 16), (12.0, 16), (30.0, 12), (60.0, 8), (120.0, 4))
 BACKGROUND_LOSS = 30.0
-# Sizes of letters, and by how much the rows may be more for the sake of larger ones; and smaller sizes, which are taken
-# where most lines would be broken and are not with them.
+# The sizes of letters, and the factor of rows that is accepted for the sake of larger letters; and smaller sizes, which
+# are used if otherwise most lines would be broken.
 SIZES, SMALLER_SIZES, MORE_ROWS = range(24, 15, -1), range(15, 12, -1), 1.1
 # If at most one in FEW_LATE rows is late, or a single row, the letters keep their size.
 FEW_LATE = 20
@@ -60,7 +60,7 @@ ROUNDS = 8
 # A line is drawn this number of seconds before it is sung, or earlier if lines would be late otherwise (None: as early
 # as there is room). If that is not enough, lines whose end is a guess disappear as soon as they are lit.
 LEAD = 4.0
-# At last columns of a sweep are lit two by two, which takes fewer blocks.
+# In the last trials, the columns of a sweep are lit in pairs, which takes fewer blocks.
 Trial = tuple[float | None, bool, bool]
 TRIALS: tuple[Trial, ...] = (
     (LEAD, True, False),
@@ -99,7 +99,7 @@ class Wishes:
 
 @dataclass
 class Made:
-    """A script, what of the song is not shown at its time, and notes."""
+    """A script, the delays of the song in it, and notes."""
 
     lines: list[str]
     lateness: Lateness
@@ -109,7 +109,7 @@ class Made:
         return "".join(f"{line}\n" for line in self.lines).encode()
 
     def warnings(self) -> Iterable[str]:
-        """A line for each row of the song that cannot be shown at its time, and for what was left out or changed."""
+        """A line for each row of the song that cannot be shown at its time, and for each omission or change."""
         path = self.maker.song.path
         yield from self.maker.notes
 
@@ -150,7 +150,7 @@ def plan_of(lines: list[str], length: int = LONGEST_AUDIO) -> Plan:
 
 
 def steps_of(pages: list[SongPage], dues: list[Due]) -> list[ColumnStep]:
-    """All steps in an order in which each is drawn on what it will be drawn on later."""
+    """All steps in an order in which the picture before each step is the one on which it will be drawn."""
     lights: dict[Placed, list[ColumnStep]] = {}
     for due in dues:
         lights.setdefault(due.placed, []).extend(due.steps)
@@ -158,7 +158,7 @@ def steps_of(pages: list[SongPage], dues: list[Due]) -> list[ColumnStep]:
 
 
 def ask_needs(steps: Sequence[ColumnStep], ground: Raster, known: Known | None = None) -> None:
-    """Asks the plan how many packs each step needs, one after the other; what is known is not asked for."""
+    """Asks the plan how many packs each step needs, one after another, except for known needs."""
     if known:
         ask_known(steps, ground, known, lambda lines: plan_of(lines).rows)
         return
@@ -330,7 +330,7 @@ def fonts_for(song: Song, wishes: Wishes, notes: list[str]) -> list[Font]:
 
 
 def unbroken(song: Song, lines: list[Line], font: Font, notes: list[str], is_asked: bool) -> Font:
-    """The font in a smaller size, where that keeps most lines whole and this one does not."""
+    """The font in a smaller size, if most lines are whole in that size and not in this one."""
     count = len(lines)
     if 2 * broken(lines, font) <= count:
         return font
@@ -366,7 +366,7 @@ def lines_of(steps: Sequence[Step], raster: Raster) -> list[str]:
 
 
 def changed_by(part: ColumnStep, raster: Raster) -> Iterator[Span]:
-    """Brings the columns of a step, and gives for each row the stretch that changes."""
+    """Draws the columns of a step, and returns the stretch that changes in each row."""
     for number, row in part.rows():
         drawn, new = raster.rows[number], row[part.left : part.right]
         old = bytes(drawn[part.left : part.right])
@@ -379,7 +379,7 @@ def changed_by(part: ColumnStep, raster: Raster) -> Iterator[Span]:
 
 
 def merged(parts: Sequence[ColumnStep]) -> list[ColumnStep]:
-    """The same steps with one in place of those of one kind and one place whose columns are side by side."""
+    """The same steps, with adjacent columns of one kind and one place merged into one step."""
     kept: list[ColumnStep] = []
     for part in parts:
         last = kept[-1] if kept else None
@@ -523,7 +523,7 @@ class Maker:
         return False
 
     def last_page(self) -> list[Group]:
-        """A page that ends the song with its title, where its audio leaves time for it."""
+        """A page that ends the song with its title, if the audio leaves time for it."""
         texts = [text[:LONGEST_TITLE] for text in (self.song.title, self.song.performer) if text]
         sung = max(line.stays for line in self.song.lines)
         end, begin = self.wishes.end, times.nearest_block(sung + GOES)
@@ -590,13 +590,13 @@ class Maker:
         return Show(page_of_texts(lines, self.ground, self.font, self.style, self.song.voices))
 
     def room_for(self, shows: list[Show]) -> int:
-        """How many blocks are left where these pages and then the empty one come before the first words."""
+        """The number of blocks that remain before the first words if these pages and then the empty one are shown."""
         ask_shows([*shows, self.empty], Raster())
         needs: int = sum(TITLE_STAYS + blocks_for([show]) for show in shows)
         return self.page_begin - BEGIN - needs - blocks_for([self.empty])
 
     def arranged(self, lead: float | None, stays: bool, is_paired: bool) -> tuple[list[SentPicture], Lateness]:
-        """All steps on a line of time, as far as their needs are known."""
+        """All steps on a timeline, as far as their needs are known."""
         line = Timeline(BEGIN)
         begin = self.page_begin - blocks_for([self.empty])
         if self.shows:
@@ -617,7 +617,7 @@ class Maker:
         return line.pictures, lateness
 
     def script(self, pictures: list[SentPicture], end: int | None) -> list[str]:
-        """The lines of the script; what comes after the end of the audio is left out where it only clears the page."""
+        """The lines of the script; pictures after the end of the audio are left out if they only clear the page."""
         lines = [f"# {shown(str(self.song.path))}, by the lines of its lyrics.", THROUGH_PAUSE]
         raster = Raster()
         for number, picture in enumerate(pictures):
@@ -648,8 +648,8 @@ class Maker:
         raise Refusal(self.song.path, f"{len(found.late())} pictures stay late")
 
     def made(self) -> Made:
-        """The script. Pages that go as a whole leave no time for a row of the next one where that follows quickly: its
-        rows then come one by one, which is reported."""
+        """The script. If pages change as a whole, a row of a page that follows quickly may be late: the rows of that
+        page then appear one by one, which is reported."""
         made = self.by_lead()
         late = made.lateness.rows()
         quick = [page for page in self.pages if late.intersection(page.placed)] if self.style.by_page else []
@@ -743,7 +743,7 @@ def tasks_of(pages: list[SongPage], begin: int, style: Style, lead: float | None
                 continue
             goes = max(begin, gone if waits else times.nearest_block(placed.end + GOES))
             if placed.before and not placed.before.is_sung:
-                # What is not sung goes before the first line of the verse comes.
+                # Text that is not sung disappears before the first line of the verse appears.
                 goes = max(begin, times.nearest_block(placed.end))
                 tasks.append(Task(placed, list(placed.draws), goes, goes))
             elif placed in follows:
@@ -758,8 +758,8 @@ def tasks_of(pages: list[SongPage], begin: int, style: Style, lead: float | None
 
 
 def within(pictures: list[SentPicture], end: int | None, lateness: Lateness) -> list[SentPicture]:
-    """Without what comes after the end of the audio; where that is more than what clears the page or ends the song, its
-    lines are reported."""
+    """Drops pictures after the end of the audio; if they do more than clear the page or end the song, their lines are
+    reported."""
     if end is None:
         return pictures
     for picture in pictures:

@@ -53,7 +53,7 @@ class Line:
 
     @property
     def stays(self) -> float:
-        """Until when it is taken as sung."""
+        """The time until which the line counts as sung."""
         return max(self.end, self.until or 0.0)
 
     @property
@@ -118,7 +118,7 @@ class Song:
         self.faults.append(f"line {number}: {shortened(what)}")
 
     def voice_of(self, name: str, number: int) -> int:
-        """The voice of a singer, in the order in which they come; a name with two singers in it is both."""
+        """The voice of a singer, numbered in order of appearance; a name with two singers means both."""
         name = name.strip()
         if not name:
             return FIRST
@@ -135,7 +135,7 @@ class Song:
         return min(self.singers.index(name), SINGERS - 1)
 
     def shift(self, seconds: float) -> None:
-        """Moves all times; what then would begin before the audio does is left to `clip`."""
+        """Moves all times; words before the beginning of the audio are left to `clip`."""
         if not seconds:
             return
         for line in self.lines:

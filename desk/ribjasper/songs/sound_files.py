@@ -31,7 +31,7 @@ def sound_of(arguments: argparse.Namespace) -> Path:
 
 
 def write_sound(outputs: Outputs, name: str, sound: Path, song: Song, ending: str) -> None:
-    """Writes the sound under a name with this ending: as it is, or converted by ffmpeg."""
+    """Writes the sound under a name with this ending: unchanged, or converted by ffmpeg."""
     if sound.suffix.lower() != ending:
         convert_sound(sound, song, outputs.path(name), ending)
         return

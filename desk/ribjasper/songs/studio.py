@@ -258,7 +258,7 @@ class Studio:
                 raise
 
     def show_score(self) -> None:
-        """Asks for the pictures of the score as it is now."""
+        """Requests the pictures of the current score."""
         self.revision += 1
         self.rehearsal.ask(self.revision, self.score)
 
@@ -329,7 +329,7 @@ class Studio:
         return False
 
     def export(self, ending: str) -> list[str]:
-        """Writes the song for other programs, in this or a later call's way; what a format cannot express is noted."""
+        """Writes the song for other programs, in the format of this ending; what the format cannot express is noted."""
         with self.guard:
             self.check_timed()
             if ending not in EXPORTS:
@@ -347,7 +347,7 @@ class Studio:
         return rehearsed(revision, score, self.opened.document.song, self.sound, self.known)
 
     def ready(self) -> Rehearsed:
-        """The pictures of the song as it is, if all of it is timed and nothing keeps it from being made."""
+        """The pictures of the current song, if all of it is timed and it can be drawn."""
         with self.guard:
             self.check_timed()
             revision = self.revision

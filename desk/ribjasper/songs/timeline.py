@@ -1,4 +1,4 @@
-"""Steps on one line of time: what is sung is lit at its time, and what comes next is drawn in the gaps."""
+"""Steps on a timeline: words are lit at their times, and the next rows are drawn in the gaps."""
 from dataclasses import dataclass, field, replace
 from typing import Iterator, Sequence
 
@@ -69,7 +69,7 @@ class Timeline:
 
 
 def latest_starts(dues: list[Due]) -> list[int]:
-    """When each has to be sent at the latest, so that it and all after it are complete at their blocks."""
+    """The latest block to send each of these, so that it and all later ones are complete in time."""
     starts, limit = [], FOREVER
     for due in reversed(dues):
         limit = min(due.block, limit) - blocks_for(due.steps)
@@ -78,7 +78,7 @@ def latest_starts(dues: list[Due]) -> list[int]:
 
 
 def grouped(dues: Sequence[Due]) -> list[Due]:
-    """What would be lit much too early is lit together with what follows on its line."""
+    """Words that would be lit much too early are lit together with the next ones on their line."""
     kept: list[tuple[Due, int]] = []
     for due in reversed(dues):
         while kept and due.block - kept[-1][1] > EARLY and kept[-1][0].placed is due.placed:
@@ -89,8 +89,8 @@ def grouped(dues: Sequence[Due]) -> list[Due]:
 
 
 def paired(dues: Sequence[Due]) -> list[Due]:
-    """What is lit soon after each other on a line is lit together where that fits into one block. Two columns of a
-    tile's width then take one block instead of two, and more blocks are left for what is drawn."""
+    """Words that are lit in quick succession on a line are lit together if that fits into one block. Two columns as
+    wide as a tile then need one block instead of two, and more blocks remain for drawing."""
     kept: list[Due] = []
     for due in dues:
         last = kept[-1] if kept else None
@@ -104,8 +104,8 @@ def paired(dues: Sequence[Due]) -> list[Due]:
 
 @dataclass
 class Lateness:
-    """By how many blocks lines are drawn and words are lit after their times, the lines that are not sung out when
-    others have to come in their place, and those that are not wholly lit before the audio ends."""
+    """The numbers of blocks by which rows are drawn too late and words are lit too late, the rows that are not sung
+    completely before others replace them, and those that are not lit completely before the audio ends."""
 
     drawn_late: dict[Placed, int] = field(default_factory=dict)
     lit_late: dict[Placed, int] = field(default_factory=dict)
@@ -150,7 +150,7 @@ class Arranger:
         return self.lateness
 
     def fill(self, until: int) -> None:
-        """Draws what may be drawn before a block, what is due first before others, column by column."""
+        """Draws the rows that may be drawn before a block, the most urgent first, column by column."""
         while waiting := self.waiting(until):
             begin = max(self.line.now, min(task.release for task in waiting))
             task = min((task for task in waiting if task.release <= begin), key=lambda task: task.block)
@@ -175,8 +175,8 @@ class Arranger:
         return not self.tasks[before].steps if task.placed.letters else before not in self.is_open
 
     def take_over(self, task: Task) -> None:
-        """Where a place is cleared, what was still to be drawn there before is not drawn any more; and what was
-        still to be cleared before that is cleared with it."""
+        """When a place is cleared, rows that were still to be drawn there are dropped, and an earlier clearing that was
+        still to be done is done with it."""
         letters = task.placed.before
         if task.placed.letters or not letters:
             return
@@ -242,7 +242,7 @@ class Arranger:
 
 
 def note(late: dict[Placed, int], placed: Placed, blocks: int) -> None:
-    """Keeps how late a line is at most, where that can be seen."""
+    """Records the greatest visible delay of a row."""
     if blocks > SEEN:
         late[placed] = max(blocks, late.get(placed, 0))
 
@@ -277,7 +277,7 @@ def dues_of(placed: Placed, sweep: bool) -> list[Due]:
 
 
 def swept(letters: Letters) -> list[SungPart]:
-    """The stretches of one direction in a row whose words have no times: each is swept over as long as it is wide."""
+    """The parts with one direction in a row whose words have no times: each is lit in proportion to its width."""
     stretches: list[SungPart] = []
     for part in letters.parts:
         last = stretches[-1] if stretches else None

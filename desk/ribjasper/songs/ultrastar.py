@@ -114,7 +114,7 @@ def set_clock(song: Song, clock: Beats, name: str, value: str, number: int) -> N
 
 
 def add_syllable(line: Line, text: str, start: float, end: float, voice: int) -> None:
-    """A note; one whose text is only held, or none, makes the one before it longer."""
+    """Adds a note; a note whose text is only a mark for holding, or empty, extends the previous one."""
     if text.strip() in (HELD, "") and line.syllables:
         line.syllables[-1].end = end
         line.syllables[-1].text += " " * (text != text.rstrip())
