@@ -1,4 +1,4 @@
--- Two different answers are not equal; and what still holds of a file that is kept.
+-- Answers that differ from each other, and facts about a file that is kept.
 use Rattle.std.proofs.Common.{◌≡◌, ◌≢◌, ℕ, ◌*◌, ◌<◌, ◌≤◌, List, length, sym, subst, ap, arith, ◌⊎◌, inl, inr}
 use Rattle.std.specs.Prelude.{Option, Some, None, Result, Ok, Err, IfSome, IsOk, IsErr, nat_lt, ◌==◌, ◌%◌, ◌/◌}
 use Rattle.cdg_io.specs.Causes.{Count}

@@ -61,7 +61,7 @@ take-parts size (suc m) zero xs few = absurd (omega (arith, few))
 take-parts size (suc m) (suc n) xs few =
     ap (λ rest. take size xs ∷ rest) (take-parts size m n (drop size xs) (omega (arith, few)))
 
--- the first of some of the chunks of a list are its first units
+-- the first chunks of a list are its first units
 pub first_units : (size m n all : ℕ) (xs : List ℕ) (chunks : List (List ℕ))
     → chunks ≡ first_chunks size all xs
     → m ≤ n → n ≤ all → take m (take n chunks) ≡ units_of size m xs

@@ -16,7 +16,7 @@ given_behind buffer new given rest end k n within count is =
     let fits : n ≤ length new = omega (arith, count, ap length is, length-append given rest) in
     sym (take-put_mid_on end k n buffer new within fits) ∙ ap (λ l. take end buffer ++ l) front
 
--- a unit was taken from the front of a row
+-- a unit was consumed from the front of a row
 pub unit_taken : (row : List ℕ) (size n m : ℕ) → n ≡ size → m ≡ size → size ≤ length row
     → (length (take n row) ≡ size)
     × Consumes (Some row) (Some (take (length row - m) (drop m row))) (take n row)

@@ -123,7 +123,7 @@ Consumes-all None b bs p end = tt
 Consumes-all (Some xs) None bs p end = absurd p
 Consumes-all (Some xs) (Some ys) bs p end = sym (p ∙ ap (λ (l : List ℕ). bs ++ l) end ∙ append-nil bs)
 
--- there was more
+-- if more than n bytes were consumed, the input has more than n bytes
 pub Consumes-more : (a b : Option (List ℕ)) (bs : List ℕ) (n : ℕ) → Consumes a b bs → n < length bs
     → IfSome a (λ all. n < length all)
 Consumes-more None b bs n p more = tt

@@ -28,7 +28,7 @@ pub whole_units : (size : ℕ) (bytes : List ℕ) → 0 < size → IsWhole size 
 whole_units size bytes some =
     record { fits = div-mul-le_self (length bytes) size; rest = lt-div-mul-add some }
 
--- bytes that are at most one more than the limit hold no more units
+-- at most one byte more than the limit adds no whole unit
 within_limit : (size limit n len : ℕ) → 1 < size → n * size ≤ len → len ≤ limit * size + 1 → n ≤ limit
 within_limit size limit n len some fits within =
     let less : n * size < suc limit * size = omega (arith, fits, within, some, suc-mul limit size) in

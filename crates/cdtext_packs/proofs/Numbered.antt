@@ -40,7 +40,7 @@ pub pack_count-full : (strings : List (List ℕ)) → are_empty strings ≡ fals
     → pack_count strings ≡ (length (joined strings) + 11) / 12
 pack_count-full strings e = ap (λ (b : Bool). if b then 0 else (length (joined strings) + 11) / 12) e
 
--- a pack of the strings begins inside their bytes
+-- a pack of some strings begins before the end of their bytes
 pub pack_begins : (strings : List (List ℕ)) (k : ℕ) → k < pack_count strings
     → 12 * k < length (joined strings)
 pack_begins strings k below = elim (cases_Bool (are_empty strings)) [
@@ -69,7 +69,7 @@ pushed_more old f first k number is =
     ∙ ap (λ (packs : List (List ℕ)). old ++ packs) (sym (numbered-append first (map f (below k)) (f k ∷ [])))
     ∙ ap (λ (xs : List Content). old ++ numbered first xs) (sym more)
 
--- a part of twelve bytes, or of fewer at the end
+-- a part of twelve bytes, or of fewer bytes at the end
 pub part_of_twelve : (bytes : List ℕ) (k start end : ℕ) → start ≡ 12 * k → start < length bytes
     → end ≡ min (length bytes) (start + 12)
     → twelve (take (end - start) (drop start bytes)) 0 ≡ twelve bytes k
@@ -103,7 +103,7 @@ track_is first place track which = elim which [
       same ∙ sym (cond-false (place == 0) 0 (first + place - 1) (ne_eqb place 0 later.0))
 ]
 
--- the bytes of a pack from its parts
+-- the bytes of a pack, from its parts
 pub content_is : (first type number k track position : ℕ) (strings : List (List ℕ)) (text : List ℕ)
     (holder : ℕ × ℕ)
     → slice_index_or (holders 0 strings) (12 * k) (0, 0) ≡ holder

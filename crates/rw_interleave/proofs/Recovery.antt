@@ -79,7 +79,7 @@ small_get symbols small p = elim (leb_tells (length symbols) p) [
   | inr within ↦ All-get_or (λ symbol. symbol < 64) symbols p 0 within.1 small
 ]
 
--- ---- what is found
+-- ---- findings
 
 finding_of : (word codeword : List ℕ) (found : Option (List ℕ)) → OneIsNear → IsWord word
     → Reads word codeword → IsFinding word found

@@ -29,7 +29,7 @@ text_more found f =
 at_end : {X : Type 0} (xs : List X) (x d : X) (n : ℕ) → length xs ≡ n → get_or (xs ++ x ∷ []) n d ≡ x
 at_end xs x d n size = ap (λ m. get_or (xs ++ x ∷ []) m d) (sym size) ∙ get_or-append_seam xs x [] d
 
--- one word more
+-- one more word
 pub mended_next : (readings : Readings) (words n : ℕ) (before packs new : List ℕ)
     (has has' : List (List Candidate) → List (Option Mended) → Type 0) (candidates : List Candidate)
     (f : Option Mended)

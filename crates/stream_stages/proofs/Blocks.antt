@@ -1,4 +1,4 @@
--- The slots of a block, as a window takes them.
+-- The slots of a block, as a window reads them.
 use Rattle.std.proofs.Common.{◌≡◌, ℕ, ◌+◌, ◌-◌, ◌*◌, ◌%◌, ◌<◌, ◌⊎◌, inl, inr, List, [], ◌∷◌, length, map, take, drop, Some, None, sym, ap, ◌∙◌, arith, length-drop, length-take-le}
 use Rattle.std.specs.Prelude.{slice_index, ◌==◌, if◌then◌else◌}
 use Rattle.std.specs.declared.option.Option.{Option}

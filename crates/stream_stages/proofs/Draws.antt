@@ -58,7 +58,7 @@ painting_runs s [] = refl
 painting_runs s (v ∷ vs) =
     painting_runs (draw_after s v.items) vs ∙ sym (draw_append s v.items (all_items vs))
 
--- ---- what stands
+-- ---- the standing
 
 -- the instructions of the codewords that are found
 abbrev pub instrs_of : List (Option (List ℕ)) → List Instr
