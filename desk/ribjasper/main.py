@@ -20,7 +20,7 @@ from .common.library import version
 ARCHIVE = ("identify", "damage", "mend", "q-fix", "convert", "sums", "report", "sheet", "texts")
 PUBLISH = ("plan", "picture", "lyrics", "image", "film", "album", "pair", "look", "studio")
 COMMANDS = (*ARCHIVE, *PUBLISH)
-# Modules that are not called as their commands.
+# Modules whose names differ from their commands.
 MODULES = {"q-fix": "q_fix", "sheet": "sheets"}
 
 
@@ -173,7 +173,7 @@ def main(words: Sequence[str] | None = None) -> int:
     # File names are bytes: bytes that are not valid in this locale are printed unchanged.
     for stream in (sys.stdout, sys.stderr):
         if isinstance(stream, io.TextIOWrapper):
-            # Lines end the same on every system.
+            # Line ends are the same on every system.
             stream.reconfigure(encoding=sys.getfilesystemencoding(), errors="surrogateescape", newline="\n")
     try:
         with stopping():

@@ -17,8 +17,8 @@ ROOM_FOR_TABLE = 4 * 3 * 102
 
 @dataclass
 class Track:
-    """A track: its control bits; the absolute time at which each index begins, index 0 being its pause; its recording
-    code, or nothing; its session; and the blocks of silence before and behind it that no file has."""
+    """A track: its control bits; the absolute time at which each index begins (index 0 is its pause); its recording
+    code, or nothing; its session; and the numbers of silent blocks before and behind it that are in no file."""
 
     number: int
     control: int

@@ -12,17 +12,17 @@ FOUND = 1
 REFUSED = 3
 # A picture is late.
 LATE = 4
-# A package, a program or the library is not there.
+# A package, a program or the library is missing.
 MISSING = 5
 # An output cannot be written.
 UNWRITTEN = 6
 # The memory is not enough.
 NO_MEMORY = 7
-# Something that the desk should have known of.
+# A bug of the desk.
 FAULT = 8
 # There is nothing to do.
 NOTHING = 9
-# A signal ended it: this and the signal's number.
+# A signal ended the desk: this number plus the number of the signal.
 STOPPED = 128
 
 
@@ -54,7 +54,7 @@ class Refusal(Failure):
 
 
 class Unwritten(Refusal):
-    """An output that cannot be written, and why."""
+    """An output that cannot be written, and the reason."""
 
     status = UNWRITTEN
 
@@ -76,7 +76,7 @@ class Nothing(Failure):
 
 
 class Fault(Refusal):
-    """Something that the desk should have known of."""
+    """A bug of the desk."""
 
     status = FAULT
 
@@ -111,8 +111,8 @@ class Outside(NamedTuple):
     failure: type[Refusal]
 
 
-# By the names of exceptions, so that no package is loaded for the sake of its exceptions. What has no line of its own
-# has that of its nearest base.
+# Exceptions are listed by name, so that no package is loaded for them. An exception without its own entry has the entry
+# of its nearest base class.
 OUTSIDE = {
     "MemoryError": Outside("there is not enough memory for it", NoMemory),
     "RecursionError": Outside("is nested too deeply", Refusal),

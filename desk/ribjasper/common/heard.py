@@ -24,7 +24,7 @@ def _opened(event: str, arguments: tuple[Any, ...]) -> None:
     """Python calls this before it opens a file, in its own code and in packages."""
     if event != "open" or not _listening or _paused:
         return
-    # Nothing that goes wrong here may keep a file from being opened.
+    # No error here may prevent that a file is opened.
     with contextlib.suppress(Exception):
         path, _, flags = arguments
         if isinstance(path, int) or flags & os.O_ACCMODE != os.O_RDONLY or flags & os.O_CREAT:

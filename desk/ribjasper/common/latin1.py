@@ -1,5 +1,5 @@
 """Texts of a disc that are not ASCII. The character code of the texts is 00, which players read as Latin-1 (ISO
-8859-1), and the bytes of a sheet go onto the disc as they are."""
+8859-1), and the bytes of a sheet are written onto the disc unchanged."""
 import re
 import unicodedata
 from pathlib import Path

@@ -22,8 +22,8 @@ NAME = NAMES.get(sys.platform, "libribjasper.so.0")
 BLOCK, PACK, TEXT_PACK, SECTOR = 96, 24, 18, 2448
 WIDTH, HEIGHT, PICTURE, COLOURS = 300, 216, 194_400, 16
 BLOCKS_A_SECOND, PACKS_A_BLOCK = 75, 4
-# The audio of a sector in bytes; the slots, four in a block, over which a word is spread; and how many blocks behind
-# its own it reaches.
+# The bytes of audio in a sector; the slots, four per block, over which a word is spread; and the number of blocks after
+# its own into which it extends.
 AUDIO, SLOTS, SPREAD = 2352, 8, 2
 # The first symbol of a pack of graphics.
 GRAPHICS = 9
@@ -34,10 +34,10 @@ RAW, PACKS = 0, 1
 READINGS, AGREED, NO_READING = 254, 254, 255
 DONE, DAMAGED, TORN, NO_ROOM, NO_MEMORY = 0, 1, 3, 6, 7
 NO_TIME = 0xFFFF_FFFF
-# The pixels of a tile, the most index lines that a sheet has, and the kinds of its texts by their numbers.
+# The pixels of a tile, the greatest number of index lines in a sheet, and the kinds of its texts by their numbers.
 TILE, MOST_INDEX_LINES = 72, 9_900
 SHEET_TEXTS = ("title", "performer", "songwriter")
-# What the texts of most discs need.
+# The buffer size that most discs need for their texts.
 TEXT_ROOM = 65_536
 Q_PROGRAM, Q_TRACK, Q_FIRST, Q_LAST, Q_LEAD_OUT, Q_CATALOGUE, Q_ISRC, Q_OTHER = range(8)
 Q_NONE, Q_BAD_FIELD, Q_BAD_CHECK = 253, 254, 255
@@ -67,7 +67,7 @@ class Converted(Structure):
 
 
 class SurveyRow(Structure):
-    """What is found of a block."""
+    """The survey of a block."""
 
     _fields_ = [
         ("absolute", c_uint32),
@@ -97,7 +97,7 @@ class ListedTexts(Structure):
 
 
 class MendedReadings(Structure):
-    """What the library counts when it mends readings."""
+    """The counts of the library for mended readings."""
 
     _fields_ = [
         ("bytes", c_uint64),
@@ -142,8 +142,8 @@ class Planned(Structure):
 
 
 class Change(Structure):
-    """What of the screen may have changed: pixels from `left` to `right` of the rows from `top` to `bottom`, and
-    whether colours or levels may have."""
+    """The change of the screen: pixels from `left` to `right` of the rows from `top` to `bottom`, and whether colours
+    or levels may have changed."""
 
     _fields_ = [
         ("left", c_uint32),
@@ -334,7 +334,7 @@ def sheet(text: bytes) -> Sheet:
 
 
 def sheet_text(text: bytes, kind: int, place: int) -> bytes:
-    """A text of a cue sheet that is not refused: of the album at place 0, of the k-th track at place k."""
+    """A text of a cue sheet that was accepted: of the album at place 0, of the k-th track at place k."""
     room, length, status = TEXT_ROOM, c_uint32(), NO_ROOM
     while status == NO_ROOM:
         out = ctypes.create_string_buffer(room)
@@ -349,6 +349,6 @@ def sheet_text(text: bytes, kind: int, place: int) -> bytes:
 
 @functools.lru_cache(maxsize=None)
 def tile_weight(numbers: frozenset[int]) -> int:
-    """How many packs draw a tile that has the colours with these numbers, and no others."""
+    """The number of packs that draw a tile with exactly these colours."""
     pixels = (*numbers, *itertools.repeat(min(numbers), TILE - len(numbers)))
     return int(call("ribjasper_tile_weight")((c_uint8 * TILE)(*pixels)))

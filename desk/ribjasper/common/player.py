@@ -17,7 +17,7 @@ if TYPE_CHECKING:
 # A seek feeds at most the blocks from one mark to the next: ten seconds, or a hundredth of a long stream. MARK is the
 # size of a mark in bytes: a place and the state of a player.
 LEAST_STEP, MOST_MARKS, MARK = 750, 100, 8 + 8 * 8135
-# The library's formats of pixels: three bytes a pixel, and four with the opacity.
+# The library's formats of pixels: three bytes per pixel, and four with the opacity.
 RGB, RGBA_LEVELS = 1, 4
 
 
@@ -55,7 +55,7 @@ class Player:
             self.close()
 
     def begin(self, form: int, lead_in: int) -> None:
-        """Forgets all that was drawn; blocks that are fed from now on have this form (RAW or PACKS of the library)."""
+        """Clears the screen; blocks that are fed from now on have this form (RAW or PACKS of the library)."""
         call("ribjasper_player_begin")(self._handle, form, lead_in)
 
     def feed(self, blocks: bytes) -> Change:
@@ -82,7 +82,7 @@ class Player:
         every = max(LEAST_STEP * (PACKS_A_BLOCK if self._is_packs else 1), -(-count // MOST_MARKS))
         marks = max(1, count // every)
         if self._marks is None:
-            # Memory of zeros, aligned as numbers of eight bytes are.
+            # Zeros, aligned like numbers of eight bytes.
             self._marks = (ctypes.c_uint64 * (MARK // 8 * marks))()
         place = self._stream, count, min(to, count), self._marks, marks, every
         if self._is_packs:

@@ -35,7 +35,7 @@ def bar(total: int | None, unit: str, is_scaled: bool = False) -> Any:
 
 
 def progress(items: Iterable[Item], total: int | None, unit: str) -> Iterator[Item]:
-    """Items one by one, and how many of them are done."""
+    """Iterates over items, and shows how many are done."""
     with counted(total, f" {unit}") as advance:
         for item in items:
             yield item
@@ -44,7 +44,7 @@ def progress(items: Iterable[Item], total: int | None, unit: str) -> Iterator[It
 
 @contextlib.contextmanager
 def counted(total: int | None, unit: str, is_scaled: bool = False) -> Iterator[Callable[[int], object]]:
-    """What is called with how much more is done."""
+    """A function that adds to the progress."""
     shown = bar(total, unit, is_scaled)
     if shown is None:
         yield lambda _: None

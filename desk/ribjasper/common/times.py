@@ -1,4 +1,4 @@
-"""Times of a disc: blocks, 75 a second, spelled `MM:SS:FF`."""
+"""Times of a disc: blocks, 75 per second, written `MM:SS:FF`."""
 import argparse
 import re
 

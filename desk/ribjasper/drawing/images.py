@@ -14,7 +14,7 @@ from .colours import Colour
 from .raster import COLOURS, HEIGHT, Raster, Span, TILE_HEIGHT, TILE_WIDTH, WIDTH, span_lines
 
 Grid = list[bytearray]
-# The pixels of the largest image that is read, and from which distance on a colour is not near another.
+# The pixels of the largest image that is read, and the distance from which on two colours are not near each other.
 MOST_PIXELS = 64_000_000
 FAR = 60
 
@@ -54,7 +54,7 @@ def read_image(path: Path, how: ImageOptions = ImageOptions()) -> Any:
 
 
 def choose_frame(image: Any, path: Path, frame: int | None) -> None:
-    """Turns to a frame of a file that has several."""
+    """Selects a frame of a file with several frames."""
     count = getattr(image, "n_frames", 1)
     if count > 1 and frame is None:
         raise Refusal(path, f"has {count} frames; --frame N chooses one, from 1 to {count}")
@@ -65,15 +65,15 @@ def choose_frame(image: Any, path: Path, frame: int | None) -> None:
 
 
 def in_eight_bits(image: Any) -> Any:
-    """The same image; one of sixteen bits of grey, which Pillow would cut off at 255, by its upper eight."""
+    """The same image; for 16-bit grey, which Pillow would saturate at 255, the upper eight bits of each pixel."""
     if image.mode.startswith("I"):
         return image.convert("I").point(lambda light: light * (1 / 256)).convert("L")
     return image
 
 
 def fitted(image: Any, width: int, height: int, crop: bool = False) -> Any:
-    """The image in this size and in its proportions: whole amid the colour that its edge is mostly near, or filling
-    it."""
+    """The image in this size with its proportions: complete on the colour to which most of its edge is near, or filling
+    the size."""
     if image.size == (width, height):
         return image
     scale = (max if crop else min)(width / image.width, height / image.height)
@@ -98,8 +98,7 @@ def edge_colour(image: Any) -> tuple[int, int, int]:
 
 
 def most_near(edge: Counter[Colour], among: Sequence[Colour]) -> Colour:
-    """The one of some colours that most pixels of an edge are near; how far off those are that are not near counts
-    little."""
+    """The colour to which most pixels of an edge are near; the distance of the other pixels counts little."""
 
     def distance(colour: Colour) -> int:
         return sum(count * min(colour.far_from(other), FAR) for other, count in edge.items())
@@ -146,8 +145,8 @@ def put(rows: Grid, left: int, top: int, change: bytes) -> None:
 
 
 def simplify(flat: Flat, most_error: float) -> None:
-    """Takes colours out of tiles as long as that shows little: the one that is missed least, always into the one that
-    looks most like it. What is left of a tile may be one colour, and then costs little or nothing."""
+    """Removes colours from tiles as long as that is hardly visible: each time the least important one, which the most
+    similar colour replaces. A tile may end with one colour, and then needs few packs or none."""
     for left, top in tiles_of(flat.rows):
         counts = Counter(pixels_of(flat.rows, left, top))
         change, error = bytearray(range(256)), 0.0
@@ -211,7 +210,7 @@ def flat_of(image: Any, most: int = COLOURS, simple: float = PLAIN, dither: bool
 
 
 def raster_of(flat: Flat, ground: Raster, left: int, top: int, free: Sequence[int] = range(COLOURS)) -> Raster:
-    """The screen after it is drawn on another one from a pixel on; its colours get some of the free numbers."""
+    """The screen after the image is drawn on another one from a pixel on; its colours get some of the free numbers."""
     numbers = numbered(flat, free)
     raster = ground.copy()
     for number, colour in zip(numbers, flat.colours):
@@ -230,7 +229,7 @@ def whole(
     how: ImageOptions = ImageOptions(),
     border: Colour | None = None,
 ) -> Raster:
-    """An image that fills the window, with a border of this colour, or of the one that most of its edge is near."""
+    """An image that fills the window, with a border in this colour, or in the one to which most of its edge is near."""
     image = fitted(read_image(path, how), WIDTH, HEIGHT, how.crop)
     raster = raster_of(flat_of(image, most, simple, dither), Raster(), 0, 0)
     edge = bytes(raster.rows[0] + raster.rows[-1]) + b"".join(bytes((row[0], row[-1])) for row in raster.rows)
@@ -245,7 +244,7 @@ def whole(
 
 
 def border_number(raster: Raster, used: Sequence[int], border: Colour) -> int:
-    """A colour for the border: one that the image has, a number that is free, or the nearest that there is."""
+    """A colour for the border: one that the image has, a free number, or the nearest colour."""
     free = next((number for number in range(COLOURS) if number not in used), None)
     if border in [raster.colours[number] for number in used] or free is None:
         return used[colouring.nearest_colour(border, [raster.colours[number] for number in used])]

@@ -47,7 +47,7 @@ def busy(content: bytes, unit: int) -> bytes:
 
 
 def runs(column: bytes) -> list[Run]:
-    """Where a column is not zero."""
+    """The runs in which a column is not zero."""
     return [Run(found.start(), found.end() - 1) for found in re.finditer(rb"[^\x00]+", column)]
 
 

@@ -35,8 +35,8 @@ def time_at(source: Source, base: TimeBase, time: int) -> int:
 
 @dataclass
 class CueTrack:
-    """A track of a cue sheet: its indexes by their times in all of its files, one behind another, with the silence that
-    no file has and without it; whether it is data; and its code."""
+    """A track of a cue sheet: its indexes by their times in all of its files, one after another, with and without the
+    silence that is in no file; whether it is data; and its code."""
 
     number: int
     indices: dict[int, int] = field(default_factory=dict)

@@ -13,8 +13,8 @@ from .survey import Survey
 # A form is tried in windows of WINDOW bytes, the same bytes for each form. First a few windows are read, until enough
 # of them are not empty. If these decide nothing, windows from everywhere are read.
 WINDOW, FEW, ENOUGH, MANY = 1 << 17, 64, 12, 64
-# How often random bytes are good by chance: a Q frame of any kind, one with fields of its own, one with fields and no
-# check, a word with a codeword near it, and the first symbols of a pack of graphics.
+# The probability that random bytes are good by chance: a Q frame of any kind, one with its own fields, one with fields
+# and no check, a word with a codeword near it, and the first symbols of a graphics pack.
 CHANCE_FRAME, CHANCE_FIELDS, CHANCE_UNCHECKED, CHANCE_WORD, CHANCE_PACK = 2**-16, 1e-9, 1e-5, 1.6e-5, 9 / 4096
 # The greatest probability of chance for a form that is accepted.
 UNLIKELY = 1e-8
@@ -43,15 +43,15 @@ _IS_INSTRUCTION = bytes(symbol in (1, 2, 6, 20, 24, 28, 30, 31, 38) for symbol i
 
 
 class Window(NamedTuple):
-    """Bytes of a file, from one on."""
+    """Bytes of a file from a place on."""
 
     start: int
     content: bytes
 
 
 class Signs(NamedTuple):
-    """What speaks for a form: how many Q frames are not empty, how many of them are good, and how many have fields of
-    their own; how many words carry something, of how many that are not idle, and of how many in all."""
+    """The evidence for a form: the number of Q frames that are not empty, of good ones, and of those with their own
+    fields; the number of nonempty words, of words that are not idle, and of all words."""
 
     frames: int = 0
     good: int = 0
@@ -130,14 +130,14 @@ def is_no_chance(count: int, of: int, chance: float) -> bool:
 
 
 def frame_signs(blocks: bytes) -> tuple[int, int, int]:
-    """How many Q frames are not empty, how many are good, and how many of these have fields."""
+    """The numbers of Q frames that are not empty, of good ones, and of these with fields."""
     survey = Survey(blocks, RAW, 0, is_trimmed=False)
     good = survey.good_frames()
     return survey.blocks - sum(survey.column("empty")), good, good - survey.column("q").count(library.Q_OTHER)
 
 
 def word_signs(blocks: bytes, form: int) -> tuple[int, int, int]:
-    """How many words carry something, how many are not idle, and how many there are."""
+    """The numbers of nonempty words, of words that are not idle, and of all words."""
     packs, counts = library.packs_of_blocks(blocks, form, 0)
     firsts = packs[::PACK]
     carrying = len(firsts) - firsts.count(0)
@@ -145,7 +145,7 @@ def word_signs(blocks: bytes, form: int) -> tuple[int, int, int]:
 
 
 def pack_signs(symbols: bytes) -> tuple[int, int, int]:
-    """How many packs of graphics there are, how many packs are not idle, and how many there are."""
+    """The numbers of graphics packs, of packs that are not idle, and of all packs."""
     kinds, instructions = symbols[::PACK].translate(_IS_GRAPHICS), symbols[1::PACK].translate(_IS_INSTRUCTION)
     return sum(both(kinds, instructions)), sum(busy(symbols, PACK)), len(kinds)
 
@@ -177,9 +177,9 @@ def signs(windows: Sequence[Window], form: Form, skip: int) -> Signs:
 
 
 def best_form(candidates: Sequence[Found]) -> Found | None:
-    """The form that explains most. Q decides before words do. Of forms that explain much the same share, those which
-    explain most; of these the one with the fewest words, for packs behind silent audio are found without the sectors
-    too."""
+    """The form that explains most. Q decides before words do. Of forms that explain nearly the same share, those that
+    explain most; of these, the one with the fewest words, because packs behind silent audio are found without the
+    sectors too."""
     explaining = [(explained, found) for found in candidates if (explained := found.explained())]
     by_q = [it for it in explaining if it[0].by_q]
     by_words = [it for it in explaining if not it[0].by_q]
@@ -203,8 +203,8 @@ def best_form(candidates: Sequence[Found]) -> Found | None:
 
 
 def may_have_header(form: Form) -> bool:
-    """Whether a header in front of a form is searched for. A file of packs has none: without its first packs it looks
-    like a file of packs too."""
+    """Whether a header before a form is searched. A file of packs has none: without its first packs it also resembles a
+    file of packs."""
     return form.is_in_sectors() or not form.is_packs()
 
 
@@ -232,7 +232,7 @@ def offsets(windows: Sequence[Window], form: Form) -> Iterator[int]:
 
 
 def windows_of(dump: DumpFile, is_thorough: bool) -> list[Window]:
-    """Windows that are not empty, in order: enough of a few places, or many of all places."""
+    """Windows that are not empty, in order: enough from a few places, or many from all places."""
     places = -(-dump.size // WINDOW)
     if places <= FEW or is_thorough:
         starts = [WINDOW * place for place in range(places)]
@@ -270,8 +270,8 @@ def has_units(dump: DumpFile, form: Form) -> bool:
 
 
 def as_named(dump: DumpFile, found: Found) -> Found:
-    """Packs with parity are both a cooked dump and a `.cdg` file: the name of the file decides, or a length that is no
-    whole blocks."""
+    """Packs with parity are both a cooked dump and a `.cdg` file: the name of the file decides, or a length that is not
+    a multiple of a block."""
     if found.form.coding is not Coding.COOKED or found.form.is_in_sectors():
         return found
     is_cdg = dump.path.lower().endswith(".cdg") or (dump.size - found.skip) % found.form.unit

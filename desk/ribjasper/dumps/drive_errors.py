@@ -26,7 +26,7 @@ class DriveErrors(NamedTuple):
         return self.mask.count(1)
 
     def within(self, first: int, end: int) -> int:
-        """How many blocks are doubtful from one up to another."""
+        """The number of doubtful blocks from one up to another."""
         return self.mask.count(1, first, end)
 
 

@@ -8,7 +8,7 @@ from ..common.failures import Name, Refusal, cause
 from ..common.library import PACKS_A_BLOCK
 from .forms import Coding, Form, subcode
 
-# So many bytes are read at a time; only their subcode is kept.
+# The number of bytes that are read at a time; only their subcode is kept.
 READ_AT_ONCE = 1 << 23
 
 
@@ -31,7 +31,7 @@ class DumpFile:
         return max(0, self.size - self.skip)
 
     def units(self, form: Form) -> int:
-        """How many whole units the file has in this form."""
+        """The number of whole units in this form."""
         return self.content // form.unit
 
     def rest(self, form: Form) -> int:

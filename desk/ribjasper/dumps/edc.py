@@ -47,7 +47,7 @@ def tables() -> tuple[bytes, bytes, bytes, bytes]:
 
 
 def edc_codes(sectors: Sequence[bytes], layout: EdcLayout) -> list[bytes]:
-    """The four bytes of the code of each sector, worked out for all of them at once, column by column: the state is a
+    """The four bytes of the code of each sector, computed for all sectors at once, column by column: the state is a
     number that has the lowest bytes of all codes first, then the others."""
     content = b"".join(sector[layout.first : layout.end] for sector in sectors)
     length, many = layout.end - layout.first, len(sectors)

@@ -1,5 +1,5 @@
-"""What a report has on one dump: a row, a thumbnail of its first picture, a map of its damage and a list of damaged
-places."""
+"""What a report contains for one dump: a row, a thumbnail of its first picture, a map of its damage and a list of
+damaged places."""
 from typing import Any, Iterable, NamedTuple
 
 from ..common.failures import Failure, shown
@@ -73,7 +73,7 @@ def first_picture(parts: Iterable[bytes]) -> bytes | None:
 
 
 def image_of(picture: bytes) -> Any:
-    """The picture of a player as one of Pillow."""
+    """The picture of a player as a Pillow image."""
     return package("PIL.Image", "python3-pil").frombytes("RGB", (WIDTH, HEIGHT), picture)
 
 
@@ -123,7 +123,7 @@ def with_sums(row: ReportRow, found: Sums) -> None:
 
 
 def examine(path: str, name: str, with_pictures: bool = True, words: DumpOptions = DumpOptions()) -> Examined:
-    """All that a report has on a file of any kind."""
+    """All that a report contains for a file of any kind."""
     row: ReportRow = dict.fromkeys(COLUMNS)
     row["file"] = name
     try:

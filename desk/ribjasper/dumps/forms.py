@@ -32,7 +32,7 @@ class Order(enum.Enum):
 
 
 class Form(NamedTuple):
-    """How a file holds blocks."""
+    """The way in which a file stores blocks."""
 
     name: str
     unit: int  # bytes of the file for each of its parts

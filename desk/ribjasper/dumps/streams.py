@@ -34,7 +34,7 @@ class Stream:
         return BLOCKS_A_SECOND * (PACKS_A_BLOCK if self.is_packs() else 1)
 
     def seconds(self) -> float:
-        """How long it is from the beginning of the audio on."""
+        """Its length in seconds, from the beginning of the audio on."""
         return max(0, self.units - self.begin) / self.a_second()
 
     def frames(self, rate: int, count: int) -> Iterator[bytes]:

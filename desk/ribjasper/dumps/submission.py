@@ -67,7 +67,7 @@ class Submission:
     notes: list[str] = field(default_factory=list)
 
     def plain(self) -> dict[str, Any]:
-        """As JSON has it."""
+        """The data for JSON."""
         found = dataclasses.asdict(self)
         found["sessions"] = [it._asdict() for it in self.sessions]
         found["tracks"] = [it._asdict() for it in self.tracks]
@@ -158,7 +158,7 @@ def ends_of(found: QDisc) -> Iterator[int]:
 
 
 def submission(loaded: Loaded, name: str, offset: int = 0) -> Submission:
-    """All that a database asks for of a disc."""
+    """All data that a database requests about a disc."""
     if loaded.form.library != RAW or not loaded.survey.has_q:
         raise Refusal(loaded.path, "has no Q channel, which describes the disc")
     source = Source(loaded)
@@ -192,7 +192,7 @@ def submission(loaded: Loaded, name: str, offset: int = 0) -> Submission:
 
 
 def submission_text(found: Submission) -> str:
-    """As a text that can be pasted into a form."""
+    """The data as a text that can be pasted into a form."""
     lines = [
         f"File: {found.file}",
         f"Form: {found.form}, {found.sectors} sectors, lead-in {found.lead_in}",

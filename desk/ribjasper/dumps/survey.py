@@ -113,7 +113,7 @@ class Survey:
 
     @property
     def read(self) -> int:
-        """How many blocks there are from the first that was read to the last."""
+        """The number of blocks from the first one that was read to the last one."""
         return self.end - self.first
 
     def unread_column(self) -> bytes:

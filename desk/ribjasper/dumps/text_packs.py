@@ -29,7 +29,7 @@ NAMES = {
 # The places of a pack: its kind, its track, its number, its language with the position in the text, and its text.
 KIND, TRACK, NUMBER, WHERE, TEXT = 0, 1, 2, 3, slice(4, 16)
 TEXT_BYTES = 12
-# Of the size packs of a language: the character code, and the languages of all eight.
+# In the size packs of a language: the places of the character code, and of the languages of all eight.
 CODE, LANGUAGES = 0, 28
 CODES = {0x00: "latin-1", 0x01: "ascii", 0x80: "cp932"}
 CODE_NAMES = {"latin-1": "Latin-1", "ascii": "ASCII", "cp932": "MS-JIS"}

@@ -1,4 +1,4 @@
-"""The sound of a disc: 44,100 Hz, stereo, 16 bits, of WAV files as they are and of others by ffmpeg."""
+"""The sound of a disc: 44,100 Hz, stereo, 16 bits, from WAV files unchanged and from others with ffmpeg."""
 import array
 import atexit
 import functools
@@ -30,10 +30,10 @@ ENDINGS = (".wav", ".flac", ".mp3", ".ogg", ".opus", ".m4a", ".aiff", ".aif")
 DISC_FORM = ["-vn", "-ar", str(RATE), "-ac", str(CHANNELS), "-c:a", "pcm_s16le"]
 
 
-# Loudness as ffmpeg's filter knows it: the range of targets in LUFS, and the highest peak in dB.
+# The limits of ffmpeg's filter for loudness: the range of targets in LUFS, and the highest peak in dB.
 QUIETEST, LOUDEST, HIGHEST_PEAK = -70.0, -5.0, -1.5
 JSON = re.compile(rb"\{[^{}]*\}")
-# What a sound is multiplied with is counted in parts of this.
+# Factors for samples are counted in parts of this.
 WHOLE = 1 << 15
 
 
@@ -50,7 +50,7 @@ class Treatment(NamedTuple):
 
     @property
     def later(self) -> float:
-        """By how much everything in the sound is later than in its file."""
+        """The delay of everything in the sound relative to its file."""
         return self.intro - self.begin
 
 
@@ -112,7 +112,7 @@ def whole_size(start: int, size: int, end: int, a_second: int, path: Path) -> in
 
 
 def remedy(path: Path) -> str:
-    """The line that makes a file of the form of a disc."""
+    """The command that makes a file in the form for a disc."""
     return f"`ffmpeg -i {shown(os.fspath(path))} {' '.join(DISC_FORM)} OUT.wav`"
 
 
@@ -152,14 +152,14 @@ def of_disc(path: Path) -> tuple[Path, Wave]:
 
 @functools.lru_cache(maxsize=None)
 def folder() -> str:
-    """Where converted sounds are while the desk runs."""
+    """The folder of converted sounds, which exists while the desk runs."""
     name = tempfile.mkdtemp(prefix="ribjasper-sound-")
     atexit.register(shutil.rmtree, name, ignore_errors=True)
     return name
 
 
 def frames(path: Path) -> int:
-    """How many samples of both channels there are."""
+    """The number of samples of each channel."""
     return of_disc(path)[1].size // (CHANNELS * SAMPLE_BYTES)
 
 
@@ -237,7 +237,7 @@ def faded(samples: bytes, fade_in: float, fade_out: float) -> bytes:
 
 
 def at_loudness(path: Path, samples: bytes, loudness: float) -> bytes:
-    """The samples at another loudness, by ffmpeg: one pass measures them, and one changes them as evenly as it can."""
+    """The samples at another loudness, with ffmpeg: one pass measures it, and one changes it as evenly as possible."""
     source, out = new_file(".wav"), Path(f"{new_file('')}-loud.wav")
     source.write_bytes(header(len(samples)) + samples)
     target = f"loudnorm=I={loudness:g}:TP={HIGHEST_PEAK}:LRA=20"
@@ -269,7 +269,7 @@ def is_number(word: str) -> bool:
 
 
 def run_ffmpeg(path: Path, words: list[str], level: str = "error") -> bytes:
-    """What ffmpeg prints while it works on a sound."""
+    """The messages of ffmpeg while it processes a sound."""
     if not shutil.which("ffmpeg"):
         raise Refusal(path, "its loudness needs ffmpeg, which is not installed")
     done = subprocess.run(
@@ -296,7 +296,7 @@ def sound_beside(lyrics: Path) -> Path | None:
         names = [path for path in lyrics.parent.iterdir() if path.name.lower() in wanted]
     except OSError:
         return None
-    # The name itself may differ in the size of its letters too, if that leaves no doubt.
+    # The name may also differ in upper and lower case, if only one file matches.
     best = min((wanted[path.name.lower()] for path in names), default=0)
     found = [path for path in names if wanted[path.name.lower()] == best]
     same = [path for path in found if path.stem == lyrics.stem]

@@ -56,7 +56,7 @@ def shows(song: Song) -> list[Shown]:
 
 
 def is_same(one: Song, other: Song) -> bool:
-    """Whether two songs hold the same, apart from the rows of their files."""
+    """Whether two songs have the same content, apart from the rows of their files."""
     heads = [(song.title, song.performer, song.singers, song.tags, shows(song)) for song in (one, other)]
     return heads[0] == heads[1] and [values_of(line) for line in one.lines] == [values_of(line) for line in other.lines]
 
@@ -252,7 +252,7 @@ def row_of(line: Line, mark: str, digits: int) -> str:
 
 
 def toml_value(value: object) -> str:
-    """A value as TOML spells it."""
+    """A value in the syntax of TOML."""
     if isinstance(value, str):
         return json.dumps(value, ensure_ascii=False).replace("\x7f", "\\u007f")
     if isinstance(value, bool):
@@ -387,7 +387,7 @@ def apply_lines(song: Song, rows: list[str], entries: list[dict[str, Any]], path
         others = [line for line in song.lines if line.number != at]
         new = line_of(entry, values_of(old[0]) if len(old) == 1 else None)
         new.number, new.written = at, old[0].written if old else lrc.partition("]")[0] + "]"
-        # Lines that begin at one time stay in the order of their rows.
+        # Lines that begin at the same time stay in the order of their rows.
         song.lines = sorted([*others, new], key=lambda line: line.number)
 
 
@@ -406,7 +406,7 @@ def line_of(entry: dict[str, Any], read: LineValues | None) -> Line:
         raise ValueError("a line has not as many times as words")
     until = value("until")
     syllables = [Syllable(*parts) for parts in zip(texts, *lists, voices)]
-    # Files of before page breaks have no such value.
+    # Files from before page breaks existed have no such value.
     new_page = bool(entry.get("page", read.page if read else False))
     return Line(0, syllables, bool(value("whole")), "", None if until in (None, False) else number(until), new_page)
 

@@ -17,7 +17,7 @@ CODING = ["-threads", "2"]
 
 
 class FilmForm(NamedTuple):
-    """The sound of a film, its frames a second, by how much its pictures are enlarged, and whether each pixel is kept."""
+    """The sound of a film, its frames per second, the factor of its pictures, and whether each pixel is kept."""
 
     sound: Path | None
     rate: int = 25

@@ -13,12 +13,12 @@ from .scores import Score
 
 ENDING = ".studio"
 VERSION = 1
-# How a journal begins.
+# The beginning of a journal.
 MARK = '{"ribjasper-studio": '
 
 
 def journal_of(song: Path) -> Path:
-    """The journal of a song: its name has the whole name of the song's file in front."""
+    """The journal of a song; its name begins with the whole name of the song's file."""
     return song.with_name(song.name + ENDING)
 
 
@@ -103,7 +103,7 @@ class Journal:
 
     @property
     def is_saved(self) -> bool:
-        """Whether nothing is lost without the journal."""
+        """Whether nothing would be lost without the journal."""
         return self.at == (self.saved if self.saved is not None else 0)
 
 

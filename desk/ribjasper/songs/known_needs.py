@@ -1,5 +1,5 @@
-"""How many packs steps need, kept from one edit to the next: rows that did not change, over a screen that did not, are not
-asked for again."""
+"""The numbers of packs that steps need, kept from one edit to the next: unchanged rows over an unchanged screen are not
+planned again."""
 import hashlib
 import itertools
 from dataclasses import dataclass
@@ -50,7 +50,7 @@ def area_of(placed: Placed) -> range:
 
 
 def need_key(placed: Placed, steps: Sequence[ColumnStep], ground: Raster) -> bytes:
-    """What the needs of the steps of a place depend on."""
+    """All that the needs of the steps of a place depend on."""
     area = area_of(placed)
     digest = hashlib.blake2b(b"".join(ground.rows), digest_size=24)
     for row in itertools.chain(placed.rows, placed.lit, placed.empty.rows[area.start : area.stop]):
@@ -71,7 +71,7 @@ class Waiting:
 
 
 class Asker:
-    """Asks for the needs of steps that are not known, in one script for many of them."""
+    """Plans the unknown needs of many steps together, in one script."""
 
     def __init__(self, ground: Raster, known: Known, ask: Callable[[list[str]], Sequence[PlannedPicture]]) -> None:
         self.known, self.ask = known, ask
@@ -116,7 +116,7 @@ class Asker:
         self.waiting.append(Waiting(key, steps, first, after))
 
     def end(self) -> None:
-        """Asks for all that waits."""
+        """Plans all waiting steps."""
         rows = self.ask(self.lines) if self.waiting else []
         for one in self.waiting:
             needs = [row.need for row in rows[one.first : one.first + len(one.steps)]]
@@ -129,7 +129,7 @@ class Asker:
 def ask_known(
     steps: Sequence[ColumnStep], ground: Raster, known: Known, ask: Callable[[list[str]], Sequence[PlannedPicture]]
 ) -> None:
-    """Sets the needs of steps that are drawn one after the other on a ground."""
+    """Sets the needs of steps that are drawn one after another on a screen."""
     asker = Asker(ground, known, ask)
     for placed, some in itertools.groupby(steps, key=lambda step: step.placed):
         asker.add(placed, list(some))

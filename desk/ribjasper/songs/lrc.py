@@ -9,7 +9,7 @@ TAG = re.compile(r"\[([a-zA-Z#]+):([^\]]*)\]\s*$")
 STAMP = re.compile(r"\[(\d{1,6}):(\d{1,6})(?:[.:](\d{1,6}))?\]\s*")
 WORD = re.compile(r"[<\[](\d{1,6}):(\d{1,6})(?:[.:](\d{1,6}))?[>\]]")
 OFFSET = re.compile(r"[+-]?\d{1,9}")
-# The marks of a man, a woman and both, or of one of up to four voices, in front of a line, for it and those after it.
+# Marks before a line for a man, a woman and both, or for one of up to four voices; they hold for the next lines too.
 MARK = re.compile(r"([MFD]|v[1-4]|[vV]oice ?[1-4]):\s*")
 MARKED = {"M": FIRST, "F": SECOND, "D": BOTH, "1": FIRST, "2": SECOND, "3": THIRD, "4": FOURTH}
 # Tags for a picture between verses.
@@ -72,7 +72,7 @@ def read_lrc(text: str, song: Song) -> None:
 
 
 def later_ones(stamped: list[Stamped]) -> list[Stamped | None]:
-    """For each line the first one with a later time."""
+    """For each line, the first one with a later time."""
     found: list[Stamped | None] = []
     following: Stamped | None = None
     for place in range(len(stamped) - 1, -1, -1):
@@ -115,7 +115,7 @@ def stamps_of(line: str) -> tuple[list[tuple[float, str]], str]:
 
 
 def line_pieces(rest: str, later: float) -> list[tuple[float | None, str]]:
-    """The pieces of a line; for a line with several times, those of its words move along."""
+    """The pieces of a line; for a line with several times, the times of its words are moved accordingly."""
     parts: list[tuple[float | None, str]] = []
     at, time = 0, None
     for word in WORD.finditer(rest):

@@ -18,7 +18,7 @@ REST, COUNTED_REST, SHOWN_REST = 3.0, 6.0, 12.0
 GOES, COMES = 2.0, 6.0
 # On a short page, a row appears this long after the row before it in its place was sung.
 ROOM_BEFORE = 1.5
-# The dots that count a line in go out a second after each other.
+# The dots of a countdown disappear a second after each other.
 DOTS = 3
 DOT = (
     "......",
@@ -34,9 +34,9 @@ DOT = (
     "......",
     "......",
 )
-# Where no ink is.
+# Pixels without ink.
 NO_INK = bytes([255, *bytes(255)])
-# The columns that are drawn in one step.
+# The number of columns that are drawn in one step.
 STEP = TILE_WIDTH
 # A row of pixels with its number.
 Row = tuple[int, bytes]
@@ -96,7 +96,7 @@ class Placed:
 
     @functools.cached_property
     def lit(self) -> list[bytes]:
-        """The same rows when all is sung; the dots are gone."""
+        """The same rows when everything is sung, without the dots."""
         rows = list(self.empty.rows[self.area.start : self.area.stop])
         first = self.top - self.area.start
         for number, inks in enumerate(self.letters.rows if self.letters else [], first):
@@ -144,12 +144,12 @@ class ColumnStep(Step):
         self.draw(raster, self.rows())
 
     def draw(self, raster: Raster, rows: Iterable[Row]) -> None:
-        """Brings its columns of some of its rows."""
+        """Draws its columns of some of its rows."""
         for number, row in rows:
             raster.rows[number][self.left : self.right] = row[self.left : self.right]
 
     def lines(self, raster: Raster, rows: list[Row]) -> list[str]:
-        """The lines of a script that draw this on the screen, which then has it; only these rows can differ."""
+        """The lines of a script that draw this on the screen, which is updated; only these rows can differ."""
         spans, left, right = [], self.left, self.right
         for number, row in rows:
             pixels, drawn = row[left:right], raster.rows[number]
@@ -175,7 +175,7 @@ class Light(ColumnStep):
 
 
 class DotOut(ColumnStep):
-    """One of the dots that count a line in goes out."""
+    """One of the dots of a countdown disappears."""
 
     def rows(self) -> Iterable[Row]:
         empty = self.placed.empty.rows
@@ -232,14 +232,14 @@ def still_page(texts: list[str], begin: float, end: float, font: Font) -> Group:
 
 
 class Screen:
-    """The places of a page while pages follow each other."""
+    """The places of a page, while pages follow each other."""
 
     def __init__(self, style: Style, empty: Raster, inks: Inks):
         self.style, self.empty, self.inks = style, empty, inks
         self.standing: list[Placed | None] = [None] * style.rows
 
     def place(self, slot: int, letters: Letters | None, start: float, end: float, inset: int = 0) -> Placed:
-        """Puts letters into a place, or makes it empty."""
+        """Puts letters into a place, or empties it."""
         top = self.style.top(slot)
         area = range(top if slot else 0, top + TILE_HEIGHT * self.style.slot_rows)
         placed = Placed(slot, top + inset, letters, start, end, area, self.empty, self.standing[slot], inks=self.inks)
@@ -250,8 +250,8 @@ class Screen:
         return placed
 
     def first_for(self, group: Group) -> int:
-        """The first place of a page: so that it is in the middle, or higher if a row would have too little time there
-        after the row that it follows."""
+        """The first place of a page: in the middle, or higher if a row would otherwise have too little time there after
+        the row that it follows."""
         middle = (self.style.rows - len(group.rows)) // 2
         starts = [row[0][0].start for _, row in group.rows]
 
@@ -283,8 +283,8 @@ class SongPage:
 
 
 def laid_out(groups: list[Group], setter: Setter, style: Style, empty: Raster, is_last: bool = True) -> list[SongPage]:
-    """Each row at its place, with those places that become empty; and last an empty page, if the song ends here, but
-    not with a page that is not sung."""
+    """Each row at its place, with the places that become empty; and last an empty page if the song ends here, except
+    after a page that is not sung."""
     inset = TILE_HEIGHT * max(0, (style.slot_rows - setter.tile_rows + 1) // 2)
     inset = min(inset, TILE_HEIGHT * max(0, style.slot_rows - setter.tile_rows))
     screen, pages = Screen(style, empty, setter.inks), list[SongPage]()
@@ -313,7 +313,7 @@ def laid_out(groups: list[Group], setter: Setter, style: Style, empty: Raster, i
 
 
 def count_in(placed: Placed) -> None:
-    """Puts dots above a line, if there is room."""
+    """Puts countdown dots above a line, if there is room."""
     if placed.top >= TILE_HEIGHT:
         middle = WIDTH // 2 // TILE_WIDTH
         placed.dots = [TILE_WIDTH * (middle + 2 * place - DOTS + 1) for place in range(DOTS)]

@@ -13,11 +13,11 @@ from ..common.output import MOST_READ, read_file, tell
 
 CDG, ZIP = ".cdg", ".zip"
 ENDINGS = (CDG, ZIP)
-# The instructions of packs of graphics; only their lowest six bits count, as of each symbol.
+# The instructions of graphics packs; only their lowest six bits count, as in each symbol.
 MEMORY, BORDER, TILE, SCROLL, COPY, TRANSPARENT, TILE_XOR, LOW, HIGH = 1, 2, 6, 20, 24, 28, 38, 30, 31
 CHANGES_OFFSETS = (SCROLL, COPY, TRANSPARENT)
-# The first packs of a track begin in front of it: a player that skips to the track does not read them whole. From pack
-# 8 on presets and colours make it clean, at the latest here.
+# The first packs of a track begin before it: a player that skips to the track does not read them completely. From pack
+# 8 on, presets and colours make it clean, at the latest here.
 LOST, LATEST_START = 8, 48
 # If the graphics leave no room, the graphics and the sound are delayed by this number of blocks.
 LEAD = 4
@@ -132,7 +132,8 @@ def clean(packs: list[bytes]) -> list[bytes] | None:
 
 
 def as_track(path: Path, packs: bytes) -> tuple[list[bytes], int]:
-    """The packs of a pair as a track that begins clean from any screen, and by how many blocks they are later."""
+    """The packs of a pair as a track that begins clean from any screen, and the number of blocks by which they are
+    later."""
     some = listed(packs)
     found = clean(some + [bytes(PACK)] * max(0, LATEST_START - len(some)))
     if found:
@@ -143,7 +144,7 @@ def as_track(path: Path, packs: bytes) -> tuple[list[bytes], int]:
 
 
 def moves(packs: Sequence[bytes]) -> bool:
-    """Whether packs move the screen or let other pictures be seen through it, which presets do not undo."""
+    """Whether packs scroll the screen or make it transparent, which presets do not undo."""
     return any(instruction(pack) in CHANGES_OFFSETS for pack in packs)
 
 

@@ -44,7 +44,7 @@ class Rehearsed:
     song: Song | None = None
 
     def table(self) -> dict[str, Any]:
-        """All but the packs."""
+        """All results except the packs."""
         late = [{"line": one.line, "what": one.what, "seconds": one.seconds} for one in self.late]
         return {
             "revision": self.revision,
@@ -57,7 +57,7 @@ class Rehearsed:
 
 
 def wishes_for(look: Look, folder: Path, end: int) -> Wishes:
-    """What the look of a score asks of a script; its files are in the folder of the song."""
+    """The options for a script that follow from the look of a score; its files are in the folder of the song."""
     style = read_style(look.style if look.style in shipped() else str(folder / look.style))
     return Wishes(
         style=replace(style, rows=look.rows) if look.rows else style,
@@ -74,7 +74,7 @@ def wishes_for(look: Look, folder: Path, end: int) -> Wishes:
 
 
 def late_of(made: Made) -> list[Late]:
-    """What of a song is late, line by line."""
+    """The late rows of a song, line by line."""
     found: list[Late] = []
 
     def add(placed: Placed, what: str, blocks: int = 0) -> None:
@@ -94,7 +94,7 @@ def late_of(made: Made) -> list[Late]:
 
 
 def rehearsed(revision: int, score: Score, like: Song, sound: Path, known: Known | None = None) -> Rehearsed:
-    """The packs of a score with its sound, or why there are none."""
+    """The packs of a score with its sound, or the reason why there are none."""
     try:
         return score_pictures(revision, score, like, sound, known)
     except Exception as error:
@@ -117,7 +117,7 @@ def score_pictures(revision: int, score: Score, like: Song, sound: Path, known: 
 
 
 class Rehearsal:
-    """Makes the packs of the newest score in a thread of its own."""
+    """Makes the packs of the newest score in a separate thread."""
 
     def __init__(self, make: Callable[[int, Score], Rehearsed]) -> None:
         self.make, self.changed = make, threading.Condition()

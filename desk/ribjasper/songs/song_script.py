@@ -43,7 +43,7 @@ LONGEST_AUDIO = 449_999 - times.PAUSE
 # BEFORE_FIRST before the first word; a last page is shown if it can remain for LAST_STAYS.
 STAYS, TITLE_STAYS, BEFORE_FIRST = BLOCKS // 5, 2 * BLOCKS, 3 * BLOCKS
 LAST_STAYS = 3 * BLOCKS
-# More letters of a title than a page has room for.
+# More letters of a title than fit onto a page.
 LONGEST_TITLE = 1_000
 # Losses and numbers of colours that are tried until a title needs few enough packs, and the loss of a background.
 TITLE_LOSSES = ((PLAIN, 16), (12.0, 16), (30.0, 12), (60.0, 8), (120.0, 4))
@@ -70,9 +70,9 @@ TRIALS: tuple[Trial, ...] = (
     (LEAD, True, True),
     (None, False, True),
 )
-# So much room is left between a picture and the first line of the verse behind it.
+# The least time between a picture and the first line of the verse after it.
 BEFORE_VERSE = round((LEAD + 1.5) * BLOCKS)
-# What is to be done with letters that no font has.
+# What to do with letters that no font has.
 LEAVE, BOXES = "leave", "box"
 
 
@@ -167,7 +167,7 @@ def ask_needs(steps: Sequence[ColumnStep], ground: Raster, known: Known | None =
         part = steps[at : at + MOST_PICTURES - 1]
         lines = [*lines_between(Raster(), ground), "show 00:01:00 00:01:00"]
         numbers = itertools.count(times.blocks("00:01:01"))
-        # Steps of one kind at one place bring the same rows, and only those that differ are compared.
+        # Steps of one kind at one place draw the same rows, and only those that differ are compared.
         for _, alike in itertools.groupby(part, key=lambda step: (step.placed, type(step))):
             some = list(alike)
             rows = some[0].differing(ground)
@@ -178,7 +178,7 @@ def ask_needs(steps: Sequence[ColumnStep], ground: Raster, known: Known | None =
 
 
 def ask_shows(shows: Sequence[Show], ground: Raster) -> None:
-    """The same of whole pages."""
+    """The same for whole pages."""
     lines = [*lines_between(Raster(), ground), "show 00:01:00 00:01:00"]
     for number, show in enumerate(shows, times.blocks("00:01:01")):
         lines += [*lines_between(ground, show.picture), f"show {spelled(number)} {spelled(number)}"]
@@ -188,7 +188,7 @@ def ask_shows(shows: Sequence[Show], ground: Raster) -> None:
 
 
 def empty_page(style: Style, voices: int) -> Raster:
-    """A page before anything is drawn on it: the ground, or the picture behind the text in the colours that it may
+    """A page before anything is drawn on it: the background, or the picture behind the text in the colours that it may
     have."""
     raster = style.empty(voices)
     if not style.background:
@@ -249,7 +249,7 @@ Words = list[list[Syllable]]
 
 
 def broken(lines: list[Line], font: Font) -> int:
-    """How many lines need more than one row."""
+    """The number of lines that need more than one row."""
     return sum(not fits_in_row(unbroken_words(line, font.of(line.voice)), font.of(line.voice), ROOM) for line in lines)
 
 
@@ -397,7 +397,7 @@ def picture_in(path: Path, most: int, loss: float) -> Raster:
 
 
 def filled_with(word: str, ground: Raster) -> Raster | None:
-    """A page of one colour, if the word is one."""
+    """A page of one colour, if the text is a colour."""
     colour = read_colour(word) if word.startswith("#") else None
     if colour is None:
         return None
@@ -408,8 +408,8 @@ def filled_with(word: str, ground: Raster) -> Raster | None:
 
 @dataclass
 class Verse:
-    """Lines between two pictures: the pages of them, when they are lit, and the picture in front of them: its show, and
-    the blocks between which it is shown."""
+    """The lines between two pictures: their pages, the times at which they are lit, and the picture before them: its
+    show, and the blocks between which it is shown."""
 
     lines: list[Line]
     what: str = ""
@@ -422,8 +422,8 @@ class Verse:
 
 
 def verses_of(song: Song, between: Sequence[str]) -> list[Verse]:
-    """The verses of a song: a picture of the file divides lines at its place, or at its time; others are shown in the
-    long rests that have none, one after the other."""
+    """The verses of a song: a picture in the file divides lines at its place, or at its time; other pictures are shown
+    one after another in the long rests without a picture."""
     starts = [line.start for line in song.lines]
     found: dict[int, tuple[str, int]] = {}
     for one in song.inserts:
@@ -478,7 +478,7 @@ class Maker:
         return sorted((due for placed in sung for due in dues_of(placed, self.wishes.sweep)), key=lambda due: due.block)
 
     def with_pictures(self, verses: list[Verse]) -> list[Verse]:
-        """The verses with the pictures in front of them; without room for one, two verses become one."""
+        """The verses with the pictures before them; if there is no time for a picture, two verses become one."""
         kept: list[Verse] = []
         for verse in verses:
             if not verse.what:
@@ -501,7 +501,7 @@ class Maker:
         self.notes.append(f"{self.song.path}: {place}{what}")
 
     def has_room(self, before: list[Verse], verse: Verse) -> bool:
-        """Whether the picture of a verse is shown long enough between the lines in front of it and its own."""
+        """Whether the picture of a verse is shown long enough between the lines before it and its own."""
         end = max(line.stays for one in before for line in one.lines)
         verse.begin = times.nearest_block(end) + STAYS + BLOCKS // 2
         last = self.wishes.end or FOREVER
@@ -539,15 +539,15 @@ class Maker:
         return [page] if len(page.rows) <= self.style.rows else []
 
     def legend(self) -> list[Text]:
-        """The singers in their colours."""
+        """A legend: the singers in their colours."""
         ordinals = ("first voice", "second voice", "third voice", "fourth voice")
         names = [*self.song.singers, "", "", "", ""]
         found = [(names[voice] or ordinals[voice], voice, 0) for voice in range(self.song.voices)]
         return [*found, ("both" if self.song.voices == 2 else "all", BOTH, 0)] if self.song.has_both else found
 
     def title_steps(self) -> list[Show]:
-        """The title, in as many colours and details as there is room for it, and a legend; or none. A title that is a
-        text has the legend below it."""
+        """The title, in as many colours and details as there is time for, and a legend; or none. A title that is a text
+        has the legend below it."""
         image, path = self.title, self.song.path
         has_legend = self.wishes.legend and self.song.voices > 1
         if self.wishes.legend and not has_legend:
@@ -582,7 +582,7 @@ class Maker:
         return shows
 
     def more_room(self, shows: list[Show]) -> str:
-        """What makes room for pages in front of the first words."""
+        """A hint how to make time for pages before the first words."""
         short = math.ceil(-self.room_for(shows) / BLOCKS + self.wishes.intro)
         return f"; --intro {short} makes room for it" if short > 0 else ""
 
@@ -631,7 +631,7 @@ class Maker:
         for _ in range(ROUNDS):
             pictures, lateness = self.arranged(lead, stays, is_paired)
             pictures = within(pictures, self.wishes.end, lateness)
-            # A script has one more, which is held through the pause.
+            # A script has one more picture, which is held through the pause.
             if len(pictures) >= MOST_PICTURES:
                 raise Refusal(
                     self.song.path,
@@ -672,7 +672,7 @@ class Maker:
         )
 
     def by_lead(self) -> Made:
-        """The script with the lead that is asked for, or with the shortest one with which nothing is late."""
+        """The script with the requested lead, or with the shortest one with which nothing is late."""
         lead = self.wishes.lead
         tried: list[Made] = []
         trials = TRIALS
@@ -689,7 +689,7 @@ class Maker:
 
 
 def dues_of_rows(rows: list[Placed]) -> dict[Placed, int]:
-    """For each row the block at which it, or one behind it in the order of drawing, is sung first."""
+    """For each row, the block at which it, or a row after it in the order of drawing, is sung first."""
     due, soonest = dict[Placed, int](), FOREVER
     for placed in reversed(rows):
         if placed.is_sung:
@@ -714,7 +714,7 @@ def tasks_of(pages: list[SongPage], begin: int, style: Style, lead: float | None
         return times.nearest_block(placed.end if stays else placed.lit_end) + STAYS
 
     def free_from(placed: Placed, waits: bool) -> int:
-        """When its place is free, and the row a page in front of it is sung, or that whole page."""
+        """The time when its place is free, and the row one page before it is sung, or that whole page."""
         stood = [placed.before, ahead.get(placed)]
         ends = [free_at(one) for one in stood if one]
         soonest: int = max([begin, times.nearest_block(placed.begin), before_page * waits, *ends])
@@ -770,7 +770,8 @@ def within(pictures: list[SentPicture], end: int | None, lateness: Lateness) -> 
 
 
 def end_with_sound(song: Song, end: int) -> None:
-    """Names all lines that are sung after the end of the audio; those that are sung until then end a little earlier."""
+    """Reports all lines that are sung after the end of the audio; those that are sung until then end a little
+    earlier."""
     seconds = (end - times.PAUSE) / BLOCKS
     causes = []
     for line in song.lines:
@@ -791,8 +792,8 @@ def end_with_sound(song: Song, end: int) -> None:
 
 
 def best(song: Song, wishes: Wishes, known: Known | None = None) -> Made:
-    """The script in the first font in which hardly a row of the song is late, or else that in which least is. Needs
-    that are known of another script are not asked for again."""
+    """The script in the first font with which hardly any row of the song is late, or else the one with the fewest late
+    rows. Needs that are known from another script are not planned again."""
     made: list[Made] = []
     notes = without_missing(song, wishes)
     if wishes.end:

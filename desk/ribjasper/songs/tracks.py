@@ -1,5 +1,5 @@
-"""The packs of a track: those of its script, authored for itself, so that they begin with presets and all colours and
-bring its pictures from every screen."""
+"""The packs of a track: those of its script, authored separately, so that they begin with presets and all colours and
+draw its pictures on every screen."""
 from pathlib import Path
 
 from ..common.cue_sheets import ONE_TRACK
